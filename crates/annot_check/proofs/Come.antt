@@ -1,5 +1,7 @@
 -- The first blocks of waves that are come to.
-use Rattle.std.proofs.Common.{ℕ, zero, suc, ◌+◌, ◌≡◌, ◌<◌, ◌⊎◌, Bool, true, false, List, [], ◌∷◌, ◌++◌, length, get_or, set, refl, sym, ap, ◌∙◌, inl, inr, arith, length-append, length-set}
+use Rattle.std.proofs.Common.{ℕ, zero, suc, ◌+◌, ◌≡◌, ◌<◌, ◌⊎◌, Bool, true, false, List, [], ◌∷◌, ◌++◌}
+use Rattle.std.proofs.Common.{length, get_or, set, refl, sym, ap, ◌∙◌, inl, inr, arith, length-append}
+use Rattle.std.proofs.Common.{length-set}
 use Rattle.std.proofs.lemmas.Bool.{cases_eq}
 use Rattle.std.proofs.lemmas.List.{get_or-set_other, get_or-set_same}
 use Rattle.annot_check.specs.declared.worklist.Waves.{Waves}
@@ -7,7 +9,8 @@ use Rattle.annot_check.specs.Table.{MoreCome, unmarked}
 use Rattle.annot_check.proofs.Entries.{has_left, has_last, has_either}
 use Rattle.ws_words.specs.Items.{flag_at}
 
-pub read_false : (marks : List Bool) (n : ℕ) (v : Bool) → n < length marks → v ≡ get_or marks n v → v ≡ false →
+pub read_false : (marks : List Bool) (n : ℕ) (v : Bool) → n < length marks → v ≡ get_or marks n v → v ≡ false
+    →
     flag_at marks n ≡ false
 read_false [] n v l e f = absurd (omega arith)
 read_false (x ∷ marks) zero v l e f = sym e ∙ f
@@ -53,7 +56,8 @@ come_more old new n l f e t = record {
 
 pub come_there : (old new : Waves) (n : ℕ) → n < length old.come.items →
     new.come.items ≡ set old.come.items n true → flag_at new.come.items n ≡ true
-come_there old new n l e = ap (λ (x : List Bool). flag_at x n) e ∙ get_or-set_same old.come.items n true false l
+come_there old new n l e = ap (λ (x : List Bool). flag_at x n) e ∙ get_or-set_same old.come.items n true false
+    l
 
 pub come_new : (old new : Waves) (n : ℕ) → new.come.items ≡ set old.come.items n true → (b : ℕ) →
     flag_at new.come.items b ≡ true → (flag_at old.come.items b ≡ true) ⊎ (b ≡ n)

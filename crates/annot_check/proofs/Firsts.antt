@@ -1,5 +1,6 @@
 -- First blocks of waves.
-use Rattle.std.proofs.Common.{ℕ, zero, suc, ◌≡◌, ◌<◌, ◌≤◌, ◌⊎◌, true, false, not, List, [], ◌∷◌, length, sym, ap, ◌∙◌, inl, inr, arith, eq-eqb}
+use Rattle.std.proofs.Common.{ℕ, zero, suc, ◌≡◌, ◌<◌, ◌≤◌, ◌⊎◌, true, false, not, List, [], ◌∷◌, length, sym}
+use Rattle.std.proofs.Common.{ap, ◌∙◌, inl, inr, arith, eq-eqb}
 use Rattle.std.proofs.Math.Path.{fun_ext}
 use Rattle.std.proofs.lemmas.Bool.{cases_eq, cases_lt, cases_Bool}
 use Rattle.ws_isa.specs.Image.{Block, Image, no_block, block_at, is_first, IsBlock}
@@ -25,7 +26,8 @@ rises w (x ∷ bs) zero (suc n) h o l = from_low x.wave bs n h.1 (omega (arith, 
 rises w (x ∷ bs) (suc m) zero h o l = absurd (omega (arith, o))
 rises w (x ∷ bs) (suc m) (suc n) h o l = rises x.wave bs m n h.1 (omega (arith, o)) (omega (arith, l))
 
-in_order : (bs : List Block) → WavesInOrder bs → (m n : ℕ) → m ≤ n → n < length bs → wave_of bs m ≤ wave_of bs n
+in_order : (bs : List Block) → WavesInOrder bs → (m n : ℕ) → m ≤ n → n < length bs
+    → wave_of bs m ≤ wave_of bs n
 in_order [] h m n o l = absurd h
 in_order (x ∷ bs) h zero zero o l = omega arith
 in_order (x ∷ bs) h zero (suc n) o l = from_low x.wave bs n (rw h.0 h.1) (omega (arith, l))
@@ -68,7 +70,8 @@ one_first image a b o h g f e w = elim (cases_lt a b) [
 ]
 
 -- only one set of slots is that of a block's advances
-pub one_opening : (image : Image) (b : ℕ) (o p : OpenSlots) → AdvancesOpen image b o → AdvancesOpen image b p → o ≡ p
+pub one_opening : (image : Image) (b : ℕ) (o p : OpenSlots) → AdvancesOpen image b o → AdvancesOpen image b p
+    → o ≡ p
 one_opening image b o p f g = fun_ext (λ j. fun_ext (λ q. same j q (cases_Bool (o j q)) (cases_Bool (p j q))))
   where
     same : (j q : ℕ) → (o j q ≡ true) ⊎ (o j q ≡ false) → (p j q ≡ true) ⊎ (p j q ≡ false) → o j q ≡ p j q

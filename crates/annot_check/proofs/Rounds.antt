@@ -14,7 +14,8 @@ use Rattle.ws_words.specs.Items.{flag_at}
 abbrev pub Come : Waves → ℕ → Type 0
 Come w b = flag_at w.come.items b ≡ true
 
-pub round_todo : (old new : Waves) (todo : List ℕ) (n : ℕ) → todo ≡ old.todo.items ++ n ∷ [] → MoreCome old new →
+pub round_todo : (old new : Waves) (todo : List ℕ) (n : ℕ) → todo ≡ old.todo.items ++ n ∷ []
+    → MoreCome old new →
     ((b : ℕ) → HasNumber todo b → Come old b) → (b : ℕ) → HasNumber new.todo.items b → Come new b
 round_todo old new todo n e m all b h = elim (m.todo_come b h) [
   | inl x ↦ m.keeps b (all b (rw e (has_left old.todo.items (n ∷ []) b x)))
@@ -38,7 +39,8 @@ round_done image old new todo n e m all last b h = elim (m.is_new b h) [
 ]
 
 -- when no wave is left to be passed the rules hold
-pub whole_rules : (image : Image) (w : Waves) → w.todo.items ≡ [] → ShapeRules image → WavesInOrder image.blocks →
+pub whole_rules : (image : Image) (w : Waves) → w.todo.items ≡ [] → ShapeRules image
+    → WavesInOrder image.blocks →
     Begun image → Come w 1 → ((b : ℕ) → Come w b → CameTo image b) →
     ((b : ℕ) → Come w b → HasNumber w.todo.items b ⊎ WaveDone image (λ c. Come w c) b) → SlotRules image
 whole_rules image w none shape order begun one came all = slot_rules image (flag_at w.come.items) (record {

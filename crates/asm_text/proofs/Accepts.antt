@@ -1,11 +1,15 @@
 -- Lines that spell the items of a formed image may stand where they stand, and keep the limits.
-use Rattle.std.proofs.Common.{◌≡◌, inl, inr, ℕ, suc, ◌+◌, ◌<◌, ◌≤◌, ◌&&◌, ◌||◌, nat_le, length, length-append, Bool, true, false, List, [], ◌∷◌, ◌++◌, map, Option, Some, None, Ok, refl, sym, ap, subst, ◌∙◌, append_assoc, append-nil, arith}
+use Rattle.std.proofs.Common.{◌≡◌, inl, inr, ℕ, suc, ◌+◌, ◌<◌, ◌≤◌, ◌&&◌, ◌||◌, nat_le, length, length-append}
+use Rattle.std.proofs.Common.{Bool, true, false, List, [], ◌∷◌, ◌++◌, map, Option, Some, None, Ok, refl, sym}
+use Rattle.std.proofs.Common.{ap, subst, ◌∙◌, append_assoc, append-nil, arith}
 use Rattle.std.specs.List.{AllByRecursion, list_all}
 use Rattle.std.proofs.lemmas.List.{map-append}
 use Rattle.std.proofs.lemmas.Bool.{and_parts, le-leb, lt-ltb, leb-true, eq-eqb}
 use Rattle.std.proofs.lemmas.Option.{none-some}
 use Rattle.ws_isa.specs.Image.{flat}
-use Rattle.ws_isa.specs.Formed.{most_instrs, most_blocks, most_waves, most_arrays, most_length, most_cells, most_pads, most_landings, most_name, NameFormed, total_length, DestsIn, ExitWithin, WavesFrom, WavesInOrder, Formed}
+use Rattle.ws_isa.specs.Formed.{most_instrs, most_blocks, most_waves, most_arrays, most_length, most_cells}
+use Rattle.ws_isa.specs.Formed.{most_pads, most_landings, most_name, NameFormed, total_length, DestsIn}
+use Rattle.ws_isa.specs.Formed.{ExitWithin, WavesFrom, WavesInOrder, Formed}
 use Rattle.asm_text.specs.declared.line.Label.{Label}
 use Rattle.asm_text.specs.declared.line.Target.{Target}
 use Rattle.asm_text.specs.declared.line.InstrLine.{InstrLine}
@@ -14,16 +18,25 @@ use Rattle.asm_text.specs.declared.state.Expected.{Expected}
 use Rattle.asm_text.specs.declared.state.TextState.{TextState}
 use Rattle.asm_text.specs.Names.{Names}
 use Rattle.asm_text.specs.Limits.{first_most_instrs, first_most_blocks, first_most_waves, first_most_landings}
-use Rattle.asm_text.specs.State.{opening, next_place, is_number, are_numbers, is_plain, is_above, is_numbered, limit, is_within_cells, is_within, is_new, is_other_version, with_name, counted, checked, behind}
+use Rattle.asm_text.specs.State.{opening, next_place, is_number, are_numbers, is_plain, is_above, is_numbered}
+use Rattle.asm_text.specs.State.{limit, is_within_cells, is_within, is_new, is_other_version, with_name}
+use Rattle.asm_text.specs.State.{counted, checked, behind}
 use Rattle.asm_text.specs.Printed.{few_landings, keeps_first_limits}
-use Rattle.asm_text.specs.Spelling.{Version, Array, Wave, Block, Pad, Exit, End, instr_items, wave_items, block_items, blocks_items, items, Naming, IsFor, Pairs, TargetIsFor, Spells, SpellsExit, ShortNames, array_line_of}
+use Rattle.asm_text.specs.Spelling.{Version, Array, Wave, Block, Pad, Exit, End, instr_items, wave_items}
+use Rattle.asm_text.specs.Spelling.{block_items, blocks_items, items, Naming, IsFor, Pairs, TargetIsFor}
+use Rattle.asm_text.specs.Spelling.{Spells, SpellsExit, ShortNames, array_line_of}
 use Rattle.asm_text.proofs.Items.{InstrIn, BlockIn, First, firsts_of, blocks_formed, dests_small}
 use Rattle.asm_text.proofs.Held.{last_wave}
 use Rattle.ws_isa.specs.Image as plain
 use Rattle.asm_text.specs.declared.line.Line.TheVariants as line
 use Rattle.asm_text.specs.declared.state.Expected.TheVariants as place
-use Rattle.asm_text.proofs.Labels.{halves, pairs_length, nil_of, cons_of, empty, IsPlain, plain_line, label_number, labels_number, targets_number, label_short, labels_short, targets_ports, targets_few, Sound, own_next, own_new, own_sound}
-use Rattle.asm_text.proofs.Inside.{port_count, last_pad, Rise, rise_first, rise_rest, PadWithin, Inside, behind_instrs, still_inside, still_instrs, op_within, Open, Begun, ports_on, limit_of, go_next, branch_next, send_next, stop_next, same_wave, new_wave, begun_next}
+use Rattle.asm_text.proofs.Labels.{halves, pairs_length, nil_of, cons_of, empty, IsPlain, plain_line}
+use Rattle.asm_text.proofs.Labels.{label_number, labels_number, targets_number, label_short, labels_short}
+use Rattle.asm_text.proofs.Labels.{targets_ports, targets_few, Sound, own_next, own_new, own_sound}
+use Rattle.asm_text.proofs.Inside.{port_count, last_pad, Rise, rise_first, rise_rest, PadWithin, Inside}
+use Rattle.asm_text.proofs.Inside.{behind_instrs, still_inside, still_instrs, op_within, Open, Begun}
+use Rattle.asm_text.proofs.Inside.{ports_on, limit_of, go_next, branch_next, send_next, stop_next, same_wave}
+use Rattle.asm_text.proofs.Inside.{new_wave, begun_next}
 use Rattle.ws_words.proofs.Lists.{length_map}
 use Rattle.ws_words.proofs.Bools.{or_true}
 

@@ -18,8 +18,10 @@ use Rattle.ws_words.proofs.Decimals.{decimal_digits, letter_byte}
 digit_byte : (b : ℕ) → is_digit b ≡ true → is_word_byte b ≡ true
 digit_byte b h = ap (λ t. is_letter b || t) h ∙ or_true (is_letter b)
 
-module _ (q : ℕ → Bool) (word : (b : ℕ) → is_word_byte b ≡ true → q b ≡ true) (mark : (m : marks.Mark) → list_all q (mark_bytes m) ≡ true) (space : q 32 ≡ true) where
-  each : (p : ℕ → Bool) → ((b : ℕ) → p b ≡ true → is_word_byte b ≡ true) → (xs : List ℕ) → list_all p xs ≡ true → list_all q xs ≡ true
+module _ (q : ℕ → Bool) (word : (b : ℕ) → is_word_byte b ≡ true → q b ≡ true) (mark : (m : marks.Mark)
+    → list_all q (mark_bytes m) ≡ true) (space : q 32 ≡ true) where
+  each : (p : ℕ → Bool) → ((b : ℕ) → p b ≡ true → is_word_byte b ≡ true) → (xs : List ℕ)
+      → list_all p xs ≡ true → list_all q xs ≡ true
   each p known [] h = refl
   each p known (x ∷ xs) h =
       let parts = and_parts (p x) (list_all p xs) h in
@@ -55,7 +57,8 @@ module _ (q : ℕ → Bool) (word : (b : ℕ) → is_word_byte b ≡ true → q 
       (both (gap (is_joined a l)) (bytes_of l) (gap_all (is_joined a l)) (bytes_all l h.0))
       (text_all (behind l) ls h.1)
 
-  pub lines_all : q 10 ≡ true → (lines : List (List Lexeme)) → AllLexemes lines → list_all q (flat_map line_text lines) ≡ true
+  pub lines_all : q 10 ≡ true → (lines : List (List Lexeme)) → AllLexemes lines
+      → list_all q (flat_map line_text lines) ≡ true
   lines_all feed [] h = refl
   lines_all feed (l ∷ lines) h =
       both (line_text l) (flat_map line_text lines)

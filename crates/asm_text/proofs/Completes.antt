@@ -1,5 +1,6 @@
 -- Each text whose lines spell the items of a formed image is read as that image.
-use Rattle.std.proofs.Common.{◌≡◌, ◌⊎◌, inl, inr, ℕ, ◌+◌, ◌≤◌, length, Bool, true, false, List, [], ◌∷◌, ◌++◌, map, Option, Some, None, Result, Ok, if◌then◌else◌, refl, sym, ap, subst, ◌∙◌}
+use Rattle.std.proofs.Common.{◌≡◌, ◌⊎◌, inl, inr, ℕ, ◌+◌, ◌≤◌, length, Bool, true, false, List, [], ◌∷◌, ◌++◌}
+use Rattle.std.proofs.Common.{map, Option, Some, None, Result, Ok, if◌then◌else◌, refl, sym, ap, subst, ◌∙◌}
 use Rattle.std.proofs.lemmas.Bool.{true≢false, eq-eqb}
 use Rattle.std.proofs.lemmas.Option.{none-some}
 use Rattle.std.proofs.lemmas.Result.{IfOk-at_ok}
@@ -17,10 +18,12 @@ use Rattle.asm_text.specs.declared.state.Expected.TheVariants as place
 use Rattle.asm_text.specs.declared.state.TextState.{TextState}
 use Rattle.asm_text.specs.Names.{Names, named}
 use Rattle.asm_text.specs.Words.{is}
-use Rattle.asm_text.specs.State.{opening, next_place, is_plain, is_numbered, is_within, is_new, with_name, counted, checked, behind}
+use Rattle.asm_text.specs.State.{opening, next_place, is_plain, is_numbered, is_within, is_new, with_name}
+use Rattle.asm_text.specs.State.{counted, checked, behind}
 use Rattle.asm_text.specs.Building.{◌>>=◌, Built}
 use Rattle.asm_text.specs.Printed.{keeps_first_limits}
-use Rattle.asm_text.specs.Reading.{lines_of, reading, step, add, on_line, is_ended, passed, made, nothing, read, Fault}
+use Rattle.asm_text.specs.Reading.{lines_of, reading, step, add, on_line, is_ended, passed, made, nothing}
+use Rattle.asm_text.specs.Reading.{read, Fault}
 use Rattle.asm_text.specs.Spelling.{Naming, Says, Say, Spelled}
 use Rattle.asm_text.proofs.Held.{last_wave, after}
 use Rattle.asm_text.proofs.Inside.{port_count}

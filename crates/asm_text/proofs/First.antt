@@ -1,5 +1,7 @@
 -- A text of version 1 keeps the limits of version 1.
-use Rattle.std.proofs.Common.{◌≡◌, ℕ, ◌+◌, ◌<◌, ◌≤◌, ◌&&◌, nat_lt, nat_le, length, length-append, Bool, true, false, IfOk, List, [], ◌∷◌, ◌++◌, Option, Some, None, Ok, Err, refl, sym, ap, ◌∙◌, arith}
+use Rattle.std.proofs.Common.{◌≡◌, ℕ, ◌+◌, ◌<◌, ◌≤◌, ◌&&◌, nat_lt, nat_le, length, length-append, Bool, true}
+use Rattle.std.proofs.Common.{false, IfOk, List, [], ◌∷◌, ◌++◌, Option, Some, None, Ok, Err, refl, sym, ap}
+use Rattle.std.proofs.Common.{◌∙◌, arith}
 use Rattle.std.specs.List.{list_all}
 use Rattle.std.proofs.lemmas.Bool.{false≢true, and_parts, and_from, le-leb, ltb-true}
 use Rattle.std.proofs.lemmas.List.Folds.{list_all-append}
@@ -16,7 +18,8 @@ use Rattle.asm_text.specs.declared.state.Expected.TheVariants as place
 use Rattle.asm_text.specs.declared.state.TextState.{TextState}
 use Rattle.asm_text.specs.Limits.{first_most_instrs, first_most_blocks, first_most_waves, first_most_landings}
 use Rattle.asm_text.specs.State.{next_place, is_short, is_within_op, are_few, limit, is_within, counted}
-use Rattle.asm_text.specs.Building.{Maybe, Built, dests_of, blocks_of, instr_of, block_of, is_known, exit_of, with_exit, built}
+use Rattle.asm_text.specs.Building.{Maybe, Built, dests_of, blocks_of, instr_of, block_of, is_known, exit_of}
+use Rattle.asm_text.specs.Building.{with_exit, built}
 use Rattle.asm_text.specs.Printed.{few_landings, keeps_first_block, keeps_first_limits}
 use Rattle.asm_text.specs.Spelling.{IsFor, Pairs}
 use Rattle.asm_text.proofs.Held.{Held, after}

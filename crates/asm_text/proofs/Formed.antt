@@ -1,13 +1,18 @@
 -- What is read is formed.
-use Rattle.std.proofs.Common.{◌≡◌, ◌⊎◌, inl, inr, ℕ, zero, suc, ◌-◌, ◌<◌, ◌≤◌, true, IfOk, List, [], ◌∷◌, ◌++◌, length, map, slice_get, Some, None, Result, Ok, Err, refl, ap, subst, ◌∙◌, append-nil, arith}
+use Rattle.std.proofs.Common.{◌≡◌, ◌⊎◌, inl, inr, ℕ, zero, suc, ◌-◌, ◌<◌, ◌≤◌, true, IfOk, List, [], ◌∷◌}
+use Rattle.std.proofs.Common.{◌++◌, length, map, slice_get, Some, None, Result, Ok, Err, refl, ap, subst, ◌∙◌}
+use Rattle.std.proofs.Common.{append-nil, arith}
 use Rattle.std.specs.List.{AllByRecursion}
 use Rattle.std.proofs.lemmas.Bool.{false≢true, ltb-true}
 use Rattle.std.proofs.lemmas.Result.{IfOk-at_ok}
 use Rattle.ws_isa.specs.declared.instr.Op.{Op}
 use Rattle.ws_isa.specs.declared.instr.Op.TheVariants as op
 use Rattle.ws_isa.specs.declared.instr.Dest.{Dest}
-use Rattle.ws_isa.specs.Image.{Image, Block, Pad, Instr, Exit, Goto, Branch, Landings, Stop, flat, no_instr, instr_at, ports, ports_of, IsBlock, IsInstr}
-use Rattle.ws_isa.specs.Formed.{most_instrs, most_blocks, most_pads, most_dests, DestIn, DestsIn, OpIn, ExitIn, InstrWithin, BlockWithin, WavesFrom, WavesInOrder, RiseFrom, PadsRise, Formed}
+use Rattle.ws_isa.specs.Image.{Image, Block, Pad, Instr, Exit, Goto, Branch, Landings, Stop, flat, no_instr}
+use Rattle.ws_isa.specs.Image.{instr_at, ports, ports_of, IsBlock, IsInstr}
+use Rattle.ws_isa.specs.Formed.{most_instrs, most_blocks, most_pads, most_dests, DestIn, DestsIn, OpIn}
+use Rattle.ws_isa.specs.Formed.{ExitIn, InstrWithin, BlockWithin, WavesFrom, WavesInOrder, RiseFrom, PadsRise}
+use Rattle.ws_isa.specs.Formed.{Formed}
 use Rattle.asm_text.specs.declared.state.Expected.{Expected}
 use Rattle.asm_text.specs.declared.state.Expected.TheVariants as place
 use Rattle.asm_text.specs.declared.state.TextState.{TextState}
@@ -18,7 +23,8 @@ use Rattle.asm_text.specs.Building.{◌>>=◌, Built, or_zero, ports_at, view_of
 use Rattle.asm_text.specs.Reading.{lines_of, passed, made, nothing, is_ended, read, Fault}
 use Rattle.asm_text.proofs.HeldSteps.{then_ok}
 use Rattle.asm_text.proofs.HeldNames.{NamesThere, Among, DestFor, passed_names}
-use Rattle.asm_text.proofs.Held.{DestsFor, OpFor, ExitFor, InstrHeld, PadHeld, Rises, BlockHeld, InstrsHeld, Exited, Stands, so_far}
+use Rattle.asm_text.proofs.Held.{DestsFor, OpFor, ExitFor, InstrHeld, PadHeld, Rises, BlockHeld, InstrsHeld}
+use Rattle.asm_text.proofs.Held.{Exited, Stands, so_far}
 use Rattle.asm_text.proofs.HeldTexts.{AtEnd, nothing_held, lines_held}
 use Rattle.ws_words.proofs.Lists.{all_with, length_map}
 use Rattle.ws_words.specs.Items.{nth, or_else}
@@ -105,7 +111,8 @@ first_wave : (w : ℕ) → (w ≡ 0) ⊎ (w ≡ suc 0) → 1 ≤ w → w ≡ 1
 first_wave w (inl e) h = absurd (omega arith)
 first_wave w (inr e) h = e
 
-waves_in_order : (s : TextState) (blocks : List Block) → 1 ≤ length blocks → AllByRecursion (BlockHeld s) blocks
+waves_in_order : (s : TextState) (blocks : List Block) → 1 ≤ length blocks
+    → AllByRecursion (BlockHeld s) blocks
     → WavesFrom 0 blocks → WavesInOrder blocks
 waves_in_order s [] some h w = absurd (omega arith)
 waves_in_order s (b ∷ blocks) some h w =
@@ -117,7 +124,8 @@ at_end place.Ended s b e h = h
 at_end p s b e h = absurd (false≢true e)
 
 -- what is built behind all lines is formed
-end_formed : (s : TextState) (b : Built) → AtEnd s b → Formed (record { arrays = b.arrays; blocks = b.blocks })
+end_formed : (s : TextState) (b : Built) → AtEnd s b
+    → Formed (record { arrays = b.arrays; blocks = b.blocks })
 end_formed s b h =
     let held = h.0 in
     let exited = at_end s.place s b h.1 held.stands in

@@ -1,5 +1,6 @@
 -- The lexemes of a text are words, and numbers of 64 bits.
-use Rattle.std.proofs.Common.{◌≡◌, ℕ, zero, suc, ◌-◌, ◌^◌, ◌<◌, ◌==◌, cond, nat_lt, Bool, true, false, IfSome, List, [], ◌∷◌, Option, Some, None, take, arith, refl}
+use Rattle.std.proofs.Common.{◌≡◌, ℕ, zero, suc, ◌-◌, ◌^◌, ◌<◌, ◌==◌, cond, nat_lt, Bool, true, false, IfSome}
+use Rattle.std.proofs.Common.{List, [], ◌∷◌, Option, Some, None, take, arith, refl}
 use Rattle.std.specs.List.{AllByRecursion, prefix_len}
 use Rattle.std.specs.Option.{option_map, option_and_then}
 use Rattle.std.proofs.lemmas.Bool.{or_left, and_from, ltb-true}
@@ -7,7 +8,8 @@ use Rattle.ws_words.specs.Digits.{is_digit, value_of}
 use Rattle.asm_text.specs.declared.lexeme.Front.{Front}
 use Rattle.asm_text.specs.declared.lexeme.Lexeme.{Lexeme}
 use Rattle.asm_text.specs.declared.lexeme.Lexeme.TheVariants.{Word, Number, Mark}
-use Rattle.asm_text.specs.Lexing.{is_blank, lone, number_of, mark_of, begins, front, Lexed, found_items, behind, scan, lexed}
+use Rattle.asm_text.specs.Lexing.{is_blank, lone, number_of, mark_of, begins, front, Lexed, found_items}
+use Rattle.asm_text.specs.Lexing.{behind, scan, lexed}
 use Rattle.ws_words.proofs.Numbers.{one_more}
 use Rattle.ws_words.proofs.Lists.{all_append}
 use Rattle.ws_words.specs.Letters.{is_letter, is_word_byte, is_word}

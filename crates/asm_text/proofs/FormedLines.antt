@@ -1,5 +1,6 @@
 -- What the form of a line says: names are words, notes and lists suit their instruction.
-use Rattle.std.proofs.Common.{◌≡◌, ℕ, ◌^◌, ◌<◌, ◌≤◌, ◌==◌, cond, Bool, true, false, IfSome, List, [], ◌∷◌, length, Option, Some, None, arith, refl}
+use Rattle.std.proofs.Common.{◌≡◌, ℕ, ◌^◌, ◌<◌, ◌≤◌, ◌==◌, cond, Bool, true, false, IfSome, List, [], ◌∷◌}
+use Rattle.std.proofs.Common.{length, Option, Some, None, arith, refl}
 use Rattle.std.proofs.lemmas.Bool.{false≢true}
 use Rattle.ws_isa.specs.declared.instr.Op.{Op}
 use Rattle.ws_isa.specs.declared.instr.Op.TheVariants as op
@@ -21,7 +22,10 @@ use Rattle.asm_text.specs.declared.words.Head.TheVariants as head
 use Rattle.asm_text.specs.declared.reading.Reading.{Reading}
 use Rattle.asm_text.specs.declared.reading.Reading.TheVariants.{Blank, Wrong, Found}
 use Rattle.asm_text.specs.Words.{head_of, op_of, in_word, has_number, with_number}
-use Rattle.asm_text.specs.Forms.{◌>>=◌, mark_number, expect, number_at, word_at, label_at, targets_at, labels_at, done, link_at, note_at, op_at, noted, lists_at, instr_line, some, branch_line, send_line, array_line, pad_line, last_number, last_label, headed, word_line, is_own, line_of}
+use Rattle.asm_text.specs.Forms.{◌>>=◌, mark_number, expect, number_at, word_at, label_at, targets_at}
+use Rattle.asm_text.specs.Forms.{labels_at, done, link_at, note_at, op_at, noted, lists_at, instr_line, some}
+use Rattle.asm_text.specs.Forms.{branch_line, send_line, array_line, pad_line, last_number, last_label}
+use Rattle.asm_text.specs.Forms.{headed, word_line, is_own, line_of}
 use Rattle.asm_text.specs.Lexing.{Lexed, lexed}
 use Rattle.asm_text.specs.Reading.{formed, read_items, read_lexed, reading}
 use Rattle.asm_text.proofs.FormedLexemes.{AllFit, either, lexed_fits}

@@ -1,12 +1,15 @@
 -- What holds of the state and of what is built behind each line, where s is the state behind all
 -- lines, which the second pass reads.
-use Rattle.std.specs.Prelude.{◌≡◌, ◌⊎◌, ℕ, suc, ◌+◌, ◌<◌, ◌≤◌, true, List, [], ◌∷◌, ◌++◌, length, map, Option, Some, None}
+use Rattle.std.specs.Prelude.{◌≡◌, ◌⊎◌, ℕ, suc, ◌+◌, ◌<◌, ◌≤◌, true, List, [], ◌∷◌, ◌++◌, length, map, Option}
+use Rattle.std.specs.Prelude.{Some, None}
 use Rattle.std.specs.List.{AllByRecursion}
 use Rattle.ws_isa.specs.declared.instr.Op.{Op}
 use Rattle.ws_isa.specs.declared.instr.Op.TheVariants as op
 use Rattle.ws_isa.specs.declared.instr.Dest.{Dest}
 use Rattle.ws_isa.specs.Image.{Array, Block, Pad, Instr, Exit, Goto, Branch, Landings, Stop, flat, ports_of}
-use Rattle.ws_isa.specs.Formed.{most_instrs, most_blocks, most_waves, most_dests, most_pads, most_port, total_length, ArraysFormed, InstrWithin, ExitWithin, SomeLanding, DestsSuit, OthersSuit, NoteSuits, WavesFrom}
+use Rattle.ws_isa.specs.Formed.{most_instrs, most_blocks, most_waves, most_dests, most_pads, most_port}
+use Rattle.ws_isa.specs.Formed.{total_length, ArraysFormed, InstrWithin, ExitWithin, SomeLanding, DestsSuit}
+use Rattle.ws_isa.specs.Formed.{OthersSuit, NoteSuits, WavesFrom}
 use Rattle.asm_text.specs.declared.state.Expected.{Expected}
 use Rattle.asm_text.specs.declared.state.Expected.TheVariants as place
 use Rattle.asm_text.specs.declared.state.TextState.{TextState}

@@ -1,5 +1,7 @@
 -- Each kind of line keeps what holds of the state and of what is built.
-use Rattle.std.proofs.Common.{◌≡◌, ◌⊎◌, inl, inr, ℕ, suc, ◌+◌, ◌<◌, ◌≤◌, ◌&&◌, nat_lt, nat_le, Bool, true, false, IfOk, List, [], ◌∷◌, ◌++◌, length, Option, Some, None, Ok, Err, refl, sym, ap, subst, ◌∙◌, append_assoc, append-nil, arith}
+use Rattle.std.proofs.Common.{◌≡◌, ◌⊎◌, inl, inr, ℕ, suc, ◌+◌, ◌<◌, ◌≤◌, ◌&&◌, nat_lt, nat_le, Bool, true}
+use Rattle.std.proofs.Common.{false, IfOk, List, [], ◌∷◌, ◌++◌, length, Option, Some, None, Ok, Err, refl}
+use Rattle.std.proofs.Common.{sym, ap, subst, ◌∙◌, append_assoc, append-nil, arith}
 use Rattle.std.specs.List.{list_all}
 use Rattle.std.proofs.lemmas.Bool.{false≢true, and_parts, ltb-true, leb-true, eqb-true}
 use Rattle.std.proofs.lemmas.Bool.Decides.{nat_tests}
@@ -8,7 +10,9 @@ use Rattle.ws_isa.specs.declared.instr.Op.{Op}
 use Rattle.ws_isa.specs.declared.instr.Op.TheVariants as op
 use Rattle.ws_isa.specs.declared.instr.Dest.{Dest}
 use Rattle.ws_isa.specs.Image.{Array, Block, Pad, Instr, Exit, flat, ports_of, Goto, Branch, Landings, Stop}
-use Rattle.ws_isa.specs.Formed.{most_arrays, most_length, most_cells, most_instrs, most_waves, most_dests, most_pads, most_landings, most_name, NameFormed, SendWithin, ExitWithin, SomeLanding}
+use Rattle.ws_isa.specs.Formed.{most_arrays, most_length, most_cells, most_instrs, most_waves, most_dests}
+use Rattle.ws_isa.specs.Formed.{most_pads, most_landings, most_name, NameFormed, SendWithin, ExitWithin}
+use Rattle.ws_isa.specs.Formed.{SomeLanding}
 use Rattle.asm_text.specs.declared.line.Label.{Label}
 use Rattle.asm_text.specs.declared.line.Target.{Target}
 use Rattle.asm_text.specs.declared.line.InstrLine.{InstrLine}
@@ -18,14 +22,19 @@ use Rattle.asm_text.specs.declared.state.Expected.{Expected}
 use Rattle.asm_text.specs.declared.state.Expected.TheVariants as place
 use Rattle.asm_text.specs.declared.state.TextState.{TextState}
 use Rattle.asm_text.specs.Limits.{first_most_instrs, first_most_landings}
-use Rattle.asm_text.specs.State.{next_place, is_numbered, is_above, are_ports, is_within, is_within_cells, is_within_op, is_short, is_short_name, are_few, are_short, limit, counted}
-use Rattle.asm_text.specs.Building.{Maybe, Built, instr_of, block_of, blocks_of, dests_of, is_known, with_array, with_pad, with_instr, closed, exit_of, with_exit, built}
+use Rattle.asm_text.specs.State.{next_place, is_numbered, is_above, are_ports, is_within, is_within_cells}
+use Rattle.asm_text.specs.State.{is_within_op, is_short, is_short_name, are_few, are_short, limit, counted}
+use Rattle.asm_text.specs.Building.{Maybe, Built, instr_of, block_of, blocks_of, dests_of, is_known}
+use Rattle.asm_text.specs.Building.{with_array, with_pad, with_instr, closed, exit_of, with_exit, built}
 use Rattle.asm_text.proofs.Counts.{waves_few, blocks_few, instrs_few}
 use Rattle.asm_text.proofs.FormedLines.{LineFits, InstrFits}
 use Rattle.asm_text.proofs.HeldSteps.{if_ok, then_ok}
-use Rattle.asm_text.proofs.HeldNames.{NamesThere, Among, DestFor, EachOf, instr_in, block_in, dests_in, blocks_in, dests_suit, others_suit}
-use Rattle.asm_text.proofs.Held.{ExitFor, OpFor, ExitHeld, InstrHeld, PadHeld, InstrsHeld, last_pad, last_wave, Shut, Inside, Stands, so_far, Held, after}
-use Rattle.asm_text.proofs.HeldLists.{arrays_more, instrs_more, flat_snoc, last_pad_snoc, pads_more, last_wave_snoc, blocks_more}
+use Rattle.asm_text.proofs.HeldNames.{NamesThere, Among, DestFor, EachOf, instr_in, block_in, dests_in}
+use Rattle.asm_text.proofs.HeldNames.{blocks_in, dests_suit, others_suit}
+use Rattle.asm_text.proofs.Held.{ExitFor, OpFor, ExitHeld, InstrHeld, PadHeld, InstrsHeld, last_pad}
+use Rattle.asm_text.proofs.Held.{last_wave, Shut, Inside, Stands, so_far, Held, after}
+use Rattle.asm_text.proofs.HeldLists.{arrays_more, instrs_more, flat_snoc, last_pad_snoc, pads_more}
+use Rattle.asm_text.proofs.HeldLists.{last_wave_snoc, blocks_more}
 
 at_place : (P : Expected → Type 0) (q p : Expected) → Some q ≡ Some p → P q → P p
 at_place P q p e h = subst P (same_Some q p e) h
@@ -63,7 +72,8 @@ abbrev with_cells : TextState → ℕ → Expected → TextState
 with_cells t n p = record t { place = p; arrays = t.arrays + 1; cells = t.cells + n }
 
 -- an array, with or without a name
-array_held : (s t : TextState) (b : Built) (o : Option (List ℕ)) (n : ℕ) (p : Expected) → Held s t b → NameFormed o
+array_held : (s t : TextState) (b : Built) (o : Option (List ℕ)) (n : ℕ) (p : Expected) → Held s t b
+    → NameFormed o
     → is_within_cells t n ≡ true
     → Stands p (with_cells t n p) (with_array b o n)
     → Held s (with_cells t n p) (with_array b o n)
@@ -164,7 +174,8 @@ few_targets ts ds e h =
     let l = leb-true (length ts) most_dests few in
     omega arith
 
-pad_held : (s t : TextState) (b : Built) (k : ℕ) (ts : List Target) (ds : List Dest) (p : Expected) → Held s t b
+pad_held : (s t : TextState) (b : Built) (k : ℕ) (ts : List Target) (ds : List Dest) (p : Expected)
+    → Held s t b
     → EachOf (DestFor s) ts ds
     → next_place t.place (line.Pad k ts) ≡ Some p → is_numbered t (line.Pad k ts) ≡ true
     → is_within t (line.Pad k ts) ≡ true
@@ -190,7 +201,8 @@ pad_held s t b k ts ds p h each e n w =
       stands = by t.place e h.stands;
     }
   where
-    last : (q : Expected) → next_place q (line.Pad k ts) ≡ Some p → Stands q t b → t.pad ≡ last_pad None b.pads
+    last : (q : Expected) → next_place q (line.Pad k ts) ≡ Some p → Stands q t b
+        → t.pad ≡ last_pad None b.pads
     last place.Pads e l = l.3
     last q e l = nowhere p e
 
@@ -328,14 +340,16 @@ exit_held s t b (Ok (Some exit)) p h x i =
 exit_at : (P : Type 0) (p : Expected) → Some place.Exited ≡ Some p → P → (place.Exited ≡ p) × P
 exit_at P p e k = (same_Some place.Exited p e, k)
 
-go_at : (t : TextState) (b : Built) (l : Label) (q p : Expected) → next_place q (line.Go l) ≡ Some p → Stands q t b
+go_at : (t : TextState) (b : Built) (l : Label) (q p : Expected) → next_place q (line.Go l) ≡ Some p
+    → Stands q t b
     → (place.Exited ≡ p) × Inside t b
 unfolding next_place
 go_at t b l place.Pads p e k = exit_at (Inside t b) p e k
 go_at t b l place.Instrs p e k = exit_at (Inside t b) p e k
 go_at t b l q p e k = nowhere p e
 
-branch_at : (t : TextState) (b : Built) (l m n : Label) (q p : Expected) → next_place q (line.If l m n) ≡ Some p
+branch_at : (t : TextState) (b : Built) (l m n : Label) (q p : Expected)
+    → next_place q (line.If l m n) ≡ Some p
     → Stands q t b → (place.Exited ≡ p) × Inside t b
 unfolding next_place
 branch_at t b l m n place.Pads p e k = exit_at (Inside t b) p e k
@@ -403,7 +417,8 @@ unfolding is_within
 hidden_part t n w = w
 
 -- what is built of a line that is taken
-pub line_held : (s t : TextState) (b : Built) (l : Line) (p : Expected) → NamesThere s → Held s t b → LineFits l
+pub line_held : (s t : TextState) (b : Built) (l : Line) (p : Expected) → NamesThere s → Held s t b
+    → LineFits l
     → next_place t.place l ≡ Some p → is_numbered t l ≡ true → is_within t l ≡ true
     → IfOk (built s b l) (Held s (after t l p))
 unfolding built exit_of counted

@@ -1,12 +1,15 @@
 -- Lists with one more item.
-use Rattle.std.proofs.Common.{◌≡◌, ◌⊎◌, ℕ, suc, ◌+◌, ◌<◌, ◌≤◌, true, List, [], ◌∷◌, ◌++◌, length, Option, Some, None, refl, sym, ap, ◌∙◌, append_assoc, append-nil, arith}
+use Rattle.std.proofs.Common.{◌≡◌, ◌⊎◌, ℕ, suc, ◌+◌, ◌<◌, ◌≤◌, true, List, [], ◌∷◌, ◌++◌, length, Option}
+use Rattle.std.proofs.Common.{Some, None, refl, sym, ap, ◌∙◌, append_assoc, append-nil, arith}
 use Rattle.std.specs.List.{AllByRecursion}
 use Rattle.ws_isa.specs.Image.{Array, Block, Pad, Instr, flat, ports_of}
-use Rattle.ws_isa.specs.Formed.{most_arrays, most_length, most_cells, most_instrs, total_length, NameFormed, WavesFrom}
+use Rattle.ws_isa.specs.Formed.{most_arrays, most_length, most_cells, most_instrs, total_length, NameFormed}
+use Rattle.ws_isa.specs.Formed.{WavesFrom}
 use Rattle.asm_text.specs.declared.state.TextState.{TextState}
 use Rattle.asm_text.specs.State.{is_above}
 use Rattle.asm_text.proofs.HeldNames.{length_snoc}
-use Rattle.asm_text.proofs.Held.{Rises, last_pad, last_wave, ArraysHeld, InstrHeld, InstrsHeld, PadHeld, PadsHeld, BlockHeld, BlocksHeld}
+use Rattle.asm_text.proofs.Held.{Rises, last_pad, last_wave, ArraysHeld, InstrHeld, InstrsHeld, PadHeld}
+use Rattle.asm_text.proofs.Held.{PadsHeld, BlockHeld, BlocksHeld}
 use Rattle.ws_words.proofs.Lists.{all_append, map_push}
 
 pub all_snoc : {A : Type 0} (P : A → Type 0) (xs : List A) (x : A) → AllByRecursion P xs → P x

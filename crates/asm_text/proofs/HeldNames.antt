@@ -1,5 +1,6 @@
 -- Each name that the first pass keeps stands for a block or an instruction that is there.
-use Rattle.std.proofs.Common.{◌≡◌, ℕ, suc, ◌+◌, ◌<◌, ◌≤◌, nat_lt, nat_le, ◌&&◌, IfSome, IfOk, List, [], ◌∷◌, ◌++◌, length, length-append, Option, Some, None, refl, ap, arith}
+use Rattle.std.proofs.Common.{◌≡◌, ℕ, suc, ◌+◌, ◌<◌, ◌≤◌, nat_lt, nat_le, ◌&&◌, IfSome, IfOk, List, [], ◌∷◌}
+use Rattle.std.proofs.Common.{◌++◌, length, length-append, Option, Some, None, refl, ap, arith}
 use Rattle.std.specs.List.{AllByRecursion}
 use Rattle.std.proofs.lemmas.Bool.{and_parts, ltb-true, leb-true}
 use Rattle.ws_isa.specs.declared.instr.Dest.{Dest}
@@ -18,7 +19,8 @@ use Rattle.asm_text.specs.declared.reading.Reading.{Reading}
 use Rattle.asm_text.specs.declared.reading.Reading.TheVariants.{Blank, Wrong, Found}
 use Rattle.asm_text.specs.declared.state.TextState.{TextState}
 use Rattle.asm_text.specs.State.{counted, with_name, opening}
-use Rattle.asm_text.specs.Building.{Maybe, by_name, place_of, instr_of, block_of, ports_at, dest_of, dests_of, blocks_of, each}
+use Rattle.asm_text.specs.Building.{Maybe, by_name, place_of, instr_of, block_of, ports_at, dest_of, dests_of}
+use Rattle.asm_text.specs.Building.{blocks_of, each}
 use Rattle.asm_text.specs.Reading.{step, reading, passed, is_ended}
 use Rattle.asm_text.proofs.FormedLexemes.{either}
 use Rattle.asm_text.proofs.FormedLines.{DestsGiven, OthersGiven}
@@ -66,7 +68,8 @@ step_names t (Found l wide) h =
     behind_ok t l wide NamesThere
     (λ p e n w. let k = counted_names t l h in record { instrs = k.instrs; blocks = k.blocks })
 
-lines_names : (t : TextState) (n : ℕ) (lines : List (List ℕ)) → NamesThere t → IfOk (passed t n lines) NamesThere
+lines_names : (t : TextState) (n : ℕ) (lines : List (List ℕ)) → NamesThere t
+    → IfOk (passed t n lines) NamesThere
 unfolding passed
 lines_names t n [] h = if_ok NamesThere (is_ended t.place) _ _ (λ _. h) (λ _. tt)
 lines_names t n (line ∷ lines) h =
@@ -136,7 +139,8 @@ each_in f P h (x ∷ xs) =
     then_ok (EachOf P xs) (EachOf P (x ∷ xs)) (each f xs) _ (each_in f P h xs)
     (λ ys q. record { all = (p, q.all); many = ap suc q.many }))
 
-pub dests_in : (s : TextState) (ts : List Target) → NamesThere s → IfOk (dests_of s ts) (EachOf (DestFor s) ts)
+pub dests_in : (s : TextState) (ts : List Target) → NamesThere s
+    → IfOk (dests_of s ts) (EachOf (DestFor s) ts)
 dests_in s ts h = each_in (dest_of s) (DestFor s) (λ t. dest_in s t h) ts
 
 pub blocks_in : (s : TextState) (ls : List Label) → NamesThere s

@@ -1,12 +1,14 @@
 -- One line at a time: what is answered, wherever it is an answer.
-use Rattle.std.proofs.Common.{◌≡◌, ℕ, ◌||◌, not, cond, Bool, true, false, IfOk, Option, Some, None, Result, Ok, Err, refl}
+use Rattle.std.proofs.Common.{◌≡◌, ℕ, ◌||◌, not, cond, Bool, true, false, IfOk, Option, Some, None, Result}
+use Rattle.std.proofs.Common.{Ok, Err, refl}
 use Rattle.std.proofs.lemmas.Bool.{or_parts}
 use Rattle.asm_text.specs.declared.line.Line.{Line}
 use Rattle.asm_text.specs.declared.state.TextState.{TextState}
 use Rattle.asm_text.specs.declared.state.Expected.{Expected}
 use Rattle.asm_text.specs.declared.fault.AsmKind as kind
 use Rattle.asm_text.specs.declared.fault.AsmKind.TheVariants as Kind
-use Rattle.asm_text.specs.State.{next_place, is_plain, is_numbered, is_within, is_new, is_other_version, counted, checked_at, checked, moved, behind}
+use Rattle.asm_text.specs.State.{next_place, is_plain, is_numbered, is_within, is_new, is_other_version}
+use Rattle.asm_text.specs.State.{counted, checked_at, checked, moved, behind}
 use Rattle.asm_text.specs.Building.{◌>>=◌, Maybe}
 use Rattle.asm_text.specs.Reading.{on_line}
 use Rattle.ws_words.proofs.Bools.{not_false}

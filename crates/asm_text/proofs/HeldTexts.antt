@@ -1,5 +1,6 @@
 -- Behind all lines of a text the state and what is built hold together.
-use Rattle.std.proofs.Common.{◌≡◌, ℕ, ◌+◌, cond, Bool, true, false, IfOk, List, [], ◌∷◌, Result, Ok, Err, refl, subst, arith}
+use Rattle.std.proofs.Common.{◌≡◌, ℕ, ◌+◌, cond, Bool, true, false, IfOk, List, [], ◌∷◌, Result, Ok, Err}
+use Rattle.std.proofs.Common.{refl, subst, arith}
 use Rattle.asm_text.specs.declared.reading.Reading.{Reading}
 use Rattle.asm_text.specs.declared.reading.Reading.TheVariants.{Blank, Wrong, Found}
 use Rattle.asm_text.specs.declared.state.TextState.{TextState}
@@ -39,7 +40,8 @@ step_held s t b (Found l wide) names h f =
 abbrev pub AtEnd : TextState → Built → Type 0
 AtEnd s b = Held s s b × (is_ended s.place ≡ true)
 
-ended : (t s : TextState) (k : Fault) (b : Bool) → ◌≡◌ {A = Result TextState Fault} (cond b (Ok t) (Err k)) (Ok s)
+ended : (t s : TextState) (k : Fault) (b : Bool) → ◌≡◌ {A = Result TextState Fault} (cond b (Ok t) (Err k))
+    (Ok s)
     → (b ≡ true) × (t ≡ s)
 ended t s k true e = (refl, cc)
 ended t s k false e = absurd (cc)

@@ -1,10 +1,12 @@
 -- What a formed image says of each of its blocks, pads and instructions.
-use Rattle.std.proofs.Common.{◌≡◌, ◌^◌, ◌<◌, ◌≤◌, nat_le, ◌&&◌, length, Bool, true, List, [], ◌∷◌, ◌++◌, arith}
+use Rattle.std.proofs.Common.{◌≡◌, ◌^◌, ◌<◌, ◌≤◌, nat_le, ◌&&◌, length, Bool, true, List, [], ◌∷◌, ◌++◌}
+use Rattle.std.proofs.Common.{arith}
 use Rattle.std.specs.List.{AllByRecursion, list_all}
 use Rattle.std.proofs.lemmas.Bool.{and_parts, leb-true}
 use Rattle.ws_isa.specs.declared.instr.Dest.{Dest}
 use Rattle.ws_isa.specs.Image.{Instr, Block, Image, flat, ports, instr_at}
-use Rattle.ws_isa.specs.Formed.{most_instrs, DestIn, DestsIn, OpIn, ExitIn, DestsSuit, OthersSuit, SomeLanding, PadsRise, NoteSuits, InstrWithin, BlockWithin, Formed}
+use Rattle.ws_isa.specs.Formed.{most_instrs, DestIn, DestsIn, OpIn, ExitIn, DestsSuit, OthersSuit}
+use Rattle.ws_isa.specs.Formed.{SomeLanding, PadsRise, NoteSuits, InstrWithin, BlockWithin, Formed}
 use Rattle.asm_text.specs.Limits.{first_most_instrs, first_most_blocks}
 use Rattle.asm_text.specs.Printed.{keeps_first_block, keeps_first_limits}
 use Rattle.ws_isa.proofs.Images.{three_ports}

@@ -1,5 +1,6 @@
 -- Lists in pairs; what labels stand for, and the tests that a line makes of them.
-use Rattle.std.proofs.Common.{◌≡◌, ◌⊎◌, inl, inr, ℕ, suc, ◌+◌, ◌≤◌, ◌||◌, is_none, length, Bool, true, List, [], ◌∷◌, ◌++◌, Option, Some, None, refl, sym, ap, ◌∙◌, arith}
+use Rattle.std.proofs.Common.{◌≡◌, ◌⊎◌, inl, inr, ℕ, suc, ◌+◌, ◌≤◌, ◌||◌, is_none, length, Bool, true, List}
+use Rattle.std.proofs.Common.{[], ◌∷◌, ◌++◌, Option, Some, None, refl, sym, ap, ◌∙◌, arith}
 use Rattle.std.specs.List.{AllByRecursion, list_all}
 use Rattle.std.proofs.lemmas.Bool.{le-leb, eq-eqb}
 use Rattle.std.proofs.lemmas.Option.{none-some, same_Some}
@@ -9,7 +10,8 @@ use Rattle.asm_text.specs.declared.line.Label.{Label}
 use Rattle.asm_text.specs.declared.line.Label.TheVariants.{At, Named}
 use Rattle.asm_text.specs.declared.line.Target.{Target}
 use Rattle.asm_text.specs.Names.{Names, named}
-use Rattle.asm_text.specs.State.{is_number, are_numbers, is_next, are_ports, is_short, are_short, are_few, is_new_label, with_name}
+use Rattle.asm_text.specs.State.{is_number, are_numbers, is_next, are_ports, is_short, are_short, are_few}
+use Rattle.asm_text.specs.State.{is_new_label, with_name}
 use Rattle.asm_text.specs.Spelling.{Naming, IsFor, Pairs, TargetIsFor, ShortNames}
 use Rattle.asm_text.proofs.Items.{Small}
 use Rattle.asm_text.proofs.Given.{named_in_more}

@@ -1,5 +1,7 @@
 -- What a label stands for is what it is read as; items one behind the other.
-use Rattle.std.proofs.Common.{◌≡◌, ℕ, suc, ◌+◌, ◌&&◌, nat_le, nat_lt, length, length-append, IfOk, List, [], ◌∷◌, ◌++◌, Option, Some, None, refl, sym, ap, ◌∙◌, append_assoc, append-nil, arith}
+use Rattle.std.proofs.Common.{◌≡◌, ℕ, suc, ◌+◌, ◌&&◌, nat_le, nat_lt, length, length-append, IfOk, List, []}
+use Rattle.std.proofs.Common.{◌∷◌, ◌++◌, Option, Some, None, refl, sym, ap, ◌∙◌, append_assoc, append-nil}
+use Rattle.std.proofs.Common.{arith}
 use Rattle.ws_isa.specs.Image as plain
 use Rattle.ws_isa.specs.Image.{flat}
 use Rattle.asm_text.specs.declared.line.Label.{Label}
@@ -7,7 +9,8 @@ use Rattle.asm_text.specs.declared.line.Label.TheVariants.{At, Named}
 use Rattle.asm_text.specs.declared.line.Target.{Target}
 use Rattle.asm_text.specs.declared.state.TextState.{TextState}
 use Rattle.asm_text.specs.Names.{Names, named}
-use Rattle.asm_text.specs.Building.{Maybe, by_name, place_of, instr_of, block_of, ports_at, dest_of, dests_of, blocks_of, each}
+use Rattle.asm_text.specs.Building.{Maybe, by_name, place_of, instr_of, block_of, ports_at, dest_of, dests_of}
+use Rattle.asm_text.specs.Building.{blocks_of, each}
 use Rattle.asm_text.specs.Spelling.{Instr, instr_items, block_items, blocks_items, IsFor, Pairs, TargetIsFor}
 use Rattle.asm_text.proofs.Held.{last_wave}
 use Rattle.asm_text.proofs.HeldSteps.{if_ok, then_ok}
@@ -54,7 +57,8 @@ each_for f R h (x ∷ xs) =
     then_ok (R x) (Pairs R (x ∷ xs)) (f x) _ (h x)
     (λ y p. then_ok (Pairs R xs) (Pairs R (x ∷ xs)) (each f xs) _ (each_for f R h xs) (λ ys q. (p, q)))
 
-pub dests_for : (s : TextState) (ts : List Target) → IfOk (dests_of s ts) (Pairs (TargetIsFor s.instr_names) ts)
+pub dests_for : (s : TextState) (ts : List Target) → IfOk (dests_of s ts)
+    (Pairs (TargetIsFor s.instr_names) ts)
 dests_for s ts = each_for (dest_of s) (TargetIsFor s.instr_names) (dest_for s) ts
 
 pub blocks_for : (s : TextState) (ls : List Label) → IfOk (blocks_of s ls) (Pairs (IsFor s.block_names) ls)

@@ -1,5 +1,7 @@
 -- Building of lines that spell the items of an image gives its parts.
-use Rattle.std.proofs.Common.{◌≡◌, ℕ, ◌+◌, ◌≤◌, ◌==◌, length, Bool, true, false, List, [], ◌∷◌, ◌++◌, map, Some, Ok, refl, sym, ap, subst, ◌∙◌, append_assoc, append-nil, zero, suc, ◌-◌, ◌<◌, slice_get, Option, None, arith}
+use Rattle.std.proofs.Common.{◌≡◌, ℕ, ◌+◌, ◌≤◌, ◌==◌, length, Bool, true, false, List, [], ◌∷◌, ◌++◌, map}
+use Rattle.std.proofs.Common.{Some, Ok, refl, sym, ap, subst, ◌∙◌, append_assoc, append-nil, zero, suc, ◌-◌}
+use Rattle.std.proofs.Common.{◌<◌, slice_get, Option, None, arith}
 use Rattle.std.specs.List.{AllByRecursion}
 use Rattle.std.proofs.lemmas.Bool.{le-leb, lt-ltb, eqb-true}
 use Rattle.std.proofs.lemmas.Option.{same_Some}
@@ -13,8 +15,11 @@ use Rattle.asm_text.specs.declared.line.InstrLine.{InstrLine}
 use Rattle.asm_text.specs.declared.line.Line.{Line}
 use Rattle.asm_text.specs.declared.state.TextState.{TextState}
 use Rattle.asm_text.specs.Names.{Names, named}
-use Rattle.asm_text.specs.Building.{place_of, instr_of, block_of, dest_of, each, dests_of, blocks_of, Built, exit_of, built, or_zero, ports_at, is_known}
-use Rattle.asm_text.specs.Spelling.{Version, Array, Wave, Block, Pad, Exit, End, instr_items, wave_items, block_items, blocks_items, items, Naming, IsFor, Pairs, TargetIsFor, Spells, SpellsExit, array_line_of}
+use Rattle.asm_text.specs.Building.{place_of, instr_of, block_of, dest_of, each, dests_of, blocks_of, Built}
+use Rattle.asm_text.specs.Building.{exit_of, built, or_zero, ports_at, is_known}
+use Rattle.asm_text.specs.Spelling.{Version, Array, Wave, Block, Pad, Exit, End, instr_items, wave_items}
+use Rattle.asm_text.specs.Spelling.{block_items, blocks_items, items, Naming, IsFor, Pairs, TargetIsFor}
+use Rattle.asm_text.specs.Spelling.{Spells, SpellsExit, array_line_of}
 use Rattle.asm_text.proofs.Items.{InstrIn, blocks_formed}
 use Rattle.asm_text.proofs.Held.{last_wave}
 use Rattle.ws_isa.specs.declared.instr.Op.{Op}

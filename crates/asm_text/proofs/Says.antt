@@ -1,18 +1,22 @@
 -- The printed lines of a formed image say what they were printed for.
-use Rattle.std.proofs.Common.{◌≡◌, ℕ, ◌^◌, ◌<◌, ◌≤◌, length, true, false, List, [], ◌∷◌, ◌++◌, map, codes, Option, Some, None, refl, arith}
+use Rattle.std.proofs.Common.{◌≡◌, ℕ, ◌^◌, ◌<◌, ◌≤◌, length, true, false, List, [], ◌∷◌, ◌++◌, map, codes}
+use Rattle.std.proofs.Common.{Option, Some, None, refl, arith}
 use Rattle.std.specs.List.{AllByRecursion}
 use Rattle.std.proofs.lemmas.Bool.{true≢false}
 use Rattle.ws_words.specs.declared.alu.Alu as alus
 use Rattle.ws_words.specs.declared.alu.Alu.TheVariants as alu
 use Rattle.ws_isa.specs.declared.instr.Op.{Op}
-use Rattle.ws_isa.specs.declared.instr.Op.TheVariants.{Const, Alu, Merge, Advance, Steer, Phi, Send, Load, Store, Input, Output, Give, Take, Nop, Halt}
+use Rattle.ws_isa.specs.declared.instr.Op.TheVariants.{Const, Alu, Merge, Advance, Steer, Phi, Send, Load}
+use Rattle.ws_isa.specs.declared.instr.Op.TheVariants.{Store, Input, Output, Give, Take, Nop, Halt}
 use Rattle.ws_isa.specs.declared.instr.Link.{Link}
 use Rattle.ws_isa.specs.declared.instr.Link.TheVariants as link
 use Rattle.ws_isa.specs.declared.instr.Note.{Note}
 use Rattle.ws_isa.specs.declared.instr.Dest.{Dest}
 use Rattle.ws_isa.specs.Image as plain
 use Rattle.ws_isa.specs.Image.{is_giving_op, IsBlock, is_steer_op}
-use Rattle.ws_isa.specs.Formed.{most_instrs, most_blocks, most_arrays, most_length, most_pads, NameFormed, OpIn, ExitIn, SomeLanding, DestsIn, DestsSuit, OthersSuit, LinkWithin, NoteWithin, ConstWithin, SendWithin, Formed}
+use Rattle.ws_isa.specs.Formed.{most_instrs, most_blocks, most_arrays, most_length, most_pads, NameFormed}
+use Rattle.ws_isa.specs.Formed.{OpIn, ExitIn, SomeLanding, DestsIn, DestsSuit, OthersSuit, LinkWithin}
+use Rattle.ws_isa.specs.Formed.{NoteWithin, ConstWithin, SendWithin, Formed}
 use Rattle.asm_text.specs.declared.lexeme.Mark.TheVariants.{Bar}
 use Rattle.asm_text.specs.declared.lexeme.Lexeme.{Lexeme}
 use Rattle.asm_text.specs.declared.lexeme.Lexeme.TheVariants.{Word, Mark}
@@ -23,12 +27,16 @@ use Rattle.asm_text.specs.declared.reading.Reading.TheVariants.{Found}
 use Rattle.asm_text.specs.declared.writer.After.TheVariants as after
 use Rattle.asm_text.specs.Words.{op_word, alu_word, number_in}
 use Rattle.asm_text.specs.Forms.{line_of}
-use Rattle.asm_text.specs.Printed.{dest_lexemes, numbers, link_lexeme, note_lexemes, number_lexemes, op_lexemes, list_lexemes, instr_lexemes, pad_lexemes, exit_lexemes, array_lexemes, array_by, numbered, text_of}
+use Rattle.asm_text.specs.Printed.{dest_lexemes, numbers, link_lexeme, note_lexemes, number_lexemes}
+use Rattle.asm_text.specs.Printed.{op_lexemes, list_lexemes, instr_lexemes, pad_lexemes, exit_lexemes}
+use Rattle.asm_text.specs.Printed.{array_lexemes, array_by, numbered, text_of}
 use Rattle.asm_text.specs.Reading.{reading}
 use Rattle.asm_text.specs.Spelling.{array_line_of}
 use Rattle.asm_text.specs.Spelled.{IsLexeme, AreLexemes}
 use Rattle.asm_text.proofs.Again.{target_of, AreNarrow, OpFits}
-use Rattle.asm_text.proofs.AgainLines.{SmallNumbers, version_again, array_again, wave_again, block_again, pad_again, instr_again, go_again, branch_again, send_again, stop_again, end_again, reading_again}
+use Rattle.asm_text.proofs.AgainLines.{SmallNumbers, version_again, array_again, wave_again, block_again}
+use Rattle.asm_text.proofs.AgainLines.{pad_again, instr_again, go_again, branch_again, send_again, stop_again}
+use Rattle.asm_text.proofs.AgainLines.{end_again, reading_again}
 use Rattle.asm_text.proofs.Items.{InstrIn, Small, dests_small}
 use Rattle.ws_words.specs.Letters.{is_word}
 

@@ -1,11 +1,14 @@
 -- The printed form of a formed image spells its items, with numbers alone.
-use Rattle.std.proofs.Common.{◌≡◌, ◌⊎◌, inl, inr, ℕ, ◌+◌, ◌^◌, ◌<◌, ◌≤◌, ◌==◌, length, length-append, not, Bool, true, false, List, [], ◌∷◌, ◌++◌, map, codes, Ok, if◌then◌else◌, refl, sym, ap, ◌∙◌, subst, arith, append-nil, append_assoc}
+use Rattle.std.proofs.Common.{◌≡◌, ◌⊎◌, inl, inr, ℕ, ◌+◌, ◌^◌, ◌<◌, ◌≤◌, ◌==◌, length, length-append, not}
+use Rattle.std.proofs.Common.{Bool, true, false, List, [], ◌∷◌, ◌++◌, map, codes, Ok, if◌then◌else◌, refl}
+use Rattle.std.proofs.Common.{sym, ap, ◌∙◌, subst, arith, append-nil, append_assoc}
 use Rattle.std.specs.List.{AllByRecursion, list_all, flat_map}
 use Rattle.std.proofs.lemmas.Option.{none-some}
 use Rattle.ws_isa.specs.declared.instr.Dest.{Dest}
 use Rattle.ws_isa.specs.Image as plain
 use Rattle.ws_isa.specs.Image.{flat}
-use Rattle.ws_isa.specs.Formed.{most_instrs, most_blocks, most_waves, most_length, most_pads, most_dests, NameFormed, DestsIn, Formed}
+use Rattle.ws_isa.specs.Formed.{most_instrs, most_blocks, most_waves, most_length, most_pads, most_dests}
+use Rattle.ws_isa.specs.Formed.{NameFormed, DestsIn, Formed}
 use Rattle.asm_text.specs.declared.lexeme.Mark as marks
 use Rattle.asm_text.specs.declared.lexeme.Mark.TheVariants.{Colon, Arrow, Bar, Dot, Comma, Less, More, Query}
 use Rattle.asm_text.specs.declared.writer.After.TheVariants as after
@@ -15,16 +18,22 @@ use Rattle.asm_text.specs.declared.line.Label.TheVariants.{At}
 use Rattle.asm_text.specs.declared.line.Line.{Line}
 use Rattle.asm_text.specs.declared.line.Line.TheVariants as line
 use Rattle.asm_text.specs.Lexing.{lexed, scan}
-use Rattle.asm_text.specs.Printed.{instr_lexemes, instr_lines, wave_lines, block_lines, blocks_lines, pad_lexemes, exit_lexemes, exit_lines, array_lexemes, numbered, keeps_first_limits, version, image_lines, printed, mark_bytes, line_text, text_of}
+use Rattle.asm_text.specs.Printed.{instr_lexemes, instr_lines, wave_lines, block_lines, blocks_lines}
+use Rattle.asm_text.specs.Printed.{pad_lexemes, exit_lexemes, exit_lines, array_lexemes, numbered}
+use Rattle.asm_text.specs.Printed.{keeps_first_limits, version, image_lines, printed, mark_bytes, line_text}
+use Rattle.asm_text.specs.Printed.{text_of}
 use Rattle.asm_text.specs.Reading.{reading, read}
-use Rattle.asm_text.specs.Spelling.{Item, Version, Array, Wave, Block, Pad, Instr, Exit, End, instr_items, wave_items, block_items, blocks_items, items, Naming, IsFor, Pairs, TargetIsFor, array_line_of, Spells, SpellsExit, Say, Spelled}
+use Rattle.asm_text.specs.Spelling.{Item, Version, Array, Wave, Block, Pad, Instr, Exit, End, instr_items}
+use Rattle.asm_text.specs.Spelling.{wave_items, block_items, blocks_items, items, Naming, IsFor, Pairs}
+use Rattle.asm_text.specs.Spelling.{TargetIsFor, array_line_of, Spells, SpellsExit, Say, Spelled}
 use Rattle.asm_text.proofs.Again.{target_of}
 use Rattle.asm_text.specs.Spelled.{AllLexemes, texts}
 use Rattle.asm_text.proofs.Bytes.{lines_all}
 use Rattle.asm_text.proofs.Lined.{lines_of_printed}
 use Rattle.asm_text.proofs.Spelt.{other}
 use Rattle.asm_text.proofs.Items.{InstrIn, BlockIn, blocks_formed}
-use Rattle.asm_text.proofs.Says.{Says, pad_line, instr_line, exit_line, version_says, array_says, wave_says, block_says, pad_says, instr_says, exit_says, end_says}
+use Rattle.asm_text.proofs.Says.{Says, pad_line, instr_line, exit_line, version_says, array_says, wave_says}
+use Rattle.asm_text.proofs.Says.{block_says, pad_says, instr_says, exit_says, end_says}
 use Rattle.asm_text.proofs.Completes.{spelled_read}
 use Rattle.ws_words.specs.Letters.{is_word_byte}
 
@@ -238,20 +247,26 @@ pub printed_plain : (image : plain.Image) → Formed image → list_all not_perc
 unfolding printed
 printed_plain image f =
     let h = image_shown image f in
-    lines_all not_percent (λ b k. rw (other is_word_byte b 37 k refl) refl) mark_plain refl refl (image_lines image)
+    lines_all not_percent (λ b k. rw (other is_word_byte b 37 k refl) refl) mark_plain refl refl
+    (image_lines image)
     (lexemes_of (image_lines image) h.lines (items (version image) image) h.prints)
 
 -- the last byte of lines is a line feed
-ends : (lines : List (List Lexeme)) (l : List Lexeme) → (front : List ℕ) × (flat_map line_text (lines ++ l ∷ []) ≡ front ++ 10 ∷ [])
+ends : (lines : List (List Lexeme)) (l : List Lexeme) → (front : List ℕ)
+    × (flat_map line_text (lines ++ l ∷ []) ≡ front ++ 10 ∷ [])
 ends [] l = (text_of after.Start l, append-nil (line_text l))
 ends (x ∷ lines) l =
-    let more = ends lines l in
-    (line_text x ++ more.0, ap (λ t. line_text x ++ t) more.1 ∙ sym (append_assoc (line_text x) more.0 (10 ∷ [])))
+    let more = ends lines l in (
+      line_text x ++ more.0,
+      ap (λ t. line_text x ++ t) more.1
+          ∙ sym (append_assoc (line_text x) more.0 (10 ∷ [])),
+    )
 
 pub printed_end : (image : plain.Image) → (front : List ℕ) × (printed image ≡ front ++ codes "\n")
 unfolding printed image_lines
 printed_end image = ends
-    (numbered (codes "wavescalar") (version image) ∷ map array_lexemes image.arrays ++ blocks_lines 0 1 1 image.blocks)
+    (numbered (codes "wavescalar") (version image) ∷ map array_lexemes image.arrays ++ blocks_lines 0 1 1
+    image.blocks)
     (Word (codes "end") ∷ [])
 
 pub printed_spelled : (image : plain.Image) → Formed image → Spelled (printed image) image

@@ -1,5 +1,7 @@
 -- The lines of a text that is read spell the items of its image.
-use Rattle.std.proofs.Common.{◌≡◌, ◌⊎◌, inl, inr, ℕ, ◌+◌, ◌||◌, not, cond, Bool, true, false, IfOk, List, [], ◌∷◌, ◌++◌, Option, Some, None, Result, Ok, Err, refl, sym, ap, subst, ◌∙◌, append_assoc, append-nil, length, arith}
+use Rattle.std.proofs.Common.{◌≡◌, ◌⊎◌, inl, inr, ℕ, ◌+◌, ◌||◌, not, cond, Bool, true, false, IfOk, List, []}
+use Rattle.std.proofs.Common.{◌∷◌, ◌++◌, Option, Some, None, Result, Ok, Err, refl, sym, ap, subst, ◌∙◌}
+use Rattle.std.proofs.Common.{append_assoc, append-nil, length, arith}
 use Rattle.std.proofs.lemmas.Bool.{true≢false, or_parts}
 use Rattle.std.proofs.lemmas.Option.{none-some}
 use Rattle.std.proofs.lemmas.Result.{IfOk-at_ok, IfOk-weaker}
@@ -16,10 +18,12 @@ use Rattle.asm_text.specs.declared.state.TextState.{TextState}
 use Rattle.asm_text.specs.declared.fault.AsmKind as kind
 use Rattle.asm_text.specs.declared.fault.AsmKind.TheVariants as Kind
 use Rattle.asm_text.specs.Names.{Names}
-use Rattle.asm_text.specs.State.{opening, next_place, is_plain, is_numbered, is_within, is_new, is_other_version, with_name, counted, checked_at, checked, moved, behind}
+use Rattle.asm_text.specs.State.{opening, next_place, is_plain, is_numbered, is_within, is_new}
+use Rattle.asm_text.specs.State.{is_other_version, with_name, counted, checked_at, checked, moved, behind}
 use Rattle.asm_text.specs.Building.{◌>>=◌, Maybe, Built, built}
 use Rattle.asm_text.specs.Printed.{keeps_first_limits}
-use Rattle.asm_text.specs.Reading.{lines_of, reading, step, add, on_line, is_ended, passed, made, nothing, read, Fault}
+use Rattle.asm_text.specs.Reading.{lines_of, reading, step, add, on_line, is_ended, passed, made, nothing}
+use Rattle.asm_text.specs.Reading.{read, Fault}
 use Rattle.asm_text.specs.Spelling.{Pairs, Spells, Says, Say, Spelled, items}
 use Rattle.asm_text.proofs.FormedLines.{reading_fits, ReadingFits}
 use Rattle.asm_text.proofs.HeldSteps.{if_ok, then_ok, line_ok}

@@ -1,5 +1,7 @@
 -- The lines of a text so far spell the items that are built of them so far.
-use Rattle.std.proofs.Common.{◌≡◌, ℕ, suc, ◌+◌, ◌==◌, ◌&&◌, ◌||◌, not, nat_lt, length, length-append, Bool, true, false, IfOk, List, [], ◌∷◌, ◌++◌, map, Option, Some, None, Ok, Err, if◌then◌else◌, refl, sym, ap, subst, ◌∙◌, append_assoc, append-nil, arith}
+use Rattle.std.proofs.Common.{◌≡◌, ℕ, suc, ◌+◌, ◌==◌, ◌&&◌, ◌||◌, not, nat_lt, length, length-append, Bool}
+use Rattle.std.proofs.Common.{true, false, IfOk, List, [], ◌∷◌, ◌++◌, map, Option, Some, None, Ok, Err}
+use Rattle.std.proofs.Common.{if◌then◌else◌, refl, sym, ap, subst, ◌∙◌, append_assoc, append-nil, arith}
 use Rattle.std.proofs.lemmas.List.{map-append}
 use Rattle.std.proofs.lemmas.Bool.{true≢false, false≢true, eqb-true, eq-eqb, ne_eqb}
 use Rattle.std.proofs.lemmas.Option.{none-some, same_Some}
@@ -19,12 +21,18 @@ use Rattle.asm_text.specs.declared.state.TextState.{TextState}
 use Rattle.asm_text.specs.Names.{Names, named}
 use Rattle.asm_text.specs.Words.{is}
 use Rattle.asm_text.specs.Limits.{first_most_instrs}
-use Rattle.asm_text.specs.State.{next_place, is_number, are_numbers, is_plain, is_next, are_ports, is_numbered, is_short, is_within_op, are_few, limit, is_within, is_new_label, is_new, is_other_version, with_name, counted}
-use Rattle.asm_text.specs.Building.{Maybe, Built, dests_of, blocks_of, instr_of, block_of, is_known, with_array, with_pad, with_instr, closed, exit_of, with_exit, built}
-use Rattle.asm_text.specs.Spelling.{Item, Version, Array, Wave, Block, Pad, Instr, Exit, End, instr_items, wave_items, blocks_items, Naming, IsFor, Pairs, TargetIsFor, Spells, SpellsExit}
+use Rattle.asm_text.specs.State.{next_place, is_number, are_numbers, is_plain, is_next, are_ports}
+use Rattle.asm_text.specs.State.{is_numbered, is_short, is_within_op, are_few, limit, is_within, is_new_label}
+use Rattle.asm_text.specs.State.{is_new, is_other_version, with_name, counted}
+use Rattle.asm_text.specs.Building.{Maybe, Built, dests_of, blocks_of, instr_of, block_of, is_known}
+use Rattle.asm_text.specs.Building.{with_array, with_pad, with_instr, closed, exit_of, with_exit, built}
+use Rattle.asm_text.specs.Spelling.{Item, Version, Array, Wave, Block, Pad, Instr, Exit, End, instr_items}
+use Rattle.asm_text.specs.Spelling.{wave_items, blocks_items, Naming, IsFor, Pairs, TargetIsFor, Spells}
+use Rattle.asm_text.specs.Spelling.{SpellsExit}
 use Rattle.asm_text.proofs.Held.{last_wave, Stands, so_far, Held, after}
 use Rattle.asm_text.proofs.HeldSteps.{if_ok, then_ok}
-use Rattle.asm_text.proofs.Pairing.{pairs_snoc, instr_for, block_for, dests_for, blocks_for, instr_items_snoc, blocks_items_snoc}
+use Rattle.asm_text.proofs.Pairing.{pairs_snoc, instr_for, block_for, dests_for, blocks_for, instr_items_snoc}
+use Rattle.asm_text.proofs.Pairing.{blocks_items_snoc}
 use Rattle.ws_words.proofs.Lists.{length_map}
 use Rattle.ws_words.proofs.Options.{none_of}
 use Rattle.ws_words.proofs.Bools.{plain_of}
@@ -178,7 +186,8 @@ version_told s t b n p ls h k =
 
 -- Arrays.
 
-array_told : (s t u : TextState) (b : Built) (l : Line) (o : Option (List ℕ)) (n : ℕ) (ls : List Line) → Told s
+array_told : (s t u : TextState) (b : Built) (l : Line) (o : Option (List ℕ)) (n : ℕ) (ls : List Line)
+    → Told s
     t b ls → Spells (naming s) l (Array (record { name = o; length = n }))
     → t.place ≡ place.Arrays → u.place ≡ place.Arrays → u.named ≡ t.named → u.block_names ≡ t.block_names
     → u.instr_names ≡ t.instr_names
@@ -324,7 +333,8 @@ begun_pad b k ds q =
     let short : begun b ≡ before = (λ i. before ++ instr_items m (q i)) ∙ append-nil before in
     long ∙ ap (λ is. is ++ Pad x ∷ []) (sym short)
 
-pad_told : (s t : TextState) (b : Built) (k : ℕ) (ts : List Target) (ds : List Dest) (p : Expected) (ls : List Line)
+pad_told : (s t : TextState) (b : Built) (k : ℕ) (ts : List Target) (ds : List Dest) (p : Expected)
+    (ls : List Line)
     → Told s t b ls → Taken t (line.Pad k ts) p → Pairs (TargetIsFor s.instr_names) ts ds
     → Told s (after t (line.Pad k ts) p) (with_pad b k ds) (ls ++ line.Pad k ts ∷ [])
 unfolding counted next_place
@@ -450,7 +460,8 @@ leaves_at : (v : ℕ) (b : Built) (q p : Expected) → told_items q v b ≡ shut
     → Some place.Exited ≡ Some p → Leaves v b q p
 leaves_at v b q p i e = record { inside = i; exited = sym (same_Some place.Exited p e) }
 
-go_leaves : (v : ℕ) (b : Built) (l : Label) (q p : Expected) → next_place q (line.Go l) ≡ Some p → Leaves v b q p
+go_leaves : (v : ℕ) (b : Built) (l : Label) (q p : Expected) → next_place q (line.Go l) ≡ Some p
+    → Leaves v b q p
 unfolding next_place
 go_leaves v b l place.Pads p e = leaves_at v b place.Pads p refl e
 go_leaves v b l place.Instrs p e = leaves_at v b place.Instrs p refl e
@@ -488,7 +499,8 @@ abbrev SpellsSome : Naming → Line → Option plain.Exit → Type 0
 SpellsSome names l None = ⊥
 SpellsSome names l (Some e) = SpellsExit names l e
 
-exit_told : (s t : TextState) (b : Built) (l : Line) (e : Maybe (Option plain.Exit)) (p : Expected) (ls : List Line)
+exit_told : (s t : TextState) (b : Built) (l : Line) (e : Maybe (Option plain.Exit)) (p : Expected)
+    (ls : List Line)
     → Told s t b ls → Leaves (number t.named) b t.place p → IfOk e (SpellsSome (naming s) l)
     → IfOk (with_exit b e) (λ c. Told s (record t { place = p }) c (ls ++ l ∷ []))
 exit_told s t b l (Err k) p ls h g x = tt

@@ -1,17 +1,22 @@
 -- What stands for the blocks of the given graph, and what its walks weigh.
-use Rattle.std.proofs.Common.{ℕ, zero, suc, ◌+◌, ◌-◌, ◌*◌, ◌==◌, ◌&&◌, ◌≡◌, ◌<◌, ◌≤◌, ◌⊎◌, not, nat_lt, Bool, true, false, if◌then◌else◌, List, [], ◌∷◌, ◌++◌, length, map, refl, sym, ap, ◌∙◌, subst, inl, inr, Option, arith}
+use Rattle.std.proofs.Common.{ℕ, zero, suc, ◌+◌, ◌-◌, ◌*◌, ◌==◌, ◌&&◌, ◌≡◌, ◌<◌, ◌≤◌, ◌⊎◌, not, nat_lt, Bool}
+use Rattle.std.proofs.Common.{true, false, if◌then◌else◌, List, [], ◌∷◌, ◌++◌, length, map, refl, sym, ap}
+use Rattle.std.proofs.Common.{◌∙◌, subst, inl, inr, Option, arith}
 use Rattle.std.specs.List.{AllByRecursion, filter, sum_by}
 use Rattle.std.proofs.lemmas.Bool.{cases_lt}
 use Rattle.std.proofs.lemmas.Bool.Decides.{nat_tests}
 use Rattle.std.proofs.lemmas.List.{length-map, length_push}
 use Rattle.std.proofs.lemmas.List.Sums.{sum_by-cons, sum_by-append}
-use Rattle.cfg_core.specs.Graph.{Term, Number, Var, Op, Exit, Goto, Branch, Call, Return, Send, Stop, Graph, Spot, spots, spot_at, block_at, proc_at, entry_of}
+use Rattle.cfg_core.specs.Graph.{Term, Number, Var, Op, Exit, Goto, Branch, Call, Return, Send, Stop, Graph}
+use Rattle.cfg_core.specs.Graph.{Spot, spots, spot_at, block_at, proc_at, entry_of}
 use Rattle.cfg_core.specs.Rules.{calls}
 use Rattle.cfg_core.specs.Weights.{term_nodes, first_block}
 use Rattle.live_vars.specs.Live.{Live}
 use Rattle.live_vars.specs.Marks.{has}
-use Rattle.call_gen.specs.Spelled.{is_called, is_result, is_saved, is_unset, moved, door, address, landings, below, saved, save, load, saves, left, clear, spelled}
-use Rattle.call_gen.specs.Charged.{IsSave, IsLoad, IsClear, LiveBelow, live_count, most_saved, StandsForExit, StandsFor, GoesOnAfter, CallsCharged}
+use Rattle.call_gen.specs.Spelled.{is_called, is_result, is_saved, is_unset, moved, door, address, landings}
+use Rattle.call_gen.specs.Spelled.{below, saved, save, load, saves, left, clear, spelled}
+use Rattle.call_gen.specs.Charged.{IsSave, IsLoad, IsClear, LiveBelow, live_count, most_saved, StandsForExit}
+use Rattle.call_gen.specs.Charged.{StandsFor, GoesOnAfter, CallsCharged}
 use Rattle.call_gen.proofs.Counting.{one_at_most}
 use Rattle.call_gen.proofs.Facts.{Given, Placed}
 use Rattle.call_gen.proofs.Slots.{below_count}
@@ -23,7 +28,8 @@ use Rattle.call_gen.proofs.Crossing.{Known, live_there, door_live, point_live, n
 use Rattle.ws_words.proofs.Bools.{and_parts as and_true}
 use Rattle.ws_words.specs.Items.{or_else, In}
 
-filter_push : (p : ℕ → Bool) (xs : List ℕ) (y : ℕ) → length (filter p (xs ++ y ∷ [])) ≡ length (filter p xs) + (if p y then 1 else 0)
+filter_push : (p : ℕ → Bool) (xs : List ℕ) (y : ℕ) → length (filter p (xs ++ y ∷ [])) ≡ length (filter p xs)
+    + (if p y then 1 else 0)
 filter_push p [] y = by_test (p y)
   where
     by_test : (v : Bool) → length (if v then y ∷ [] else []) ≡ 0 + (if v then 1 else 0)
@@ -32,7 +38,8 @@ filter_push p [] y = by_test (p y)
 filter_push p (x ∷ xs) y = by_test (p x) (filter_push p xs y)
   where
     by_test : (v : Bool) → length (filter p (xs ++ y ∷ [])) ≡ length (filter p xs) + (if p y then 1 else 0)
-        → length (if v then x ∷ filter p (xs ++ y ∷ []) else filter p (xs ++ y ∷ [])) ≡ length (if v then x ∷ filter p xs else filter p xs) + (if p y then 1 else 0)
+        → length (if v then x ∷ filter p (xs ++ y ∷ []) else filter p (xs ++ y ∷ []))
+        ≡ length (if v then x ∷ filter p xs else filter p xs) + (if p y then 1 else 0)
     by_test true h = omega (arith, h)
     by_test false h = h
 
@@ -41,32 +48,41 @@ filter_from : (p : ℕ → Bool) (m n : ℕ) → ((x : ℕ) → p x ≡ true →
 filter_from p m zero h = omega arith
 filter_from p m (suc n) h = by_test (p n) refl (filter_from p m n h) (filter_push p (below n) n)
   where
-    by_test : (v : Bool) → p n ≡ v → length (filter p (below n)) ≤ n - m → length (filter p (below n ++ n ∷ [])) ≡ length (filter p (below n)) + (if p n then 1 else 0) → length (filter p (below n ++ n ∷ [])) ≤ suc n - m
+    by_test : (v : Bool) → p n ≡ v → length (filter p (below n)) ≤ n - m
+        → length (filter p (below n ++ n ∷ [])) ≡ length (filter p (below n)) + (if p n then 1 else 0)
+        → length (filter p (below n ++ n ∷ [])) ≤ suc n - m
     by_test true e i q =
         let one : 0 + (if p n then 1 else 0) ≡ 0 + 1 = ap (λ (c : Bool). 0 + (if c then 1 else 0)) e in
         let le : m ≤ n = h n e in omega (arith, one, le, i, q)
     by_test false e i q =
-        let none : 0 + (if p n then 1 else 0) ≡ 0 + 0 = ap (λ (c : Bool). 0 + (if c then 1 else 0)) e in omega (arith, none, i, q)
+        let none : 0 + (if p n then 1 else 0) ≡ 0 + 0 = ap (λ (c : Bool). 0 + (if c then 1 else 0)) e in
+        omega (arith, none, i, q)
 
 -- a filter of numbers from m on and below k
-filter_between : (p : ℕ → Bool) (m k n : ℕ) → ((x : ℕ) → p x ≡ true → m ≤ x) → ((x : ℕ) → x < n → p x ≡ true → x < k) → length (filter p (below n)) ≤ k - m
+filter_between : (p : ℕ → Bool) (m k n : ℕ) → ((x : ℕ) → p x ≡ true → m ≤ x)
+    → ((x : ℕ) → x < n → p x ≡ true → x < k) → length (filter p (below n)) ≤ k - m
 filter_between p m k zero h i = omega arith
 filter_between p m k (suc n) h i = elim (cases_lt n k) [
   | inl low ↦ let f = filter_from p m (suc n) h in omega (arith, f, low)
-  | inr high ↦ by_test high (p n) refl (filter_between p m k n h (λ x lt e. i x (omega arith) e)) (filter_push p (below n) n)
+  | inr high ↦ by_test high (p n) refl (filter_between p m k n h (λ x lt e. i x (omega arith) e))
+      (filter_push p (below n) n)
 ]
   where
-    by_test : k ≤ n → (v : Bool) → p n ≡ v → length (filter p (below n)) ≤ k - m → length (filter p (below n ++ n ∷ [])) ≡ length (filter p (below n)) + (if p n then 1 else 0) → length (filter p (below n ++ n ∷ [])) ≤ k - m
+    by_test : k ≤ n → (v : Bool) → p n ≡ v → length (filter p (below n)) ≤ k - m
+        → length (filter p (below n ++ n ∷ [])) ≡ length (filter p (below n)) + (if p n then 1 else 0)
+        → length (filter p (below n ++ n ∷ [])) ≤ k - m
     by_test high true e r q = absurd (let lt : n < k = i n (omega arith) e in omega (arith, lt, high))
     by_test high false e r q =
-        let none : 0 + (if p n then 1 else 0) ≡ 0 + 0 = ap (λ (c : Bool). 0 + (if c then 1 else 0)) e in omega (arith, none, r, q)
+        let none : 0 + (if p n then 1 else 0) ≡ 0 + 0 = ap (λ (c : Bool). 0 + (if c then 1 else 0)) e in
+        omega (arith, none, r, q)
 
 -- values with an address after them
 pub terms_push : (ts : List Term) (n : ℕ) → sum_by term_nodes (ts ++ Number n ∷ []) ≡ sum_by term_nodes ts + 1
 terms_push ts n = sum_by-append term_nodes ts (Number n ∷ [])
 
 -- operations of so much each
-pub each_sum : (f : Op → ℕ) (op : ℕ → Op) (k : ℕ) (xs : List ℕ) → ((x : ℕ) → f (op x) ≡ k) → sum_by f (map op xs) ≡ length xs * k
+pub each_sum : (f : Op → ℕ) (op : ℕ → Op) (k : ℕ) (xs : List ℕ) → ((x : ℕ) → f (op x) ≡ k)
+    → sum_by f (map op xs) ≡ length xs * k
 each_sum f op k [] h = omega arith
 each_sum f op k (x ∷ xs) h =
     let e : suc (length xs) * k ≡ k + length xs * k = grind arith in
@@ -78,20 +94,28 @@ map_all P op [] h = tt
 map_all P op (x ∷ xs) h = (h x, map_all P op xs h)
 
 module _ (g : Graph) (live : List (List ℕ)) where
-  counted : (p : ℕ → Bool) (b n : ℕ) → ((x : ℕ) → x < n → p x ≡ true → has live b x ≡ true) → length (filter p (below n)) ≤ live_count live b n
+  counted : (p : ℕ → Bool) (b n : ℕ) → ((x : ℕ) → x < n → p x ≡ true → has live b x ≡ true)
+      → length (filter p (below n)) ≤ live_count live b n
   counted p b zero h = omega arith
-  counted p b (suc n) h = by_test (p n) refl (has live b n) refl (counted p b n (λ x lt e. h x (omega arith) e)) (filter_push p (below n) n)
+  counted p b (suc n) h = by_test (p n) refl (has live b n) refl
+      (counted p b n (λ x lt e. h x (omega arith) e)) (filter_push p (below n) n)
     where
-      by_test : (v : Bool) → p n ≡ v → (w : Bool) → has live b n ≡ w → length (filter p (below n)) ≤ live_count live b n → length (filter p (below n ++ n ∷ [])) ≡ length (filter p (below n)) + (if p n then 1 else 0) → length (filter p (below n ++ n ∷ [])) ≤ live_count live b n + (if has live b n then 1 else 0)
+      by_test : (v : Bool) → p n ≡ v → (w : Bool) → has live b n ≡ w → length (filter p (below n))
+          ≤ live_count live b n → length (filter p (below n ++ n ∷ [])) ≡ length (filter p (below n))
+          + (if p n then 1 else 0) → length (filter p (below n ++ n ∷ [])) ≤ live_count live b n
+          + (if has live b n then 1 else 0)
       by_test true e true f i q =
           let o : 0 + (if p n then 1 else 0) ≡ 0 + 1 = ap (λ (c : Bool). 0 + (if c then 1 else 0)) e in
-          let t : 0 + (if has live b n then 1 else 0) ≡ 0 + 1 = ap (λ (c : Bool). 0 + (if c then 1 else 0)) f in omega (arith, o, t, i, q)
+          let t : 0 + (if has live b n then 1 else 0) ≡ 0 + 1 = ap (λ (c : Bool). 0 + (if c then 1 else 0))
+          f in omega (arith, o, t, i, q)
       by_test true e false f i q = absurd (let t : has live b n ≡ true = h n (omega arith) e in cc)
       by_test false e w f i q =
-          let o : 0 + (if p n then 1 else 0) ≡ 0 + 0 = ap (λ (c : Bool). 0 + (if c then 1 else 0)) e in omega (arith, o, i, q)
+          let o : 0 + (if p n then 1 else 0) ≡ 0 + 0 = ap (λ (c : Bool). 0 + (if c then 1 else 0)) e in
+          omega (arith, o, i, q)
 
   -- what is saved is live where the call goes on, or the address
-  pub saved_few : (home v : ℕ) (r : Option ℕ) (back : ℕ) → length (saved g live home v r back) ≤ suc (live_count live back v)
+  pub saved_few : (home v : ℕ) (r : Option ℕ) (back : ℕ) → length (saved g live home v r back)
+      ≤ suc (live_count live back v)
   saved_few home v r back =
       let p = is_saved g live home v r back in
       omega (arith, filter_push p (below v) v, counted p back v live_one, one_at_most (p v))
@@ -99,7 +123,9 @@ module _ (g : Graph) (live : List (List ℕ)) where
       live_one : (x : ℕ) → x < v → is_saved g live home v r back x ≡ true → has live back x ≡ true
       live_one x lt e = by_test (x == v) refl e
         where
-          by_test : (t : Bool) → (x == v) ≡ t → (if t then is_called g home else (has live back x && not (is_result r x))) ≡ true → has live back x ≡ true
+          by_test : (t : Bool) → (x == v) ≡ t
+              → (if t then is_called g home else (has live back x && not (is_result r x))) ≡ true
+              → has live back x ≡ true
           by_test true ev h = absurd (let z : x ≡ v = grind (arith, nat_tests) in omega (arith, z, lt))
           by_test false ev h = (and_true (has live back x) (not (is_result r x)) h).0
 
@@ -112,7 +138,11 @@ module _ (g : Graph) (live : List (List ℕ)) where
   saves_all home v Stop = tt
 
   saves_few : (home v : ℕ) (x : Exit) → length (saves g live home v x) ≤ most_saved live v x
-  saves_few home v (Call r f ts back) = omega (arith, length-map (saved g live home v r back) (save g home), saved_few home v r back)
+  saves_few home v (Call r f ts back) = omega (
+    arith,
+    length-map (saved g live home v r back) (save g home),
+    saved_few home v r back,
+  )
   saves_few home v (Goto c) = omega arith
   saves_few home v (Branch t c d) = omega arith
   saves_few home v (Return t) = omega arith
@@ -125,7 +155,8 @@ module _ (g : Graph) (live : List (List ℕ)) where
   left_stands home v b (Call r f ts back) = (address g f b, refl)
   left_stands home v b (Return t) = by_called (is_called g home)
     where
-      by_called : (c : Bool) → StandsForExit (places g live) (Return t) (if c then Send (Var v) (t ∷ []) (landings g home) else Return t)
+      by_called : (c : Bool) → StandsForExit (places g live) (Return t)
+          (if c then Send (Var v) (t ∷ []) (landings g home) else Return t)
       by_called true = inr (v, landings g home, refl)
       by_called false = inl refl
   left_stands home v b (Send t ts ls) = refl
@@ -144,7 +175,8 @@ module _ (g : Graph) (live : List (List ℕ)) (G : Given g live) where
       let v = (spot_at g b).vars in
       let x = (block_at g b).exit in
       record {
-        exit = subst (λ (s : Spot). StandsForExit (places g live) x s.block.exit) (sym (F.plain b lt)) (left_stands g live home v b x);
+        exit = subst (λ (s : Spot). StandsForExit (places g live) x s.block.exit) (sym (F.plain b lt))
+            (left_stands g live home v b x);
         saves = saves g live home v x;
         are_saves = saves_all g live home v x;
         few = saves_few g live home v x;
@@ -174,19 +206,25 @@ module _ (g : Graph) (live : List (List ℕ)) (G : Given g live) where
     names_few false = omega arith
 
     -- the variables that are named, and those that are live and aren't given
-    both_few : (n : ℕ) → params ≤ n → LiveBelow live (entry_of g f) vf n → (c : Bool) → is_called g f ≡ c → length (names c) + length unset ≤ suc n
+    both_few : (n : ℕ) → params ≤ n → LiveBelow live (entry_of g f) vf n → (c : Bool) → is_called g f ≡ c
+        → length (names c) + length unset ≤ suc n
     both_few n most low true e =
-        let from = filter_between (is_unset g live f params) params n vf (λ x h. given x (and_true (has live _ x) _ h).1) (λ x lt h. low x lt (and_true (has live _ x) _ h).0) in
+        let from = filter_between (is_unset g live f params) params n vf
+        (λ x h. given x (and_true (has live _ x) _ h).1)
+        (λ x lt h. low x lt (and_true (has live _ x) _ h).0) in
         omega (arith, length_push (below params) vf, below_count params, most, from)
       where
         given : (x : ℕ) → (if is_called g f then not (nat_lt x params) else true) ≡ true → params ≤ x
-        given x h = by_test (nat_lt x params) refl (ap (λ (c : Bool). if c then not (nat_lt x params) else true) (sym e) ∙ h)
+        given x h =
+            by_test (nat_lt x params) refl (ap (λ (c : Bool). if c then not (nat_lt x params) else true)
+            (sym e) ∙ h)
           where
             by_test : (t : Bool) → nat_lt x params ≡ t → not t ≡ true → params ≤ x
             by_test true q z = absurd (cc)
             by_test false q z = grind (arith, nat_tests)
     both_few n most low false e =
-        let from = filter_between (is_unset g live f params) 0 n vf (λ x h. omega arith) (λ x lt h. low x lt (and_true (has live _ x) _ h).0) in
+        let from = filter_between (is_unset g live f params) 0 n vf (λ x h. omega arith)
+        (λ x lt h. low x lt (and_true (has live _ x) _ h).0) in
         omega (arith, from)
 
     door_stands : GoesOnAfter IsClear (suc params) h (door g f)
@@ -194,30 +232,40 @@ module _ (g : Graph) (live : List (List ℕ)) (G : Given g live) where
         let same = F.entry f lt in
         let n = named_door g live G f lt in
         record {
-          ops = subst (λ (s : Spot). AllByRecursion IsClear s.block.ops) (sym same) (map_all IsClear clear unset (λ x. tt));
+          ops = subst (λ (s : Spot). AllByRecursion IsClear s.block.ops) (sym same)
+              (map_all IsClear clear unset (λ x. tt));
           named = subst (λ (xs : List ℕ). length xs ≤ suc params) (sym n) (names_few (is_called g f));
           goes = (_, ap (λ (s : Spot). s.block.exit) same);
-          held = λ x l. subst (λ (xs : List ℕ). In x xs) (sym n) (door_live g live G f lt (door g f) refl x l);
+          held = λ x l. subst (λ (xs : List ℕ). In x xs) (sym n)
+              (door_live g live G f lt (door g f) refl x l);
         }
 
-    door_clears : (n : ℕ) → params ≤ n → LiveBelow live (entry_of g f) vf n → length (block_at h (door g f)).named + length (block_at h (door g f)).ops ≤ suc n
+    door_clears : (n : ℕ) → params ≤ n → LiveBelow live (entry_of g f) vf n
+        → length (block_at h (door g f)).named + length (block_at h (door g f)).ops ≤ suc n
     door_clears n most low =
-        let ops : length (block_at h (door g f)).ops ≡ length unset = ap (λ (s : Spot). length s.block.ops) (F.entry f lt) ∙ length-map unset clear in
-        let count : length (block_at h (door g f)).named ≡ length (names (is_called g f)) = ap length (named_door g live G f lt) in
+        let ops : length (block_at h (door g f)).ops ≡ length unset = ap (λ (s : Spot). length s.block.ops)
+        (F.entry f lt) ∙ length-map unset clear in
+        let count : length (block_at h (door g f)).named ≡ length (names (is_called g f)) =
+        ap length (named_door g live G f lt) in
         omega (arith, ops, count, both_few n most low (is_called g f) refl)
 
   module _ (b : ℕ) (lt : b < length (spots g)) where
-    point_at : (x : Exit) → (block_at g b).exit ≡ x → calls x ≡ true → GoesOnAfter IsLoad 1 h (suc (moved g b))
+    point_at : (x : Exit) → (block_at g b).exit ≡ x → calls x ≡ true
+        → GoesOnAfter IsLoad 1 h (suc (moved g b))
     point_at (Call r f ts back) e c =
         let home = (spot_at g b).home in
         let v = (spot_at g b).vars in
         let same = F.point b r f ts back lt e in
-        let n : (block_at h (suc (moved g b))).named ≡ or_else r v ∷ [] = ap (λ (s : Spot). s.block.named) same in
+        let n : (block_at h (suc (moved g b))).named ≡ or_else r v ∷ [] =
+        ap (λ (s : Spot). s.block.named) same in
         record {
-          ops = subst (λ (s : Spot). AllByRecursion IsLoad s.block.ops) (sym same) (map_all IsLoad (load g home) (saved g live home v r back) (λ x. tt));
-          named = let one : length (block_at h (suc (moved g b))).named ≡ 1 = ap length n in omega (arith, one);
+          ops = subst (λ (s : Spot). AllByRecursion IsLoad s.block.ops) (sym same)
+              (map_all IsLoad (load g home) (saved g live home v r back) (λ x. tt));
+          named = let one : length (block_at h (suc (moved g b))).named ≡ 1 = ap length n in
+              omega (arith, one);
           goes = (_, ap (λ (s : Spot). s.block.exit) same);
-          held = λ x l. subst (λ (ys : List ℕ). In x ys) (sym n) (inl (point_live g live G b r f ts back lt e (suc (moved g b)) refl x l));
+          held = λ x l. subst (λ (ys : List ℕ). In x ys) (sym n)
+              (inl (point_live g live G b r f ts back lt e (suc (moved g b)) refl x l));
         }
     point_at (Goto c) e no_call = absurd (cc)
     point_at (Branch t c d) e no_call = absurd (cc)
@@ -225,12 +273,15 @@ module _ (g : Graph) (live : List (List ℕ)) (G : Given g live) where
     point_at (Send t ts ls) e no_call = absurd (cc)
     point_at Stop e no_call = absurd (cc)
 
-    loads_at : (x : Exit) → (block_at g b).exit ≡ x → calls x ≡ true → length (block_at h (suc (moved g b))).ops ≤ most_saved live (spot_at g b).vars x
+    loads_at : (x : Exit) → (block_at g b).exit ≡ x → calls x ≡ true
+        → length (block_at h (suc (moved g b))).ops ≤ most_saved live (spot_at g b).vars x
     loads_at (Call r f ts back) e c =
         let home = (spot_at g b).home in
         let v = (spot_at g b).vars in
         let xs = saved g live home v r back in
-        let ops : length (block_at h (suc (moved g b))).ops ≡ length xs = ap (λ (s : Spot). length s.block.ops) (F.point b r f ts back lt e) ∙ length-map xs (load g home) in
+        let ops : length (block_at h (suc (moved g b))).ops ≡ length xs =
+        ap (λ (s : Spot). length s.block.ops) (F.point b r f ts back lt e)
+        ∙ length-map xs (load g home) in
         omega (arith, ops, saved_few g live home v r back)
     loads_at (Goto c) e no_call = absurd (cc)
     loads_at (Branch t c d) e no_call = absurd (cc)
@@ -239,13 +290,17 @@ module _ (g : Graph) (live : List (List ℕ)) (G : Given g live) where
     loads_at Stop e no_call = absurd (cc)
 
   -- where the walk begins what is live is cleared
-  opens_few : (n : ℕ) → LiveBelow live (first_block g) (proc_at g (length g.procs - 1)).vars n → length (block_at h (first_block h)).ops ≤ n
+  opens_few : (n : ℕ) → LiveBelow live (first_block g) (proc_at g (length g.procs - 1)).vars n
+      → length (block_at h (first_block h)).ops ≤ n
   opens_few n low =
       let main = length g.procs - 1 in
       let lt : main < length g.procs = omega (arith, G.rules.numbers.some_proc) in
       let at : first_block h ≡ door g main = first_is g live G F (all_celled g live G.rules) (λ b. 0) in
-      let same : length (block_at h (first_block h)).ops ≡ length (unset main lt) = ap (λ m. length (block_at h m).ops) at ∙ ap (λ (s : Spot). length s.block.ops) (F.entry main lt) ∙ length-map (unset main lt) clear in
-      let from = filter_between (is_unset g live main (proc_at g main).params) 0 n (proc_at g main).vars (λ x h. omega arith) (λ x lx h. low x lx (and_true (has live _ x) _ h).0) in
+      let same : length (block_at h (first_block h)).ops ≡ length (unset main lt) =
+      ap (λ m. length (block_at h m).ops) at ∙ ap (λ (s : Spot). length s.block.ops) (F.entry main lt)
+      ∙ length-map (unset main lt) clear in
+      let from = filter_between (is_unset g live main (proc_at g main).params) 0 n (proc_at g main).vars
+      (λ x h. omega arith) (λ x lx h. low x lx (and_true (has live _ x) _ h).0) in
       omega (arith, same, from)
 
   -- the blocks of the given graph pay for all blocks

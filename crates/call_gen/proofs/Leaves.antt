@@ -1,21 +1,27 @@
 -- What both walks do at the exit of a block.
-use Rattle.std.proofs.Common.{ℕ, suc, ◌==◌, ◌&&◌, ◌≡◌, ◌<◌, ◌≤◌, ◌⊎◌, not, Bool, true, false, if◌then◌else◌, List, [], ◌∷◌, length, map, get_or, set, refl, sym, ap, ◌∙◌, subst, inl, inr, Option, Some, None, arith}
+use Rattle.std.proofs.Common.{ℕ, suc, ◌==◌, ◌&&◌, ◌≡◌, ◌<◌, ◌≤◌, ◌⊎◌, not, Bool, true, false, if◌then◌else◌}
+use Rattle.std.proofs.Common.{List, [], ◌∷◌, length, map, get_or, set, refl, sym, ap, ◌∙◌, subst, inl, inr}
+use Rattle.std.proofs.Common.{Option, Some, None, arith}
 use Rattle.std.specs.List.{AllByRecursion}
 use Rattle.std.proofs.lemmas.Bool.{cases_eq}
 use Rattle.std.proofs.lemmas.Bool.Decides.{nat_tests}
 use Rattle.std.proofs.lemmas.List.{get_or-set_same, get_or-set_other, length-set}
 use Rattle.ws_words.specs.Outside.{Outside, ProcState, zeros}
-use Rattle.cfg_core.specs.Graph.{Term, Exit, Goto, Branch, Call, Graph, Spot, spots, spot_at, block_at, proc_at}
-use Rattle.cfg_core.specs.Walk.{OpsOutcome, run_ops, value_of, Frame, At, landed, with_result, leave, passed, step}
+use Rattle.cfg_core.specs.Graph.{Term, Exit, Goto, Branch, Call, Graph, Spot, spots, spot_at, block_at}
+use Rattle.cfg_core.specs.Graph.{proc_at}
+use Rattle.cfg_core.specs.Walk.{OpsOutcome, run_ops, value_of, Frame, At, landed, with_result, leave, passed}
+use Rattle.cfg_core.specs.Walk.{step}
 use Rattle.live_vars.specs.Live.{ExitWrites, Live}
 use Rattle.live_vars.specs.Marks.{has}
-use Rattle.call_gen.specs.Spelled.{is_called, is_calling, moved, cell, below, is_result, is_saved, saved, load, spelled}
+use Rattle.call_gen.specs.Spelled.{is_called, is_calling, moved, cell, below, is_result, is_saved, saved}
+use Rattle.call_gen.specs.Spelled.{load, spelled}
 use Rattle.call_gen.proofs.Visible.{Same}
 use Rattle.call_gen.proofs.Agreeing.{States}
 use Rattle.call_gen.proofs.Slots.{peek, Roomy, peeks_in, peeks_other, peeks_count, in_below, below_all}
 use Rattle.call_gen.proofs.Spilling.{loads_run}
 use Rattle.call_gen.proofs.Facts.{Given, Placed, Celled}
-use Rattle.call_gen.proofs.Standing.{total, rows, size, Stack, Stands, owed, Reaches, if_reaches, reaches_by, reaches_later, exit_in, stack_any}
+use Rattle.call_gen.proofs.Standing.{total, rows, size, Stack, Stands, owed, Reaches, if_reaches, reaches_by}
+use Rattle.call_gen.proofs.Standing.{reaches_later, exit_in, stack_any}
 use Rattle.ws_words.proofs.Numbers.{zeros_count}
 use Rattle.cfg_core.proofs.Spots.{all_from, filter_in, in_filter}
 use Rattle.ws_words.proofs.Bools.{decide}
@@ -23,7 +29,8 @@ use Rattle.ws_words.specs.Items.{or_else, In}
 use Rattle.live_vars.proofs.Needed.{After}
 
 -- a call's result, as a test
-pub result_not : (r : Option ℕ) (f : ℕ) (ts : List Term) (back x : ℕ) → (ExitWrites (Call r f ts back) x → ⊥) → is_result r x ≡ false
+pub result_not : (r : Option ℕ) (f : ℕ) (ts : List Term) (back x : ℕ) → (ExitWrites (Call r f ts back) x → ⊥)
+    → is_result r x ≡ false
 result_not None f ts back x never = refl
 result_not (Some y) f ts back x never = by_test (x == y) refl
   where
@@ -31,7 +38,8 @@ result_not (Some y) f ts back x never = by_test (x == y) refl
     by_test true e = absurd (never (grind (arith, nat_tests)))
     by_test false e = e
 
-result_is : (r : Option ℕ) (f : ℕ) (ts : List Term) (back x : ℕ) → ExitWrites (Call r f ts back) x → is_result r x ≡ true
+result_is : (r : Option ℕ) (f : ℕ) (ts : List Term) (back x : ℕ) → ExitWrites (Call r f ts back) x
+    → is_result r x ≡ true
 result_is None f ts back x h = absurd h
 result_is (Some y) f ts back x h = grind (arith, nat_tests)
 
@@ -40,7 +48,8 @@ result_place : (r : Option ℕ) (v : ℕ) → (((y : ℕ) × (r ≡ Some y)) →
 result_place None v h = omega arith
 result_place (Some y) v h = omega (arith, h (y, refl))
 
-module _ (g : Graph) (live : List (List ℕ)) (G : Given g live) (F : Placed g live) (C : Celled g) (b : ℕ) (there : b < length (spots g)) where
+module _ (g : Graph) (live : List (List ℕ)) (G : Given g live) (F : Placed g live) (C : Celled g) (b : ℕ)
+    (there : b < length (spots g)) where
   abbrev home : ℕ
   home = (spot_at g b).home
 
@@ -51,9 +60,13 @@ module _ (g : Graph) (live : List (List ℕ)) (G : Given g live) (F : Placed g l
   S extra hidden P s t = States g (rows g live) (size g live) v extra hidden P s t
 
   -- on to a block of the same procedure
-  onward : (c : ℕ) → c < length (spots g) → (spot_at g c).home ≡ home → (extra : ℕ) (hidden : List (List ℕ)) (s t : ProcState) (frames : List Frame) (callers : List ℕ) → S extra hidden (Live g c) s t → Roomy (total g live) hidden → Stack g live hidden home extra frames callers → Stands g live c s frames callers t
+  onward : (c : ℕ) → c < length (spots g) → (spot_at g c).home ≡ home → (extra : ℕ) (hidden : List (List ℕ))
+      (s t : ProcState) (frames : List Frame) (callers : List ℕ) → S extra hidden (Live g c) s t
+      → Roomy (total g live) hidden → Stack g live hidden home extra frames callers
+      → Stands g live c s frames callers t
   onward c lt same extra hidden s t frames callers h roomy stack =
-      let vars : v ≡ (spot_at g c).vars = (F.home b there).1 ∙ ap (λ n. (proc_at g n).vars) (sym same) ∙ sym (F.home c lt).1 in
+      let vars : v ≡ (spot_at g c).vars = (F.home b there).1 ∙ ap (λ n. (proc_at g n).vars) (sym same)
+      ∙ sym (F.home c lt).1 in
       record {
         there = lt;
         hidden = hidden;
@@ -69,28 +82,36 @@ module _ (g : Graph) (live : List (List ℕ)) (G : Given g live) (F : Placed g l
     kept = saved g live home v r back
 
     pub kept_low : (x : ℕ) → In x kept → x ≤ v
-    kept_low x i = let h = below_all (suc v) x (filter_in (is_saved g live home v r back) (below (suc v)) x i).0 in omega (arith, h)
+    kept_low x i = let h = below_all (suc v) x (filter_in (is_saved g live home v r back) (below (suc v)) x
+        i).0 in omega (arith, h)
 
     pub kept_live : (x : ℕ) → x < v → has live back x ≡ true → is_result r x ≡ false → In x kept
-    kept_live x lt h nr = in_filter (is_saved g live home v r back) (below (suc v)) x (in_below (suc v) x (omega arith)) (by_test (x == v) refl)
+    kept_live x lt h nr = in_filter (is_saved g live home v r back) (below (suc v)) x
+        (in_below (suc v) x (omega arith)) (by_test (x == v) refl)
       where
-        by_test : (t : Bool) → (x == v) ≡ t → (if t then is_called g home else (has live back x && not (is_result r x))) ≡ true
+        by_test : (t : Bool) → (x == v) ≡ t
+            → (if t then is_called g home else (has live back x && not (is_result r x))) ≡ true
         by_test true e = absurd (let z : x ≡ v = grind (arith, nat_tests) in omega (arith, z, lt))
         by_test false e = ap (λ t. t && not (is_result r x)) h ∙ ap not nr
 
     pub kept_address : is_called g home ≡ true → In v kept
-    kept_address h = in_filter (is_saved g live home v r back) (below (suc v)) v (in_below (suc v) v (omega arith)) (by_test (v == v) refl)
+    kept_address h = in_filter (is_saved g live home v r back) (below (suc v)) v
+        (in_below (suc v) v (omega arith)) (by_test (v == v) refl)
       where
-        by_test : (t : Bool) → (v == v) ≡ t → (if t then is_called g home else (has live back v && not (is_result r v))) ≡ true
+        by_test : (t : Bool) → (v == v) ≡ t
+            → (if t then is_called g home else (has live back v && not (is_result r v))) ≡ true
         by_test true e = h
         by_test false e = absurd (let z : v ≡ v → ⊥ = λ q. grind (arith, nat_tests) in z refl)
 
     not_kept : (x : ℕ) → x < v → is_result r x ≡ true → In x kept → ⊥
-    not_kept x lt res i = by_test (x == v) refl (filter_in (is_saved g live home v r back) (below (suc v)) x i).1
+    not_kept x lt res i = by_test (x == v) refl (filter_in (is_saved g live home v r back) (below (suc v)) x
+        i).1
       where
-        by_test : (t : Bool) → (x == v) ≡ t → (if t then is_called g home else (has live back x && not (is_result r x))) ≡ true → ⊥
+        by_test : (t : Bool) → (x == v) ≡ t
+            → (if t then is_called g home else (has live back x && not (is_result r x))) ≡ true → ⊥
         by_test true e h = absurd (let z : x ≡ v = grind (arith, nat_tests) in omega (arith, z, lt))
-        by_test false e h = let z : (has live back x && not (is_result r x)) ≡ false = ap (λ t. has live back x && not t) res ∙ and_false (has live back x) in absurd (cc)
+        by_test false e h = let z : (has live back x && not (is_result r x)) ≡ false =
+            ap (λ t. has live back x && not t) res ∙ and_false (has live back x) in absurd (cc)
           where
             and_false : (t : Bool) → (t && false) ≡ false
             and_false true = refl
@@ -103,29 +124,93 @@ module _ (g : Graph) (live : List (List ℕ)) (G : Given g live) (F : Placed g l
     at_apart x y e = omega (arith, e)
 
     pub kept_in : is_calling g home ≡ true → AllByRecursion (λ x. at x < total g live) kept
-    kept_in c = all_from (λ x. at x < total g live) kept (λ x i. C.there home x (F.home b there).0 c (let l = kept_low x i in omega (arith, l, (F.home b there).1)))
+    kept_in c = all_from (λ x. at x < total g live) kept
+        (λ x i. C.there home x (F.home b there).0 c (let l = kept_low x i in
+        omega (arith, l, (F.home b there).1)))
 
   abbrev h : Graph
   h = spelled g live
 
-  pub goes_on : (w : ℕ → ℕ) (c : ℕ) → (block_at g b).exit ≡ Goto c → (s t : ProcState) (frames : List Frame) (callers : List ℕ) (k extra : ℕ) (hidden : List (List ℕ)) → Roomy (total g live) hidden → Stack g live hidden home extra frames callers → S extra hidden (After g (Goto c)) s t → Reaches g live w (owed g live w callers) (At c s frames k) (At (moved g c) t [] k)
+  pub goes_on : (w : ℕ → ℕ) (c : ℕ) → (block_at g b).exit ≡ Goto c → (s t : ProcState) (frames : List Frame)
+      (callers : List ℕ) (k extra : ℕ) (hidden : List (List ℕ)) → Roomy (total g live) hidden
+      → Stack g live hidden home extra frames callers → S extra hidden (After g (Goto c)) s t
+      → Reaches g live w (owed g live w callers) (At c s frames k) (At (moved g c) t [] k)
   goes_on w c is s t frames callers k extra hidden roomy stack st =
       let i = exit_in g live G F b (Goto c) is in
-      record { blocks = 0; callers = callers; relates = (refl, refl, refl, onward c i.0 i.1 extra hidden s t frames callers (record { vars = λ x lt l. st.vars x lt (inr ((λ w. w), (c, refl, l))); long = st.long; longer = st.longer; more = st.more; out = st.out }) roomy stack); weigh = omega arith }
+      record {
+        blocks = 0;
+        callers = callers;
+        relates = (
+          refl,
+          refl,
+          refl,
+          onward c i.0 i.1 extra hidden s t frames callers
+              (record {
+                vars = λ x lt l. st.vars x lt (inr ((λ w. w), (c, refl, l)));
+                long = st.long;
+                longer = st.longer;
+                more = st.more;
+                out = st.out;
+              }) roomy stack,
+        );
+        weigh = omega arith;
+      }
 
-  pub branches : (w : ℕ → ℕ) (term : Term) (c d : ℕ) → (block_at g b).exit ≡ Branch term c d → (s t : ProcState) (frames : List Frame) (callers : List ℕ) (k extra : ℕ) (hidden : List (List ℕ)) → Roomy (total g live) hidden → Stack g live hidden home extra frames callers → S extra hidden (After g (Branch term c d)) s t
-      → Reaches g live w (owed g live w callers) (leave g (Branch term c d) s frames k) (leave h (Branch term (moved g c) (moved g d)) t [] k)
+  pub branches : (w : ℕ → ℕ) (term : Term) (c d : ℕ) → (block_at g b).exit ≡ Branch term c d
+      → (s t : ProcState) (frames : List Frame) (callers : List ℕ) (k extra : ℕ) (hidden : List (List ℕ))
+      → Roomy (total g live) hidden → Stack g live hidden home extra frames callers
+      → S extra hidden (After g (Branch term c d)) s t
+      → Reaches g live w (owed g live w callers) (leave g (Branch term c d) s frames k)
+      (leave h (Branch term (moved g c) (moved g d)) t [] k)
   branches w term c d is s t frames callers k extra hidden roomy stack st =
       let i = exit_in g live G F b (Branch term c d) is in
       let P = After g (Branch term c d) in
-      let on = Rattle.call_gen.proofs.Agreeing.term_states g (rows g live) (size g live) v extra hidden P s t st term i.0 (λ x m. inl m) in
-      let same = Rattle.call_gen.proofs.Agreeing.term_value g (rows g live) (size g live) v extra hidden P s t st term i.0 (λ x m. inl m) in
-      if_reaches g live w (owed g live w callers) ((value_of term s).0 == 0) ((value_of term t).0 == 0) _ _ _ _ (ap (λ n. n == 0) same)
-      (record { blocks = 0; callers = callers; relates = (refl, refl, refl, onward d i.2.0 i.2.1 extra hidden _ _ frames callers (record { vars = λ x lt l. on.vars x lt (inr ((λ w. w), (d, inr refl, l))); long = on.long; longer = on.longer; more = on.more; out = on.out }) roomy stack); weigh = omega arith })
-      (record { blocks = 0; callers = callers; relates = (refl, refl, refl, onward c i.1.0 i.1.1 extra hidden _ _ frames callers (record { vars = λ x lt l. on.vars x lt (inr ((λ w. w), (c, inl refl, l))); long = on.long; longer = on.longer; more = on.more; out = on.out }) roomy stack); weigh = omega arith })
+      let on = Rattle.call_gen.proofs.Agreeing.term_states g (rows g live) (size g live) v extra hidden P s t
+      st term i.0 (λ x m. inl m) in
+      let same = Rattle.call_gen.proofs.Agreeing.term_value g (rows g live) (size g live) v extra hidden P s t
+      st term i.0 (λ x m. inl m) in
+      if_reaches g live w (owed g live w callers) ((value_of term s).0 == 0) ((value_of term t).0 == 0) _ _ _
+      _ (ap (λ n. n == 0) same)
+      (record {
+        blocks = 0;
+        callers = callers;
+        relates = (
+          refl,
+          refl,
+          refl,
+          onward d i.2.0 i.2.1 extra hidden _ _ frames callers
+              (record {
+                vars = λ x lt l. on.vars x lt (inr ((λ w. w), (d, inr refl, l)));
+                long = on.long;
+                longer = on.longer;
+                more = on.more;
+                out = on.out;
+              }) roomy stack,
+        );
+        weigh = omega arith;
+      })
+      (record {
+        blocks = 0;
+        callers = callers;
+        relates = (
+          refl,
+          refl,
+          refl,
+          onward c i.1.0 i.1.1 extra hidden _ _ frames callers
+              (record {
+                vars = λ x lt l. on.vars x lt (inr ((λ w. w), (c, inl refl, l)));
+                long = on.long;
+                longer = on.longer;
+                more = on.more;
+                out = on.out;
+              }) roomy stack,
+        );
+        weigh = omega arith;
+      })
 
   -- at the return point of a call in this block, with this result
-  module _ (r : Option ℕ) (f : ℕ) (ts : List Term) (back : ℕ) (is : (block_at g b).exit ≡ Call r f ts back) where
+  module _ (r : Option ℕ) (f : ℕ) (ts : List Term) (back : ℕ)
+      (is : (block_at g b).exit ≡ Call r f ts back) where
     result_low : (y : ℕ) → r ≡ Some y → y < v
     result_low y e = by_result r e (exit_in g live G F b (Call r f ts back) is).0
       where
@@ -134,7 +219,8 @@ module _ (g : Graph) (live : List (List ℕ)) (G : Given g live) (F : Placed g l
         by_result (Some z) e h = let same : z ≡ y = cc in omega (arith, same, h)
 
     landed_place : or_else r v < suc v
-    landed_place = result_place r v (λ p. let e : or_else r v ≡ p.0 = ap (λ q. or_else q v) p.1 in omega (arith, e, result_low p.0 p.1))
+    landed_place = result_place r v (λ p. let e : or_else r v ≡ p.0 = ap (λ q. or_else q v) p.1 in
+        omega (arith, e, result_low p.0 p.1))
 
     calling : is_calling g home ≡ true
     calling = (F.called b r f ts back there is).1
@@ -142,21 +228,38 @@ module _ (g : Graph) (live : List (List ℕ)) (G : Given g live) (F : Placed g l
     pub writes : (x : ℕ) → (ExitWrites (block_at g b).exit x → ⊥) → ExitWrites (Call r f ts back) x → ⊥
     writes x never w = never (subst (λ (y : Exit). ExitWrites y x) (sym is) w)
 
-    at_point : (o : Outside) (w k : ℕ) → step h (At (suc (moved g b)) (record { vars = landed (spot_at h (suc (moved g b))).block.named (w ∷ []) (zeros (spot_at h (suc (moved g b))).vars); out = o }) [] k)
-        ≡ passed h (run_ops (map (load g home) (kept r back)) (record { vars = set (zeros (suc v)) (or_else r v) w; out = o }) k) (Goto (moved g back)) []
-    at_point o w k = ap (λ (p : Spot). passed h (run_ops p.block.ops (record { vars = landed p.block.named (w ∷ []) (zeros p.vars); out = o }) k) p.block.exit []) (F.point b r f ts back there is)
+    at_point : (o : Outside) (w k : ℕ)
+        → step h (At (suc (moved g b))
+        (record {
+          vars = landed (spot_at h (suc (moved g b))).block.named (w ∷ [])
+              (zeros (spot_at h (suc (moved g b))).vars);
+          out = o;
+        }) [] k)
+        ≡ passed h
+        (run_ops (map (load g home) (kept r back))
+        (record { vars = set (zeros (suc v)) (or_else r v) w; out = o }) k) (Goto (moved g back)) []
+    at_point o w k =
+        ap (λ (p : Spot).
+        passed h (run_ops p.block.ops (record {
+          vars = landed p.block.named (w ∷ []) (zeros p.vars);
+          out = o;
+        }) k) p.block.exit []) (F.point b r f ts back there is)
 
-    result_word : (vars : List ℕ) (w x : ℕ) → length vars ≡ v → x < v → ExitWrites (Call r f ts back) x → get_or (with_result r w vars) x 0 ≡ w
+    result_word : (vars : List ℕ) (w x : ℕ) → length vars ≡ v → x < v → ExitWrites (Call r f ts back) x
+        → get_or (with_result r w vars) x 0 ≡ w
     result_word vars w x long lt h = by_result r h
       where
         by_result : (q : Option ℕ) → ExitWrites (Call q f ts back) x → get_or (with_result q w vars) x 0 ≡ w
         by_result None h = absurd h
-        by_result (Some y) h = subst (λ n. get_or (set vars n w) x 0 ≡ w) h (get_or-set_same vars x w 0 (omega (arith, long, lt)))
+        by_result (Some y) h = subst (λ n. get_or (set vars n w) x 0 ≡ w) h
+            (get_or-set_same vars x w 0 (omega (arith, long, lt)))
 
-    other_word : (vars : List ℕ) (w x : ℕ) → (ExitWrites (Call r f ts back) x → ⊥) → get_or (with_result r w vars) x 0 ≡ get_or vars x 0
+    other_word : (vars : List ℕ) (w x : ℕ) → (ExitWrites (Call r f ts back) x → ⊥)
+        → get_or (with_result r w vars) x 0 ≡ get_or vars x 0
     other_word vars w x never = by_result r never
       where
-        by_result : (q : Option ℕ) → (ExitWrites (Call q f ts back) x → ⊥) → get_or (with_result q w vars) x 0 ≡ get_or vars x 0
+        by_result : (q : Option ℕ) → (ExitWrites (Call q f ts back) x → ⊥)
+            → get_or (with_result q w vars) x 0 ≡ get_or vars x 0
         by_result None never = refl
         by_result (Some y) never = get_or-set_other vars y x w 0 never
 
@@ -181,42 +284,80 @@ module _ (g : Graph) (live : List (List ℕ)) (G : Given g live) (F : Placed g l
         by_result None = inr (λ w. w)
         by_result (Some y) = cases_eq x y
 
-    pub comes_back : (weight : ℕ → ℕ) (o p : Outside) (w u k : ℕ) (vars : List ℕ) (frames : List Frame) (callers : List ℕ) (hidden : List (List ℕ)) → w ≡ u → Same (length g.arrays) (rows g live) (size g live) hidden o p → Roomy (total g live) hidden → length vars ≡ v
-        → ((x : ℕ) → x < v → Live g back x → (ExitWrites (block_at g b).exit x → ⊥) → peek hidden (cell g home x) ≡ get_or vars x 0)
+    pub comes_back : (weight : ℕ → ℕ) (o p : Outside) (w u k : ℕ) (vars : List ℕ) (frames : List Frame)
+        (callers : List ℕ) (hidden : List (List ℕ)) → w ≡ u → Same (length g.arrays) (rows g live)
+        (size g live) hidden o p → Roomy (total g live) hidden → length vars ≡ v
+        → ((x : ℕ) → x < v → Live g back x → (ExitWrites (block_at g b).exit x → ⊥)
+        → peek hidden (cell g home x) ≡ get_or vars x 0)
         → Stack g live hidden home (peek hidden (cell g home v)) frames callers
-        → Reaches g live weight (owed g live weight (b ∷ callers)) (At back (record { vars = with_result r w vars; out = o }) frames k) (At (suc (moved g b)) (record { vars = landed (spot_at h (suc (moved g b))).block.named (u ∷ []) (zeros (spot_at h (suc (moved g b))).vars); out = p }) [] k)
+        → Reaches g live weight (owed g live weight (b ∷ callers))
+        (At back (record { vars = with_result r w vars; out = o }) frames k)
+        (At (suc (moved g b))
+        (record {
+          vars = landed (spot_at h (suc (moved g b))).block.named (u ∷ [])
+              (zeros (spot_at h (suc (moved g b))).vars);
+          out = p;
+        }) [] k)
     comes_back weight o p w u k vars frames callers hidden ew out roomy long kept_vars stack =
         let i = exit_in g live G F b (Call r f ts back) is in
         let xs = kept r back in
         let start : ProcState = record { vars = set (zeros (suc v)) (or_else r v) u; out = p } in
         let l = loads_run g (total g live) home hidden o start xs k (kept_in r back calling) out in
-        let count : length start.vars ≡ suc v = length-set (zeros (suc v)) (or_else r v) u ∙ zeros_count (suc v) in
-        let agree : (x : ℕ) → x < v → Live g back x → get_or (with_result r w vars) x 0 ≡ get_or l.state.vars x 0 = λ x lt live_x. elim (written_or_not x) [
+        let count : length start.vars ≡ suc v = length-set (zeros (suc v)) (or_else r v) u
+        ∙ zeros_count (suc v) in
+        let agree : (x : ℕ) → x < v → Live g back x → get_or (with_result r w vars) x 0 ≡ get_or l.state.vars
+        x 0 = λ x lt live_x. elim (written_or_not x) [
           | inl wr ↦
               let out_of : In x xs → ⊥ = not_kept r back x lt (result_is r f ts back x wr) in
               result_word vars w x long lt wr ∙ ew
-              ∙ sym (ap (λ (vs : List ℕ). get_or vs x 0) l.vars ∙ peeks_other (total g live) (at r back) (at_apart r back) hidden xs start.vars x out_of
-              ∙ ap (λ n. get_or (set (zeros (suc v)) n u) x 0) (place_of x wr) ∙ get_or-set_same (zeros (suc v)) x u 0 (omega (arith, lt, zeros_count (suc v))))
+              ∙ sym (ap (λ (vs : List ℕ). get_or vs x 0) l.vars ∙ peeks_other (total g live) (at r back)
+              (at_apart r back) hidden xs start.vars x out_of
+              ∙ ap (λ n. get_or (set (zeros (suc v)) n u) x 0) (place_of x wr)
+              ∙ get_or-set_same (zeros (suc v)) x u 0 (omega (arith, lt, zeros_count (suc v))))
           | inr nw ↦
-              let never : ExitWrites (block_at g b).exit x → ⊥ = λ e. nw (subst (λ (y : Exit). ExitWrites y x) is e) in
-              let there_x : In x xs = kept_live r back x lt (G.known back x i.4.0 (let q = vars_same i.4.0 i.4.1 in omega (arith, q, lt)) live_x) (result_not r f ts back x nw) in
+              let never : ExitWrites (block_at g b).exit x → ⊥ =
+              λ e. nw (subst (λ (y : Exit). ExitWrites y x) is e) in
+              let there_x : In x xs =
+              kept_live r back x lt (G.known back x i.4.0 (let q = vars_same i.4.0 i.4.1 in
+              omega (arith, q, lt)) live_x) (result_not r f ts back x nw) in
               other_word vars w x nw ∙ sym (kept_vars x lt live_x never)
-              ∙ sym (ap (λ (vs : List ℕ). get_or vs x 0) l.vars ∙ peeks_in (total g live) (at r back) (at_apart r back) hidden xs start.vars x (omega (arith, lt, count)) (inr there_x))
+              ∙ sym (ap (λ (vs : List ℕ). get_or vs x 0) l.vars ∙ peeks_in (total g live) (at r back)
+              (at_apart r back) hidden xs start.vars x (omega (arith, lt, count)) (inr there_x))
         ] in
-        let st : S (get_or l.state.vars v 0) hidden (Live g back) (record { vars = with_result r w vars; out = o }) l.state = record {
+        let st : S (get_or l.state.vars v 0) hidden (Live g back)
+        (record { vars = with_result r w vars; out = o }) l.state = record {
           vars = agree;
           long = result_count vars w ∙ long;
-          longer = ap length l.vars ∙ peeks_count (total g live) (at r back) (at_apart r back) hidden xs start.vars ∙ count;
+          longer = ap length l.vars ∙ peeks_count (total g live) (at r back) (at_apart r back) hidden xs
+              start.vars ∙ count;
           more = refl;
           out = l.out;
         } in
-        let rest : Stack g live hidden home (get_or l.state.vars v 0) frames callers = elim (decide (is_called g home)) [
+        let rest : Stack g live hidden home (get_or l.state.vars v 0) frames callers =
+        elim (decide (is_called g home)) [
           | inl c ↦ subst (λ n. Stack g live hidden home n frames callers)
-              (sym (ap (λ (vs : List ℕ). get_or vs v 0) l.vars ∙ peeks_in (total g live) (at r back) (at_apart r back) hidden xs start.vars v (omega (arith, count)) (inr (kept_address r back c)))) stack
-          | inr nc ↦ stack_any g live G F hidden home (peek hidden (cell g home v)) (get_or l.state.vars v 0) frames callers nc stack
+              (sym (ap (λ (vs : List ℕ). get_or vs v 0) l.vars ∙ peeks_in (total g live) (at r back)
+              (at_apart r back) hidden xs start.vars v (omega (arith, count))
+              (inr (kept_address r back c)))) stack
+          | inr nc ↦ stack_any g live G F hidden home (peek hidden (cell g home v)) (get_or l.state.vars v 0)
+              frames callers nc stack
         ] in
-        reaches_later g live weight (owed g live weight callers) _ (suc (moved g b)) _ _ _ (reaches_by g live weight _ _ _ _ (at_point p u k ∙ ap (λ (q : OpsOutcome). passed h q (Goto (moved g back)) []) l.run)
-        (record { blocks = 0; callers = callers; relates = (refl, refl, refl, onward back i.4.0 i.4.1 (get_or l.state.vars v 0) hidden _ l.state frames callers st roomy rest); weigh = omega arith }))
+        reaches_later g live weight (owed g live weight callers) _ (suc (moved g b)) _ _ _
+        (reaches_by g live weight _ _ _ _
+        (at_point p u k ∙ ap (λ (q : OpsOutcome). passed h q (Goto (moved g back)) []) l.run)
+        (record {
+          blocks = 0;
+          callers = callers;
+          relates = (
+            refl,
+            refl,
+            refl,
+            onward back i.4.0 i.4.1 (get_or l.state.vars v 0) hidden _ l.state
+                frames callers st roomy rest,
+          );
+          weigh = omega arith;
+        }))
       where
         vars_same : back < length (spots g) → (spot_at g back).home ≡ home → v ≡ (spot_at g back).vars
-        vars_same lt same = (F.home b there).1 ∙ ap (λ n. (proc_at g n).vars) (sym same) ∙ sym (F.home back lt).1
+        vars_same lt same = (F.home b there).1 ∙ ap (λ n. (proc_at g n).vars) (sym same)
+            ∙ sym (F.home back lt).1

@@ -1,5 +1,6 @@
 -- Where the blocks and procedures of a graph's part stand.
-use Rattle.std.proofs.Common.{ℕ, zero, suc, ◌+◌, ◌-◌, ◌≡◌, ◌<◌, ◌≤◌, Bool, true, false, if◌then◌else◌, List, [], ◌∷◌, ◌++◌, length, refl, sym, ap, ◌∙◌, inl, inr, Some, arith}
+use Rattle.std.proofs.Common.{ℕ, zero, suc, ◌+◌, ◌-◌, ◌≡◌, ◌<◌, ◌≤◌, Bool, true, false, if◌then◌else◌, List}
+use Rattle.std.proofs.Common.{[], ◌∷◌, ◌++◌, length, refl, sym, ap, ◌∙◌, inl, inr, Some, arith}
 use Rattle.std.specs.List.{AllByRecursion}
 use Rattle.std.proofs.lemmas.Bool.{cases_lt}
 use Rattle.cfg_core.specs.Graph.{Exit, Block, GraphProc, Spot, spots_in, spots_from, no_proc, entry_from}
@@ -31,7 +32,8 @@ before_less keep b (suc c) k lt =
     omega (arith, d, before_kept keep b k)
 
 -- what is kept has a number of its own
-pub before_apart : (keep : ℕ → Bool) (b c : ℕ) → keep b ≡ true → keep c ≡ true → before keep b ≡ before keep c → b ≡ c
+pub before_apart : (keep : ℕ → Bool) (b c : ℕ) → keep b ≡ true → keep c ≡ true → before keep b ≡ before keep c
+    → b ≡ c
 before_apart keep b c kb kc e = elim (cases_lt b c) [
   | inl lt ↦ absurd (omega (arith, e, before_less keep b c kb lt))
   | inr ge ↦ elim (cases_lt c b) [
@@ -41,7 +43,8 @@ before_apart keep b c kb kc e = elim (cases_lt b c) [
 ]
 
 -- the order is kept
-pub before_order : (keep : ℕ → Bool) (b c : ℕ) → keep b ≡ true → keep c ≡ true → before keep b ≤ before keep c → b ≤ c
+pub before_order : (keep : ℕ → Bool) (b c : ℕ) → keep b ≡ true → keep c ≡ true → before keep b ≤ before keep c
+    → b ≤ c
 before_order keep b c kb kc le = elim (cases_lt c b) [
   | inl lt ↦ absurd (omega (arith, le, before_less keep c b kc lt))
   | inr ge ↦ ge
@@ -55,11 +58,13 @@ before_most keep (suc n) = omega (arith, before_most keep n, one (keep n))
     one true = omega arith
     one false = omega arith
 
-length_if : {A : Type 0} (v : Bool) (x : A) (xs : List A) → length (if v then x ∷ xs else xs) ≡ (if v then 1 else 0) + length xs
+length_if : {A : Type 0} (v : Bool) (x : A) (xs : List A) → length (if v then x ∷ xs else xs)
+    ≡ (if v then 1 else 0) + length xs
 length_if true x xs = omega arith
 length_if false x xs = omega arith
 
-entry_shift : (n m : ℕ) (ps : List GraphProc) (e : ℕ) → e < length ps → entry_from (n + m) ps e ≡ n + entry_from m ps e
+entry_shift : (n m : ℕ) (ps : List GraphProc) (e : ℕ) → e < length ps → entry_from (n + m) ps e
+    ≡ n + entry_from m ps e
 entry_shift n m [] e lt = absurd (omega arith)
 entry_shift n m (p ∷ ps) zero lt = refl
 entry_shift n m (p ∷ ps) (suc e) lt =
@@ -67,11 +72,17 @@ entry_shift n m (p ∷ ps) (suc e) lt =
     ap (λ k. entry_from k ps e) z ∙ entry_shift n (m + length p.blocks) ps e (omega arith)
 
 module _ (keep : ℕ → Bool) (name : Exit → Exit) where
-  pub blocks_count : (b : ℕ) (xs : List Block) → length (part_blocks keep name b xs) + before keep b ≡ before keep (b + length xs)
+  pub blocks_count : (b : ℕ) (xs : List Block) → length (part_blocks keep name b xs) + before keep b
+      ≡ before keep (b + length xs)
   blocks_count b [] = let z : b + 0 ≡ b = omega arith in omega (arith, ap (before keep) z)
   blocks_count b (x ∷ xs) =
       let z : suc b + length xs ≡ b + suc (length xs) = omega arith in
-      omega (arith, length_if (keep b) (part_block name x) (part_blocks keep name (suc b) xs), blocks_count (suc b) xs, ap (before keep) z)
+      omega (
+        arith,
+        length_if (keep b) (part_block name x) (part_blocks keep name (suc b) xs),
+        blocks_count (suc b) xs,
+        ap (before keep) z,
+      )
 
   module _ (home : ℕ → ℕ) where
     abbrev pub part_spot : Spot → Spot
@@ -82,53 +93,73 @@ module _ (keep : ℕ → Bool) (name : Exit → Exit) where
     part_spots b [] = []
     part_spots b (s ∷ ss) = if keep b then part_spot s ∷ part_spots (suc b) ss else part_spots (suc b) ss
 
-    spots_if : (f vars : ℕ) (v : Bool) (x : Block) (xs : List Block) (ss : List Spot) → spots_in (home f) vars xs ≡ ss → spots_in (home f) vars (if v then part_block name x ∷ xs else xs) ≡ (if v then part_spot (record { home = f; vars = vars; block = x }) ∷ ss else ss)
-    spots_if f vars true x xs ss e = ap (λ (zs : List Spot). part_spot (record { home = f; vars = vars; block = x }) ∷ zs) e
+    spots_if : (f vars : ℕ) (v : Bool) (x : Block) (xs : List Block) (ss : List Spot)
+        → spots_in (home f) vars xs ≡ ss → spots_in (home f) vars (if v then part_block name x ∷ xs else xs)
+        ≡ (if v then part_spot (record { home = f; vars = vars; block = x }) ∷ ss else ss)
+    spots_if f vars true x xs ss e =
+        ap (λ (zs : List Spot). part_spot (record { home = f; vars = vars; block = x }) ∷ zs) e
     spots_if f vars false x xs ss e = e
 
-    spots_blocks : (f vars b : ℕ) (xs : List Block) → spots_in (home f) vars (part_blocks keep name b xs) ≡ part_spots b (spots_in f vars xs)
+    spots_blocks : (f vars b : ℕ) (xs : List Block) → spots_in (home f) vars (part_blocks keep name b xs)
+        ≡ part_spots b (spots_in f vars xs)
     spots_blocks f vars b [] = refl
-    spots_blocks f vars b (x ∷ xs) = spots_if f vars (keep b) x (part_blocks keep name (suc b) xs) (part_spots (suc b) (spots_in f vars xs)) (spots_blocks f vars (suc b) xs)
+    spots_blocks f vars b (x ∷ xs) = spots_if f vars (keep b) x (part_blocks keep name (suc b) xs)
+        (part_spots (suc b) (spots_in f vars xs)) (spots_blocks f vars (suc b) xs)
 
-    part_both : (b n : ℕ) (xs ys : List Spot) → n ≡ b + length xs → part_spots b (xs ++ ys) ≡ part_spots b xs ++ part_spots n ys
+    part_both : (b n : ℕ) (xs ys : List Spot) → n ≡ b + length xs → part_spots b (xs ++ ys) ≡ part_spots b xs
+        ++ part_spots n ys
     part_both b n [] ys e = ap (λ k. part_spots k ys) (let z : b ≡ n = omega (arith, e) in z)
     part_both b n (x ∷ xs) ys e = both (keep b) (part_both (suc b) n xs ys (omega (arith, e)))
       where
         both : (v : Bool) → part_spots (suc b) (xs ++ ys) ≡ part_spots (suc b) xs ++ part_spots n ys
-            → (if v then part_spot x ∷ part_spots (suc b) (xs ++ ys) else part_spots (suc b) (xs ++ ys)) ≡ (if v then part_spot x ∷ part_spots (suc b) xs else part_spots (suc b) xs) ++ part_spots n ys
+            → (if v then part_spot x ∷ part_spots (suc b) (xs ++ ys) else part_spots (suc b) (xs ++ ys))
+            ≡ (if v then part_spot x ∷ part_spots (suc b) xs else part_spots (suc b) xs) ++ part_spots n
+            ys
         both true h = ap (λ (zs : List Spot). part_spot x ∷ zs) h
         both false h = h
 
-    none_kept : (b : ℕ) (ss : List Spot) → ((i : ℕ) (s : Spot) → nth ss i ≡ Some s → keep (b + i) ≡ false) → part_spots b ss ≡ []
+    none_kept : (b : ℕ) (ss : List Spot) → ((i : ℕ) (s : Spot) → nth ss i ≡ Some s → keep (b + i) ≡ false)
+        → part_spots b ss ≡ []
     none_kept b [] h = refl
     none_kept b (s ∷ ss) h =
         let z : b + 0 ≡ b = omega arith in
-        none (keep b) (ap keep (sym z) ∙ h 0 s refl) (none_kept (suc b) ss (λ i t e. let y : suc b + i ≡ b + suc i = omega arith in ap keep y ∙ h (suc i) t e))
+        none (keep b) (ap keep (sym z) ∙ h 0 s refl)
+        (none_kept (suc b) ss (λ i t e. let y : suc b + i ≡ b + suc i = omega arith in
+        ap keep y ∙ h (suc i) t e))
       where
-        none : (v : Bool) → v ≡ false → part_spots (suc b) ss ≡ [] → (if v then part_spot s ∷ part_spots (suc b) ss else part_spots (suc b) ss) ≡ []
+        none : (v : Bool) → v ≡ false → part_spots (suc b) ss ≡ []
+            → (if v then part_spot s ∷ part_spots (suc b) ss else part_spots (suc b) ss) ≡ []
         none true e h = absurd (cc)
         none false e h = h
 
     -- a block that is kept stands after those kept before it
-    pub part_at : (b : ℕ) (ss : List Spot) (i j : ℕ) (s : Spot) → nth ss i ≡ Some s → keep (b + i) ≡ true → j + before keep b ≡ before keep (b + i) → nth (part_spots b ss) j ≡ Some (part_spot s)
+    pub part_at : (b : ℕ) (ss : List Spot) (i j : ℕ) (s : Spot) → nth ss i ≡ Some s → keep (b + i) ≡ true
+        → j + before keep b ≡ before keep (b + i) → nth (part_spots b ss) j ≡ Some (part_spot s)
     part_at b [] i j s e k ej = absurd (cc)
     part_at b (x ∷ ss) zero j s e k ej =
         let z : b + 0 ≡ b = omega arith in
         let same : x ≡ s = cc in
-        here (keep b) (ap keep (sym z) ∙ k) j (omega (arith, ej, ap (before keep) z)) ∙ ap (λ (t : Spot). Some (part_spot t)) same
+        here (keep b) (ap keep (sym z) ∙ k) j (omega (arith, ej, ap (before keep) z))
+        ∙ ap (λ (t : Spot). Some (part_spot t)) same
       where
-        here : (v : Bool) → v ≡ true → (j : ℕ) → j ≡ 0 → nth (if v then part_spot x ∷ part_spots (suc b) ss else part_spots (suc b) ss) j ≡ Some (part_spot x)
+        here : (v : Bool) → v ≡ true → (j : ℕ) → j ≡ 0
+            → nth (if v then part_spot x ∷ part_spots (suc b) ss else part_spots (suc b) ss) j
+            ≡ Some (part_spot x)
         here true e zero ez = refl
         here true e (suc j) ez = absurd (omega (arith, ez))
         here false e j ez = absurd (cc)
     part_at b (x ∷ ss) (suc i) j s e k ej =
         let z : suc b + i ≡ b + suc i = omega arith in
-        later (keep b) refl j (omega (arith, ej, ap (before keep) z)) (λ m em. part_at (suc b) ss i m s e (ap keep z ∙ k) em)
+        later (keep b) refl j (omega (arith, ej, ap (before keep) z))
+        (λ m em. part_at (suc b) ss i m s e (ap keep z ∙ k) em)
       where
         later : (v : Bool) → keep b ≡ v → (j : ℕ) → j + before keep b ≡ before keep (suc b + i)
-            → ((m : ℕ) → m + before keep (suc b) ≡ before keep (suc b + i) → nth (part_spots (suc b) ss) m ≡ Some (part_spot s))
-            → nth (if v then part_spot x ∷ part_spots (suc b) ss else part_spots (suc b) ss) j ≡ Some (part_spot s)
-        later true ev zero h rest = absurd (omega (arith, h, before_more keep (suc b) i (suc b + i) refl, before_kept keep b ev))
+            → ((m : ℕ) → m + before keep (suc b) ≡ before keep (suc b + i)
+            → nth (part_spots (suc b) ss) m ≡ Some (part_spot s))
+            → nth (if v then part_spot x ∷ part_spots (suc b) ss else part_spots (suc b) ss) j
+            ≡ Some (part_spot s)
+        later true ev zero h rest =
+            absurd (omega (arith, h, before_more keep (suc b) i (suc b + i) refl, before_kept keep b ev))
         later true ev (suc j) h rest = rest j (omega (arith, h, before_kept keep b ev))
         later false ev j h rest = rest j (omega (arith, h, before_dropped keep b ev))
 
@@ -139,21 +170,37 @@ module _ (keep : ℕ → Bool) (name : Exit → Exit) where
       pub kept : keep (b + place) ≡ true
       pub is : j + before keep b ≡ before keep (b + place)
 
-    from_later : (b : ℕ) (x : Spot) (ss : List Spot) (i j : ℕ) → i + before keep (suc b) ≡ j + before keep b → From (suc b) ss i → From b (x ∷ ss) j
+    from_later : (b : ℕ) (x : Spot) (ss : List Spot) (i j : ℕ) → i + before keep (suc b) ≡ j + before keep b
+        → From (suc b) ss i → From b (x ∷ ss) j
     from_later b x ss i j e r =
         let z : suc b + r.place ≡ b + suc r.place = omega arith in
-        record { place = suc r.place; there = omega (arith, r.there); kept = ap keep (sym z) ∙ r.kept; is = omega (arith, e, r.is, ap (before keep) z) }
+        record {
+          place = suc r.place;
+          there = omega (arith, r.there);
+          kept = ap keep (sym z) ∙ r.kept;
+          is = omega (arith, e, r.is, ap (before keep) z);
+        }
 
     pub part_from : (b : ℕ) (ss : List Spot) (j : ℕ) → j < length (part_spots b ss) → From b ss j
     part_from b [] j lt = absurd (omega arith)
     part_from b (x ∷ ss) j lt = at (keep b) refl j lt (λ m lm. part_from (suc b) ss m lm)
       where
-        at : (v : Bool) → keep b ≡ v → (j : ℕ) → j < length (if v then part_spot x ∷ part_spots (suc b) ss else part_spots (suc b) ss) → ((m : ℕ) → m < length (part_spots (suc b) ss) → From (suc b) ss m) → From b (x ∷ ss) j
-        at true ev zero lt rest = let z : b + 0 ≡ b = omega arith in record { place = 0; there = omega arith; kept = ap keep z ∙ ev; is = omega (arith, ap (before keep) z) }
-        at true ev (suc j) lt rest = from_later b x ss j (suc j) (omega (arith, before_kept keep b ev)) (rest j (omega (arith, lt)))
+        at : (v : Bool) → keep b ≡ v → (j : ℕ)
+            → j < length (if v then part_spot x ∷ part_spots (suc b) ss else part_spots (suc b) ss)
+            → ((m : ℕ) → m < length (part_spots (suc b) ss) → From (suc b) ss m) → From b (x ∷ ss) j
+        at true ev zero lt rest = let z : b + 0 ≡ b = omega arith in
+            record {
+              place = 0;
+              there = omega arith;
+              kept = ap keep z ∙ ev;
+              is = omega (arith, ap (before keep) z);
+            }
+        at true ev (suc j) lt rest = from_later b x ss j (suc j) (omega (arith, before_kept keep b ev))
+            (rest j (omega (arith, lt)))
         at false ev j lt rest = from_later b x ss j j (omega (arith, before_dropped keep b ev)) (rest j lt)
 
-  in_blocks : (f vars : ℕ) (xs : List Block) (i : ℕ) (s : Spot) → nth (spots_in f vars xs) i ≡ Some s → s.home ≡ f
+  in_blocks : (f vars : ℕ) (xs : List Block) (i : ℕ) (s : Spot) → nth (spots_in f vars xs) i ≡ Some s
+      → s.home ≡ f
   in_blocks f vars [] i s e = absurd (cc)
   in_blocks f vars (x ∷ xs) zero s e = cc
   in_blocks f vars (x ∷ xs) (suc i) s e = in_blocks f vars xs i s e
@@ -174,88 +221,125 @@ module _ (keep : ℕ → Bool) (name : Exit → Exit) where
     -- A procedure is kept where its first block is, and with each block its procedure.
     pub record Whole (f b : ℕ) (ps : List GraphProc) : Type 0 where
       pub firsts : (e : ℕ) → e < length ps → kept (f + e) ≡ keep (entry_from b ps e)
-      pub homes : (i : ℕ) (s : Spot) → nth (spots_from f ps) i ≡ Some s → keep (b + i) ≡ true → kept s.home ≡ true
+      pub homes : (i : ℕ) (s : Spot) → nth (spots_from f ps) i ≡ Some s → keep (b + i) ≡ true
+          → kept s.home ≡ true
 
     whole_first : (f b : ℕ) (p : GraphProc) (ps : List GraphProc) → Whole f b (p ∷ ps) → kept f ≡ keep b
     whole_first f b p ps w = let z : f ≡ f + 0 = omega arith in ap kept z ∙ w.firsts 0 (omega arith)
 
-    whole_later : (f b : ℕ) (p : GraphProc) (ps : List GraphProc) → Whole f b (p ∷ ps) → Whole (suc f) (b + length p.blocks) ps
+    whole_later : (f b : ℕ) (p : GraphProc) (ps : List GraphProc) → Whole f b (p ∷ ps)
+        → Whole (suc f) (b + length p.blocks) ps
     whole_later f b p ps w = record {
-      firsts = λ e lt. let z : suc f + e ≡ f + suc e = omega arith in ap kept z ∙ w.firsts (suc e) (omega arith);
+      firsts = λ e lt. let z : suc f + e ≡ f + suc e = omega arith in ap kept z
+          ∙ w.firsts (suc e) (omega arith);
       homes = λ i s e k.
           let z : (b + length p.blocks) + i ≡ b + (length p.blocks + i) = omega arith in
-          w.homes (length p.blocks + i) s (nth_right (spots_in f p.vars p.blocks) (spots_from (suc f) ps) (length p.blocks) i (length p.blocks + i) (in_count f p.vars p.blocks) refl ∙ e) (ap keep (sym z) ∙ k);
+          w.homes (length p.blocks + i) s (nth_right (spots_in f p.vars p.blocks) (spots_from (suc f) ps)
+          (length p.blocks) i (length p.blocks + i) (in_count f p.vars p.blocks) refl ∙ e)
+          (ap keep (sym z) ∙ k);
     }
 
     -- of a procedure that isn't kept no block is
-    whole_none : (f b : ℕ) (p : GraphProc) (ps : List GraphProc) → Whole f b (p ∷ ps) → keep b ≡ false → (i : ℕ) (s : Spot) → nth (spots_in f p.vars p.blocks) i ≡ Some s → keep (b + i) ≡ false
+    whole_none : (f b : ℕ) (p : GraphProc) (ps : List GraphProc) → Whole f b (p ∷ ps) → keep b ≡ false
+        → (i : ℕ) (s : Spot) → nth (spots_in f p.vars p.blocks) i ≡ Some s → keep (b + i) ≡ false
     whole_none f b p ps w off i s e = by_test (keep (b + i)) refl
       where
         by_test : (v : Bool) → keep (b + i) ≡ v → v ≡ false
         by_test false ev = refl
         by_test true ev =
             let there : i < length (spots_in f p.vars p.blocks) = bound (spots_in f p.vars p.blocks) i s e in
-            let up : kept s.home ≡ true = w.homes i s (nth_append_left (spots_in f p.vars p.blocks) (spots_from (suc f) ps) i there ∙ e) ev in
+            let up : kept s.home ≡ true =
+            w.homes i s (nth_append_left (spots_in f p.vars p.blocks) (spots_from (suc f) ps) i there ∙ e)
+            ev in
             let same : kept s.home ≡ kept f = ap kept (in_blocks f p.vars p.blocks i s e) in
             let first = whole_first f b p ps w in
             absurd (cc)
 
-    none_counted : (f b : ℕ) (p : GraphProc) (ps : List GraphProc) → Whole f b (p ∷ ps) → keep b ≡ false → before keep (b + length p.blocks) ≡ before keep b
+    none_counted : (f b : ℕ) (p : GraphProc) (ps : List GraphProc) → Whole f b (p ∷ ps) → keep b ≡ false
+        → before keep (b + length p.blocks) ≡ before keep b
     none_counted f b p ps w off =
         let c = blocks_count b p.blocks in
         let e : length (part_blocks keep name b p.blocks) ≡ 0 =
-        sym (in_count (home f) p.vars (part_blocks keep name b p.blocks)) ∙ ap length (spots_blocks home f p.vars b p.blocks) ∙ ap length (none_kept home b (spots_in f p.vars p.blocks) (whole_none f b p ps w off)) in
+        sym (in_count (home f) p.vars (part_blocks keep name b p.blocks))
+        ∙ ap length (spots_blocks home f p.vars b p.blocks) ∙ ap length
+        (none_kept home b (spots_in f p.vars p.blocks) (whole_none f b p ps w off)) in
         omega (arith, c, e)
 
     -- the blocks of the part
-    pub spots_part : (f b : ℕ) (ps : List GraphProc) → Whole f b ps → spots_from (home f) (part_procs keep name b ps) ≡ part_spots home b (spots_from f ps)
+    pub spots_part : (f b : ℕ) (ps : List GraphProc) → Whole f b ps
+        → spots_from (home f) (part_procs keep name b ps) ≡ part_spots home b (spots_from f ps)
     spots_part f b [] w = refl
     spots_part f b (p ∷ ps) w =
         let n = b + length p.blocks in
         let rest = spots_part (suc f) n ps (whole_later f b p ps w) in
-        let count : n ≡ b + length (spots_in f p.vars p.blocks) = ap (λ k. b + k) (sym (in_count f p.vars p.blocks)) in
-        by_test (keep b) refl rest ∙ sym (part_both home b n (spots_in f p.vars p.blocks) (spots_from (suc f) ps) count)
+        let count : n ≡ b + length (spots_in f p.vars p.blocks) =
+        ap (λ k. b + k) (sym (in_count f p.vars p.blocks)) in
+        by_test (keep b) refl rest
+        ∙ sym (part_both home b n (spots_in f p.vars p.blocks) (spots_from (suc f) ps) count)
       where
-        by_test : (v : Bool) → keep b ≡ v → spots_from (home (suc f)) (part_procs keep name (b + length p.blocks) ps) ≡ part_spots home (b + length p.blocks) (spots_from (suc f) ps)
-            → spots_from (home f) (if v then part_proc keep name b p ∷ part_procs keep name (b + length p.blocks) ps else part_procs keep name (b + length p.blocks) ps)
-            ≡ part_spots home b (spots_in f p.vars p.blocks) ++ part_spots home (b + length p.blocks) (spots_from (suc f) ps)
+        by_test : (v : Bool) → keep b ≡ v
+            → spots_from (home (suc f)) (part_procs keep name (b + length p.blocks) ps) ≡ part_spots home
+            (b + length p.blocks) (spots_from (suc f) ps)
+            → spots_from (home f) (if v then part_proc keep name b p ∷ part_procs keep name
+            (b + length p.blocks) ps else part_procs keep name (b + length p.blocks) ps)
+            ≡ part_spots home b (spots_in f p.vars p.blocks) ++ part_spots home (b + length p.blocks)
+            (spots_from (suc f) ps)
         by_test true ev rest =
             let up : home (suc f) ≡ suc (home f) = before_kept kept f (whole_first f b p ps w ∙ ev) in
-            ap (λ (zs : List Spot). zs ++ spots_from (suc (home f)) (part_procs keep name (b + length p.blocks) ps)) (spots_blocks home f p.vars b p.blocks)
-            ∙ ap (λ k. part_spots home b (spots_in f p.vars p.blocks) ++ spots_from k (part_procs keep name (b + length p.blocks) ps)) (sym up)
+            ap (λ (zs : List Spot). zs ++ spots_from (suc (home f))
+            (part_procs keep name (b + length p.blocks) ps)) (spots_blocks home f p.vars b p.blocks)
+            ∙ ap (λ k. part_spots home b (spots_in f p.vars p.blocks) ++ spots_from k
+            (part_procs keep name (b + length p.blocks) ps)) (sym up)
             ∙ ap (λ (zs : List Spot). part_spots home b (spots_in f p.vars p.blocks) ++ zs) rest
         by_test false ev rest =
-            let same : home (suc f) ≡ home f = ap (λ (v : Bool). home f + (if v then 1 else 0)) (whole_first f b p ps w ∙ ev) ∙ (omega arith) in
+            let same : home (suc f) ≡ home f = ap (λ (v : Bool). home f + (if v then 1 else 0))
+            (whole_first f b p ps w ∙ ev) ∙ (omega arith) in
             ap (λ k. spots_from k (part_procs keep name (b + length p.blocks) ps)) (sym same)
             ∙ rest
-            ∙ ap (λ (zs : List Spot). zs ++ part_spots home (b + length p.blocks) (spots_from (suc f) ps)) (sym (none_kept home b (spots_in f p.vars p.blocks) (whole_none f b p ps w ev)))
+            ∙ ap (λ (zs : List Spot). zs ++ part_spots home (b + length p.blocks) (spots_from (suc f) ps))
+            (sym (none_kept home b (spots_in f p.vars p.blocks) (whole_none f b p ps w ev)))
 
     -- the procedures of the part
-    pub procs_count : (f b : ℕ) (ps : List GraphProc) → Whole f b ps → length (part_procs keep name b ps) + home f ≡ home (f + length ps)
+    pub procs_count : (f b : ℕ) (ps : List GraphProc) → Whole f b ps → length (part_procs keep name b ps)
+        + home f ≡ home (f + length ps)
     procs_count f b [] w = let z : f + 0 ≡ f = omega arith in omega (arith, ap home z)
     procs_count f b (p ∷ ps) w =
         let z : suc f + length ps ≡ f + suc (length ps) = omega arith in
-        let first : home f + (if kept f then 1 else 0) ≡ home f + (if keep b then 1 else 0) = ap (λ (v : Bool). home f + (if v then 1 else 0)) (whole_first f b p ps w) in
-        omega (arith, length_if (keep b) (part_proc keep name b p) (part_procs keep name (b + length p.blocks) ps), procs_count (suc f) (b + length p.blocks) ps (whole_later f b p ps w), ap home z, first)
+        let first : home f + (if kept f then 1 else 0) ≡ home f + (if keep b then 1 else 0) =
+        ap (λ (v : Bool). home f + (if v then 1 else 0)) (whole_first f b p ps w) in
+        omega (
+          arith,
+          length_if (keep b) (part_proc keep name b p)
+              (part_procs keep name (b + length p.blocks) ps),
+          procs_count (suc f) (b + length p.blocks) ps
+              (whole_later f b p ps w),
+          ap home z,
+          first,
+        )
 
     -- among these procedures that is kept which begins at this block, and its first block has a number
     pub record Stands (qs : List GraphProc) (p : GraphProc) (first b n j : ℕ) : Type 0 where
       pub proc : nth qs j ≡ Some (part_proc keep name first p)
       pub entry : entry_from n qs j + before keep b ≡ n + before keep first
 
-    pub proc_placed : (f b n : ℕ) (ps : List GraphProc) → Whole f b ps → (e j : ℕ) → e < length ps → keep (entry_from b ps e) ≡ true → j + home f ≡ home (f + e) → Stands (part_procs keep name b ps) (or_else (nth ps e) no_proc) (entry_from b ps e) b n j
+    pub proc_placed : (f b n : ℕ) (ps : List GraphProc) → Whole f b ps → (e j : ℕ) → e < length ps
+        → keep (entry_from b ps e) ≡ true → j + home f ≡ home (f + e) → Stands (part_procs keep name b ps)
+        (or_else (nth ps e) no_proc) (entry_from b ps e) b n j
     proc_placed f b n [] w e j lt k ej = absurd (omega arith)
     proc_placed f b n (p ∷ ps) w zero j lt k ej =
         let z : f + 0 ≡ f = omega arith in
         here (keep b) k j (omega (arith, ej, ap home z))
       where
-        here : (v : Bool) → v ≡ true → (j : ℕ) → j ≡ 0 → Stands (if v then part_proc keep name b p ∷ part_procs keep name (b + length p.blocks) ps else part_procs keep name (b + length p.blocks) ps) p b b n j
+        here : (v : Bool) → v ≡ true → (j : ℕ) → j ≡ 0
+            → Stands (if v then part_proc keep name b p ∷ part_procs keep name (b + length p.blocks) ps
+            else part_procs keep name (b + length p.blocks) ps) p b b n j
         here true e zero ez = record { proc = refl; entry = refl }
         here true e (suc j) ez = absurd (omega (arith, ez))
         here false e j ez = absurd (cc)
     proc_placed f b n (p ∷ ps) w (suc e) j lt k ej =
         later (keep b) refl j (omega (arith, ej, ap home (let z : suc f + e ≡ f + suc e = omega arith in z)))
-        (λ m i h. proc_placed (suc f) (b + length p.blocks) m ps (whole_later f b p ps w) e i (omega (arith, lt)) k h)
+        (λ m i h. proc_placed (suc f) (b + length p.blocks) m ps (whole_later f b p ps w) e i
+        (omega (arith, lt)) k h)
       where
         kept_by : (v : Bool) → keep b ≡ v → home (suc f) ≡ home f + (if v then 1 else 0)
         kept_by v ev = ap (λ (t : Bool). home f + (if t then 1 else 0)) (whole_first f b p ps w ∙ ev)
@@ -264,25 +348,43 @@ module _ (keep : ℕ → Bool) (name : Exit → Exit) where
         up = before_more kept (suc f) e (suc f + e) refl
 
         later : (v : Bool) → keep b ≡ v → (j : ℕ) → j + home f ≡ home (suc f + e)
-            → ((m i : ℕ) → i + home (suc f) ≡ home (suc f + e) → Stands (part_procs keep name (b + length p.blocks) ps) (or_else (nth ps e) no_proc) (entry_from (b + length p.blocks) ps e) (b + length p.blocks) m i)
-            → Stands (if v then part_proc keep name b p ∷ part_procs keep name (b + length p.blocks) ps else part_procs keep name (b + length p.blocks) ps) (or_else (nth ps e) no_proc) (entry_from (b + length p.blocks) ps e) b n j
+            → ((m i : ℕ) → i + home (suc f) ≡ home (suc f + e)
+            → Stands (part_procs keep name (b + length p.blocks) ps) (or_else (nth ps e) no_proc)
+            (entry_from (b + length p.blocks) ps e) (b + length p.blocks) m i)
+            → Stands (if v then part_proc keep name b p ∷ part_procs keep name (b + length p.blocks) ps
+            else part_procs keep name (b + length p.blocks) ps) (or_else (nth ps e) no_proc)
+            (entry_from (b + length p.blocks) ps e) b n j
         later true ev zero h rest = absurd (omega (arith, h, kept_by true ev, up))
         later true ev (suc j) h rest =
-            let r = rest (n + length (part_blocks keep name b p.blocks)) j (omega (arith, h, kept_by true ev)) in
+            let r = rest (n + length (part_blocks keep name b p.blocks)) j
+            (omega (arith, h, kept_by true ev)) in
             record { proc = r.proc; entry = omega (arith, r.entry, blocks_count b p.blocks) }
         later false ev j h rest =
             let r = rest n j (omega (arith, h, kept_by false ev)) in
             record { proc = r.proc; entry = omega (arith, r.entry, none_counted f b p ps w ev) }
 
     -- each has a block
-    pub procs_numbered : (f b : ℕ) (ps : List GraphProc) → AllByRecursion ProcNumbers ps → AllByRecursion ProcNumbers (part_procs keep name b ps)
+    pub procs_numbered : (f b : ℕ) (ps : List GraphProc) → AllByRecursion ProcNumbers ps
+        → AllByRecursion ProcNumbers (part_procs keep name b ps)
     procs_numbered f b [] h = tt
-    procs_numbered f b (p ∷ ps) h = numbered (keep b) refl (procs_numbered (suc f) (b + length p.blocks) ps h.1)
+    procs_numbered f b (p ∷ ps) h =
+        numbered (keep b) refl (procs_numbered (suc f) (b + length p.blocks) ps h.1)
       where
         some : (xs : List Block) → 1 ≤ length xs → keep b ≡ true → 1 ≤ length (part_blocks keep name b xs)
         some [] le k = absurd (omega arith)
-        some (x ∷ xs) le k = omega (arith, length_if (keep b) (part_block name x) (part_blocks keep name (suc b) xs), before_kept keep b k)
+        some (x ∷ xs) le k =
+            omega (
+              arith,
+              length_if (keep b) (part_block name x) (part_blocks keep name (suc b) xs),
+              before_kept keep b k,
+            )
 
-        numbered : (v : Bool) → keep b ≡ v → AllByRecursion ProcNumbers (part_procs keep name (b + length p.blocks) ps) → AllByRecursion ProcNumbers (if v then part_proc keep name b p ∷ part_procs keep name (b + length p.blocks) ps else part_procs keep name (b + length p.blocks) ps)
-        numbered true ev rest = (record { some_block = some p.blocks h.0.some_block ev; params = h.0.params }, rest)
+        numbered : (v : Bool) → keep b ≡ v → AllByRecursion ProcNumbers
+            (part_procs keep name (b + length p.blocks) ps) → AllByRecursion ProcNumbers
+            (if v then part_proc keep name b p ∷ part_procs keep name (b + length p.blocks) ps
+            else part_procs keep name (b + length p.blocks) ps)
+        numbered true ev rest = (
+          record { some_block = some p.blocks h.0.some_block ev; params = h.0.params },
+          rest,
+        )
         numbered false ev rest = rest

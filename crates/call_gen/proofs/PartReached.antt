@@ -1,6 +1,8 @@
 -- The reached blocks are a closed part, and each block of it is reached there.
-use Rattle.std.proofs.Common.{ℕ, ◌-◌, ◌≡◌, ◌<◌, Bool, true, List, [], length, refl, sym, ap, ◌∙◌, subst, inl, inr, arith}
-use Rattle.cfg_core.specs.Graph.{Exit, Goto, Branch, Call, Return, Send, Stop, Graph, Spot, spots, spot_at, block_at, entry_of}
+use Rattle.std.proofs.Common.{ℕ, ◌-◌, ◌≡◌, ◌<◌, Bool, true, List, [], length, refl, sym, ap, ◌∙◌, subst, inl}
+use Rattle.std.proofs.Common.{inr, arith}
+use Rattle.cfg_core.specs.Graph.{Exit, Goto, Branch, Call, Return, Send, Stop, Graph, Spot, spots, spot_at}
+use Rattle.cfg_core.specs.Graph.{block_at, entry_of}
 use Rattle.cfg_core.specs.Rules.{StaysIn, Leads, IsGraph}
 use Rattle.call_gen.specs.Keeps.{NoSend, HasNoSend}
 use Rattle.call_gen.specs.Reached.{Enters, Reached, start, follow, enter, AllReached}
@@ -17,16 +19,21 @@ module _ (g : Graph) (rules : IsGraph g) (no_send : HasNoSend g) where
 
   -- an edge stays in its procedure
   edge_stays : (b c : ℕ) (x : Exit) → (block_at g b).exit ≡ x → Leads x c → StaysIn g (spot_at g b).home c
-  edge_stays b c (Goto d) e l = subst (λ n. StaysIn g (spot_at g b).home n) (sym l) (exit_in g rules b (Goto d) e)
-  edge_stays b c (Branch t d f) e (inl l) = subst (λ n. StaysIn g (spot_at g b).home n) (sym l) (exit_in g rules b (Branch t d f) e).1
-  edge_stays b c (Branch t d f) e (inr l) = subst (λ n. StaysIn g (spot_at g b).home n) (sym l) (exit_in g rules b (Branch t d f) e).2
-  edge_stays b c (Call r f ts back) e l = subst (λ n. StaysIn g (spot_at g b).home n) (sym l) (exit_in g rules b (Call r f ts back) e).4
+  edge_stays b c (Goto d) e l = subst (λ n. StaysIn g (spot_at g b).home n) (sym l)
+      (exit_in g rules b (Goto d) e)
+  edge_stays b c (Branch t d f) e (inl l) = subst (λ n. StaysIn g (spot_at g b).home n) (sym l)
+      (exit_in g rules b (Branch t d f) e).1
+  edge_stays b c (Branch t d f) e (inr l) = subst (λ n. StaysIn g (spot_at g b).home n) (sym l)
+      (exit_in g rules b (Branch t d f) e).2
+  edge_stays b c (Call r f ts back) e l = subst (λ n. StaysIn g (spot_at g b).home n) (sym l)
+      (exit_in g rules b (Call r f ts back) e).4
   edge_stays b c (Return t) e l = absurd l
   edge_stays b c (Send t ts ls) e l = absurd (subst NoSend e (no_send b))
   edge_stays b c Stop e l = absurd l
 
   -- a call enters the first block of a procedure
-  entered : (b c : ℕ) (x : Exit) → (block_at g b).exit ≡ x → Enters g x c → (f : ℕ) × (f < length g.procs) × (c ≡ entry_of g f)
+  entered : (b c : ℕ) (x : Exit) → (block_at g b).exit ≡ x → Enters g x c → (f : ℕ) × (f < length g.procs)
+      × (c ≡ entry_of g f)
   entered b c (Call r f ts back) e l = (f, (exit_in g rules b (Call r f ts back) e).1, l)
   entered b c (Goto d) e l = absurd l
   entered b c (Branch t d f) e l = absurd l
@@ -50,7 +57,8 @@ module _ (g : Graph) (rules : IsGraph g) (no_send : HasNoSend g) where
   -- with a block its procedure's first one is reached
   reached_home : (b : ℕ) → Reached g b → Reached g (entry_of g (spot_at g b).home)
   reached_home _ start = subst (λ f. Reached g (entry_of g f)) (sym (F.first main main_low).1) start
-  reached_home _ (follow b c r l) = subst (λ f. Reached g (entry_of g f)) (sym (edge_stays b c (block_at g b).exit refl l).1) (reached_home b r)
+  reached_home _ (follow b c r l) = subst (λ f. Reached g (entry_of g f))
+      (sym (edge_stays b c (block_at g b).exit refl l).1) (reached_home b r)
   reached_home _ (enter b c r l) =
       let f = entered b c (block_at g b).exit refl l in
       let home : f.0 ≡ (spot_at g c).home = sym (ap (λ n. (spot_at g n).home) f.2 ∙ (F.first f.0 f.1).1) in
@@ -90,10 +98,13 @@ module _ (g : Graph) (rules : IsGraph g) (no_send : HasNoSend g) where
     named_leads (Send t ts ls) c n l = absurd n
     named_leads Stop c n l = absurd l
 
-    named_enters : (b c : ℕ) → Reached g b → (x : Exit) → (block_at g b).exit ≡ x → Enters g x c → Enters h (name g keep x) (place c)
+    named_enters : (b c : ℕ) → Reached g b → (x : Exit) → (block_at g b).exit ≡ x → Enters g x c
+        → Enters h (name g keep x) (place c)
     named_enters b c r (Call s f ts back) e l =
         let there = (exit_in g rules b (Call s f ts back) e).1 in
-        let k : keep (entry_of g f) ≡ true = all (entry_of g f) (enter b (entry_of g f) r (subst (λ (x : Exit). Enters g x (entry_of g f)) (sym e) refl)) in
+        let k : keep (entry_of g f) ≡ true =
+        all (entry_of g f)
+        (enter b (entry_of g f) r (subst (λ (x : Exit). Enters g x (entry_of g f)) (sym e) refl)) in
         ap place l ∙ sym (entry_is g keep rules closed f there k)
     named_enters b c r (Goto d) e l = absurd l
     named_enters b c r (Branch t d f) e l = absurd l
@@ -103,10 +114,16 @@ module _ (g : Graph) (rules : IsGraph g) (no_send : HasNoSend g) where
 
     reached_place : (b : ℕ) → Reached g b → Reached h (place b)
     reached_place _ start =
-        let e : entry_of h (length h.procs - 1) ≡ place (entry_of g main) = ap (entry_of h) (main_is g keep rules closed) ∙ entry_is g keep rules closed main main_low (all (entry_of g main) start) in
+        let e : entry_of h (length h.procs - 1) ≡ place (entry_of g main) =
+        ap (entry_of h) (main_is g keep rules closed) ∙ entry_is g keep rules closed main main_low
+        (all (entry_of g main) start) in
         subst (λ n. Reached h n) e start
-    reached_place _ (follow b c r l) = follow (place b) (place c) (reached_place b r) (subst (λ (x : Exit). Leads x (place c)) (sym (exit_is b r)) (named_leads (block_at g b).exit c (no_send b) l))
-    reached_place _ (enter b c r l) = enter (place b) (place c) (reached_place b r) (subst (λ (x : Exit). Enters h x (place c)) (sym (exit_is b r)) (named_enters b c r (block_at g b).exit refl l))
+    reached_place _ (follow b c r l) = follow (place b) (place c) (reached_place b r)
+        (subst (λ (x : Exit). Leads x (place c)) (sym (exit_is b r))
+        (named_leads (block_at g b).exit c (no_send b) l))
+    reached_place _ (enter b c r l) = enter (place b) (place c) (reached_place b r)
+        (subst (λ (x : Exit). Enters h x (place c)) (sym (exit_is b r))
+        (named_enters b c r (block_at g b).exit refl l))
 
     pub all_reached : AllReached h
     all_reached k lt =

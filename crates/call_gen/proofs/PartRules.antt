@@ -1,9 +1,14 @@
 -- A closed part of a graph keeps the six rules, and the order of blocks and edges.
-use Rattle.std.proofs.Common.{ℕ, ◌+◌, ◌-◌, ◌≡◌, ◌<◌, ◌≤◌, Bool, true, List, [], ◌∷◌, length, refl, sym, ap, ◌∙◌, subst, inl, inr, Option, arith}
+use Rattle.std.proofs.Common.{ℕ, ◌+◌, ◌-◌, ◌≡◌, ◌<◌, ◌≤◌, Bool, true, List, [], ◌∷◌, length, refl, sym, ap}
+use Rattle.std.proofs.Common.{◌∙◌, subst, inl, inr, Option, arith}
 use Rattle.std.specs.List.{AllByRecursion}
 use Rattle.std.proofs.lemmas.Bool.{cases_lt}
-use Rattle.cfg_core.specs.Graph.{Term, Number, Var, Cell, Flip, Not, Neg, Binary, Op, Assign, Store, Print, Read, Give, Take, Choose, Tick, TickBy, Exit, Goto, Branch, Call, Return, Send, Stop, GraphProc, Graph, Spot, spots, no_spot, spot_at, block_at, entry_of}
-use Rattle.cfg_core.specs.Rules.{TermIn, OpIn, StaysIn, ExitIn, Leads, BlockNumbers, Lands, CallsEarlier, calls, has_tick, has_turn, ChoosesBare, Quiet, one, more, IsGraph}
+use Rattle.cfg_core.specs.Graph.{Term, Number, Var, Cell, Flip, Not, Neg, Binary, Op, Assign, Store, Print}
+use Rattle.cfg_core.specs.Graph.{Read, Give, Take, Choose, Tick, TickBy, Exit, Goto, Branch, Call, Return}
+use Rattle.cfg_core.specs.Graph.{Send, Stop, GraphProc, Graph, Spot, spots, no_spot, spot_at, block_at}
+use Rattle.cfg_core.specs.Graph.{entry_of}
+use Rattle.cfg_core.specs.Rules.{TermIn, OpIn, StaysIn, ExitIn, Leads, BlockNumbers, Lands, CallsEarlier}
+use Rattle.cfg_core.specs.Rules.{calls, has_tick, has_turn, ChoosesBare, Quiet, one, more, IsGraph}
 use Rattle.cfg_core.specs.Edges.{Edge, IsHeader}
 use Rattle.cfg_core.specs.Shape.{is_branch, TestsInATurn, OnlyFrom, BranchesApart, IsShaped, ArmsAlone}
 use Rattle.call_gen.specs.Keeps.{NoSend, HasNoSend}
@@ -11,7 +16,8 @@ use Rattle.call_gen.specs.Reached.{Enters}
 use Rattle.call_gen.specs.Part.{before, keeps, number, name, part}
 use Rattle.call_gen.proofs.Facts.{Placed}
 use Rattle.call_gen.proofs.Places.{all_placed}
-use Rattle.call_gen.proofs.PartPlaces.{before_less, before_apart, before_order, part_spot, part_from, procs_numbered}
+use Rattle.call_gen.proofs.PartPlaces.{before_less, before_apart, before_order, part_spot, part_from}
+use Rattle.call_gen.proofs.PartPlaces.{procs_numbered}
 use Rattle.call_gen.proofs.PartWalk.{Closed, spot_from, exit_in, earlier_at}
 use Rattle.call_gen.proofs.PartWalk as walks
 use Rattle.cfg_core.proofs.Spots.{past, each_at, numbers_at}
@@ -39,11 +45,13 @@ module _ (g h : Graph) (same : g.arrays ≡ h.arrays) where
   op_in v (Tick n) i = tt
   op_in v (TickBy t n m) i = term_in v t i
 
-  all_terms_in : (v : ℕ) (ts : List Term) → AllByRecursion (TermIn (length g.arrays) v) ts → AllByRecursion (TermIn (length h.arrays) v) ts
+  all_terms_in : (v : ℕ) (ts : List Term) → AllByRecursion (TermIn (length g.arrays) v) ts
+      → AllByRecursion (TermIn (length h.arrays) v) ts
   all_terms_in v [] i = tt
   all_terms_in v (t ∷ ts) i = (term_in v t i.0, all_terms_in v ts i.1)
 
-  all_ops_in : (v : ℕ) (ops : List Op) → AllByRecursion (OpIn (length g.arrays) v) ops → AllByRecursion (OpIn (length h.arrays) v) ops
+  all_ops_in : (v : ℕ) (ops : List Op) → AllByRecursion (OpIn (length g.arrays) v) ops
+      → AllByRecursion (OpIn (length h.arrays) v) ops
   all_ops_in v [] i = tt
   all_ops_in v (op ∷ ops) i = (op_in v op i.0, all_ops_in v ops i.1)
 
@@ -79,37 +87,56 @@ module _ (g : Graph) (keep : ℕ → Bool) (rules : IsGraph g) (C : Closed g kee
 
   pub kept_at : (k : ℕ) → k < length (spots h) → Kept k
   kept_at k lt =
-      let f = part_from keep named (number g keep) 0 (spots g) k (subst (λ (ss : List Spot). k < length ss) (walks.spots_are g keep rules C) lt) in
+      let f = part_from keep named (number g keep) 0 (spots g) k
+      (subst (λ (ss : List Spot). k < length ss) (walks.spots_are g keep rules C) lt) in
       let z : 0 + f.place ≡ f.place = omega arith in
-      record { block = f.place; kept = ap keep (sym z) ∙ f.kept; place = omega (arith, f.is, ap (before keep) z) }
+      record {
+        block = f.place;
+        kept = ap keep (sym z) ∙ f.kept;
+        place = omega (arith, f.is, ap (before keep) z);
+      }
 
   block_is : (b : ℕ) → keep b ≡ true → spot_at h (place b) ≡ moved (spot_at g b)
   block_is = walks.block_is g keep rules C
 
   -- so what holds of each that is kept holds of all
-  pub every : (P : Spot → Type 0) → ((b : ℕ) → keep b ≡ true → P (moved (spot_at g b))) → AllByRecursion P (spots h)
+  pub every : (P : Spot → Type 0) → ((b : ℕ) → keep b ≡ true → P (moved (spot_at g b)))
+      → AllByRecursion P (spots h)
   every P each = all_of P (spots h) (λ k s e.
       let f = kept_at k (nth_short (spots h) k s e) in
-      let same : moved (spot_at g f.block) ≡ s = sym (block_is f.block f.kept) ∙ ap (spot_at h) (sym f.place) ∙ spot_from h k s e in
+      let same : moved (spot_at g f.block) ≡ s = sym (block_is f.block f.kept) ∙ ap (spot_at h) (sym f.place)
+      ∙ spot_from h k s e in
       subst P same (each f.block f.kept))
 
   edge_kept : (b : ℕ) (x : Exit) (c : ℕ) → keep b ≡ true → (block_at g b).exit ≡ x → Leads x c → keep c ≡ true
   edge_kept b x c k e l = C.edge b c k (subst (λ (y : Exit). Leads y c) (sym e) l)
 
-  callee_kept : (b : ℕ) (r : Option ℕ) (f : ℕ) (ts : List Term) (back : ℕ) → keep b ≡ true → (block_at g b).exit ≡ Call r f ts back → keep (entry_of g f) ≡ true
-  callee_kept b r f ts back k e = C.call b (entry_of g f) k (subst (λ (y : Exit). Enters g y (entry_of g f)) (sym e) refl)
+  callee_kept : (b : ℕ) (r : Option ℕ) (f : ℕ) (ts : List Term) (back : ℕ) → keep b ≡ true
+      → (block_at g b).exit ≡ Call r f ts back → keep (entry_of g f) ≡ true
+  callee_kept b r f ts back k e =
+      C.call b (entry_of g f) k (subst (λ (y : Exit). Enters g y (entry_of g f)) (sym e) refl)
 
   number_less : (e f : ℕ) → keeps g keep e ≡ true → e < f → number g keep e < number g keep f
   number_less e f k lt = before_less (keeps g keep) e f k lt
 
   stays : (home c : ℕ) → keep c ≡ true → StaysIn g home c → StaysIn h (number g keep home) (place c)
-  stays home c k i = (walks.block_there g keep rules C c k, ap (λ (s : Spot). s.home) (block_is c k) ∙ ap (number g keep) i.1)
+  stays home c k i = (
+    walks.block_there g keep rules C c k,
+    ap (λ (s : Spot). s.home) (block_is c k)
+        ∙ ap (number g keep) i.1,
+  )
 
-  exit_numbers : (b : ℕ) → keep b ≡ true → (x : Exit) → (block_at g b).exit ≡ x → ExitIn h (number g keep (spot_at g b).home) (spot_at g b).vars (named x)
-  exit_numbers b k (Goto c) e = stays (spot_at g b).home c (edge_kept b (Goto c) c k e refl) (exit_in g rules b (Goto c) e)
+  exit_numbers : (b : ℕ) → keep b ≡ true → (x : Exit) → (block_at g b).exit ≡ x
+      → ExitIn h (number g keep (spot_at g b).home) (spot_at g b).vars (named x)
+  exit_numbers b k (Goto c) e = stays (spot_at g b).home c (edge_kept b (Goto c) c k e refl)
+      (exit_in g rules b (Goto c) e)
   exit_numbers b k (Branch t c d) e =
-      let i = exit_in g rules b (Branch t c d) e in
-      (term_in g h same_arrays (spot_at g b).vars t i.0, stays (spot_at g b).home c (edge_kept b (Branch t c d) c k e (inl refl)) i.1, stays (spot_at g b).home d (edge_kept b (Branch t c d) d k e (inr refl)) i.2)
+      let i = exit_in g rules b (Branch t c d) e in (
+        term_in g h same_arrays (spot_at g b).vars t i.0,
+        stays (spot_at g b).home c
+            (edge_kept b (Branch t c d) c k e (inl refl)) i.1,
+        stays (spot_at g b).home d (edge_kept b (Branch t c d) d k e (inr refl)) i.2,
+      )
   exit_numbers b k (Call r f ts back) e =
       let i = exit_in g rules b (Call r f ts back) e in
       let entry = callee_kept b r f ts back k e in (
@@ -119,7 +146,8 @@ module _ (g : Graph) (keep : ℕ → Bool) (rules : IsGraph g) (C : Closed g kee
         all_terms_in g h same_arrays (spot_at g b).vars ts i.3,
         stays (spot_at g b).home back (edge_kept b (Call r f ts back) back k e refl) i.4,
       )
-  exit_numbers b k (Return t) e = term_in g h same_arrays (spot_at g b).vars t (exit_in g rules b (Return t) e)
+  exit_numbers b k (Return t) e = term_in g h same_arrays (spot_at g b).vars t
+      (exit_in g rules b (Return t) e)
   exit_numbers b k (Send t ts ls) e = tt
   exit_numbers b k Stop e = tt
 
@@ -141,10 +169,12 @@ module _ (g : Graph) (keep : ℕ → Bool) (rules : IsGraph g) (C : Closed g kee
   lands (Send t ts ls) = tt
   lands Stop = tt
 
-  earlier : (b : ℕ) → keep b ≡ true → (x : Exit) → (block_at g b).exit ≡ x → CallsEarlier (number g keep (spot_at g b).home) (named x)
+  earlier : (b : ℕ) → keep b ≡ true → (x : Exit) → (block_at g b).exit ≡ x
+      → CallsEarlier (number g keep (spot_at g b).home) (named x)
   earlier b k (Goto c) e = tt
   earlier b k (Branch t c d) e = tt
-  earlier b k (Call r f ts back) e = number_less f (spot_at g b).home (callee_kept b r f ts back k e) (subst (λ (y : Exit). CallsEarlier (spot_at g b).home y) e (earlier_at g rules b))
+  earlier b k (Call r f ts back) e = number_less f (spot_at g b).home (callee_kept b r f ts back k e)
+      (subst (λ (y : Exit). CallsEarlier (spot_at g b).home y) e (earlier_at g rules b))
   earlier b k (Return t) e = tt
   earlier b k (Send t ts ls) e = tt
   earlier b k Stop e = tt
@@ -159,7 +189,8 @@ module _ (g : Graph) (keep : ℕ → Bool) (rules : IsGraph g) (C : Closed g kee
 
   ticks_at : (b : ℕ) → calls (block_at g b).exit ≡ true → has_tick (block_at g b).ops ≡ true
   unfolding spot_at no_spot
-  ticks_at b = each_at (λ (s : Spot). calls s.block.exit ≡ true → has_tick s.block.ops ≡ true) (spots g) no_spot rules.call_ticks (λ e. absurd (cc)) b
+  ticks_at b = each_at (λ (s : Spot). calls s.block.exit ≡ true → has_tick s.block.ops ≡ true) (spots g)
+      no_spot rules.call_ticks (λ e. absurd (cc)) b
 
   bare_at : (b : ℕ) → AllByRecursion ChoosesBare (block_at g b).ops
   unfolding spot_at no_spot
@@ -197,7 +228,15 @@ module _ (g : Graph) (keep : ℕ → Bool) (rules : IsGraph g) (C : Closed g kee
         let f = kept_at k lt in
         let is : spot_at h k ≡ moved (spot_at g f.block) = ap (spot_at h) f.place ∙ block_is f.block f.kept in
         let r = leads_named (block_at g f.block).exit d (subst (λ (s : Spot). Leads s.block.exit d) is l) in
-        record { from = f.block; to = r.0; kept_from = f.kept; kept_to = C.edge f.block r.0 f.kept r.2; place_from = f.place; place_to = r.1; edge = r.2 }
+        record {
+          from = f.block;
+          to = r.0;
+          kept_from = f.kept;
+          kept_to = C.edge f.block r.0 f.kept r.2;
+          place_from = f.place;
+          place_to = r.1;
+          edge = r.2;
+        }
   ]
 
   same_place : (b c : ℕ) → keep b ≡ true → keep c ≡ true → place b ≡ place c → b ≡ c
@@ -231,7 +270,8 @@ module _ (g : Graph) (keep : ℕ → Bool) (rules : IsGraph g) (C : Closed g kee
   led k d (more _ c _ path q l) =
       let p = led k c path in
       let r = came c d l in
-      let same : r.from ≡ p.to = same_place r.from p.to r.kept_from p.kept_to (sym r.place_from ∙ p.place_to) in
+      let same : r.from ≡ p.to = same_place r.from p.to r.kept_from p.kept_to
+      (sym r.place_from ∙ p.place_to) in
       record {
         from = p.from;
         to = r.to;
@@ -239,17 +279,24 @@ module _ (g : Graph) (keep : ℕ → Bool) (rules : IsGraph g) (C : Closed g kee
         kept_to = r.kept_to;
         place_from = p.place_from;
         place_to = r.place_to;
-        path = more p.from p.to r.to p.path (ap has_turn (sym (same_ops c p.to p.kept_to p.place_to)) ∙ q) (subst (λ n. Edge g n r.to) same r.edge);
+        path = more p.from p.to r.to p.path (ap has_turn (sym (same_ops c p.to p.kept_to p.place_to)) ∙ q)
+            (subst (λ n. Edge g n r.to) same r.edge);
       }
 
   no_cycle : (k : ℕ) → Quiet h k k → ⊥
   no_cycle k path =
       let p = led k k path in
-      let same : p.to ≡ p.from = same_place p.to p.from p.kept_to p.kept_from (sym p.place_to ∙ p.place_from) in
+      let same : p.to ≡ p.from = same_place p.to p.from p.kept_to p.kept_from
+      (sym p.place_to ∙ p.place_from) in
       rules.cycles p.from (subst (λ n. Quiet g p.from n) same p.path)
 
   some_proc : 1 ≤ length h.procs
-  some_proc = omega (arith, walks.procs_are g keep rules C, number_less (length g.procs - 1) (length g.procs) C.main (walks.main_there g keep rules C))
+  some_proc = omega (
+    arith,
+    walks.procs_are g keep rules C,
+    number_less (length g.procs - 1) (length g.procs)
+        C.main (walks.main_there g keep rules C),
+  )
 
   pub is_graph : IsGraph h
   unfolding part
@@ -261,7 +308,8 @@ module _ (g : Graph) (keep : ℕ → Bool) (rules : IsGraph g) (C : Closed g kee
     };
     landings = every (λ s. Lands h s.block.exit) (λ b k. lands (block_at g b).exit);
     earlier = every (λ s. CallsEarlier s.home s.block.exit) (λ b k. earlier b k (block_at g b).exit refl);
-    call_ticks = every (λ s. calls s.block.exit ≡ true → has_tick s.block.ops ≡ true) (λ b k e. ticks_at b (sym (calls_same (block_at g b).exit) ∙ e));
+    call_ticks = every (λ s. calls s.block.exit ≡ true → has_tick s.block.ops ≡ true)
+        (λ b k e. ticks_at b (sym (calls_same (block_at g b).exit) ∙ e));
     cycles = no_cycle;
     bare = every (λ s. AllByRecursion ChoosesBare s.block.ops) (λ b k. bare_at b);
   }
@@ -276,7 +324,8 @@ module _ (g : Graph) (keep : ℕ → Bool) (rules : IsGraph g) (C : Closed g kee
 
   pub sends_nothing : HasNoSend h
   unfolding spot_at no_spot
-  sends_nothing k = each_at (λ (s : Spot). NoSend s.block.exit) (spots h) no_spot (every (λ s. NoSend s.block.exit) (λ b kb. no_send_named (block_at g b).exit)) tt k
+  sends_nothing k = each_at (λ (s : Spot). NoSend s.block.exit) (spots h) no_spot
+      (every (λ s. NoSend s.block.exit) (λ b kb. no_send_named (block_at g b).exit)) tt k
 
   -- The order of blocks and edges.
 
@@ -289,7 +338,8 @@ module _ (g : Graph) (keep : ℕ → Bool) (rules : IsGraph g) (C : Closed g kee
   branch_same Stop = refl
 
   -- a branch of the part is one of the graph
-  named_branch : (x : Exit) (t : Term) (b c : ℕ) → named x ≡ Branch t b c → (d : ℕ) × (e : ℕ) × (x ≡ Branch t d e) × (b ≡ place d) × (c ≡ place e)
+  named_branch : (x : Exit) (t : Term) (b c : ℕ) → named x ≡ Branch t b c
+      → (d : ℕ) × (e : ℕ) × (x ≡ Branch t d e) × (b ≡ place d) × (c ≡ place e)
   named_branch (Branch u d e) t b c h =
       let term : u ≡ t = cc in
       (d, e, ap (λ (v : Term). Branch v d e) term, cc, cc)
@@ -299,7 +349,8 @@ module _ (g : Graph) (keep : ℕ → Bool) (rules : IsGraph g) (C : Closed g kee
   named_branch (Send u ts ls) t b c h = absurd (cc)
   named_branch Stop t b c h = absurd (cc)
 
-  only_from : (a b d : ℕ) → keep a ≡ true → keep d ≡ true → b ≡ place d → OnlyFrom g a d → OnlyFrom h (place a) b
+  only_from : (a b d : ℕ) → keep a ≡ true → keep d ≡ true → b ≡ place d → OnlyFrom g a d
+      → OnlyFrom h (place a) b
   only_from a b d ka kd e only other l =
       let r = came other b l in
       let to : r.to ≡ d = same_place r.to d r.kept_to kd (sym r.place_to ∙ e) in
@@ -322,7 +373,8 @@ module _ (g : Graph) (keep : ℕ → Bool) (rules : IsGraph g) (C : Closed g kee
   parted : (a : ℕ) (t : Term) (b c : ℕ) → (block_at h a).exit ≡ Branch t b c → Parted a t b c
   parted a t b c e =
       let r = came a b (subst (λ (x : Exit). Leads x b) (sym e) (inl refl)) in
-      let is : spot_at h a ≡ moved (spot_at g r.from) = ap (spot_at h) r.place_from ∙ block_is r.from r.kept_from in
+      let is : spot_at h a ≡ moved (spot_at g r.from) = ap (spot_at h) r.place_from
+      ∙ block_is r.from r.kept_from in
       let f = named_branch (block_at g r.from).exit t b c (sym (ap (λ (s : Spot). s.block.exit) is) ∙ e) in
       record {
         from = r.from;
@@ -337,28 +389,36 @@ module _ (g : Graph) (keep : ℕ → Bool) (rules : IsGraph g) (C : Closed g kee
         is_second = f.4;
       }
 
-  apart_still : (a : ℕ) (t : Term) (b c : ℕ) (p : Parted a t b c) → BranchesApart g p.from p.first p.second → BranchesApart h a b c
+  apart_still : (a : ℕ) (t : Term) (b c : ℕ) (p : Parted a t b c) → BranchesApart g p.from p.first p.second
+      → BranchesApart h a b c
   apart_still a t b c p apart = record {
-    differ = λ same. apart.differ (same_place p.first p.second p.kept_first p.kept_second (sym p.is_first ∙ same ∙ p.is_second));
-    first = subst (λ n. OnlyFrom h n b) (sym p.is) (only_from p.from b p.first p.kept p.kept_first p.is_first apart.first);
-    second = subst (λ n. OnlyFrom h n c) (sym p.is) (only_from p.from c p.second p.kept p.kept_second p.is_second apart.second);
+    differ = λ same. apart.differ (same_place p.first p.second p.kept_first p.kept_second
+        (sym p.is_first ∙ same ∙ p.is_second));
+    first = subst (λ n. OnlyFrom h n b) (sym p.is) (only_from p.from b p.first p.kept p.kept_first p.is_first
+        apart.first);
+    second = subst (λ n. OnlyFrom h n c) (sym p.is) (only_from p.from c p.second p.kept p.kept_second
+        p.is_second apart.second);
   }
 
   -- branches still lead forward, each to blocks of its own
   pub arms_alone : ArmsAlone g → ArmsAlone h
   arms_alone alone = record {
-    apart = λ a t b c e. let p = parted a t b c e in apart_still a t b c p (alone.apart p.from t p.first p.second p.exit);
+    apart = λ a t b c e. let p = parted a t b c e in
+        apart_still a t b c p (alone.apart p.from t p.first p.second p.exit);
     ahead = λ a t b c e.
         let p = parted a t b c e in
-        let up = alone.ahead p.from t p.first p.second p.exit in
-        (omega (arith, p.is, p.is_first, before_less keep p.from p.first p.kept up.0), omega (arith, p.is, p.is_second, before_less keep p.from p.second p.kept up.1));
+        let up = alone.ahead p.from t p.first p.second p.exit in (
+          omega (arith, p.is, p.is_first, before_less keep p.from p.first p.kept up.0),
+          omega (arith, p.is, p.is_second, before_less keep p.from p.second p.kept up.1),
+        );
   }
 
   module _ (shape : IsShaped g) where
     headers : (c : ℕ) → IsHeader h c → TestsInATurn h c
     headers c (b, le, l) =
         let r = came b c l in
-        let up : r.to ≤ r.from = before_order keep r.to r.from r.kept_to r.kept_from (omega (arith, le, r.place_from, r.place_to)) in
+        let up : r.to ≤ r.from = before_order keep r.to r.from r.kept_to r.kept_from
+        (omega (arith, le, r.place_from, r.place_to)) in
         let t = shape.headers r.to (r.from, up, r.edge) in
         let is : spot_at h c ≡ moved (spot_at g r.to) = ap (spot_at h) r.place_to ∙ block_is r.to r.kept_to in
         record {
@@ -369,12 +429,16 @@ module _ (g : Graph) (keep : ℕ → Bool) (rules : IsGraph g) (C : Closed g kee
     backward : (b c : ℕ) → Edge h b c → c ≤ b → (block_at h b).exit ≡ Goto c
     backward b c l le =
         let r = came b c l in
-        let up : r.to ≤ r.from = before_order keep r.to r.from r.kept_to r.kept_from (omega (arith, le, r.place_from, r.place_to)) in
-        let is : spot_at h b ≡ moved (spot_at g r.from) = ap (spot_at h) r.place_from ∙ block_is r.from r.kept_from in
-        ap (λ (s : Spot). s.block.exit) is ∙ ap named (shape.backward r.from r.to r.edge up) ∙ ap (λ n. Goto n) (sym r.place_to)
+        let up : r.to ≤ r.from = before_order keep r.to r.from r.kept_to r.kept_from
+        (omega (arith, le, r.place_from, r.place_to)) in
+        let is : spot_at h b ≡ moved (spot_at g r.from) = ap (spot_at h) r.place_from
+        ∙ block_is r.from r.kept_from in
+        ap (λ (s : Spot). s.block.exit) is ∙ ap named (shape.backward r.from r.to r.edge up)
+        ∙ ap (λ n. Goto n) (sym r.place_to)
 
     branches : (a : ℕ) (t : Term) (b c : ℕ) → (block_at h a).exit ≡ Branch t b c → BranchesApart h a b c
-    branches a t b c e = let p = parted a t b c e in apart_still a t b c p (shape.branches p.from t p.first p.second p.exit)
+    branches a t b c e = let p = parted a t b c e in
+        apart_still a t b c p (shape.branches p.from t p.first p.second p.exit)
 
     pub is_shaped : IsShaped h
     is_shaped = record { headers = headers; backward = backward; branches = branches }

@@ -1,6 +1,8 @@
 -- In a closed part of a graph each block does what it did, and no more is live.
-use Rattle.std.proofs.Common.{ℕ, ◌-◌, ◌≡◌, Bool, true, List, [], ◌∷◌, length, refl, sym, ap, ◌∙◌, subst, inl, inr, Some, None}
-use Rattle.cfg_core.specs.Graph.{Op, Exit, Goto, Branch, Call, Return, Send, Stop, Graph, Spot, spot_at, block_at, entry_of}
+use Rattle.std.proofs.Common.{ℕ, ◌-◌, ◌≡◌, Bool, true, List, [], ◌∷◌, length, refl, sym, ap, ◌∙◌, subst, inl}
+use Rattle.std.proofs.Common.{inr, Some, None}
+use Rattle.cfg_core.specs.Graph.{Op, Exit, Goto, Branch, Call, Return, Send, Stop, Graph, Spot, spot_at}
+use Rattle.cfg_core.specs.Graph.{block_at, entry_of}
 use Rattle.cfg_core.specs.Rules.{Leads, IsGraph}
 use Rattle.cfg_core.specs.Weights.{first_block}
 use Rattle.live_vars.specs.Live.{ExitReads, ExitWrites, Carries, WrittenIn, ReadsFirst, Live, reads, passes}
@@ -13,7 +15,8 @@ use Rattle.call_gen.proofs.PartWalk as walks
 use Rattle.call_gen.proofs.PartWalk.{Closed}
 
 -- operations read the same first before another exit that reads no more
-other_exit : (ops : List Op) (e f : Exit) (x : ℕ) → (ExitReads e x → ExitReads f x) → ReadsFirst ops e x → ReadsFirst ops f x
+other_exit : (ops : List Op) (e f : Exit) (x : ℕ) → (ExitReads e x → ExitReads f x) → ReadsFirst ops e x
+    → ReadsFirst ops f x
 other_exit [] e f x h r = h r
 other_exit (op ∷ ops) e f x h (inl r) = inl r
 other_exit (op ∷ ops) e f x h (inr n) = inr (n.0, other_exit ops e f x h n.1)
@@ -28,15 +31,18 @@ module _ (g : Graph) (keep : ℕ → Bool) (rules : IsGraph g) (C : Closed g kee
   abbrev named : Exit → Exit
   named = name g keep
 
-  block_is : (b : ℕ) → keep b ≡ true → spot_at h (place b) ≡ part_spot keep named (number g keep) (spot_at g b)
+  block_is : (b : ℕ) → keep b ≡ true → spot_at h (place b) ≡ part_spot keep named (number g keep)
+      (spot_at g b)
   block_is = walks.block_is g keep rules C
 
-  exit_same : (b : ℕ) → keep b ≡ true → (x : Exit) → (block_at g b).exit ≡ x → NoSend x → SameExit g h place x (named x)
+  exit_same : (b : ℕ) → keep b ≡ true → (x : Exit) → (block_at g b).exit ≡ x → NoSend x
+      → SameExit g h place x (named x)
   exit_same b kept (Goto c) e n = refl
   exit_same b kept (Branch t c d) e n = refl
   exit_same b kept (Call r f ts back) e n =
       let there = (walks.exit_in g rules b (Call r f ts back) e).1 in
-      let k : keep (entry_of g f) ≡ true = C.call b (entry_of g f) kept (subst (λ (y : Exit). Enters g y (entry_of g f)) (sym e) refl) in
+      let k : keep (entry_of g f) ≡ true = C.call b (entry_of g f) kept
+      (subst (λ (y : Exit). Enters g y (entry_of g f)) (sym e) refl) in
       (number g keep f, refl, walks.entry_is g keep rules C f there k)
   exit_same b kept (Return t) e n = refl
   exit_same b kept (Send t ts ls) e n = absurd n
@@ -71,13 +77,16 @@ module _ (g : Graph) (keep : ℕ → Bool) (rules : IsGraph g) (C : Closed g kee
   held : (k x : ℕ) → Live h k x → (b : ℕ) → keep b ≡ true → k ≡ place b → Live g b x
   held k x (reads _ _ r) b kept e =
       let is = ap (spot_at h) e ∙ block_is b kept in
-      reads b x (other_exit (block_at g b).ops (named (block_at g b).exit) (block_at g b).exit x (reads_same (block_at g b).exit x) (subst (λ (s : Spot). ReadsFirst s.block.ops s.block.exit x) is r))
+      reads b x (other_exit (block_at g b).ops (named (block_at g b).exit) (block_at g b).exit x
+      (reads_same (block_at g b).exit x) (subst (λ (s : Spot). ReadsFirst s.block.ops s.block.exit x) is
+      r))
   held k x (passes _ d _ nw ne c l) b kept e =
       let is = ap (spot_at h) e ∙ block_is b kept in
       let to = carries_same (block_at g b).exit d (subst (λ (s : Spot). Carries s.block.exit d) is c) in
       passes b to.0 x
       (λ w. nw (subst (λ (s : Spot). WrittenIn s.block.ops x) (sym is) w))
-      (λ w. ne (subst (λ (s : Spot). ExitWrites s.block.exit x) (sym is) (writes_same (block_at g b).exit x w)))
+      (λ w. ne (subst (λ (s : Spot). ExitWrites s.block.exit x) (sym is)
+      (writes_same (block_at g b).exit x w)))
       to.2 (held d x l to.0 (C.edge b to.0 kept to.3) to.1)
 
   -- a block that is kept does what it did
@@ -88,10 +97,12 @@ module _ (g : Graph) (keep : ℕ → Bool) (rules : IsGraph g) (C : Closed g kee
         there = walks.block_there g keep rules C b kept;
         vars = ap (λ (s : Spot). s.vars) e;
         ops = ap (λ (s : Spot). s.block.ops) e;
-        exit = subst (λ (s : Spot). SameExit g h place (block_at g b).exit s.block.exit) (sym e) (exit_same b kept (block_at g b).exit refl (no_send b));
+        exit = subst (λ (s : Spot). SameExit g h place (block_at g b).exit s.block.exit) (sym e)
+            (exit_same b kept (block_at g b).exit refl (no_send b));
         held = λ x l. held (place b) x l b kept refl;
       }
 
   -- the walk begins at the place where it began
   pub begins_there : first_block h ≡ place (first_block g)
-  begins_there = ap (entry_of h) (walks.main_is g keep rules C) ∙ walks.entry_is g keep rules C (length g.procs - 1) (walks.main_there g keep rules C) C.main
+  begins_there = ap (entry_of h) (walks.main_is g keep rules C) ∙ walks.entry_is g keep rules C
+      (length g.procs - 1) (walks.main_there g keep rules C) C.main

@@ -1,16 +1,23 @@
 -- The spelled graph keeps its bounds.
-use Rattle.std.proofs.Common.{ℕ, zero, suc, ◌+◌, ◌*◌, ◌/◌, ◌≡◌, ◌<◌, ◌≤◌, nat_lt, min, Bool, true, false, if◌then◌else◌, List, [], ◌∷◌, ◌++◌, length, replicate, refl, ap, ◌∙◌, subst, Option, Some, None, arith}
+use Rattle.std.proofs.Common.{ℕ, zero, suc, ◌+◌, ◌*◌, ◌/◌, ◌≡◌, ◌<◌, ◌≤◌, nat_lt, min, Bool, true, false}
+use Rattle.std.proofs.Common.{if◌then◌else◌, List, [], ◌∷◌, ◌++◌, length, replicate, refl, ap, ◌∙◌, subst}
+use Rattle.std.proofs.Common.{Option, Some, None, arith}
 use Rattle.std.specs.List.{AllByRecursion, filter, sum_by}
 use Rattle.std.proofs.lemmas.Bool.Decides.{nat_tests}
 use Rattle.std.proofs.lemmas.List.{length-append, length-map}
 use Rattle.std.proofs.lemmas.List.Sums.{sum_by-append}
 use Rattle.std.proofs.Math.Nat.{mul-le-mul_right}
-use Rattle.cfg_core.specs.Graph.{Var, Exit, Goto, Branch, Call, Return, Send, Stop, GraphArray, GraphProc, Graph, Spot, spots, no_spot, no_proc, spot_at, block_at, proc_at}
+use Rattle.cfg_core.specs.Graph.{Var, Exit, Goto, Branch, Call, Return, Send, Stop, GraphArray, GraphProc}
+use Rattle.cfg_core.specs.Graph.{Graph, Spot, spots, no_spot, no_proc, spot_at, block_at, proc_at}
 use Rattle.cfg_core.specs.Rules.{calls}
 use Rattle.cfg_core.specs.Weights.{term_nodes, op_nodes, exit_nodes}
-use Rattle.call_gen.specs.Spelled.{callee_is, count_of, is_call, is_called, is_calling, is_saved, is_unset, address, own_cells, first_cell, cells_in_all, hidden_arrays, landings, landings_from, below, saved, save, load, saves, left, clear, spelled_procs, spelled}
+use Rattle.call_gen.specs.Spelled.{callee_is, count_of, is_call, is_called, is_calling, is_saved, is_unset}
+use Rattle.call_gen.specs.Spelled.{address, own_cells, first_cell, cells_in_all, hidden_arrays, landings}
+use Rattle.call_gen.specs.Spelled.{landings_from, below, saved, save, load, saves, left, clear, spelled_procs}
+use Rattle.call_gen.specs.Spelled.{spelled}
 use Rattle.call_gen.specs.Keeps.{NoCall, ParamsAtMost}
-use Rattle.call_gen.specs.Sizes.{call_count, cell_count, Sizes, LandingsAtMost, BlockWithin, ProcWithin, KeepsSizes, larger, most_hidden_arrays, hidden_cells, spelled_sizes}
+use Rattle.call_gen.specs.Sizes.{call_count, cell_count, Sizes, LandingsAtMost, BlockWithin, ProcWithin}
+use Rattle.call_gen.specs.Sizes.{KeepsSizes, larger, most_hidden_arrays, hidden_cells, spelled_sizes}
 use Rattle.call_gen.proofs.Facts.{Given, Placed}
 use Rattle.call_gen.proofs.Slots.{below_count}
 use Rattle.call_gen.proofs.Charging.{terms_push, each_sum}
@@ -30,13 +37,20 @@ calls_counted (s ∷ ss) = ap (λ n. (if calls s.block.exit then 1 else 0) + n) 
 -- no more landings than calls
 few_landings : (f b k : ℕ) (ss : List Spot) → length (landings_from f b k ss) ≤ call_count ss
 few_landings f b k [] = omega arith
-few_landings f b k (s ∷ ss) = by_exit s.block.exit (few_landings f (suc b) ((if is_call s then 1 else 0) + k) ss)
+few_landings f b k (s ∷ ss) =
+    by_exit s.block.exit (few_landings f (suc b) ((if is_call s then 1 else 0) + k) ss)
   where
-    by_exit : (x : Exit) → length (landings_from f (suc b) ((if is_call s then 1 else 0) + k) ss) ≤ call_count ss
-        → length (if callee_is x f then suc (b + k + suc s.home) ∷ landings_from f (suc b) ((if is_call s then 1 else 0) + k) ss else landings_from f (suc b) ((if is_call s then 1 else 0) + k) ss) ≤ (if calls x then 1 else 0) + call_count ss
+    by_exit : (x : Exit) → length (landings_from f (suc b) ((if is_call s then 1 else 0) + k) ss) ≤ call_count
+        ss
+        → length (if callee_is x f then suc (b + k + suc s.home) ∷ landings_from f (suc b)
+        ((if is_call s then 1 else 0) + k) ss else landings_from f (suc b)
+        ((if is_call s then 1 else 0) + k) ss) ≤ (if calls x then 1 else 0) + call_count ss
     by_exit (Call r e ts back) h = by_test (callee_is (Call r e ts back) f)
       where
-        by_test : (v : Bool) → length (if v then suc (b + k + suc s.home) ∷ landings_from f (suc b) ((if is_call s then 1 else 0) + k) ss else landings_from f (suc b) ((if is_call s then 1 else 0) + k) ss) ≤ 1 + call_count ss
+        by_test : (v : Bool)
+            → length (if v then suc (b + k + suc s.home) ∷ landings_from f (suc b)
+            ((if is_call s then 1 else 0) + k) ss else landings_from f (suc b)
+            ((if is_call s then 1 else 0) + k) ss) ≤ 1 + call_count ss
         by_test true = omega (arith, h)
         by_test false = omega (arith, h)
     by_exit (Goto c) h = omega (arith, h)
@@ -45,11 +59,13 @@ few_landings f b k (s ∷ ss) = by_exit s.block.exit (few_landings f (suc b) ((i
     by_exit (Send t ts ls) h = omega (arith, h)
     by_exit Stop h = omega (arith, h)
 
-some_call : (ss : List Spot) (i : ℕ) (s : Spot) → nth ss i ≡ Some s → calls s.block.exit ≡ true → 1 ≤ call_count ss
+some_call : (ss : List Spot) (i : ℕ) (s : Spot) → nth ss i ≡ Some s → calls s.block.exit ≡ true
+    → 1 ≤ call_count ss
 some_call [] i s e c = absurd (cc)
 some_call (x ∷ ss) zero s e c =
     let same : x ≡ s = cc in
-    let one : 0 + (if calls x.block.exit then 1 else 0) ≡ 0 + 1 = ap (λ (v : Bool). 0 + (if v then 1 else 0)) (ap (λ (t : Spot). calls t.block.exit) same ∙ c) in
+    let one : 0 + (if calls x.block.exit then 1 else 0) ≡ 0 + 1 = ap (λ (v : Bool). 0 + (if v then 1 else 0))
+    (ap (λ (t : Spot). calls t.block.exit) same ∙ c) in
     omega (arith, one)
 some_call (x ∷ ss) (suc i) s e c = omega (arith, some_call ss i s e c)
 
@@ -59,7 +75,8 @@ cells_both (x ∷ xs) ys = omega (arith, cells_both xs ys)
 
 equal_cells : (n : ℕ) (a : GraphArray) → cell_count (replicate n a) ≡ n * a.length
 equal_cells zero a = omega arith
-equal_cells (suc n) a = let e : suc n * a.length ≡ a.length + n * a.length = grind arith in omega (arith, equal_cells n a, e)
+equal_cells (suc n) a = let e : suc n * a.length ≡ a.length + n * a.length = grind arith in
+    omega (arith, equal_cells n a, e)
 
 equal_all : (P : GraphArray → Type 0) (n : ℕ) (a : GraphArray) → P a → AllByRecursion P (replicate n a)
 equal_all P zero a p = tt
@@ -97,7 +114,8 @@ module _ (g : Graph) (live : List (List ℕ)) (G : Given g live) (z : Sizes) (W 
   unfolding proc_at
   few_vars f lt = each g.procs f W.procs lt
     where
-      each : (ps : List GraphProc) (f : ℕ) → AllByRecursion (ProcWithin z) ps → f < length ps → ProcWithin z (or_else (nth ps f) no_proc)
+      each : (ps : List GraphProc) (f : ℕ) → AllByRecursion (ProcWithin z) ps → f < length ps
+          → ProcWithin z (or_else (nth ps f) no_proc)
       each [] f i lt = absurd (omega arith)
       each (p ∷ ps) zero i lt = i.0
       each (p ∷ ps) (suc f) i lt = each ps f i.1 (omega arith)
@@ -120,7 +138,8 @@ module _ (g : Graph) (live : List (List ℕ)) (G : Given g live) (z : Sizes) (W 
   cells_few : cells_in_all g ≤ hidden_cells z
   unfolding cells_in_all
   cells_few =
-      let m : length g.procs * suc z.vars ≤ z.procs * suc z.vars = mul-le-mul_right (suc z.vars) W.count_procs in
+      let m : length g.procs * suc z.vars ≤ z.procs * suc z.vars = mul-le-mul_right (suc z.vars)
+      W.count_procs in
       omega (arith, first_few (length g.procs) (omega arith), m)
 
   -- the bounds of a block that has at most so many operations and nodes, and no Send
@@ -128,12 +147,19 @@ module _ (g : Graph) (live : List (List ℕ)) (G : Given g live) (z : Sizes) (W 
   vars_at b lt = omega (arith, (F.home b lt).1, (few_vars (spot_at g b).home (F.home b lt).0).vars)
 
   saved_few : (home v : ℕ) (r : Option ℕ) (back : ℕ) → length (saved g live home v r back) ≤ suc v
-  saved_few home v r back = omega (arith, filter_few (is_saved g live home v r back) (below (suc v)), below_count (suc v))
+  saved_few home v r back = omega (
+    arith,
+    filter_few (is_saved g live home v r back) (below (suc v)),
+    below_count (suc v),
+  )
 
-  saves_few : (home v : ℕ) (x : Exit) → (length (saves g live home v x) ≤ suc v) × (sum_by op_nodes (saves g live home v x) ≤ 2 * suc v)
+  saves_few : (home v : ℕ) (x : Exit) → (length (saves g live home v x) ≤ suc v)
+      × (sum_by op_nodes (saves g live home v x) ≤ 2 * suc v)
   saves_few home v (Call r f ts back) =
-      let s = saved_few home v r back in
-      (omega (arith, length-map (saved g live home v r back) (save g home), s), omega (arith, each_sum op_nodes (save g home) 2 (saved g live home v r back) (λ x. refl), s))
+      let s = saved_few home v r back in (
+        omega (arith, length-map (saved g live home v r back) (save g home), s),
+        omega (arith, each_sum op_nodes (save g home) 2 (saved g live home v r back) (λ x. refl), s),
+      )
   saves_few home v (Goto c) = (omega arith, omega arith)
   saves_few home v (Branch t c d) = (omega arith, omega arith)
   saves_few home v (Return t) = (omega arith, omega arith)
@@ -146,7 +172,8 @@ module _ (g : Graph) (live : List (List ℕ)) (G : Given g live) (z : Sizes) (W 
   left_few home v b (Call r f ts back) = omega (arith, terms_push ts (address g f b))
   left_few home v b (Return t) = by_called (is_called g home)
     where
-      by_called : (c : Bool) → exit_nodes (if c then Send (Var v) (t ∷ []) (landings g home) else Return t) ≤ term_nodes t + 2
+      by_called : (c : Bool) → exit_nodes (if c then Send (Var v) (t ∷ []) (landings g home) else Return t)
+          ≤ term_nodes t + 2
       by_called true = omega arith
       by_called false = omega arith
   left_few home v b (Send t ts ls) = omega arith
@@ -156,13 +183,17 @@ module _ (g : Graph) (live : List (List ℕ)) (G : Given g live) (z : Sizes) (W 
   unfolding landings
   landings_few f = omega (arith, few_landings f 0 0 (spots g), W.calls)
 
-  lands_few : (b : ℕ) → b < length (spots g) → (x : Exit) → (block_at g b).exit ≡ x → LandingsAtMost z.calls (left g (spot_at g b).home (spot_at g b).vars b x)
+  lands_few : (b : ℕ) → b < length (spots g) → (x : Exit) → (block_at g b).exit ≡ x
+      → LandingsAtMost z.calls (left g (spot_at g b).home (spot_at g b).vars b x)
   lands_few b lt (Goto c) e = tt
   lands_few b lt (Branch t c d) e = tt
-  lands_few b lt (Call r f ts back) e = omega (arith, some_call (spots g) b (spot_at g b) (spot_is g b lt) (ap calls e), W.calls)
+  lands_few b lt (Call r f ts back) e =
+      omega (arith, some_call (spots g) b (spot_at g b) (spot_is g b lt) (ap calls e), W.calls)
   lands_few b lt (Return t) e = by_called (is_called g (spot_at g b).home)
     where
-      by_called : (c : Bool) → LandingsAtMost z.calls (if c then Send (Var (spot_at g b).vars) (t ∷ []) (landings g (spot_at g b).home) else Return t)
+      by_called : (c : Bool)
+          → LandingsAtMost z.calls (if c then Send (Var (spot_at g b).vars) (t ∷ [])
+          (landings g (spot_at g b).home) else Return t)
       by_called true = landings_few (spot_at g b).home
       by_called false = tt
   lands_few b lt (Send t ts ls) e = tt
@@ -172,9 +203,11 @@ module _ (g : Graph) (live : List (List ℕ)) (G : Given g live) (z : Sizes) (W 
   params_few f lt = (few_vars f lt).params
 
   old_block : (b : ℕ) → b < length (spots g) → BlockWithin z (block_at g b)
-  old_block b lt = at_nth (λ (s : Spot). BlockWithin z s.block) (spots g) W.blocks b (spot_at g b) (spot_is g b lt)
+  old_block b lt = at_nth (λ (s : Spot). BlockWithin z s.block) (spots g) W.blocks b (spot_at g b)
+      (spot_is g b lt)
     where
-      at_nth : (P : Spot → Type 0) (xs : List Spot) → AllByRecursion P xs → (k : ℕ) (x : Spot) → nth xs k ≡ Some x → P x
+      at_nth : (P : Spot → Type 0) (xs : List Spot) → AllByRecursion P xs → (k : ℕ) (x : Spot)
+          → nth xs k ≡ Some x → P x
       at_nth P [] i k x e = absurd (cc)
       at_nth P (y ∷ xs) i zero x e = let same : y ≡ x = cc in subst P same i.0
       at_nth P (y ∷ xs) i (suc k) x e = at_nth P xs i.1 k x e
@@ -184,7 +217,11 @@ module _ (g : Graph) (live : List (List ℕ)) (G : Given g live) (z : Sizes) (W 
   within _ (is_door f lt) =
       let p = proc_at g f in
       let xs = filter (is_unset g live f p.params) (below p.vars) in
-      let few : length xs ≤ p.vars = omega (arith, filter_few (is_unset g live f p.params) (below p.vars), below_count p.vars) in
+      let few : length xs ≤ p.vars = omega (
+        arith,
+        filter_few (is_unset g live f p.params) (below p.vars),
+        below_count p.vars,
+      ) in
       let v = (few_vars f lt).vars in
       record {
         ops = omega (arith, length-map xs clear, few, v);
@@ -197,8 +234,23 @@ module _ (g : Graph) (live : List (List ℕ)) (G : Given g live) (z : Sizes) (W 
       let s = saves_few (spot_at g b).home (spot_at g b).vars (block_at g b).exit in
       let v = vars_at b lt in
       record {
-        ops = omega (arith, length-append (block_at g b).ops (saves g live (spot_at g b).home (spot_at g b).vars (block_at g b).exit), o.ops, s.0, v);
-        nodes = omega (arith, sum_by-append op_nodes (block_at g b).ops (saves g live (spot_at g b).home (spot_at g b).vars (block_at g b).exit), o.nodes, s.1, left_few (spot_at g b).home (spot_at g b).vars b (block_at g b).exit, v);
+        ops = omega (
+          arith,
+          length-append (block_at g b).ops (saves g live (spot_at g b).home (spot_at g b).vars
+              (block_at g b).exit),
+          o.ops,
+          s.0,
+          v,
+        );
+        nodes = omega (
+          arith,
+          sum_by-append op_nodes (block_at g b).ops
+              (saves g live (spot_at g b).home (spot_at g b).vars (block_at g b).exit),
+          o.nodes,
+          s.1,
+          left_few (spot_at g b).home (spot_at g b).vars b (block_at g b).exit,
+          v,
+        );
         values = few_at g live G z.params params_few _ (is_plain b lt);
         landings = lands_few b lt (block_at g b).exit refl;
       }
@@ -228,12 +280,17 @@ module _ (g : Graph) (live : List (List ℕ)) (G : Given g live) (z : Sizes) (W 
   no_calls : (ss : List Spot) → AllByRecursion (λ s. calls s.block.exit ≡ false) ss → call_count ss ≡ 0
   no_calls [] i = refl
   no_calls (s ∷ ss) i =
-      let one : 0 + (if calls s.block.exit then 1 else 0) ≡ 0 + 0 = ap (λ (v : Bool). 0 + (if v then 1 else 0)) i.0 in
+      let one : 0 + (if calls s.block.exit then 1 else 0) ≡ 0 + 0 =
+      ap (λ (v : Bool). 0 + (if v then 1 else 0)) i.0 in
       omega (arith, one, no_calls ss i.1)
 
-  procs_within : (f b : ℕ) (ps : List GraphProc) → AllByRecursion (ProcWithin z) ps → AllByRecursion (ProcWithin (spelled_sizes z)) (spelled_procs g live f b ps)
+  procs_within : (f b : ℕ) (ps : List GraphProc) → AllByRecursion (ProcWithin z) ps
+      → AllByRecursion (ProcWithin (spelled_sizes z)) (spelled_procs g live f b ps)
   procs_within f b [] i = tt
-  procs_within f b (p ∷ ps) i = (record { params = i.0.params; vars = omega (arith, i.0.vars) }, procs_within (suc f) (b + length p.blocks) ps i.1)
+  procs_within f b (p ∷ ps) i = (
+    record { params = i.0.params; vars = omega (arith, i.0.vars) },
+    procs_within (suc f) (b + length p.blocks) ps i.1,
+  )
 
   row_few : suc (cells_in_all g / 192) ≤ larger z.length (suc (hidden_cells z / most_hidden_arrays))
   row_few = omega (arith, cells_few, larger_right z.length (suc (hidden_cells z / most_hidden_arrays)))
@@ -243,12 +300,36 @@ module _ (g : Graph) (live : List (List ℕ)) (G : Given g live) (z : Sizes) (W 
   is_within = record {
     arrays = omega (arith, arrays_more g live G, W.arrays);
     lengths = all_both (λ (a : GraphArray). a.length ≤ (spelled_sizes z).length) g.arrays (hidden_arrays g)
-        (all_have (λ (a : GraphArray). a.length ≤ z.length) (λ (a : GraphArray). a.length ≤ (spelled_sizes z).length) g.arrays (λ a i. omega (arith, i, larger_left z.length (suc (hidden_cells z / most_hidden_arrays)))) W.lengths)
-        (equal_all (λ (a : GraphArray). a.length ≤ (spelled_sizes z).length) (min 192 (cells_in_all g)) _ row_few);
-    cells = omega (arith, cells_both g.arrays (hidden_arrays g), equal_cells (min 192 (cells_in_all g)) (record { name = None; length = suc (cells_in_all g / 192) }), rows_few (cells_in_all g), cells_few, W.cells);
+        (all_have (λ (a : GraphArray). a.length ≤ z.length) (λ (a : GraphArray).
+        a.length ≤ (spelled_sizes z).length) g.arrays
+        (λ a i. omega (arith, i, larger_left z.length (suc (hidden_cells z / most_hidden_arrays))))
+        W.lengths)
+        (equal_all (λ (a : GraphArray). a.length ≤ (spelled_sizes z).length) (min 192 (cells_in_all g)) _
+        row_few);
+    cells = omega (
+      arith,
+      cells_both g.arrays (hidden_arrays g),
+      equal_cells (min 192 (cells_in_all g))
+          (record { name = None; length = suc (cells_in_all g / 192) }),
+      rows_few (cells_in_all g),
+      cells_few,
+      W.cells,
+    );
     count_procs = omega (arith, F.count, W.count_procs);
     procs = procs_within 0 0 g.procs W.procs;
-    count_blocks = omega (arith, new_count g live 0 0 g.procs, calls_counted (spots g), W.count_blocks, W.calls, W.count_procs);
-    blocks = all_have (Sort g live G F) (λ s. BlockWithin (spelled_sizes z) s.block) (spots h) within (every_spot g live G F);
-    calls = omega (arith, no_calls (spots h) (all_have (Sort g live G F) (λ s. calls s.block.exit ≡ false) (spots h) (λ s k. none_call s (no_call g live G s k)) (every_spot g live G F)));
+    count_blocks = omega (
+      arith,
+      new_count g live 0 0 g.procs,
+      calls_counted (spots g),
+      W.count_blocks,
+      W.calls,
+      W.count_procs,
+    );
+    blocks = all_have (Sort g live G F) (λ s. BlockWithin (spelled_sizes z) s.block) (spots h) within
+        (every_spot g live G F);
+    calls = omega (
+      arith,
+      no_calls (spots h) (all_have (Sort g live G F) (λ s. calls s.block.exit ≡ false) (spots h)
+          (λ s k. none_call s (no_call g live G s k)) (every_spot g live G F)),
+    );
   }

@@ -1,5 +1,6 @@
 -- A walk of the given graph and one of the spelled graph, at the start of a block.
-use Rattle.std.proofs.Common.{ℕ, suc, ◌+◌, ◌-◌, ◌/◌, ◌≡◌, ◌<◌, ◌≤◌, ◌⊎◌, min, Bool, true, false, List, [], ◌∷◌, length, get_or, sym, ◌∙◌, subst, Option, arith}
+use Rattle.std.proofs.Common.{ℕ, suc, ◌+◌, ◌-◌, ◌/◌, ◌≡◌, ◌<◌, ◌≤◌, ◌⊎◌, min, Bool, true, false, List, []}
+use Rattle.std.proofs.Common.{◌∷◌, length, get_or, sym, ◌∙◌, subst, Option, arith}
 use Rattle.std.specs.List.{sum_by}
 use Rattle.std.proofs.lemmas.List.Sums.{sum_by-append}
 use Rattle.ws_words.specs.Outside.{Outside, ProcState}
@@ -33,15 +34,19 @@ module _ (g : Graph) (live : List (List ℕ)) where
     pub exit : (block_at g b).exit ≡ Call frame.result f terms frame.back
     pub address : ra ≡ address g f b
     pub long : length frame.vars ≡ (spot_at g b).vars
-    pub kept : (x : ℕ) → x < (spot_at g b).vars → Live g frame.back x → (ExitWrites (block_at g b).exit x → ⊥) → peek hidden (cell g (spot_at g b).home x) ≡ get_or frame.vars x 0
+    pub kept : (x : ℕ) → x < (spot_at g b).vars → Live g frame.back x → (ExitWrites (block_at g b).exit x → ⊥)
+        → peek hidden (cell g (spot_at g b).home x) ≡ get_or frame.vars x 0
 
   -- the calls that wait, in these blocks, while procedure f has this return address
   abbrev pub Stack : List (List ℕ) → ℕ → ℕ → List Frame → List ℕ → Type 0
   Stack hidden f ra [] [] = suc f ≡ length g.procs
-  Stack hidden f ra (frame ∷ frames) (b ∷ callers) = Waits hidden f ra frame b × Stack hidden (spot_at g b).home (peek hidden (cell g (spot_at g b).home (spot_at g b).vars)) frames callers
+  Stack hidden f ra (frame ∷ frames) (b ∷ callers) = Waits hidden f ra frame b
+      × Stack hidden (spot_at g b).home (peek hidden (cell g (spot_at g b).home (spot_at g b).vars)) frames
+      callers
   Stack hidden f ra _ _ = ⊥
 
-  pub record Stands (b : ℕ) (s : ProcState) (frames : List Frame) (callers : List ℕ) (t : ProcState) : Type 0 where
+  pub record Stands (b : ℕ) (s : ProcState) (frames : List Frame) (callers : List ℕ) (t : ProcState) : Type
+      0 where
     pub there : b < length (spots g)
     pub hidden : List (List ℕ)
     pub extra : ℕ
@@ -55,7 +60,8 @@ module _ (g : Graph) (live : List (List ℕ)) where
     pub same : Same (length g.arrays) rows size hidden o p
 
   abbrev pub Relates : List ℕ → Config → Config → Type 0
-  Relates callers (At b s frames k) (At c t others j) = (c ≡ moved g b) × (others ≡ []) × (k ≡ j) × Stands b s frames callers t
+  Relates callers (At b s frames k) (At c t others j) = (c ≡ moved g b) × (others ≡ []) × (k ≡ j)
+      × Stands b s frames callers t
   Relates callers (Over o k) (Over p j) = (k ≡ j) × Alike o p
   Relates callers (Going o) (Going p) = Alike o p
   Relates callers _ _ = ⊥
@@ -69,7 +75,8 @@ module _ (g : Graph) (live : List (List ℕ)) where
   owed w [] = 0
   owed w (b ∷ callers) = w (suc (moved g b)) + owed w callers
 
-  -- Some blocks later in the spelled graph. Those that it leaves weigh at most so much, together with the return points of the calls that wait then.
+  -- Some blocks later in the spelled graph. Those that it leaves weigh at most so much, together with the
+  -- return points of the calls that wait then.
   pub record Reaches (w : ℕ → ℕ) (n : ℕ) (c d : Config) : Type 0 where
     pub blocks : ℕ
     pub callers : List ℕ
@@ -77,7 +84,9 @@ module _ (g : Graph) (live : List (List ℕ)) where
     pub weigh : sum_by w (path (spelled g live) blocks d) + owed w callers ≤ n
 
   module _ (w : ℕ → ℕ) where
-    pub if_reaches : (n : ℕ) (b c : Bool) (p q : Config) (p' q' : Config) → b ≡ c → Reaches w n p p' → Reaches w n q q' → Reaches w n (Rattle.std.proofs.Common.cond b p q) (Rattle.std.proofs.Common.cond c p' q')
+    pub if_reaches : (n : ℕ) (b c : Bool) (p q : Config) (p' q' : Config) → b ≡ c → Reaches w n p p'
+        → Reaches w n q q' → Reaches w n (Rattle.std.proofs.Common.cond b p q)
+        (Rattle.std.proofs.Common.cond c p' q')
     if_reaches n true true p q p' q' e h i = h
     if_reaches n false false p q p' q' e h i = i
     if_reaches n true false p q p' q' e h i = absurd (cc)
@@ -87,39 +96,61 @@ module _ (g : Graph) (live : List (List ℕ)) where
     reaches_by n c d e same r = subst (λ (x : Config). Reaches w n c x) (sym same) r
 
     pub reaches_more : (n m : ℕ) (c d : Config) → n ≤ m → Reaches w n c d → Reaches w m c d
-    reaches_more n m c d le r = record { blocks = r.blocks; callers = r.callers; relates = r.relates; weigh = omega (arith, le, r.weigh) }
+    reaches_more n m c d le r = record {
+      blocks = r.blocks;
+      callers = r.callers;
+      relates = r.relates;
+      weigh = omega (arith, le, r.weigh);
+    }
 
     -- one block before
-    pub reaches_past : (n m : ℕ) (c d : Config) → sum_by w (block_left d (step (spelled g live) d)) + n ≤ m → Reaches w n c (step (spelled g live) d) → Reaches w m c d
+    pub reaches_past : (n m : ℕ) (c d : Config) → sum_by w (block_left d (step (spelled g live) d)) + n ≤ m
+        → Reaches w n c (step (spelled g live) d) → Reaches w m c d
     reaches_past n m c d le r =
-        let e = sum_by-append w (block_left d (step (spelled g live) d)) (path (spelled g live) r.blocks (step (spelled g live) d)) in
-        record { blocks = suc r.blocks; callers = r.callers; relates = r.relates; weigh = omega (arith, e, le, r.weigh) }
+        let e = sum_by-append w (block_left d (step (spelled g live) d))
+        (path (spelled g live) r.blocks (step (spelled g live) d)) in
+        record {
+          blocks = suc r.blocks;
+          callers = r.callers;
+          relates = r.relates;
+          weigh = omega (arith, e, le, r.weigh);
+        }
 
     -- a step leaves one block at most
-    pub left_few : (b : ℕ) (s : ProcState) (frames : List Frame) (k : ℕ) (d : Config) → sum_by w (block_left (At b s frames k) d) ≤ w b
+    pub left_few : (b : ℕ) (s : ProcState) (frames : List Frame) (k : ℕ) (d : Config)
+        → sum_by w (block_left (At b s frames k) d) ≤ w b
     left_few b s frames k (At c t others j) = omega arith
     left_few b s frames k (Over o j) = omega arith
     left_few b s frames k (Going o) = omega arith
 
-    pub reaches_later : (n : ℕ) (c : Config) (b : ℕ) (s : ProcState) (frames : List Frame) (k : ℕ) → Reaches w n c (step (spelled g live) (At b s frames k)) → Reaches w (w b + n) c (At b s frames k)
-    reaches_later n c b s frames k r = reaches_past n (w b + n) c (At b s frames k) (omega (arith, left_few b s frames k (step (spelled g live) (At b s frames k)))) r
+    pub reaches_later : (n : ℕ) (c : Config) (b : ℕ) (s : ProcState) (frames : List Frame) (k : ℕ)
+        → Reaches w n c (step (spelled g live) (At b s frames k)) → Reaches w (w b + n) c (At b s frames k)
+    reaches_later n c b s frames k r = reaches_past n (w b + n) c (At b s frames k)
+        (omega (arith, left_few b s frames k (step (spelled g live) (At b s frames k)))) r
 
   module _ (G : Given g live) (F : Placed g live) where
     pub earlier_at : (b : ℕ) → CallsEarlier (spot_at g b).home (block_at g b).exit
     unfolding spot_at no_spot
-    earlier_at b = each_at (λ (s : Spot). CallsEarlier s.home s.block.exit) (spots g) no_spot G.rules.earlier tt b
+    earlier_at b = each_at (λ (s : Spot). CallsEarlier s.home s.block.exit) (spots g) no_spot G.rules.earlier
+        tt b
 
-    pub exit_in : (b : ℕ) (x : Exit) → (block_at g b).exit ≡ x → ExitIn g (spot_at g b).home (spot_at g b).vars x
-    exit_in b x e = subst (λ (y : Exit). ExitIn g (spot_at g b).home (spot_at g b).vars y) e (numbers_at g G.rules b).exit
+    pub exit_in : (b : ℕ) (x : Exit) → (block_at g b).exit ≡ x
+        → ExitIn g (spot_at g b).home (spot_at g b).vars x
+    exit_in b x e = subst (λ (y : Exit). ExitIn g (spot_at g b).home (spot_at g b).vars y) e
+        (numbers_at g G.rules b).exit
 
-    pub callee_earlier : (b : ℕ) (r : Option ℕ) (f : ℕ) (ts : List Term) (back : ℕ) → (block_at g b).exit ≡ Call r f ts back → f < (spot_at g b).home
+    pub callee_earlier : (b : ℕ) (r : Option ℕ) (f : ℕ) (ts : List Term) (back : ℕ)
+        → (block_at g b).exit ≡ Call r f ts back → f < (spot_at g b).home
     callee_earlier b r f ts back e = subst (λ (y : Exit). CallsEarlier (spot_at g b).home y) e (earlier_at b)
 
     -- the cells of procedures after this one are the same
     abbrev pub SameAbove : ℕ → List (List ℕ) → List (List ℕ) → Type 0
-    SameAbove e hidden after = (f x : ℕ) → e < f → f < length g.procs → is_calling g f ≡ true → x ≤ (proc_at g f).vars → peek after (cell g f x) ≡ peek hidden (cell g f x)
+    SameAbove e hidden after = (f x : ℕ) → e < f → f < length g.procs → is_calling g f ≡ true
+        → x ≤ (proc_at g f).vars → peek after (cell g f x) ≡ peek hidden (cell g f x)
 
-    pub stack_kept : (e : ℕ) (hidden after : List (List ℕ)) → SameAbove e hidden after → (f ra : ℕ) (frames : List Frame) (callers : List ℕ) → e ≤ f → Stack hidden f ra frames callers → Stack after f ra frames callers
+    pub stack_kept : (e : ℕ) (hidden after : List (List ℕ)) → SameAbove e hidden after
+        → (f ra : ℕ) (frames : List Frame) (callers : List ℕ) → e ≤ f → Stack hidden f ra frames callers
+        → Stack after f ra frames callers
     stack_kept e hidden after same f ra [] [] le h = h
     stack_kept e hidden after same f ra [] (b ∷ callers) le h = absurd h
     stack_kept e hidden after same f ra (frame ∷ frames) [] le h = absurd h
@@ -128,17 +159,29 @@ module _ (g : Graph) (live : List (List ℕ)) where
         let up : f < (spot_at g b).home = callee_earlier b frame.result f w.terms frame.back w.exit in
         let home = F.home b w.there in
         let calling = (F.called b frame.result f w.terms frame.back w.there w.exit).1 in
-        let fits : (x : ℕ) → x ≤ (spot_at g b).vars → peek after (cell g (spot_at g b).home x) ≡ peek hidden (cell g (spot_at g b).home x) =
+        let fits : (x : ℕ) → x ≤ (spot_at g b).vars → peek after (cell g (spot_at g b).home x) ≡ peek hidden
+        (cell g (spot_at g b).home x) =
         λ x lx. same (spot_at g b).home x (omega arith) home.0 calling (omega (arith, home.1, lx)) in (
-          record { there = w.there; terms = w.terms; exit = w.exit; address = w.address; long = w.long; kept = λ x lt l never. fits x (omega arith) ∙ w.kept x lt l never },
-          subst (λ n. Stack after (spot_at g b).home n frames callers) (sym (fits (spot_at g b).vars (omega arith))) (stack_kept e hidden after same (spot_at g b).home (peek hidden (cell g (spot_at g b).home (spot_at g b).vars)) frames callers (omega arith) h.1),
+          record {
+            there = w.there;
+            terms = w.terms;
+            exit = w.exit;
+            address = w.address;
+            long = w.long;
+            kept = λ x lt l never. fits x (omega arith) ∙ w.kept x lt l never;
+          },
+          subst (λ n. Stack after (spot_at g b).home n frames callers)
+              (sym (fits (spot_at g b).vars (omega arith))) (stack_kept e hidden after same (spot_at g b).home
+              (peek hidden (cell g (spot_at g b).home (spot_at g b).vars)) frames callers (omega arith) h.1),
         )
 
     -- the return address of a procedure that isn't called doesn't matter
-    pub stack_any : (hidden : List (List ℕ)) (f ra rb : ℕ) (frames : List Frame) (callers : List ℕ) → is_called g f ≡ false → Stack hidden f ra frames callers → Stack hidden f rb frames callers
+    pub stack_any : (hidden : List (List ℕ)) (f ra rb : ℕ) (frames : List Frame) (callers : List ℕ)
+        → is_called g f ≡ false → Stack hidden f ra frames callers → Stack hidden f rb frames callers
     stack_any hidden f ra rb [] [] no_call h = h
     stack_any hidden f ra rb [] (b ∷ callers) no_call h = absurd h
     stack_any hidden f ra rb (frame ∷ frames) [] no_call h = absurd h
     stack_any hidden f ra rb (frame ∷ frames) (b ∷ callers) no_call h =
-        let c : is_called g f ≡ true = (F.called b frame.result f h.0.terms frame.back h.0.there h.0.exit).0 in
+        let c : is_called g f ≡ true =
+        (F.called b frame.result f h.0.terms frame.back h.0.there h.0.exit).0 in
         absurd (cc)

@@ -1,5 +1,7 @@
 -- The calls of each procedure among the first blocks, one block more.
-use Rattle.std.proofs.Common.{ℕ, zero, suc, ◌+◌, ◌==◌, ◌≡◌, ◌<◌, ◌≤◌, ◌^◌, Bool, true, false, if◌then◌else◌, List, [], ◌∷◌, length, take, get_or, set, replicate, Some, None, refl, sym, ap, ◌∙◌, inl, inr, arith, length-set, get_or-set_same, get_or-set_other}
+use Rattle.std.proofs.Common.{ℕ, zero, suc, ◌+◌, ◌==◌, ◌≡◌, ◌<◌, ◌≤◌, ◌^◌, Bool, true, false, if◌then◌else◌}
+use Rattle.std.proofs.Common.{List, [], ◌∷◌, length, take, get_or, set, replicate, Some, None, refl, sym, ap}
+use Rattle.std.proofs.Common.{◌∙◌, inl, inr, arith, length-set, get_or-set_same, get_or-set_other}
 use Rattle.std.proofs.lemmas.List.{length-replicate}
 use Rattle.std.proofs.lemmas.Bool.{cases_eq, cases_lt}
 use Rattle.std.proofs.lemmas.Bool.Decides.{nat_tests}
@@ -48,11 +50,13 @@ module _ (g : Graph) where
   unfolding address
   address_few f b = count_few (λ s. callee_is s.block.exit f) b (spots g)
 
-  address_next : (f b : ℕ) → b < length (spots g) → address g f (b + 1) ≡ address g f b + (if callee_is (block_at g b).exit f then 1 else 0)
+  address_next : (f b : ℕ) → b < length (spots g) → address g f (b + 1) ≡ address g f b
+      + (if callee_is (block_at g b).exit f then 1 else 0)
   unfolding address
   address_next f b lt = count_next g (λ s. callee_is s.block.exit f) b (b + 1) (omega arith) lt
 
-  pub tallied_none : (n : ℕ) → n ≡ length g.procs → (counts : List ℕ) → counts ≡ replicate n 0 → Tallied g counts 0
+  pub tallied_none : (n : ℕ) → n ≡ length g.procs → (counts : List ℕ) → counts ≡ replicate n 0
+      → Tallied g counts 0
   unfolding address
   tallied_none n en counts e = record {
     count = ap length e ∙ length-replicate n 0 ∙ en;
@@ -60,27 +64,38 @@ module _ (g : Graph) where
   }
 
   -- a block that calls
-  module _ (counts : List ℕ) (b f : ℕ) (lt : b < length (spots g)) (t : Tallied g counts b) (is : callee (block_at g b).exit ≡ Some f) where
+  module _ (counts : List ℕ) (b f : ℕ) (lt : b < length (spots g)) (t : Tallied g counts b)
+      (is : callee (block_at g b).exit ≡ Some f) where
     pub place_some : CallPlaced g b (get_or counts f 0)
     place_some e le h =
-        let same : f ≡ e = let z : (f == e) ≡ true = sym (some_callee (block_at g b).exit f e is) ∙ h in grind (arith, nat_tests) in
+        let same : f ≡ e = let z : (f == e) ≡ true = sym (some_callee (block_at g b).exit f e is) ∙ h in
+        grind (arith, nat_tests) in
         ap (λ n. get_or counts n 0) same ∙ t.each e le
 
     pub tallied_some : Tallied g (set counts f (get_or counts f 0 + 1)) (b + 1)
     tallied_some = record { count = length-set counts f (get_or counts f 0 + 1) ∙ t.count; each = each }
       where
-        each : (e : ℕ) → e < length g.procs → get_or (set counts f (get_or counts f 0 + 1)) e 0 ≡ address g e (b + 1)
+        each : (e : ℕ) → e < length g.procs → get_or (set counts f (get_or counts f 0 + 1)) e 0 ≡ address g e
+            (b + 1)
         each e le = elim (cases_eq e f) [
           | inl same ↦
               let hit : (f == e) ≡ true = grind (arith, nat_tests) in
-              let one : 0 + (if callee_is (block_at g b).exit e then 1 else 0) ≡ 0 + 1 = ap (λ (c : Bool). 0 + (if c then 1 else 0)) (some_callee (block_at g b).exit f e is ∙ hit) in
-              let new : get_or (set counts f (get_or counts f 0 + 1)) e 0 ≡ get_or counts f 0 + 1 = ap (λ n. get_or (set counts f (get_or counts f 0 + 1)) n 0) same ∙ get_or-set_same counts f (get_or counts f 0 + 1) 0 (omega (arith, le, same, t.count)) in
-              let old : get_or counts f 0 ≡ address g e b = ap (λ n. get_or counts n 0) (sym same) ∙ t.each e le in
+              let one : 0 + (if callee_is (block_at g b).exit e then 1 else 0) ≡ 0 + 1 =
+              ap (λ (c : Bool). 0 + (if c then 1 else 0)) (some_callee (block_at g b).exit f e is
+              ∙ hit) in
+              let new : get_or (set counts f (get_or counts f 0 + 1)) e 0 ≡ get_or counts f 0 + 1 =
+              ap (λ n. get_or (set counts f (get_or counts f 0 + 1)) n 0) same
+              ∙ get_or-set_same counts f (get_or counts f 0 + 1) 0 (omega (arith, le, same, t.count)) in
+              let old : get_or counts f 0 ≡ address g e b = ap (λ n. get_or counts n 0) (sym same)
+              ∙ t.each e le in
               omega (arith, one, new, old, address_next e b lt)
           | inr other ↦
               let miss : (f == e) ≡ false = grind (arith, nat_tests) in
-              let none : 0 + (if callee_is (block_at g b).exit e then 1 else 0) ≡ 0 + 0 = ap (λ (c : Bool). 0 + (if c then 1 else 0)) (some_callee (block_at g b).exit f e is ∙ miss) in
-              let new : get_or (set counts f (get_or counts f 0 + 1)) e 0 ≡ get_or counts e 0 = get_or-set_other counts f e (get_or counts f 0 + 1) 0 other in
+              let none : 0 + (if callee_is (block_at g b).exit e then 1 else 0) ≡ 0 + 0 =
+              ap (λ (c : Bool). 0 + (if c then 1 else 0)) (some_callee (block_at g b).exit f e is
+              ∙ miss) in
+              let new : get_or (set counts f (get_or counts f 0 + 1)) e 0 ≡ get_or counts e 0 =
+              get_or-set_other counts f e (get_or counts f 0 + 1) 0 other in
               omega (arith, none, new, t.each e le, address_next e b lt)
         ]
 
@@ -96,14 +111,17 @@ module _ (g : Graph) where
         past_end (x ∷ xs) (suc i) h = past_end xs i (omega (arith, h))
 
   -- one that doesn't
-  module _ (counts : List ℕ) (b : ℕ) (lt : b < length (spots g)) (t : Tallied g counts b) (is : callee (block_at g b).exit ≡ None) where
+  module _ (counts : List ℕ) (b : ℕ) (lt : b < length (spots g)) (t : Tallied g counts b)
+      (is : callee (block_at g b).exit ≡ None) where
     pub place_none : (n : ℕ) → CallPlaced g b n
-    place_none n e le h = absurd (let z : callee_is (block_at g b).exit e ≡ false = no_callee (block_at g b).exit e is in cc)
+    place_none n e le h =
+        absurd (let z : callee_is (block_at g b).exit e ≡ false = no_callee (block_at g b).exit e is in cc)
 
     pub tallied_same : Tallied g counts (b + 1)
     tallied_same = record {
       count = t.count;
       each = λ e le.
-          let none : 0 + (if callee_is (block_at g b).exit e then 1 else 0) ≡ 0 + 0 = ap (λ (c : Bool). 0 + (if c then 1 else 0)) (no_callee (block_at g b).exit e is) in
+          let none : 0 + (if callee_is (block_at g b).exit e then 1 else 0) ≡ 0 + 0 =
+          ap (λ (c : Bool). 0 + (if c then 1 else 0)) (no_callee (block_at g b).exit e is) in
           omega (arith, none, t.each e le, address_next e b lt);
     }

@@ -1,5 +1,6 @@
 -- What two walks have outside, where one has hidden cells besides.
-use Rattle.std.proofs.Common.{ℕ, zero, suc, ◌+◌, ◌≡◌, ◌<◌, ◌≤◌, nat_lt, Bool, true, false, if◌then◌else◌, List, [], ◌∷◌, ◌++◌, length, refl, sym, ap, ◌∙◌, subst, append_assoc, arith}
+use Rattle.std.proofs.Common.{ℕ, zero, suc, ◌+◌, ◌≡◌, ◌<◌, ◌≤◌, nat_lt, Bool, true, false, if◌then◌else◌}
+use Rattle.std.proofs.Common.{List, [], ◌∷◌, ◌++◌, length, refl, sym, ap, ◌∙◌, subst, append_assoc, arith}
 use Rattle.std.specs.List.{AllByRecursion}
 use Rattle.std.proofs.lemmas.Bool.Decides.{nat_tests}
 use Rattle.std.proofs.lemmas.List.{append-nil}
@@ -9,9 +10,11 @@ use Rattle.ws_words.proofs.Acts.{with_more}
 
 pub visible_append : (n : ℕ) (xs ys : List Act) → visible n (xs ++ ys) ≡ visible n xs ++ visible n ys
 visible_append n [] ys = refl
-visible_append n (x ∷ xs) ys = ap (λ (zs : List Act). visible_one n x ++ zs) (visible_append n xs ys) ∙ sym (append_assoc (visible_one n x) (visible n xs) (visible n ys))
+visible_append n (x ∷ xs) ys = ap (λ (zs : List Act). visible_one n x ++ zs) (visible_append n xs ys)
+    ∙ sym (append_assoc (visible_one n x) (visible n xs) (visible n ys))
 
-pub all_append : (P : Act → Type 0) (xs ys : List Act) → AllByRecursion P xs → AllByRecursion P ys → AllByRecursion P (xs ++ ys)
+pub all_append : (P : Act → Type 0) (xs ys : List Act) → AllByRecursion P xs → AllByRecursion P ys
+    → AllByRecursion P (xs ++ ys)
 all_append P [] ys h i = i
 all_append P (x ∷ xs) ys h i = (h.0, all_append P xs ys h.1 i)
 
@@ -58,17 +61,25 @@ pub record Seen (n rows size : ℕ) (acts : List Act) : Type 0 where
 pub none_seen : (n rows size : ℕ) → Seen n rows size []
 none_seen n rows size = record { all = refl; own = tt }
 
-pub seen_both : (n rows size : ℕ) (xs ys : List Act) → Seen n rows size xs → Seen n rows size ys → Seen n rows size (xs ++ ys)
+pub seen_both : (n rows size : ℕ) (xs ys : List Act) → Seen n rows size xs → Seen n rows size ys
+    → Seen n rows size (xs ++ ys)
 seen_both n rows size xs ys h i = record {
-  all = visible_append n xs ys ∙ ap (λ (zs : List Act). zs ++ visible n ys) h.all ∙ ap (λ (zs : List Act). xs ++ zs) i.all;
+  all = visible_append n xs ys ∙ ap (λ (zs : List Act). zs ++ visible n ys) h.all
+      ∙ ap (λ (zs : List Act). xs ++ zs) i.all;
   own = all_append (OwnInside n rows size) xs ys h.own i.own;
 }
 
 pub seen_load : (n rows size a i : ℕ) → a ≤ n → Seen n rows size (loads a i ∷ [])
-seen_load n rows size a i le = record { all = ap (λ (zs : List Act). zs ++ []) (load_seen n a i le); own = (λ lt. absurd (omega (arith, lt, le)), tt) }
+seen_load n rows size a i le = record {
+  all = ap (λ (zs : List Act). zs ++ []) (load_seen n a i le);
+  own = (λ lt. absurd (omega (arith, lt, le)), tt);
+}
 
 pub seen_store : (n rows size a i w : ℕ) → a ≤ n → Seen n rows size (stores a i w ∷ [])
-seen_store n rows size a i w le = record { all = ap (λ (zs : List Act). zs ++ []) (store_seen n a i w le); own = (λ lt. absurd (omega (arith, lt, le)), tt) }
+seen_store n rows size a i w le = record {
+  all = ap (λ (zs : List Act). zs ++ []) (store_seen n a i w le);
+  own = (λ lt. absurd (omega (arith, lt, le)), tt);
+}
 
 pub seen_read : (n rows size : ℕ) → Seen n rows size (reads ∷ [])
 seen_read n rows size = record { all = refl; own = (tt, tt) }
@@ -83,7 +94,8 @@ pub seen_take : (n rows size p w : ℕ) → Seen n rows size (takes p w ∷ [])
 seen_take n rows size p w = record { all = refl; own = (tt, tt) }
 
 module _ (n rows size : ℕ) (hidden : List (List ℕ)) (o p : Outside) (h : Same n rows size hidden o p) where
-  pub same_more : (xs ys : List Act) → xs ≡ ys → Seen n rows size xs → Same n rows size hidden (with_more o xs) (with_more p ys)
+  pub same_more : (xs ys : List Act) → xs ≡ ys → Seen n rows size xs
+      → Same n rows size hidden (with_more o xs) (with_more p ys)
   same_more xs ys e s =
       let t : Seen n rows size ys = subst (λ (zs : List Act). Seen n rows size zs) e s in
       record {
@@ -91,18 +103,21 @@ module _ (n rows size : ℕ) (hidden : List (List ℕ)) (o p : Outside) (h : Sam
         few = h.few;
         input = h.input;
         left = h.left;
-        acts = visible_append n p.acts ys ∙ ap (λ (zs : List Act). zs ++ visible n ys) h.acts ∙ ap (λ (zs : List Act). o.acts ++ zs) (t.all ∙ sym e);
+        acts = visible_append n p.acts ys ∙ ap (λ (zs : List Act). zs ++ visible n ys) h.acts
+            ∙ ap (λ (zs : List Act). o.acts ++ zs) (t.all ∙ sym e);
         own = all_append (OwnInside n rows size) p.acts ys h.own t.own;
       }
 
   -- acts that the first one doesn't do
-  pub same_unseen : (ys : List Act) → visible n ys ≡ [] → AllByRecursion (OwnInside n rows size) ys → Same n rows size hidden o (with_more p ys)
+  pub same_unseen : (ys : List Act) → visible n ys ≡ [] → AllByRecursion (OwnInside n rows size) ys
+      → Same n rows size hidden o (with_more p ys)
   same_unseen ys none own = record {
     cells = h.cells;
     few = h.few;
     input = h.input;
     left = h.left;
-    acts = visible_append n p.acts ys ∙ ap (λ (zs : List Act). visible n p.acts ++ zs) none ∙ append-nil (visible n p.acts) ∙ h.acts;
+    acts = visible_append n p.acts ys ∙ ap (λ (zs : List Act). visible n p.acts ++ zs) none
+        ∙ append-nil (visible n p.acts) ∙ h.acts;
     own = all_append (OwnInside n rows size) p.acts ys h.own own;
   }
 
@@ -116,15 +131,21 @@ pub row_right : (xs ys : List (List ℕ)) (n k : ℕ) → length xs ≡ n → ro
 row_right [] ys zero k e = ap (row ys) (let z : zero + k ≡ k = omega arith in z)
 row_right [] ys (suc n) k e = absurd (omega (arith, e))
 row_right (x ∷ xs) ys zero k e = absurd (omega (arith, e))
-row_right (x ∷ xs) ys (suc n) k e = let z : suc n + k ≡ suc (n + k) = omega arith in ap (row (x ∷ (xs ++ ys))) z ∙ row_right xs ys n k (omega (arith, e))
+row_right (x ∷ xs) ys (suc n) k e = let z : suc n + k ≡ suc (n + k) = omega arith in
+    ap (row (x ∷ (xs ++ ys))) z ∙ row_right xs ys n k (omega (arith, e))
 
-pub with_row_left : (xs ys : List (List ℕ)) (k : ℕ) (r : List ℕ) → k < length xs → with_row (xs ++ ys) k r ≡ with_row xs k r ++ ys
+pub with_row_left : (xs ys : List (List ℕ)) (k : ℕ) (r : List ℕ) → k < length xs
+    → with_row (xs ++ ys) k r ≡ with_row xs k r ++ ys
 with_row_left [] ys k r lt = absurd (omega arith)
 with_row_left (x ∷ xs) ys zero r lt = refl
-with_row_left (x ∷ xs) ys (suc k) r lt = ap (λ (zs : List (List ℕ)). x ∷ zs) (with_row_left xs ys k r (omega arith))
+with_row_left (x ∷ xs) ys (suc k) r lt = ap (λ (zs : List (List ℕ)). x ∷ zs)
+    (with_row_left xs ys k r (omega arith))
 
-pub with_row_right : (xs ys : List (List ℕ)) (n k : ℕ) (r : List ℕ) → length xs ≡ n → with_row (xs ++ ys) (n + k) r ≡ xs ++ with_row ys k r
+pub with_row_right : (xs ys : List (List ℕ)) (n k : ℕ) (r : List ℕ) → length xs ≡ n
+    → with_row (xs ++ ys) (n + k) r ≡ xs ++ with_row ys k r
 with_row_right [] ys zero k r e = ap (λ m. with_row ys m r) (let z : zero + k ≡ k = omega arith in z)
 with_row_right [] ys (suc n) k r e = absurd (omega (arith, e))
 with_row_right (x ∷ xs) ys zero k r e = absurd (omega (arith, e))
-with_row_right (x ∷ xs) ys (suc n) k r e = let z : suc n + k ≡ suc (n + k) = omega arith in ap (λ m. with_row (x ∷ (xs ++ ys)) m r) z ∙ ap (λ (zs : List (List ℕ)). x ∷ zs) (with_row_right xs ys n k r (omega (arith, e)))
+with_row_right (x ∷ xs) ys (suc n) k r e = let z : suc n + k ≡ suc (n + k) = omega arith in
+    ap (λ m. with_row (x ∷ (xs ++ ys)) m r) z ∙ ap (λ (zs : List (List ℕ)). x ∷ zs)
+    (with_row_right xs ys n k r (omega (arith, e)))

@@ -1,5 +1,6 @@
 -- What steps add to a builder is their blocks.
-use Rattle.std.proofs.Common.{suc, ◌+◌, ◌≡◌, List, [], ◌∷◌, ◌++◌, refl, sym, ap, ◌∙◌, append_assoc, length-append, arith}
+use Rattle.std.proofs.Common.{suc, ◌+◌, ◌≡◌, List, [], ◌∷◌, ◌++◌, refl, sym, ap, ◌∙◌, append_assoc}
+use Rattle.std.proofs.Common.{length-append, arith}
 use Rattle.std.proofs.lemmas.List.{append-nil}
 use Rattle.seq_run.specs.Resolved.{Do, Call, If, While, Steps, Nothing, Then}
 use Rattle.cfg_core.specs.Graph as graph
@@ -12,7 +13,8 @@ abbrev pub added_to : Builder → Made → List Block
 added_to d m = d.done ++ record { named = []; ops = d.ops ++ m.front.ops; exit = m.front.exit } ∷ m.blocks
 
 pub number_closed : (exit : Exit) (d : Builder) → number (closed exit d) ≡ suc (number d)
-number_closed exit d = let h = length-append d.done (record { named = []; ops = d.ops; exit = exit } ∷ []) in omega (arith, h)
+number_closed exit d = let h = length-append d.done (record { named = []; ops = d.ops; exit = exit } ∷ []) in
+    omega (arith, h)
 
 pub number_emit : (st : Steps) (d : Builder) → number (emit st d) ≡ number d + begun st
 number_emit Nothing d = omega arith
@@ -53,21 +55,29 @@ number_emit (Then (While t body) rest) d =
 
 -- a block closed by an exit is one that a part without operations ends
 closed_is : (d : Builder) (exit : Exit) → (closed exit d).done ≡ ended d (record { ops = []; exit = exit })
-closed_is d exit = ap (λ (ops : List Op). d.done ++ record { named = []; ops = ops; exit = exit } ∷ []) (sym (append-nil d.ops))
+closed_is d exit = ap (λ (ops : List Op). d.done ++ record { named = []; ops = ops; exit = exit } ∷ [])
+    (sym (append-nil d.ops))
 
-pub emit_made : (st : Steps) (d : Builder) (rest : BlockRest) → ended (emit st d) rest ≡ added_to d (made st (number d) rest)
+pub emit_made : (st : Steps) (d : Builder) (rest : BlockRest) → ended (emit st d) rest ≡ added_to d
+    (made st (number d) rest)
 emit_made Nothing d rest = refl
 emit_made (Then (Do a) next) d rest =
     emit_made next _ rest
-    ∙ ap (λ (ops : List Op). d.done ++ record { named = []; ops = ops; exit = (made next (number d) rest).front.exit } ∷ (made next (number d) rest).blocks)
-    (append_assoc (d.ops ++ Tick 1 ∷ []) (op a ∷ []) (made next (number d) rest).front.ops ∙ append_assoc d.ops (Tick 1 ∷ []) _)
+    ∙ ap (λ (ops : List Op). d.done ++ record {
+      named = [];
+      ops = ops;
+      exit = (made next (number d) rest).front.exit;
+    } ∷ (made next (number d) rest).blocks)
+    (append_assoc (d.ops ++ Tick 1 ∷ []) (op a ∷ []) (made next (number d) rest).front.ops
+    ∙ append_assoc d.ops (Tick 1 ∷ []) _)
 emit_made (Then (Call x f ts) next) d rest =
     let call = graph.Call x f ts (suc (number d)) in
     let d1 : Builder = closed call (with_op (Tick 1) d) in
     let e1 : number d1 ≡ suc (number d) = number_closed call (with_op (Tick 1) d) in
     emit_made next d1 rest
     ∙ ap (λ n. added_to d1 (made next n rest)) e1
-    ∙ append_assoc d.done (record { named = []; ops = d.ops ++ Tick 1 ∷ []; exit = call } ∷ []) (whole (made next (suc (number d)) rest))
+    ∙ append_assoc d.done (record { named = []; ops = d.ops ++ Tick 1 ∷ []; exit = call } ∷ [])
+    (whole (made next (suc (number d)) rest))
 emit_made (Then (If t a b) next) d rest =
     let c = number d in
     let second = suc (suc c + begun a) in let join = suc (second + begun b) in
@@ -84,15 +94,19 @@ emit_made (Then (If t a b) next) d rest =
     let e5 : number d5 ≡ suc (number d4) = number_closed (Goto join) d4 in
     let at_second : number d3 ≡ second = omega (arith, e1, e2, e3) in
     let at_join : number d5 ≡ join = omega (arith, at_second, e4, e5) in
-    let wa = whole (made a (suc c) (goes_to join)) in let wb = whole (made b second (goes_to join)) in let wn = whole (made next join rest) in
-    let x3 : d3.done ≡ d1.done ++ wa = closed_is d2 (Goto join) ∙ emit_made a d1 (goes_to join) ∙ ap (λ n. d1.done ++ whole (made a n (goes_to join))) e1 in
-    let x5 : d5.done ≡ d3.done ++ wb = closed_is d4 (Goto join) ∙ emit_made b d3 (goes_to join) ∙ ap (λ n. d3.done ++ whole (made b n (goes_to join))) at_second in
+    let wa = whole (made a (suc c) (goes_to join)) in let wb = whole (made b second (goes_to join)) in
+    let wn = whole (made next join rest) in
+    let x3 : d3.done ≡ d1.done ++ wa = closed_is d2 (Goto join) ∙ emit_made a d1 (goes_to join)
+    ∙ ap (λ n. d1.done ++ whole (made a n (goes_to join))) e1 in
+    let x5 : d5.done ≡ d3.done ++ wb = closed_is d4 (Goto join) ∙ emit_made b d3 (goes_to join)
+    ∙ ap (λ n. d3.done ++ whole (made b n (goes_to join))) at_second in
     emit_made next d5 rest
     ∙ ap (λ n. d5.done ++ whole (made next n rest)) at_join
     ∙ ap (λ (bs : List Block). bs ++ wn) (x5 ∙ ap (λ (bs : List Block). bs ++ wb) x3)
     ∙ append_assoc (d1.done ++ wa) wb wn
     ∙ append_assoc d1.done wa (wb ++ wn)
-    ∙ append_assoc d.done (record { named = []; ops = d.ops ++ Tick 1 ∷ []; exit = fork } ∷ []) (wa ++ (wb ++ wn))
+    ∙ append_assoc d.done (record { named = []; ops = d.ops ++ Tick 1 ∷ []; exit = fork } ∷ [])
+    (wa ++ (wb ++ wn))
 emit_made (Then (While t body) next) d rest =
     let c = number d in
     let inside = suc (suc c) in let after = suc (inside + begun body) in
@@ -110,11 +124,13 @@ emit_made (Then (While t body) next) d rest =
     let head : Block = record { named = []; ops = Tick 1 ∷ []; exit = fork } in
     let first : Block = record { named = []; ops = d.ops; exit = Goto (suc c) } in
     let wb = whole (made body inside (goes_to (suc c))) in let wn = whole (made next after rest) in
-    let x4 : d4.done ≡ d2.done ++ wb = closed_is d3 (Goto (suc c)) ∙ emit_made body d2 (goes_to (suc c)) ∙ ap (λ n. d2.done ++ whole (made body n (goes_to (suc c)))) at_inside in
+    let x4 : d4.done ≡ d2.done ++ wb = closed_is d3 (Goto (suc c)) ∙ emit_made body d2 (goes_to (suc c))
+    ∙ ap (λ n. d2.done ++ whole (made body n (goes_to (suc c)))) at_inside in
     emit_made next d4 rest
     ∙ ap (λ n. d4.done ++ whole (made next n rest)) at_after
     ∙ ap (λ (bs : List Block). bs ++ wn) x4
     ∙ append_assoc d2.done wb wn
     ∙ append_assoc d1.done (head ∷ []) (wb ++ wn)
     ∙ append_assoc d.done (first ∷ []) (head ∷ (wb ++ wn))
-    ∙ ap (λ (ops : List Op). d.done ++ record { named = []; ops = ops; exit = Goto (suc c) } ∷ (head ∷ (wb ++ wn))) (sym (append-nil d.ops))
+    ∙ ap (λ (ops : List Op). d.done ++ record { named = []; ops = ops; exit = Goto (suc c) }
+    ∷ (head ∷ (wb ++ wn))) (sym (append-nil d.ops))

@@ -1,5 +1,6 @@
 -- The arrays of an accepted program keep the limits of the language.
-use Rattle.std.proofs.Common.{ℕ, ◌+◌, ◌<◌, ◌≤◌, nat_lt, nat_le, Bool, true, not, List, [], ◌∷◌, ◌++◌, length, Some, sym, ◌∙◌, arith}
+use Rattle.std.proofs.Common.{ℕ, ◌+◌, ◌<◌, ◌≤◌, nat_lt, nat_le, Bool, true, not, List, [], ◌∷◌, ◌++◌, length}
+use Rattle.std.proofs.Common.{Some, sym, ◌∙◌, arith}
 use Rattle.std.specs.List.{AllByRecursion, sum_by, list_all}
 use Rattle.std.proofs.lemmas.List.Sums.{sum_by-cons}
 use Rattle.std.proofs.lemmas.List.Folds.{list_all-append}
@@ -8,7 +9,8 @@ use Rattle.src_ast.specs.declared.lexeme.Place.{Place}
 use Rattle.src_ast.specs.declared.lexeme.Name.{Name}
 use Rattle.src_ast.specs.declared.fault.RefusalKind.TheVariants.{Main}
 use Rattle.src_ast.specs.Syntax.{Part, Array, Proc}
-use Rattle.src_ast.specs.Rules.{Rule, declared_by, is_visible, has_main, arrays_in, cells_in, part_rules, rules_after, IsAccepted}
+use Rattle.src_ast.specs.Rules.{Rule, declared_by, is_visible, has_main, arrays_in, cells_in, part_rules}
+use Rattle.src_ast.specs.Rules.{rules_after, IsAccepted}
 use Rattle.cfg_core.specs.Graph.{GraphArray}
 use Rattle.cfg_build.specs.Keeps.{arrays_of}
 use Rattle.src_ast.specs.LanguageLimits.{most_arrays, most_array_cells, most_cells}
@@ -27,13 +29,18 @@ record ArrayKept (before : List Part) (n : ℕ) : Type 0 where
   short : n ≤ most_array_cells
   cells : cells_in before + n ≤ most_cells
 
-array_kept : (before : List Part) (x : Name) (n : ℕ) (at : Place) → Kept (part_rules before (Array x n at)) → ArrayKept before n
+array_kept : (before : List Part) (x : Name) (n : ℕ) (at : Place) → Kept (part_rules before (Array x n at))
+    → ArrayKept before n
 array_kept before x n at h =
     let a = (and_parts (not (is_visible (declared_by before) x.text)) _ h).1 in
     let b = and_parts (nat_lt (arrays_in before) 64) _ a in
     let c = and_parts (nat_le n 65536) _ b.1 in
     let d = and_parts (nat_le (cells_in before + n) 1048576) true c.1 in
-    record { room = ltb-true (arrays_in before) 64 b.0; short = leb-true n 65536 c.0; cells = leb-true (cells_in before + n) 1048576 d.0 }
+    record {
+      room = ltb-true (arrays_in before) 64 b.0;
+      short = leb-true n 65536 c.0;
+      cells = leb-true (cells_in before + n) 1048576 d.0;
+    }
 
 -- the arrays of these parts after so many others with so many cells
 pub record FewArrays (others cells_before : ℕ) (parts : List Part) : Type 0 where
@@ -41,7 +48,8 @@ pub record FewArrays (others cells_before : ℕ) (parts : List Part) : Type 0 wh
   pub lengths : AllByRecursion (λ (a : GraphArray). a.length ≤ most_array_cells) (arrays_of parts)
   pub cells : cells_before + sum_by (λ (a : GraphArray). a.length) (arrays_of parts) ≤ most_cells
 
-few_from : (before parts : List Part) → arrays_in before ≤ most_arrays → cells_in before ≤ most_cells → Kept (rules_after before parts) → FewArrays (arrays_in before) (cells_in before) parts
+few_from : (before parts : List Part) → arrays_in before ≤ most_arrays → cells_in before ≤ most_cells
+    → Kept (rules_after before parts) → FewArrays (arrays_in before) (cells_in before) parts
 few_from before [] le ce h = record { count = omega (arith, le); lengths = tt; cells = omega (arith, ce) }
 few_from before (Array x n at ∷ parts) le ce h =
     let next = before ++ Array x n at ∷ [] in
@@ -59,7 +67,11 @@ few_from before (Proc p ∷ parts) le ce h =
     let both = kept_both (part_rules before (Proc p)) (rules_after next parts) h in
     let e = arrays_both before (Proc p ∷ []) in let d = cells_both before (Proc p ∷ []) in
     let more = few_from next parts (omega (arith, le, e)) (omega (arith, ce, d)) both.1 in
-    record { count = omega (arith, more.count, e); lengths = more.lengths; cells = omega (arith, more.cells, d) }
+    record {
+      count = omega (arith, more.count, e);
+      lengths = more.lengths;
+      cells = omega (arith, more.cells, d);
+    }
 
 pub few_arrays : (parts : List Part) (finish : Place) → IsAccepted parts finish → FewArrays 0 0 parts
 few_arrays parts finish h =

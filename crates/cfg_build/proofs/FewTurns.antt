@@ -2,10 +2,12 @@
 use Rattle.std.proofs.Common.{◌+◌, ◌≡◌, ◌≤◌, List, [], ◌∷◌, ◌++◌, Option, Some, None, refl, arith}
 use Rattle.src_ast.specs.declared.lexeme.Place.{Place}
 use Rattle.src_ast.specs.declared.fault.RefusalKind.TheVariants.{Main}
-use Rattle.src_ast.specs.Syntax.{Statement, Assign, Store, Print, Read, Give, Take, Call, If, While, Statements, Nothing, Then, Last, Part, Array, Proc}
+use Rattle.src_ast.specs.Syntax.{Statement, Assign, Store, Print, Read, Give, Take, Call, If, While}
+use Rattle.src_ast.specs.Syntax.{Statements, Nothing, Then, Last, Part, Array, Proc}
 use Rattle.src_ast.specs.LanguageLimits.{most_statements}
 use Rattle.src_ast.specs.Meaning.{procs_of}
-use Rattle.src_ast.specs.Rules.{Rule, variables, declared_by, has_main, size_of, size_of_all, size_of_ending, statements_in, part_rules, rules_after, IsAccepted}
+use Rattle.src_ast.specs.Rules.{Rule, variables, declared_by, has_main, size_of, size_of_all, size_of_ending}
+use Rattle.src_ast.specs.Rules.{statements_in, part_rules, rules_after, IsAccepted}
 use Rattle.cfg_build.specs.Sizes.{sum_in, sum_over, sum_procs, ending_ops}
 use Rattle.cfg_build.proofs.FewArrays.{kept_both}
 use Rattle.seq_run.proofs.InBodies.{body_few, ending_few, Kept}
@@ -39,7 +41,8 @@ turns_are [] = refl
 turns_are (Array x n at ∷ parts) = turns_are parts
 turns_are (Proc p ∷ parts) = omega (arith, all_each p.body, ending_same p.ending, turns_are parts)
 
-few_from : (before parts : List Part) → statements_in before ≤ most_statements → Kept (rules_after before parts) → statements_in before + statements_in parts ≤ most_statements
+few_from : (before parts : List Part) → statements_in before ≤ most_statements
+    → Kept (rules_after before parts) → statements_in before + statements_in parts ≤ most_statements
 few_from before [] le h = omega (arith, le)
 few_from before (Array x n at ∷ parts) le h =
     let next = before ++ Array x n at ∷ [] in
@@ -57,7 +60,8 @@ few_from before (Proc p ∷ parts) le h =
     omega (arith, e, few_from next parts (omega (arith, e, whole)) both.1)
 
 -- the statements of an accepted program keep the limit
-pub few_statements : (parts : List Part) (finish : Place) → IsAccepted parts finish → statements_in parts ≤ most_statements
+pub few_statements : (parts : List Part) (finish : Place) → IsAccepted parts finish
+    → statements_in parts ≤ most_statements
 few_statements parts finish h =
     let last : List Rule = record { place = finish; kind = Main; kept = has_main parts } ∷ [] in
     omega (arith, few_from [] parts (omega arith) (kept_both (rules_after [] parts) last h).0)

@@ -24,12 +24,25 @@ length_labels (Then (Do a) more) c l = length_labels more c l
 length_labels (Then (Call x f ts) more) c l = omega (arith, length_labels more (suc c) None)
 length_labels (Then (If t a b) more) c l =
     let second = suc (suc c + begun a) in let join = suc (second + begun b) in
-    let xs = labels a (suc c) (Some c) in let ys = labels b second (Some c) in let zs = labels more join None in
-    omega (arith, length-append xs (ys ++ zs), length-append ys zs, length_labels a (suc c) (Some c), length_labels b second (Some c), length_labels more join None)
+    let xs = labels a (suc c) (Some c) in let ys = labels b second (Some c) in
+    let zs = labels more join None in
+    omega (
+      arith,
+      length-append xs (ys ++ zs),
+      length-append ys zs,
+      length_labels a (suc c) (Some c),
+      length_labels b second (Some c),
+      length_labels more join None,
+    )
 length_labels (Then (While t body) more) c l =
     let inside = suc (suc c) in let after = suc (inside + begun body) in
     let xs = labels body inside (Some (suc c)) in let ys = labels more after (Some (suc c)) in
-    omega (arith, length-append xs ys, length_labels body inside (Some (suc c)), length_labels more after (Some (suc c)))
+    omega (
+      arith,
+      length-append xs ys,
+      length_labels body inside (Some (suc c)),
+      length_labels more after (Some (suc c)),
+    )
 
 -- of the blocks of procedures, the first of which begins at this block
 abbrev pub all_labels : List Proc → ℕ → List (Option ℕ)
@@ -51,8 +64,11 @@ module _ (all : List (Option ℕ)) where
   first_label (Then (If t a b) more) c l h = h.1
   first_label (Then (While t body) more) c l h = h.1
 
-  pub labels_front : (st : Steps) (c : ℕ) (l : Option ℕ) (ls : List (Option ℕ)) → LabelsAt c (labels st c l ++ ls) → LabelsAt c (labels st c l)
+  pub labels_front : (st : Steps) (c : ℕ) (l : Option ℕ) (ls : List (Option ℕ))
+      → LabelsAt c (labels st c l ++ ls) → LabelsAt c (labels st c l)
   labels_front st c l ls h = stand_front (label_in all) (length all) c (labels st c l) ls h
 
-  pub labels_back : (st : Steps) (c : ℕ) (l : Option ℕ) (ls : List (Option ℕ)) → LabelsAt c (labels st c l ++ ls) → LabelsAt (suc (c + begun st)) ls
-  labels_back st c l ls h = stand_back (label_in all) (length all) c (suc (c + begun st)) (labels st c l) ls (omega (arith, length_labels st c l)) h
+  pub labels_back : (st : Steps) (c : ℕ) (l : Option ℕ) (ls : List (Option ℕ))
+      → LabelsAt c (labels st c l ++ ls) → LabelsAt (suc (c + begun st)) ls
+  labels_back st c l ls h = stand_back (label_in all) (length all) c (suc (c + begun st)) (labels st c l) ls
+      (omega (arith, length_labels st c l)) h

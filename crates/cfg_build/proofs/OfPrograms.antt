@@ -30,7 +30,8 @@ use Rattle.cfg_build.proofs.Shaped.{is_shaped, is_first_form}
 
 arrays_are : (parts : List Part) → (lowered (resolving.program parts)).arrays ≡ arrays_of parts
 arrays_are [] = refl
-arrays_are (Array name size at ∷ parts) = ap (λ xs. record { name = Some name.text; length = size } ∷ xs) (arrays_are parts)
+arrays_are (Array name size at ∷ parts) = ap (λ xs. record { name = Some name.text; length = size } ∷ xs)
+    (arrays_are parts)
 arrays_are (Proc p ∷ parts) = arrays_are parts
 
 none_hidden : (parts : List Part) → AllByRecursion (λ a. has_name a ≡ true) (arrays_of parts)
@@ -38,32 +39,41 @@ none_hidden [] = tt
 none_hidden (Array name size at ∷ parts) = (refl, none_hidden parts)
 none_hidden (Proc p ∷ parts) = none_hidden parts
 
-rooms_are : (arrays names : List Name) (ps : List Procedure) (c : ℕ) → rooms_in (procs (resolving.procs arrays names ps) c) ≡ rooms_of ps
+rooms_are : (arrays names : List Name) (ps : List Procedure) (c : ℕ)
+    → rooms_in (procs (resolving.procs arrays names ps) c) ≡ rooms_of ps
 rooms_are arrays names [] c = refl
-rooms_are arrays names (p ∷ ps) c = ap (λ (rs : List Room). record { params = length p.params; vars = length p.params + length p.vars } ∷ rs) (rooms_are arrays names ps (suc (c + begun (resolving.proc (scope_of arrays names p) p).body)))
+rooms_are arrays names (p ∷ ps) c =
+    ap (λ (rs : List Room). record { params = length p.params; vars = length p.params + length p.vars } ∷ rs)
+    (rooms_are arrays names ps (suc (c + begun (resolving.proc (scope_of arrays names p) p).body)))
 
 -- graphs without hidden arrays show the whole of their walks
 abbrev pub ShowsEnds : Type 0
-ShowsEnds = (graph : Graph) → IsGraph graph → NoneHidden graph.arrays → (world : World) (turns : _) (o : Outside) → Ends graph world turns o → ShowsAll graph o
+ShowsEnds = (graph : Graph) → IsGraph graph → NoneHidden graph.arrays
+    → (world : World) (turns : _) (o : Outside) → Ends graph world turns o → ShowsAll graph o
 
 abbrev pub ShowsGoes : Type 0
-ShowsGoes = (graph : Graph) → IsGraph graph → NoneHidden graph.arrays → (world : World) (turns : _) (o : Outside) → Goes graph world turns o → ShowsAll graph o
+ShowsGoes = (graph : Graph) → IsGraph graph → NoneHidden graph.arrays
+    → (world : World) (turns : _) (o : Outside) → Goes graph world turns o → ShowsAll graph o
 
 abbrev pub AllStayInside : Type 0
-AllStayInside = (graph : Graph) → IsGraph graph → NoneHidden graph.arrays → (world : World) → StaysInside graph world
+AllStayInside = (graph : Graph) → IsGraph graph → NoneHidden graph.arrays → (world : World)
+    → StaysInside graph world
 
-module _ (parts : List Part) (program : ResolvedProgram) (g : Graph) (same : program ≡ resolving.program parts) (made : g ≡ lowered program) (fit : ProgramIn program) where
+module _ (parts : List Part) (program : ResolvedProgram) (g : Graph)
+    (same : program ≡ resolving.program parts) (made : g ≡ lowered program) (fit : ProgramIn program) where
   is_lowered : g ≡ lowered (resolving.program parts)
   is_lowered = made ∙ ap lowered same
 
   pub run_kept : TurnsNeverGrow → NamesArePlaces → KeepsRun parts g
-  run_kept grow places = subst (λ (h : Graph). KeepsRun parts h) (sym is_lowered) (lowered_keeps_run grow places parts (subst (λ (p : ResolvedProgram). ProgramIn p) same fit))
+  run_kept grow places = subst (λ (h : Graph). KeepsRun parts h) (sym is_lowered)
+      (lowered_keeps_run grow places parts (subst (λ (p : ResolvedProgram). ProgramIn p) same fit))
 
   pub arrays_kept : g.arrays ≡ arrays_of parts
   arrays_kept = ap (λ (h : Graph). h.arrays) is_lowered ∙ arrays_are parts
 
   pub rooms_kept : rooms_in g.procs ≡ rooms_of (procs_of parts)
-  rooms_kept = ap (λ (h : Graph). rooms_in h.procs) is_lowered ∙ rooms_are (names_of_arrays parts) (names_of (procs_of parts)) (procs_of parts) 0
+  rooms_kept = ap (λ (h : Graph). rooms_in h.procs) is_lowered ∙ rooms_are (names_of_arrays parts)
+      (names_of (procs_of parts)) (procs_of parts) 0
 
   pub rules_kept : IsGraph g
   rules_kept = subst (λ (h : Graph). IsGraph h) (sym made) (is_graph program fit)
@@ -86,7 +96,8 @@ module _ (parts : List Part) (program : ResolvedProgram) (g : Graph) (same : pro
   pub small_kept : (finish : Place) → IsAccepted parts finish → IsSmall parts g
   small_kept finish accepted =
       subst (λ (h : Graph). IsSmall parts h) (sym is_lowered)
-      (is_small parts (subst (λ (p : ResolvedProgram). ProgramIn p) same fit) (arrays_are parts) (few_arrays parts finish accepted) (few_statements parts finish accepted))
+      (is_small parts (subst (λ (p : ResolvedProgram). ProgramIn p) same fit) (arrays_are parts)
+      (few_arrays parts finish accepted) (few_statements parts finish accepted))
 
   none : NoneHidden g.arrays
   none = subst (λ (xs : List GraphArray). NoneHidden xs) (sym arrays_kept) (none_hidden parts)

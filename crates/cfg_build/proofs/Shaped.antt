@@ -12,45 +12,76 @@ use Rattle.cfg_build.proofs.Stand.{proc_spots, SpotsAt, proc_at_front, procs_aft
 use Rattle.cfg_build.proofs.Edges.{Fine, made_fine, last_fine}
 
 -- the procedures, of which the first has this number and begins at this block
-procs_fine : (g : Graph) (all : List (Option ℕ)) (home : ℕ) (ps : List Proc) (c : ℕ) → SpotsAt g c (proc_spots home ps c) → LabelsAt all c (all_labels ps c) → Each (λ n s. Fine g all n s.block) c (proc_spots home ps c)
+procs_fine : (g : Graph) (all : List (Option ℕ)) (home : ℕ) (ps : List Proc) (c : ℕ)
+    → SpotsAt g c (proc_spots home ps c) → LabelsAt all c (all_labels ps c)
+    → Each (λ n s. Fine g all n s.block) c (proc_spots home ps c)
 procs_fine g all home [] c h i = tt
 procs_fine g all home (p ∷ ps) c h i =
     let next = suc (c + begun p.body) in
     then_procs (Fine g all) home p ps c
-    (made_fine g all home (p.params + p.locals) p.body c None (last_part p.result) (proc_at_front g home p ps c h).2 (labels_front all p.body c None (all_labels ps next) i) (last_fine g all p.result (c + begun p.body)))
-    (procs_fine g all (suc home) ps next (procs_after g home p ps c h) (labels_back all p.body c None (all_labels ps next) i))
+    (made_fine g all home (p.params + p.locals) p.body c None (last_part p.result)
+    (proc_at_front g home p ps c h).2 (labels_front all p.body c None (all_labels ps next) i)
+    (last_fine g all p.result (c + begun p.body)))
+    (procs_fine g all (suc home) ps next (procs_after g home p ps c h)
+    (labels_back all p.body c None (all_labels ps next) i))
 
 abbrev pub labels_of : ResolvedProgram → List (Option ℕ)
 labels_of program = all_labels program.procs 0
 
 -- each block with its number
-pub each_fine : (program : ResolvedProgram) → Each (λ n s. Fine (lowered program) (labels_of program) n s.block) 0 (spots (lowered program))
-each_fine program = procs_fine (lowered program) (labels_of program) 0 program.procs 0 (all_spots_at program) (stand_all (labels_of program) None)
+pub each_fine : (program : ResolvedProgram)
+    → Each (λ n s. Fine (lowered program) (labels_of program) n s.block) 0 (spots (lowered program))
+each_fine program = procs_fine (lowered program) (labels_of program) 0 program.procs 0 (all_spots_at program)
+    (stand_all (labels_of program) None)
 
 no_spot_fine : (g : Graph) (all : List (Option ℕ)) (n : ℕ) → Fine g all n no_spot.block
 unfolding no_spot
-no_spot_fine g all n = record { on = λ d l. absurd l; kept = λ d l. absurd l; apart = λ t m k e. absurd (cc); ops = tt; exit = tt; named = refl; ticks = λ e. absurd (cc) }
+no_spot_fine g all n = record {
+  on = λ d l. absurd l;
+  kept = λ d l. absurd l;
+  apart = λ t m k e. absurd (cc);
+  ops = tt;
+  exit = tt;
+  named = refl;
+  ticks = λ e. absurd (cc);
+}
 
-pub fine_at : (program : ResolvedProgram) (b : ℕ) → Fine (lowered program) (labels_of program) b (block_at (lowered program) b)
+pub fine_at : (program : ResolvedProgram) (b : ℕ) → Fine (lowered program) (labels_of program) b
+    (block_at (lowered program) b)
 unfolding spot_at
 fine_at program b =
     let g = lowered program in let all = labels_of program in
-    each_nth (λ n s. Fine g all n s.block) no_spot (no_spot_fine g all) (spots g) 0 b b (omega arith) (each_fine program)
+    each_nth (λ n s. Fine g all n s.block) no_spot (no_spot_fine g all) (spots g) 0 b b (omega arith)
+    (each_fine program)
 
-only_from : (program : ResolvedProgram) (b c : ℕ) → label_in (labels_of program) c ≡ Some b → OnlyFrom (lowered program) b c
-only_from program b c h = λ other edge. elim ((fine_at program other).kept c edge) [ inl e ↦ absurd (cc) | inr e ↦ cc ]
+only_from : (program : ResolvedProgram) (b c : ℕ) → label_in (labels_of program) c ≡ Some b
+    → OnlyFrom (lowered program) b c
+only_from program b c h = λ other edge. elim ((fine_at program other).kept c edge)
+    [ inl e ↦ absurd (cc) | inr e ↦ cc ]
 
 pub is_shaped : (program : ResolvedProgram) → IsShaped (lowered program)
 is_shaped program = record {
-  headers = λ c h. elim ((fine_at program h.0).on c h.2) [ inl lt ↦ absurd (omega (arith, lt, h.1)) | inr back ↦ back.1 ];
-  backward = λ b c edge le. elim ((fine_at program b).on c edge) [ inl lt ↦ absurd (omega (arith, lt, le)) | inr back ↦ back.0 ];
-  branches = λ a t b c e. let f = (fine_at program a).apart t b c e in record { differ = f.0; first = only_from program a b f.1; second = only_from program a c f.2 };
+  headers = λ c h. elim ((fine_at program h.0).on c h.2) [
+    | inl lt ↦ absurd (omega (arith, lt, h.1))
+    | inr
+        back ↦ back.1
+  ];
+  backward = λ b c edge le. elim ((fine_at program b).on c edge) [
+    | inl lt ↦
+        absurd (omega (arith, lt, le))
+    | inr back ↦ back.0
+  ];
+  branches = λ a t b c e. let f = (fine_at program a).apart t b c e in
+      record { differ = f.0; first = only_from program a b f.1; second = only_from program a c f.2 };
 }
 
 pub is_first_form : (program : ResolvedProgram) → IsFirstForm (lowered program)
 is_first_form program =
     let g = lowered program in let all = labels_of program in record {
-      ops = each_all (λ n s. Fine g all n s.block) (λ s. AllByRecursion IsFirstOp s.block.ops) (λ n s f. f.ops) 0 (spots g) (each_fine program);
-      exits = each_all (λ n s. Fine g all n s.block) (λ s. IsFirstExit s.block.exit) (λ n s f. f.exit) 0 (spots g) (each_fine program);
-      named = each_all (λ n s. Fine g all n s.block) (λ s. s.block.named ≡ []) (λ n s f. f.named) 0 (spots g) (each_fine program);
+      ops = each_all (λ n s. Fine g all n s.block) (λ s. AllByRecursion IsFirstOp s.block.ops)
+          (λ n s f. f.ops) 0 (spots g) (each_fine program);
+      exits = each_all (λ n s. Fine g all n s.block) (λ s. IsFirstExit s.block.exit) (λ n s f. f.exit) 0
+          (spots g) (each_fine program);
+      named = each_all (λ n s. Fine g all n s.block) (λ s. s.block.named ≡ []) (λ n s f. f.named) 0 (spots g)
+          (each_fine program);
     }

@@ -17,6 +17,7 @@ action_same (Give p x) s k = refl
 action_same (Take p t) s k = refl
 
 -- the variable that a call names takes the same result
-pub result_same : (x : Option ℕ) (v : ℕ) (vars : List ℕ) → walks.with_result x v vars ≡ turns.with_result x v vars
+pub result_same : (x : Option ℕ) (v : ℕ) (vars : List ℕ) → walks.with_result x v vars ≡ turns.with_result x v
+    vars
 result_same None v vars = refl
 result_same (Some x) v vars = refl

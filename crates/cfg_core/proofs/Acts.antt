@@ -14,10 +14,12 @@ silent_loads (Flip t) vars cells = silent_loads t vars cells
 silent_loads (Not t) vars cells = silent_loads t vars cells
 silent_loads (Neg t) vars cells = silent_loads t vars cells
 silent_loads (Binary op a b) vars cells =
-    silent_both (loads_of a vars cells) (loads_of b vars cells) (silent_loads a vars cells) (silent_loads b vars cells)
+    silent_both (loads_of a vars cells) (loads_of b vars cells) (silent_loads a vars cells)
+    (silent_loads b vars cells)
 
 -- the loads of terms
 pub silent_all : (ts : List Term) (vars : List ℕ) (cells : List (List ℕ)) → Silent (all_loads ts vars cells)
 silent_all [] vars cells = silent_none
 silent_all (t ∷ ts) vars cells =
-    silent_both (loads_of t vars cells) (all_loads ts vars cells) (silent_loads t vars cells) (silent_all ts vars cells)
+    silent_both (loads_of t vars cells) (all_loads ts vars cells) (silent_loads t vars cells)
+    (silent_all ts vars cells)

@@ -1,20 +1,24 @@
 -- Where no array is hidden, all acts on arrays that are there and all cells are shown as they are.
-use Rattle.std.proofs.Common.{ℕ, zero, suc, ◌-◌, ◌≡◌, ◌<◌, ◌≤◌, Bool, true, false, List, [], ◌∷◌, ◌++◌, length, if◌then◌else◌, refl, ap, ◌∙◌, arith}
+use Rattle.std.proofs.Common.{ℕ, zero, suc, ◌-◌, ◌≡◌, ◌<◌, ◌≤◌, Bool, true, false, List, [], ◌∷◌, ◌++◌}
+use Rattle.std.proofs.Common.{length, if◌then◌else◌, refl, ap, ◌∙◌, arith}
 use Rattle.ws_words.specs.Operators.{flag}
 use Rattle.ws_words.specs.Outside.{Act, loads, stores, reads, prints, gives, takes, Outside, World}
 use Rattle.cfg_core.specs.Graph.{GraphArray, Graph}
 use Rattle.cfg_core.specs.Walk.{Ends, Goes}
 use Rattle.cfg_core.specs.Rules.{IsArray, IsGraph}
-use Rattle.cfg_core.specs.Shown.{has_name, shown_cells, shown_among, hidden, is_hidden, shown_act, shown_acts, IsInside, AllInside, StaysInside, NoneHidden, ShowsAll}
+use Rattle.cfg_core.specs.Shown.{has_name, shown_cells, shown_among, hidden, is_hidden, shown_act, shown_acts}
+use Rattle.cfg_core.specs.Shown.{IsInside, AllInside, StaysInside, NoneHidden, ShowsAll}
 use Rattle.cfg_core.proofs.ArraysThere.{ActIn, ActsIn, OutIn, ended_in, going_in}
 use Rattle.ws_words.specs.Items.{nth}
 
-named_at : (arrays : List GraphArray) → NoneHidden arrays → (k : ℕ) → k < length arrays → hidden (nth arrays k) ≡ false
+named_at : (arrays : List GraphArray) → NoneHidden arrays → (k : ℕ) → k < length arrays
+    → hidden (nth arrays k) ≡ false
 named_at [] h k lt = absurd (omega arith)
 named_at (a ∷ arrays) h zero lt = ap (λ (b : Bool). if b then false else true) h.0
 named_at (a ∷ arrays) h (suc k) lt = named_at arrays h.1 k (omega arith)
 
-counted : (arrays : List GraphArray) → NoneHidden arrays → (n : ℕ) → n ≤ length arrays → shown_among n arrays ≡ n
+counted : (arrays : List GraphArray) → NoneHidden arrays → (n : ℕ) → n ≤ length arrays
+    → shown_among n arrays ≡ n
 counted arrays h zero le = refl
 counted [] h (suc n) le = absurd (omega arith)
 counted (a ∷ arrays) h (suc n) le =
@@ -22,7 +26,8 @@ counted (a ∷ arrays) h (suc n) le =
     let r : shown_among n arrays ≡ n = counted arrays h.1 n (omega arith) in
     omega (arith, e, r)
 
-cells_shown : (arrays : List GraphArray) → NoneHidden arrays → (cells : List (List ℕ)) → length cells ≡ length arrays → shown_cells arrays cells ≡ cells
+cells_shown : (arrays : List GraphArray) → NoneHidden arrays → (cells : List (List ℕ))
+    → length cells ≡ length arrays → shown_cells arrays cells ≡ cells
 cells_shown [] h [] e = refl
 cells_shown [] h (r ∷ cells) e = absurd (omega arith)
 cells_shown (a ∷ arrays) h [] e = refl
@@ -68,14 +73,20 @@ module _ (g : Graph) (none : NoneHidden g.arrays) where
   acts_inside (act ∷ acts) h = (act_inside act h.0, acts_inside acts h.1)
 
   all_shown : (o : Outside) → OutIn g o → ShowsAll g o
-  all_shown o h = record { acts = acts_shown o.acts h.acts; cells = cells_shown g.arrays none o.cells h.cells }
+  all_shown o h = record {
+    acts = acts_shown o.acts h.acts;
+    cells = cells_shown g.arrays none o.cells
+        h.cells;
+  }
 
 -- where no array is hidden, all is shown at the end of a walk
-pub ended_shown : (g : Graph) → IsGraph g → NoneHidden g.arrays → (world : World) (turns : ℕ) (o : Outside) → Ends g world turns o → ShowsAll g o
+pub ended_shown : (g : Graph) → IsGraph g → NoneHidden g.arrays → (world : World) (turns : ℕ) (o : Outside)
+    → Ends g world turns o → ShowsAll g o
 ended_shown g rules none world turns o e = all_shown g none o (ended_in g rules.numbers world turns o e)
 
 -- and where a walk is going
-pub going_shown : (g : Graph) → IsGraph g → NoneHidden g.arrays → (world : World) (turns : ℕ) (o : Outside) → Goes g world turns o → ShowsAll g o
+pub going_shown : (g : Graph) → IsGraph g → NoneHidden g.arrays → (world : World) (turns : ℕ) (o : Outside)
+    → Goes g world turns o → ShowsAll g o
 going_shown g rules none world turns o e = all_shown g none o (going_in g rules.numbers world turns o e)
 
 -- and no hidden array is loaded or stored past its end

@@ -1,9 +1,15 @@
 -- The acts of a walk name arrays that are there, and as many arrays are left as the graph has.
-use Rattle.std.proofs.Common.{ℕ, zero, suc, ◌-◌, ◌≡◌, ◌==◌, Bool, true, false, List, [], ◌∷◌, ◌++◌, length, if◌then◌else◌, refl, sym, ap, ◌∙◌, subst}
+use Rattle.std.proofs.Common.{ℕ, zero, suc, ◌-◌, ◌≡◌, ◌==◌, Bool, true, false, List, [], ◌∷◌, ◌++◌, length}
+use Rattle.std.proofs.Common.{if◌then◌else◌, refl, sym, ap, ◌∙◌, subst}
 use Rattle.std.specs.List.{AllByRecursion}
-use Rattle.ws_words.specs.Outside.{Act, loads, stores, reads, prints, gives, takes, Outside, ProcState, World, with_row}
-use Rattle.cfg_core.specs.Graph.{Term, Number, Var, Cell, Flip, Not, Neg, Binary, Op, Assign, Store, Print, Read, Give, Take, Choose, Tick, TickBy, Exit, Goto, Branch, Call, Return, Send, Stop, GraphArray, Graph, no_spot, spots, spot_at, block_at}
-use Rattle.cfg_core.specs.Walk.{loads_of, all_loads, value_of, values_of, OpsOutcome, Done, Out, and_then, spend, run_op, run_ops, Frame, Config, At, Over, Going, returned, leave, passed, step, walk, cells_of, opening, Ends, Goes}
+use Rattle.ws_words.specs.Outside.{Act, loads, stores, reads, prints, gives, takes, Outside, ProcState, World}
+use Rattle.ws_words.specs.Outside.{with_row}
+use Rattle.cfg_core.specs.Graph.{Term, Number, Var, Cell, Flip, Not, Neg, Binary, Op, Assign, Store, Print}
+use Rattle.cfg_core.specs.Graph.{Read, Give, Take, Choose, Tick, TickBy, Exit, Goto, Branch, Call, Return}
+use Rattle.cfg_core.specs.Graph.{Send, Stop, GraphArray, Graph, no_spot, spots, spot_at, block_at}
+use Rattle.cfg_core.specs.Walk.{loads_of, all_loads, value_of, values_of, OpsOutcome, Done, Out, and_then}
+use Rattle.cfg_core.specs.Walk.{spend, run_op, run_ops, Frame, Config, At, Over, Going, returned, leave}
+use Rattle.cfg_core.specs.Walk.{passed, step, walk, cells_of, opening, Ends, Goes}
 use Rattle.cfg_core.specs.Rules.{IsArray, TermIn, OpIn, ExitIn, BlockNumbers, GraphNumbers}
 use Rattle.cfg_core.proofs.Spots.{each_at}
 
@@ -49,34 +55,50 @@ module _ (g : Graph) where
   both_in [] ys h i = i
   both_in (x ∷ xs) ys h i = (h.0, both_in xs ys h.1 i)
 
-  loads_in : (n : ℕ) (t : Term) → TermIn (length g.arrays) n t → (vars : List ℕ) (cells : List (List ℕ)) → ActsIn g (loads_of t vars cells)
+  loads_in : (n : ℕ) (t : Term) → TermIn (length g.arrays) n t → (vars : List ℕ) (cells : List (List ℕ))
+      → ActsIn g (loads_of t vars cells)
   loads_in n (Number m) h vars cells = tt
   loads_in n (Var x) h vars cells = tt
-  loads_in n (Cell a t) h vars cells = both_in (loads_of t vars cells) _ (loads_in n t h.1 vars cells) (h.0, tt)
+  loads_in n (Cell a t) h vars cells = both_in (loads_of t vars cells) _ (loads_in n t h.1 vars cells)
+      (h.0, tt)
   loads_in n (Flip t) h vars cells = loads_in n t h vars cells
   loads_in n (Not t) h vars cells = loads_in n t h vars cells
   loads_in n (Neg t) h vars cells = loads_in n t h vars cells
-  loads_in n (Binary op a b) h vars cells = both_in (loads_of a vars cells) (loads_of b vars cells) (loads_in n a h.0 vars cells) (loads_in n b h.1 vars cells)
+  loads_in n (Binary op a b) h vars cells = both_in (loads_of a vars cells) (loads_of b vars cells)
+      (loads_in n a h.0 vars cells) (loads_in n b h.1 vars cells)
 
-  all_loads_in : (n : ℕ) (ts : List Term) → AllByRecursion (TermIn (length g.arrays) n) ts → (vars : List ℕ) (cells : List (List ℕ)) → ActsIn g (all_loads ts vars cells)
+  all_loads_in : (n : ℕ) (ts : List Term) → AllByRecursion (TermIn (length g.arrays) n) ts
+      → (vars : List ℕ) (cells : List (List ℕ)) → ActsIn g (all_loads ts vars cells)
   all_loads_in n [] h vars cells = tt
-  all_loads_in n (t ∷ ts) h vars cells = both_in (loads_of t vars cells) (all_loads ts vars cells) (loads_in n t h.0 vars cells) (all_loads_in n ts h.1 vars cells)
+  all_loads_in n (t ∷ ts) h vars cells = both_in (loads_of t vars cells) (all_loads ts vars cells)
+      (loads_in n t h.0 vars cells) (all_loads_in n ts h.1 vars cells)
 
   -- more acts
-  more_in : (o p : Outside) (acts : List Act) → p.acts ≡ o.acts ++ acts → length p.cells ≡ length o.cells → ActsIn g acts → OutIn g o → OutIn g p
-  more_in o p acts e c h i = record { acts = subst (λ (xs : List Act). ActsIn g xs) (sym e) (both_in o.acts acts i.acts h); cells = c ∙ i.cells }
+  more_in : (o p : Outside) (acts : List Act) → p.acts ≡ o.acts ++ acts → length p.cells ≡ length o.cells
+      → ActsIn g acts → OutIn g o → OutIn g p
+  more_in o p acts e c h i =
+      record {
+        acts = subst (λ (xs : List Act). ActsIn g xs) (sym e) (both_in o.acts acts i.acts h);
+        cells = c ∙ i.cells;
+      }
 
-  loaded_in : (n : ℕ) (t : Term) → TermIn (length g.arrays) n t → (s : ProcState) → OutIn g s.out → OutIn g (value_of t s).1.out
-  loaded_in n t h s i = more_in s.out _ (loads_of t s.vars s.out.cells) refl refl (loads_in n t h s.vars s.out.cells) i
+  loaded_in : (n : ℕ) (t : Term) → TermIn (length g.arrays) n t → (s : ProcState) → OutIn g s.out
+      → OutIn g (value_of t s).1.out
+  loaded_in n t h s i = more_in s.out _ (loads_of t s.vars s.out.cells) refl refl
+      (loads_in n t h s.vars s.out.cells) i
 
-  all_loaded_in : (n : ℕ) (ts : List Term) → AllByRecursion (TermIn (length g.arrays) n) ts → (s : ProcState) → OutIn g s.out → OutIn g (values_of ts s).1.out
-  all_loaded_in n ts h s i = more_in s.out _ (all_loads ts s.vars s.out.cells) refl refl (all_loads_in n ts h s.vars s.out.cells) i
+  all_loaded_in : (n : ℕ) (ts : List Term) → AllByRecursion (TermIn (length g.arrays) n) ts → (s : ProcState)
+      → OutIn g s.out → OutIn g (values_of ts s).1.out
+  all_loaded_in n ts h s i = more_in s.out _ (all_loads ts s.vars s.out.cells) refl refl
+      (all_loads_in n ts h s.vars s.out.cells) i
 
   -- one act more
-  acted_in : (o p : Outside) (act : Act) → p.acts ≡ o.acts ++ act ∷ [] → length p.cells ≡ length o.cells → ActIn g act → OutIn g o → OutIn g p
+  acted_in : (o p : Outside) (act : Act) → p.acts ≡ o.acts ++ act ∷ [] → length p.cells ≡ length o.cells
+      → ActIn g act → OutIn g o → OutIn g p
   acted_in o p act e c h i = more_in o p (act ∷ []) e c (h, tt) i
 
-  if_outcome : (b : Bool) (o p : OpsOutcome) → OutcomeIn g o → OutcomeIn g p → OutcomeIn g (if b then o else p)
+  if_outcome : (b : Bool) (o p : OpsOutcome) → OutcomeIn g o → OutcomeIn g p
+      → OutcomeIn g (if b then o else p)
   if_outcome true o p h i = h
   if_outcome false o p h i = i
 
@@ -89,56 +111,73 @@ module _ (g : Graph) where
   spend_in (suc n) s zero h = h
   spend_in (suc n) s (suc k) h = spend_in n s k h
 
-  op_in : (n : ℕ) (op : Op) → OpIn (length g.arrays) n op → (s : ProcState) (k : ℕ) → OutIn g s.out → OutcomeIn g (run_op op s k)
+  op_in : (n : ℕ) (op : Op) → OpIn (length g.arrays) n op → (s : ProcState) (k : ℕ) → OutIn g s.out
+      → OutcomeIn g (run_op op s k)
   op_in n (Assign x t) h s k i = loaded_in n t h.1 s i
   op_in n (Store a t u) h s k i =
       let v = (value_of t s).1 in let w = value_of u v in
-      acted_in w.1.out _ (stores a (value_of t s).0 w.0) refl (length_with_row w.1.out.cells (a - 1) _) h.0 (loaded_in n u h.2 v (loaded_in n t h.1 s i))
-  op_in n (Print t) h s k i = let v = value_of t s in acted_in v.1.out _ (prints v.0) refl refl tt (loaded_in n t h s i)
+      acted_in w.1.out _ (stores a (value_of t s).0 w.0) refl (length_with_row w.1.out.cells (a - 1) _) h.0
+      (loaded_in n u h.2 v (loaded_in n t h.1 s i))
+  op_in n (Print t) h s k i = let v = value_of t s in acted_in v.1.out _ (prints v.0) refl refl tt
+      (loaded_in n t h s i)
   op_in n (Read x) h s k i = acted_in s.out _ reads refl refl tt i
   op_in n (Give p x) h s k i = acted_in s.out _ (gives p) refl refl tt i
-  op_in n (Take p t) h s k i = let v = value_of t s in acted_in v.1.out _ (takes p v.0) refl refl tt (loaded_in n t h.1 s i)
+  op_in n (Take p t) h s k i = let v = value_of t s in acted_in v.1.out _ (takes p v.0) refl refl tt
+      (loaded_in n t h.1 s i)
   op_in n (Choose x t a b) h s k i =
       let j = loaded_in n t h.1 s i in
-      if_outcome ((value_of t s).0 == 0) _ _ (loaded_in n b h.3 (value_of t s).1 j) (loaded_in n a h.2 (value_of t s).1 j)
+      if_outcome ((value_of t s).0 == 0) _ _ (loaded_in n b h.3 (value_of t s).1 j)
+      (loaded_in n a h.2 (value_of t s).1 j)
   op_in n (Tick m) h s k i = spend_in m s k i
   op_in n (TickBy t m l) h s k i =
       let j = loaded_in n t h s i in
-      if_outcome ((value_of t s).0 == 0) _ _ (spend_in l (value_of t s).1 k j) (spend_in m (value_of t s).1 k j)
+      if_outcome ((value_of t s).0 == 0) _ _ (spend_in l (value_of t s).1 k j)
+      (spend_in m (value_of t s).1 k j)
 
-  then_in : (o : OpsOutcome) (go : ProcState → ℕ → OpsOutcome) → OutcomeIn g o → ((s : ProcState) (k : ℕ) → OutIn g s.out → OutcomeIn g (go s k)) → OutcomeIn g (and_then o go)
+  then_in : (o : OpsOutcome) (go : ProcState → ℕ → OpsOutcome) → OutcomeIn g o
+      → ((s : ProcState) (k : ℕ) → OutIn g s.out → OutcomeIn g (go s k)) → OutcomeIn g (and_then o go)
   then_in (Done s k) go h f = f s k h
   then_in (Out o) go h f = h
 
-  ops_in : (n : ℕ) (ops : List Op) → AllByRecursion (OpIn (length g.arrays) n) ops → (s : ProcState) (k : ℕ) → OutIn g s.out → OutcomeIn g (run_ops ops s k)
+  ops_in : (n : ℕ) (ops : List Op) → AllByRecursion (OpIn (length g.arrays) n) ops → (s : ProcState) (k : ℕ)
+      → OutIn g s.out → OutcomeIn g (run_ops ops s k)
   ops_in n [] h s k i = i
-  ops_in n (op ∷ ops) h s k i = then_in (run_op op s k) (run_ops ops) (op_in n op h.0 s k i) (ops_in n ops h.1)
+  ops_in n (op ∷ ops) h s k i = then_in (run_op op s k) (run_ops ops) (op_in n op h.0 s k i)
+      (ops_in n ops h.1)
 
-  returned_in : (v : ℕ) (o : Outside) (frames : List Frame) (k : ℕ) → OutIn g o → ConfigIn g (returned v o frames k)
+  returned_in : (v : ℕ) (o : Outside) (frames : List Frame) (k : ℕ) → OutIn g o
+      → ConfigIn g (returned v o frames k)
   returned_in v o [] k h = h
   returned_in v o (f ∷ frames) k h = h
 
-  leave_in : (home n : ℕ) (exit : Exit) → ExitIn g home n exit → (s : ProcState) (frames : List Frame) (k : ℕ) → OutIn g s.out → ConfigIn g (leave g exit s frames k)
+  leave_in : (home n : ℕ) (exit : Exit) → ExitIn g home n exit → (s : ProcState) (frames : List Frame) (k : ℕ)
+      → OutIn g s.out → ConfigIn g (leave g exit s frames k)
   leave_in home n (Goto b) h s frames k i = i
-  leave_in home n (Branch t a b) h s frames k i = let j = loaded_in n t h.0 s i in if_config ((value_of t s).0 == 0) _ _ j j
+  leave_in home n (Branch t a b) h s frames k i = let j = loaded_in n t h.0 s i in
+      if_config ((value_of t s).0 == 0) _ _ j j
   leave_in home n (Call x f ts back) h s frames k i = all_loaded_in n ts h.3 s i
-  leave_in home n (Return t) h s frames k i = returned_in (value_of t s).0 (value_of t s).1.out frames k (loaded_in n t h s i)
-  leave_in home n (Send t ts ls) h s frames k i = all_loaded_in n ts h.1 (value_of t s).1 (loaded_in n t h.0 s i)
+  leave_in home n (Return t) h s frames k i = returned_in (value_of t s).0 (value_of t s).1.out frames k
+      (loaded_in n t h s i)
+  leave_in home n (Send t ts ls) h s frames k i = all_loaded_in n ts h.1 (value_of t s).1
+      (loaded_in n t h.0 s i)
   leave_in home n Stop h s frames k i = i
 
-  passed_in : (home n : ℕ) (o : OpsOutcome) (exit : Exit) → ExitIn g home n exit → (frames : List Frame) → OutcomeIn g o → ConfigIn g (passed g o exit frames)
+  passed_in : (home n : ℕ) (o : OpsOutcome) (exit : Exit) → ExitIn g home n exit → (frames : List Frame)
+      → OutcomeIn g o → ConfigIn g (passed g o exit frames)
   passed_in home n (Done s k) exit h frames i = leave_in home n exit h s frames k i
   passed_in home n (Out o) exit h frames i = i
 
   module _ (numbers : GraphNumbers g) where
     block_numbers : (b : ℕ) → BlockNumbers g (spot_at g b)
     unfolding spot_at no_spot
-    block_numbers b = each_at (BlockNumbers g) (spots g) no_spot numbers.blocks (record { ops = tt; exit = tt; named = tt; once = tt }) b
+    block_numbers b = each_at (BlockNumbers g) (spots g) no_spot numbers.blocks
+        (record { ops = tt; exit = tt; named = tt; once = tt }) b
 
     step_in : (c : Config) → ConfigIn g c → ConfigIn g (step g c)
     step_in (At b s frames k) h =
         let r = block_numbers b in
-        passed_in (spot_at g b).home (spot_at g b).vars (run_ops (block_at g b).ops s k) (block_at g b).exit r.exit frames (ops_in (spot_at g b).vars (block_at g b).ops r.ops s k h)
+        passed_in (spot_at g b).home (spot_at g b).vars (run_ops (block_at g b).ops s k) (block_at g b).exit
+        r.exit frames (ops_in (spot_at g b).vars (block_at g b).ops r.ops s k h)
     step_in (Over o k) h = h
     step_in (Going o) h = h
 
@@ -146,8 +185,10 @@ module _ (g : Graph) where
     walk_in zero c h = h
     walk_in (suc n) c h = walk_in n (step g c) (step_in c h)
 
-    answer_in : (world : World) (turns n : ℕ) (c : Config) → walk g n (opening g world turns) ≡ c → ConfigIn g c
-    answer_in world turns n c e = subst (λ (d : Config). ConfigIn g d) e (walk_in n (opening g world turns) (record { acts = tt; cells = length_cells_of g.arrays }))
+    answer_in : (world : World) (turns n : ℕ) (c : Config) → walk g n (opening g world turns) ≡ c
+        → ConfigIn g c
+    answer_in world turns n c e = subst (λ (d : Config). ConfigIn g d) e
+        (walk_in n (opening g world turns) (record { acts = tt; cells = length_cells_of g.arrays }))
 
     -- the same at the end of a walk
     pub ended_in : (world : World) (turns : ℕ) (o : Outside) → Ends g world turns o → OutIn g o

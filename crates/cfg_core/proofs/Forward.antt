@@ -1,7 +1,9 @@
 -- Where each edge leads forward, or to a block that takes a turn, no cycle is without one.
-use Rattle.std.proofs.Common.{ℕ, zero, suc, ◌+◌, ◌≡◌, ◌<◌, ◌⊎◌, nat_lt, Bool, true, false, ◌&&◌, ◌||◌, List, [], ◌∷◌, refl, sym, subst, inl, inr, arith}
+use Rattle.std.proofs.Common.{ℕ, zero, suc, ◌+◌, ◌≡◌, ◌<◌, ◌⊎◌, nat_lt, Bool, true, false, ◌&&◌, ◌||◌, List}
+use Rattle.std.proofs.Common.{[], ◌∷◌, refl, sym, subst, inl, inr, arith}
 use Rattle.std.proofs.lemmas.Bool.Decides.{nat_tests}
-use Rattle.cfg_core.specs.Graph.{Exit, Goto, Branch, Call, Return, Send, Stop, Graph, Spot, no_spot, spots, spot_at, block_at}
+use Rattle.cfg_core.specs.Graph.{Exit, Goto, Branch, Call, Return, Send, Stop, Graph, Spot, no_spot, spots}
+use Rattle.cfg_core.specs.Graph.{spot_at, block_at}
 use Rattle.cfg_core.specs.Rules.{Leads, has_turn, Quiet, one, more}
 use Rattle.ws_words.proofs.Bools.{and_left, and_right, no_both}
 use Rattle.ws_words.specs.Items.{nth, or_else, In}
@@ -19,7 +21,8 @@ pub starts_quiet : (g : Graph) (b c : ℕ) → Quiet g b c → has_turn (block_a
 starts_quiet g b c (one _ _ h l) = h
 starts_quiet g b c (more _ d _ q h l) = starts_quiet g b d q
 
-on_at : (g : Graph) (b : ℕ) (xs : List Spot) → AllOn g b xs → (k c : ℕ) → c ≡ k + b → OnlyOn g c (or_else (nth xs k) no_spot).block.exit
+on_at : (g : Graph) (b : ℕ) (xs : List Spot) → AllOn g b xs → (k c : ℕ) → c ≡ k + b
+    → OnlyOn g c (or_else (nth xs k) no_spot).block.exit
 unfolding no_spot
 on_at g b [] h k c e = λ d l. absurd l
 on_at g b (s ∷ xs) h zero c e = let z : b ≡ c = omega (arith, e) in subst (λ n. OnlyOn g n s.block.exit) z h.0
@@ -38,7 +41,11 @@ module _ (g : Graph) (all : AllOn g 0 (spots g)) where
   ]
 
   pub no_quiet_cycle : (b : ℕ) → Quiet g b b → ⊥
-  no_quiet_cycle b q = elim (forward b b q) [ inl lt ↦ omega arith | inr t ↦ no_both t (starts_quiet g b b q) ]
+  no_quiet_cycle b q = elim (forward b b q) [
+    | inl lt ↦ omega arith
+    | inr t ↦
+        no_both t (starts_quiet g b b q)
+  ]
 
 -- the same as a test
 abbrev pub edge_on : Graph → ℕ → ℕ → Bool
@@ -63,21 +70,30 @@ abbrev pub all_on : Graph → ℕ → List Spot → Bool
 all_on g c [] = true
 all_on g c (s ∷ xs) = exit_on g c s.block.exit && all_on g (suc c) xs
 
-edge_is : (g : Graph) (c d e : ℕ) → e ≡ d → edge_on g c d ≡ true → (c < e) ⊎ (has_turn (block_at g e).ops ≡ true)
-edge_is g c d e same h = subst (λ n. (c < n) ⊎ (has_turn (block_at g n).ops ≡ true)) (sym same) (by_test (nat_lt c d) refl h)
+edge_is : (g : Graph) (c d e : ℕ) → e ≡ d → edge_on g c d ≡ true → (c < e)
+    ⊎ (has_turn (block_at g e).ops ≡ true)
+edge_is g c d e same h = subst (λ n. (c < n) ⊎ (has_turn (block_at g n).ops ≡ true)) (sym same)
+    (by_test (nat_lt c d) refl h)
   where
-    by_test : (b : Bool) → nat_lt c d ≡ b → (b || has_turn (block_at g d).ops) ≡ true → (c < d) ⊎ (has_turn (block_at g d).ops ≡ true)
+    by_test : (b : Bool) → nat_lt c d ≡ b → (b || has_turn (block_at g d).ops) ≡ true
+        → (c < d) ⊎ (has_turn (block_at g d).ops ≡ true)
     by_test true t h = inl (grind (arith, nat_tests))
     by_test false t h = inr h
 
-edges_are : (g : Graph) (c : ℕ) (ls : List ℕ) → edges_on g c ls ≡ true → (e : ℕ) → In e ls → (c < e) ⊎ (has_turn (block_at g e).ops ≡ true)
+edges_are : (g : Graph) (c : ℕ) (ls : List ℕ) → edges_on g c ls ≡ true → (e : ℕ) → In e ls
+    → (c < e) ⊎ (has_turn (block_at g e).ops ≡ true)
 edges_are g c [] h e i = absurd i
 edges_are g c (l ∷ ls) h e (inl same) = edge_is g c l e same (and_left (edge_on g c l) _ h)
 edges_are g c (l ∷ ls) h e (inr i) = edges_are g c ls (and_right (edge_on g c l) _ h) e i
 
 exit_is : (g : Graph) (c : ℕ) (exit : Exit) → exit_on g c exit ≡ true → OnlyOn g c exit
 exit_is g c (Goto b) h = λ e l. edge_is g c b e l h
-exit_is g c (Branch t a b) h = λ e l. elim l [ inl l ↦ edge_is g c a e l (and_left (edge_on g c a) _ h) | inr l ↦ edge_is g c b e l (and_right (edge_on g c a) _ h) ]
+exit_is g c (Branch t a b) h =
+    λ e l. elim l [
+      | inl l ↦ edge_is g c a e l (and_left (edge_on g c a) _ h)
+      | inr l ↦
+          edge_is g c b e l (and_right (edge_on g c a) _ h)
+    ]
 exit_is g c (Call x f ts back) h = λ e l. edge_is g c back e l h
 exit_is g c (Return t) h = λ e l. absurd l
 exit_is g c (Send t ts ls) h = λ e i. edges_are g c ls h e i
@@ -85,7 +101,10 @@ exit_is g c Stop h = λ e l. absurd l
 
 all_are : (g : Graph) (c : ℕ) (xs : List Spot) → all_on g c xs ≡ true → AllOn g c xs
 all_are g c [] h = tt
-all_are g c (s ∷ xs) h = (exit_is g c s.block.exit (and_left (exit_on g c s.block.exit) _ h), all_are g (suc c) xs (and_right (exit_on g c s.block.exit) _ h))
+all_are g c (s ∷ xs) h = (
+  exit_is g c s.block.exit (and_left (exit_on g c s.block.exit) _ h),
+  all_are g (suc c) xs (and_right (exit_on g c s.block.exit) _ h),
+)
 
 -- where that test holds of all blocks, no quiet path comes back
 pub tested : (g : Graph) → all_on g 0 (spots g) ≡ true → (b : ℕ) → Quiet g b b → ⊥

@@ -1,9 +1,12 @@
 -- What the code does at exits is what the walk does.
-use Rattle.std.proofs.Common.{ℕ, zero, suc, ◌-◌, ◌≡◌, ◌<◌, ◌≤◌, Bool, true, false, List, [], ◌∷◌, ◌++◌, length, drop, if◌then◌else◌, slice_index, slice_set, refl, sym, ap, ◌∙◌, subst, append_assoc, arith}
+use Rattle.std.proofs.Common.{ℕ, zero, suc, ◌-◌, ◌≡◌, ◌<◌, ◌≤◌, Bool, true, false, List, [], ◌∷◌, ◌++◌}
+use Rattle.std.proofs.Common.{length, drop, if◌then◌else◌, slice_index, slice_set, refl, sym, ap, ◌∙◌, subst}
+use Rattle.std.proofs.Common.{append_assoc, arith}
 use Rattle.ws_words.specs.Outside.{ProcState, zeros}
 use Rattle.ws_words.proofs.Rows.{zeros_more}
 use Rattle.cfg_core.specs.Walk as walks
-use Rattle.cfg_core.specs.Walk.{value, values, value_of, values_of, leave, landing, Config, At, Over, landed, returned, with_result}
+use Rattle.cfg_core.specs.Walk.{value, values, value_of, values_of, leave, landing, Config, At, Over, landed}
+use Rattle.cfg_core.specs.Walk.{returned, with_result}
 use Rattle.ws_words.specs.Memory.{OutIs}
 use Rattle.cfg_core.specs.Shows.{Shows, NextIs, stacked}
 use Rattle.cfg_core.specs.declared.walker.Walker.{Walker}
@@ -21,16 +24,20 @@ use Rattle.ws_words.proofs.Lists.{drop_all}
 
 -- one zero more at the entry of a procedure
 pub entered_more : (vs ws : List ℕ) (n m : ℕ) → m ≡ suc n → ws ≡ vs ++ zeros n → ws ++ 0 ∷ [] ≡ vs ++ zeros m
-entered_more vs ws n m e h = ap (λ (xs : List ℕ). xs ++ 0 ∷ []) h ∙ append_assoc vs (zeros n) (0 ∷ []) ∙ ap (λ (xs : List ℕ). vs ++ xs) (zeros_more n m e)
+entered_more vs ws n m e h = ap (λ (xs : List ℕ). xs ++ 0 ∷ []) h ∙ append_assoc vs (zeros n) (0 ∷ [])
+    ∙ ap (λ (xs : List ℕ). vs ++ xs) (zeros_more n m e)
 
 -- the words from one on begin with it
-pub drop_word : (words : List ℕ) (i : ℕ) → i < length words → drop i words ≡ slice_index words i ∷ drop (suc i) words
+pub drop_word : (words : List ℕ) (i : ℕ) → i < length words → drop i words ≡ slice_index words i ∷ drop
+    (suc i) words
 drop_word [] i lt = absurd (omega arith)
 drop_word (w ∷ words) zero lt = refl
 drop_word (w ∷ words) (suc i) lt = drop_word words i (omega arith)
 
 -- one variable more is filled
-pub landed_next : (named words vars now whole : List ℕ) (i j x v : ℕ) → j ≡ suc i → drop i named ≡ x ∷ drop j named → i < length words → v ≡ slice_index words i → now ≡ slice_set vars x v → landed (drop i named) (drop i words) vars ≡ whole → landed (drop j named) (drop j words) now ≡ whole
+pub landed_next : (named words vars now whole : List ℕ) (i j x v : ℕ) → j ≡ suc i
+    → drop i named ≡ x ∷ drop j named → i < length words → v ≡ slice_index words i → now ≡ slice_set vars x v
+    → landed (drop i named) (drop i words) vars ≡ whole → landed (drop j named) (drop j words) now ≡ whole
 landed_next named words vars now whole i j x v ej en lt ev e h =
     ap (λ (vs : List ℕ). landed (drop j named) (drop j words) vs) e
     ∙ ap (λ n. landed (drop j named) (drop j words) (slice_set vars x n)) ev
@@ -44,70 +51,107 @@ landed_none [] vars = refl
 landed_none (x ∷ named) vars = refl
 
 -- no word is left to fill with
-pub landed_past : (named words vars whole : List ℕ) (i j : ℕ) → i ≤ j → length words ≤ i → landed (drop i named) (drop i words) vars ≡ whole → landed (drop j named) (drop j words) vars ≡ whole
+pub landed_past : (named words vars whole : List ℕ) (i j : ℕ) → i ≤ j → length words ≤ i
+    → landed (drop i named) (drop i words) vars ≡ whole → landed (drop j named) (drop j words) vars ≡ whole
 landed_past named words vars whole i j lt le h =
-    ap (λ (ws : List ℕ). landed (drop j named) ws vars) (drop_all words j (omega arith)) ∙ landed_none (drop j named) vars
-    ∙ sym (landed_none (drop i named) vars) ∙ sym (ap (λ (ws : List ℕ). landed (drop i named) ws vars) (drop_all words i le)) ∙ h
+    ap (λ (ws : List ℕ). landed (drop j named) ws vars) (drop_all words j (omega arith))
+    ∙ landed_none (drop j named) vars
+    ∙ sym (landed_none (drop i named) vars)
+    ∙ sym (ap (λ (ws : List ℕ). landed (drop i named) ws vars) (drop_all words i le)) ∙ h
 
 -- all variables are filled
-pub landed_all : (named words vars whole : List ℕ) (i : ℕ) → length named ≤ i → landed (drop i named) (drop i words) vars ≡ whole → vars ≡ whole
-landed_all named words vars whole i le h = sym (ap (λ (xs : List ℕ). landed xs (drop i words) vars) (drop_all named i le)) ∙ h
+pub landed_all : (named words vars whole : List ℕ) (i : ℕ) → length named ≤ i
+    → landed (drop i named) (drop i words) vars ≡ whole → vars ≡ whole
+landed_all named words vars whole i le h =
+    sym (ap (λ (xs : List ℕ). landed xs (drop i words) vars) (drop_all named i le)) ∙ h
 
-stacked_last : (fs : List Frame) (f : Frame) (below : List walks.Frame) → stacked (fs ++ f ∷ []) below ≡ record { result = f.result; back = f.back; vars = f.vars } ∷ stacked fs below
+stacked_last : (fs : List Frame) (f : Frame) (below : List walks.Frame)
+    → stacked (fs ++ f ∷ []) below ≡ record { result = f.result; back = f.back; vars = f.vars } ∷ stacked fs
+    below
 stacked_last [] f below = refl
-stacked_last (g ∷ fs) f below = stacked_last fs f (record { result = g.result; back = g.back; vars = g.vars } ∷ below)
+stacked_last (g ∷ fs) f below =
+    stacked_last fs f (record { result = g.result; back = g.back; vars = g.vars } ∷ below)
 
 -- back into the last call that waits
-pub given_back : (s : ProcState) (frames : List walks.Frame) (k v : ℕ) (w n : Walker) (f : Frame) → Shows s frames k w → w.frames.items ≡ n.frames.items ++ f ∷ [] → n.vars ≡ with_result f.result v f.vars → OutIs s.out n.memory → n.turns ≡ w.turns → NextIs (returned v s.out frames k) (next.At f.back) n
+pub given_back : (s : ProcState) (frames : List walks.Frame) (k v : ℕ) (w n : Walker) (f : Frame)
+    → Shows s frames k w → w.frames.items ≡ n.frames.items ++ f ∷ [] → n.vars ≡ with_result f.result v f.vars
+    → OutIs s.out n.memory → n.turns ≡ w.turns → NextIs (returned v s.out frames k) (next.At f.back) n
 given_back s frames k v w n f sh ef ev on et =
-    let same : frames ≡ record { result = f.result; back = f.back; vars = f.vars } ∷ stacked n.frames.items [] = sh.waiting ∙ ap (λ (fs : List Frame). stacked fs []) ef ∙ stacked_last n.frames.items f [] in
+    let same : frames ≡ record { result = f.result; back = f.back; vars = f.vars } ∷ stacked n.frames.items
+    [] = sh.waiting ∙ ap (λ (fs : List Frame). stacked fs []) ef ∙ stacked_last n.frames.items f [] in
     subst (λ (fs : List walks.Frame). NextIs (returned v s.out fs k) (next.At f.back) n) (sym same)
     (refl, record { vars = sym ev; outside = on; waiting = refl; turns = sh.turns ∙ sym et })
 
 -- no call waits
-pub none_waits : (s : ProcState) (frames : List walks.Frame) (k v : ℕ) (w n : Walker) → Shows s frames k w → w.frames.items ≡ [] → OutIs s.out n.memory → n.turns ≡ w.turns → NextIs (returned v s.out frames k) next.Over n
+pub none_waits : (s : ProcState) (frames : List walks.Frame) (k v : ℕ) (w n : Walker) → Shows s frames k w
+    → w.frames.items ≡ [] → OutIs s.out n.memory → n.turns ≡ w.turns → NextIs (returned v s.out frames k)
+    next.Over n
 none_waits s frames k v w n sh ef on et =
     let same : frames ≡ [] = sh.waiting ∙ ap (λ (fs : List Frame). stacked fs []) ef in
-    subst (λ (fs : List walks.Frame). NextIs (returned v s.out fs k) next.Over n) (sym same) (on, sh.turns ∙ sym et)
+    subst (λ (fs : List walks.Frame). NextIs (returned v s.out fs k) next.Over n) (sym same)
+    (on, sh.turns ∙ sym et)
 
 -- the code's exit is that of the graph
-pub from_exit : (g : Graph) (x y : Leave) (s : ProcState) (frames : List walks.Frame) (k : ℕ) (n : Next) (w : Walker) → y ≡ x → NextIs (leave g (view.exit x) s frames k) n w → NextIs (leave g (view.exit y) s frames k) n w
-from_exit g x y s frames k n w e h = subst (λ (z : Leave). NextIs (leave g (view.exit z) s frames k) n w) (sym e) h
+pub from_exit : (g : Graph) (x y : Leave) (s : ProcState) (frames : List walks.Frame) (k : ℕ) (n : Next)
+    (w : Walker) → y ≡ x → NextIs (leave g (view.exit x) s frames k) n w
+    → NextIs (leave g (view.exit y) s frames k) n w
+from_exit g x y s frames k n w e h = subst (λ (z : Leave). NextIs (leave g (view.exit z) s frames k) n w)
+    (sym e) h
 
 -- a choice of ways by a test that holds
-pub if_true : (b : Bool) (c d : Config) (n : Next) (w : Walker) → b ≡ true → NextIs c n w → NextIs (if b then c else d) n w
+pub if_true : (b : Bool) (c d : Config) (n : Next) (w : Walker) → b ≡ true → NextIs c n w
+    → NextIs (if b then c else d) n w
 if_true b c d n w e h = subst (λ (v : Bool). NextIs (if v then c else d) n w) (sym e) h
 
 -- a choice of ways by a test that does not
-pub if_false : (b : Bool) (c d : Config) (n : Next) (w : Walker) → b ≡ false → NextIs d n w → NextIs (if b then c else d) n w
+pub if_false : (b : Bool) (c d : Config) (n : Next) (w : Walker) → b ≡ false → NextIs d n w
+    → NextIs (if b then c else d) n w
 if_false b c d n w e h = subst (λ (v : Bool). NextIs (if v then c else d) n w) (sym e) h
 
-module _ (g : Graph) (s : ProcState) (frames : List walks.Frame) (k : ℕ) (w : Walker) (sh : Shows s frames k w) where
+module _ (g : Graph) (s : ProcState) (frames : List walks.Frame) (k : ℕ) (w : Walker)
+    (sh : Shows s frames k w) where
   -- a call enters its procedure
-  pub called : (x : Option ℕ) (f : ℕ) (ts : List Term) (back : ℕ) (room : Room) (words now : List ℕ) (fs : Vec Frame Global) → room.entry ≡ entry_of g f → room.params ≡ (proc_at g f).params → room.vars ≡ (proc_at g f).vars → words ≡ values ts w.vars w.memory.cells → now ≡ words ++ zeros (room.vars - room.params) → fs.items ≡ w.frames.items ++ record { result = x; back = back; vars = w.vars } ∷ [] → NextIs (leave g (Call x f ts back) s frames k) (next.At room.entry) (record w { vars = now; frames = fs })
+  pub called : (x : Option ℕ) (f : ℕ) (ts : List Term) (back : ℕ) (room : Room) (words now : List ℕ)
+      (fs : Vec Frame Global) → room.entry ≡ entry_of g f → room.params ≡ (proc_at g f).params
+      → room.vars ≡ (proc_at g f).vars → words ≡ values ts w.vars w.memory.cells
+      → now ≡ words ++ zeros (room.vars - room.params) → fs.items ≡ w.frames.items ++ record {
+        result = x;
+        back = back;
+        vars = w.vars;
+      } ∷ [] → NextIs (leave g (Call x f ts back) s frames k) (next.At room.entry)
+      (record w { vars = now; frames = fs })
   called x f ts back room words now fs ee ep ev ew en ef =
       let after = all_loaded s frames k w sh ts in (
         sym ee,
         record {
-          vars = ap (λ (vs : List ℕ). vs ++ zeros ((proc_at g f).vars - (proc_at g f).params)) (sym (ew ∙ values_is s frames k w sh ts))
-              ∙ ap (λ n. words ++ zeros (n - (proc_at g f).params)) (sym ev) ∙ ap (λ n. words ++ zeros (room.vars - n)) (sym ep) ∙ sym en;
+          vars = ap (λ (vs : List ℕ). vs ++ zeros ((proc_at g f).vars - (proc_at g f).params))
+              (sym (ew ∙ values_is s frames k w sh ts))
+              ∙ ap (λ n. words ++ zeros (n - (proc_at g f).params)) (sym ev)
+              ∙ ap (λ n. words ++ zeros (room.vars - n)) (sym ep) ∙ sym en;
           outside = after.outside;
           waiting = ap (λ (vs : List ℕ). record { result = x; back = back; vars = vs } ∷ frames) sh.vars
-              ∙ ap (λ (below : List walks.Frame). record { result = x; back = back; vars = w.vars } ∷ below) sh.waiting
-              ∙ sym (stacked_last w.frames.items (record { result = x; back = back; vars = w.vars }) []) ∙ ap (λ (xs : List Frame). stacked xs []) (sym ef);
+              ∙ ap (λ (below : List walks.Frame). record { result = x; back = back; vars = w.vars } ∷ below)
+              sh.waiting
+              ∙ sym (stacked_last w.frames.items (record { result = x; back = back; vars = w.vars }) [])
+              ∙ ap (λ (xs : List Frame). stacked xs []) (sym ef);
           turns = sh.turns;
         },
       )
 
   -- a send comes to its landing
-  pub sent : (t : Term) (ts : List Term) (ls : List ℕ) (place b : ℕ) (words now : List ℕ) → place ≡ value t w.vars w.memory.cells → words ≡ values ts w.vars w.memory.cells → b ≡ landing place ls → now ≡ landed (spot_at g b).block.named words (zeros (spot_at g b).vars) → NextIs (leave g (Send t ts ls) s frames k) (next.At b) (record w { vars = now })
+  pub sent : (t : Term) (ts : List Term) (ls : List ℕ) (place b : ℕ) (words now : List ℕ)
+      → place ≡ value t w.vars w.memory.cells → words ≡ values ts w.vars w.memory.cells → b ≡ landing place ls
+      → now ≡ landed (spot_at g b).block.named words (zeros (spot_at g b).vars)
+      → NextIs (leave g (Send t ts ls) s frames k) (next.At b) (record w { vars = now })
   sent t ts ls place b words now et ew eb en =
       let after = all_loaded (value_of t s).1 frames k w (loaded s frames k w sh t) ts in
-      let same : landing (value_of t s).0 ls ≡ b = ap (λ n. landing n ls) (sym (et ∙ value_is s frames k w sh t)) ∙ sym eb in (
+      let same : landing (value_of t s).0 ls ≡ b = ap (λ n. landing n ls)
+      (sym (et ∙ value_is s frames k w sh t)) ∙ sym eb in (
         same,
         record {
           vars = ap (λ n. landed (spot_at g n).block.named (values_of ts s).0 (zeros (spot_at g n).vars)) same
-              ∙ ap (λ (vs : List ℕ). landed (spot_at g b).block.named vs (zeros (spot_at g b).vars)) (sym (ew ∙ values_is s frames k w sh ts)) ∙ sym en;
+              ∙ ap (λ (vs : List ℕ). landed (spot_at g b).block.named vs (zeros (spot_at g b).vars))
+              (sym (ew ∙ values_is s frames k w sh ts)) ∙ sym en;
           outside = after.outside;
           waiting = sh.waiting;
           turns = sh.turns;

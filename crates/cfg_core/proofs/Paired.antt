@@ -1,4 +1,5 @@
--- Where the second walk comes to an answer that goes with each answer of the first, the walks end and go alike.
+-- Where the second walk comes to an answer that goes with each answer of the first, the walks end and go
+-- alike.
 use Rattle.std.proofs.Common.{ℕ, zero, suc, ◌+◌, ◌≡◌, refl, sym, ap, ◌∙◌, subst, arith}
 use Rattle.ws_words.specs.Outside.{World, Outside}
 use Rattle.cfg_core.specs.Graph.{Graph}
@@ -10,7 +11,8 @@ use Rattle.cfg_core.proofs.Cost.{one_answer}
 -- a walk of blocks, and then of others
 pub walk_add : (g : Graph) (n m : ℕ) (c : Config) → walk g (n + m) c ≡ walk g m (walk g n c)
 walk_add g zero m c = ap (λ k. walk g k c) (let z : zero + m ≡ m = omega arith in z)
-walk_add g (suc n) m c = ap (λ k. walk g k c) (let z : suc n + m ≡ suc (n + m) = omega arith in z) ∙ walk_add g n m (step g c)
+walk_add g (suc n) m c = ap (λ k. walk g k c) (let z : suc n + m ≡ suc (n + m) = omega arith in z)
+    ∙ walk_add g n m (step g c)
 
 -- two answers of walks, with as many turns left
 abbrev pub Match : (Outside → Outside → Type 0) → Config → Config → Type 0
@@ -18,8 +20,11 @@ Match R (Over o k) (Over p j) = (k ≡ j) × R o p
 Match R (Going o) (Going p) = R o p
 Match R _ _ = ⊥
 
-module _ (g h : Graph) (rules : IsGraph g) (R : Outside → Outside → Type 0) (forth : (world : World) (turns m : ℕ) → IsOver (walk g m (opening g world turns)) → (n : ℕ) × Match R (walk g m (opening g world turns)) (walk h n (opening h world turns))) where
-  ended : (o : Outside) (k n : ℕ) (c d : Config) → c ≡ d → Match R (Over o k) c → (p : Outside) × (d ≡ Over p k) × R o p
+module _ (g h : Graph) (rules : IsGraph g) (R : Outside → Outside → Type 0)
+    (forth : (world : World) (turns m : ℕ) → IsOver (walk g m (opening g world turns))
+    → (n : ℕ) × Match R (walk g m (opening g world turns)) (walk h n (opening h world turns))) where
+  ended : (o : Outside) (k n : ℕ) (c d : Config) → c ≡ d → Match R (Over o k) c
+      → (p : Outside) × (d ≡ Over p k) × R o p
   ended o k n (Over p j) d e m = (p, sym e ∙ ap (λ i. Over p i) (sym m.0), m.1)
   ended o k n (At b s frames j) d e m = absurd m
   ended o k n (Going p) d e m = absurd m
@@ -36,17 +41,21 @@ module _ (g h : Graph) (rules : IsGraph g) (R : Outside → Outside → Type 0) 
   going_is c o e = subst IsOver (sym e) tt
 
   -- where the first walk ends, the second does
-  pub ends : (world : World) (turns : ℕ) (o : Outside) → Ends g world turns o → (p : Outside) × Ends h world turns p × R o p
+  pub ends : (world : World) (turns : ℕ) (o : Outside) → Ends g world turns o
+      → (p : Outside) × Ends h world turns p × R o p
   ends world turns o e =
       let f = forth world turns e.0 (over_is _ o 0 e.1) in
-      let r = ended o 0 f.0 _ _ refl (subst (λ (c : Config). Match R c (walk h f.0 (opening h world turns))) e.1 f.1) in
+      let r = ended o 0 f.0 _ _ refl (subst (λ (c : Config). Match R c (walk h f.0 (opening h world turns)))
+      e.1 f.1) in
       (r.0, (f.0, r.1), r.2)
 
   -- where the first walk is going, the second is
-  pub goes : (world : World) (turns : ℕ) (o : Outside) → Goes g world turns o → (p : Outside) × Goes h world turns p × R o p
+  pub goes : (world : World) (turns : ℕ) (o : Outside) → Goes g world turns o
+      → (p : Outside) × Goes h world turns p × R o p
   goes world turns o e =
       let f = forth world turns e.0 (going_is _ o e.1) in
-      let r = going o _ _ refl (subst (λ (c : Config). Match R c (walk h f.0 (opening h world turns))) e.1 f.1) in
+      let r = going o _ _ refl (subst (λ (c : Config). Match R c (walk h f.0 (opening h world turns))) e.1
+      f.1) in
       (r.0, (f.0, r.1), r.2)
 
   -- the first walk's answer, and the second one's that goes with it
@@ -63,17 +72,22 @@ module _ (g h : Graph) (rules : IsGraph g) (R : Outside → Outside → Type 0) 
       record { blocks = c.0; over = c.1; further = f.0; match = f.1 }
 
   -- where the second walk ends, the first does
-  pub ends_only : (world : World) (turns : ℕ) (p : Outside) → Ends h world turns p → (o : Outside) × Ends g world turns o × R o p
+  pub ends_only : (world : World) (turns : ℕ) (p : Outside) → Ends h world turns p
+      → (o : Outside) × Ends g world turns o × R o p
   ends_only world turns p e = from (answered world turns).blocks _ _ refl refl (answered world turns).match
     where
-      from : (m : ℕ) (c d : Config) → walk g m (opening g world turns) ≡ c → walk h (answered world turns).further (opening h world turns) ≡ d → Match R c d → (o : Outside) × Ends g world turns o × R o p
+      from : (m : ℕ) (c d : Config) → walk g m (opening g world turns) ≡ c
+          → walk h (answered world turns).further (opening h world turns) ≡ d → Match R c d
+          → (o : Outside) × Ends g world turns o × R o p
       from m (Over o k) (Over q j) ec ed h' =
-          let same : Over q j ≡ Over p 0 = one_answer h (answered world turns).further e.0 (opening h world turns) (Over q j) (Over p 0) tt tt ed e.1 in
+          let same : Over q j ≡ Over p 0 = one_answer h (answered world turns).further e.0
+          (opening h world turns) (Over q j) (Over p 0) tt tt ed e.1 in
           let zero_left : j ≡ 0 = cc in
           let same_out : q ≡ p = cc in
           (o, (m, ec ∙ ap (λ i. Over o i) (h'.0 ∙ zero_left)), subst (λ (x : Outside). R o x) same_out h'.1)
       from m (Going o) (Going q) ec ed h' =
-          let same : Going q ≡ Over p 0 = one_answer h (answered world turns).further e.0 (opening h world turns) (Going q) (Over p 0) tt tt ed e.1 in
+          let same : Going q ≡ Over p 0 = one_answer h (answered world turns).further e.0
+          (opening h world turns) (Going q) (Over p 0) tt tt ed e.1 in
           absurd (cc)
       from m (At b s frames k) d ec ed h' = absurd h'
       from m (Over o k) (At b s frames j) ec ed h' = absurd h'
@@ -82,16 +96,21 @@ module _ (g h : Graph) (rules : IsGraph g) (R : Outside → Outside → Type 0) 
       from m (Going o) (Over q j) ec ed h' = absurd h'
 
   -- where the second walk is going, the first is
-  pub goes_only : (world : World) (turns : ℕ) (p : Outside) → Goes h world turns p → (o : Outside) × Goes g world turns o × R o p
+  pub goes_only : (world : World) (turns : ℕ) (p : Outside) → Goes h world turns p
+      → (o : Outside) × Goes g world turns o × R o p
   goes_only world turns p e = from (answered world turns).blocks _ _ refl refl (answered world turns).match
     where
-      from : (m : ℕ) (c d : Config) → walk g m (opening g world turns) ≡ c → walk h (answered world turns).further (opening h world turns) ≡ d → Match R c d → (o : Outside) × Goes g world turns o × R o p
+      from : (m : ℕ) (c d : Config) → walk g m (opening g world turns) ≡ c
+          → walk h (answered world turns).further (opening h world turns) ≡ d → Match R c d
+          → (o : Outside) × Goes g world turns o × R o p
       from m (Going o) (Going q) ec ed h' =
-          let same : Going q ≡ Going p = one_answer h (answered world turns).further e.0 (opening h world turns) (Going q) (Going p) tt tt ed e.1 in
+          let same : Going q ≡ Going p = one_answer h (answered world turns).further e.0
+          (opening h world turns) (Going q) (Going p) tt tt ed e.1 in
           let same_out : q ≡ p = cc in
           (o, (m, ec), subst (λ (x : Outside). R o x) same_out h')
       from m (Over o k) (Over q j) ec ed h' =
-          let same : Over q j ≡ Going p = one_answer h (answered world turns).further e.0 (opening h world turns) (Over q j) (Going p) tt tt ed e.1 in
+          let same : Over q j ≡ Going p = one_answer h (answered world turns).further e.0
+          (opening h world turns) (Over q j) (Going p) tt tt ed e.1 in
           absurd (cc)
       from m (At b s frames k) d ec ed h' = absurd h'
       from m (Over o k) (At b s frames j) ec ed h' = absurd h'

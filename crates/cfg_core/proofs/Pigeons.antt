@@ -1,5 +1,6 @@
 -- Numbers below a bound, all different, are no more than the bound.
-use Rattle.std.proofs.Common.{ℕ, suc, ◌≡◌, ◌<◌, ◌≤◌, ◌⊎◌, List, [], ◌∷◌, length, refl, sym, ap, ◌∙◌, subst, inl, inr, arith}
+use Rattle.std.proofs.Common.{ℕ, suc, ◌≡◌, ◌<◌, ◌≤◌, ◌⊎◌, List, [], ◌∷◌, length, refl, sym, ap, ◌∙◌, subst}
+use Rattle.std.proofs.Common.{inl, inr, arith}
 use Rattle.ws_words.specs.Items.{In, Distinct}
 use Rattle.ws_words.proofs.Places.{down, in_down, down_length}
 
@@ -10,12 +11,17 @@ record Less (ys : List ℕ) (x : ℕ) : Type 0 where
 
 take_out : (ys : List ℕ) (x : ℕ) → In x ys → Less ys x
 take_out [] x h = absurd h
-take_out (y ∷ ys) x (inl h) = record { rest = ys; shorter = refl; keeps = λ a i. elim i [ inl e ↦ inl (e ∙ sym h) | inr j ↦ inr j ] }
+take_out (y ∷ ys) x (inl h) =
+    record { rest = ys; shorter = refl; keeps = λ a i. elim i [ inl e ↦ inl (e ∙ sym h) | inr j ↦ inr j ] }
 take_out (y ∷ ys) x (inr h) = let r = take_out ys x h in
     record {
       rest = y ∷ r.rest;
       shorter = ap suc r.shorter;
-      keeps = λ a i. elim i [ inl e ↦ inr (inl e) | inr j ↦ elim (r.keeps a j) [ inl f ↦ inl f | inr f ↦ inr (inr f) ] ];
+      keeps = λ a i. elim i [
+        | inl e ↦ inr (inl e)
+        | inr j ↦
+            elim (r.keeps a j) [ inl f ↦ inl f | inr f ↦ inr (inr f) ]
+      ];
     }
 
 in_same : (ys : List ℕ) (a b : ℕ) → a ≡ b → In a ys → In b ys
@@ -34,4 +40,5 @@ within (x ∷ xs) ys o f =
 
 -- numbers below n that stand apart are at most n
 pub pigeons : (xs : List ℕ) (n : ℕ) → Distinct xs → ((a : ℕ) → In a xs → a < n) → length xs ≤ n
-pigeons xs n o f = subst (λ (m : ℕ). length xs ≤ m) (down_length n) (within xs (down n) o (λ a h. in_down n a (f a h)))
+pigeons xs n o f = subst (λ (m : ℕ). length xs ≤ m) (down_length n)
+    (within xs (down n) o (λ a h. in_down n a (f a h)))

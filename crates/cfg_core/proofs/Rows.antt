@@ -16,28 +16,44 @@ acts_of (At b s frames k) = s.out.acts
 acts_of (Over o k) = o.acts
 acts_of (Going o) = o.acts
 
-pub straight_walk : walk straight 1 (opening straight (given []) 5) ≡ Over (record { cells = []; input = []; left = [] ∷ []; acts = gives 1 ∷ takes 2 8 ∷ prints 8 ∷ [] }) 4
+pub straight_walk : walk straight 1 (opening straight (given []) 5) ≡ Over
+    (record { cells = []; input = []; left = [] ∷ []; acts = gives 1 ∷ takes 2 8 ∷ prints 8 ∷ [] }) 4
 unfolding spot_at proc_at entry_of
 straight_walk = refl
 
-pub straight_wants_a_turn : walk straight 1 (opening straight (given []) 0) ≡ Going (record { cells = []; input = []; left = [] ∷ []; acts = gives 1 ∷ [] })
+pub straight_wants_a_turn : walk straight 1 (opening straight (given []) 0)
+    ≡ Going (record { cells = []; input = []; left = [] ∷ []; acts = gives 1 ∷ [] })
 unfolding spot_at proc_at entry_of
 straight_wants_a_turn = refl
 
-pub takes_by_port : took_by_ports (gives 1 ∷ takes 2 8 ∷ prints 8 ∷ []) ≡ [] ∷ (8 ∷ []) ∷ [] ∷ [] ∷ [] ∷ [] ∷ [] ∷ []
+pub takes_by_port : took_by_ports (gives 1 ∷ takes 2 8 ∷ prints 8 ∷ []) ≡ [] ∷ (8 ∷ []) ∷ [] ∷ [] ∷ [] ∷ []
+    ∷ [] ∷ []
 takes_by_port = refl
 
-pub first_branch : walk branches 2 (opening branches (given (4 ∷ [])) 9) ≡ Over (record { cells = (0 ∷ 4 ∷ []) ∷ (4 ∷ []) ∷ []; input = []; left = (8 ∷ []) ∷ []; acts = reads ∷ stores 1 1 4 ∷ prints 5 ∷ loads 1 1 ∷ stores 2 0 4 ∷ [] }) 7
+pub first_branch : walk branches 2 (opening branches (given (4 ∷ [])) 9)
+    ≡ Over (record {
+      cells = (0 ∷ 4 ∷ []) ∷ (4 ∷ []) ∷ [];
+      input = [];
+      left = (8 ∷ []) ∷ [];
+      acts = reads ∷ stores 1 1 4 ∷ prints 5 ∷ loads 1 1 ∷ stores 2 0 4 ∷ [];
+    }) 7
 unfolding spot_at proc_at entry_of
 first_branch = refl
 
-pub first_branch_shows : shown_acts branches.arrays (reads ∷ stores 1 1 4 ∷ prints 5 ∷ loads 1 1 ∷ stores 2 0 4 ∷ []) ≡ reads ∷ prints 5 ∷ stores 1 0 4 ∷ []
+pub first_branch_shows : shown_acts branches.arrays (reads ∷ stores 1 1 4 ∷ prints 5 ∷ loads 1 1 ∷ stores 2 0
+    4 ∷ []) ≡ reads ∷ prints 5 ∷ stores 1 0 4 ∷ []
 first_branch_shows = refl
 
 pub shown_cells_alone : shown_cells branches.arrays ((0 ∷ 4 ∷ []) ∷ (4 ∷ []) ∷ []) ≡ (4 ∷ []) ∷ []
 shown_cells_alone = refl
 
-pub second_branch : walk branches 2 (opening branches (given []) 9) ≡ Over (record { cells = (0 ∷ 0 ∷ []) ∷ (0 ∷ []) ∷ []; input = []; left = (8 ∷ []) ∷ []; acts = reads ∷ stores 1 1 0 ∷ prints 9 ∷ [] }) 6
+pub second_branch : walk branches 2 (opening branches (given []) 9) ≡ Over
+    (record {
+      cells = (0 ∷ 0 ∷ []) ∷ (0 ∷ []) ∷ [];
+      input = [];
+      left = (8 ∷ []) ∷ [];
+      acts = reads ∷ stores 1 1 0 ∷ prints 9 ∷ [];
+    }) 6
 unfolding spot_at proc_at entry_of
 second_branch = refl
 
@@ -45,23 +61,28 @@ pub counts_down : acts_of (walk counts 9 (opening counts (given []) 4)) ≡ prin
 unfolding spot_at proc_at entry_of
 counts_down = refl
 
-pub counts_in_four_turns : walk counts 9 (opening counts (given []) 4) ≡ Over (record { cells = []; input = []; left = (8 ∷ []) ∷ []; acts = prints 3 ∷ prints 2 ∷ prints 1 ∷ [] }) 0
+pub counts_in_four_turns : walk counts 9 (opening counts (given []) 4) ≡ Over
+    (record { cells = []; input = []; left = (8 ∷ []) ∷ []; acts = prints 3 ∷ prints 2 ∷ prints 1 ∷ [] }) 0
 unfolding spot_at proc_at entry_of
 counts_in_four_turns = refl
 
-pub counts_on : walk counts 9 (opening counts (given []) 2) ≡ Going (record { cells = []; input = []; left = (8 ∷ []) ∷ []; acts = prints 3 ∷ prints 2 ∷ [] })
+pub counts_on : walk counts 9 (opening counts (given []) 2) ≡ Going
+    (record { cells = []; input = []; left = (8 ∷ []) ∷ []; acts = prints 3 ∷ prints 2 ∷ [] })
 unfolding spot_at proc_at entry_of
 counts_on = refl
 
-pub calls_and_returns : walk calls_twice 5 (opening calls_twice (given []) 2) ≡ Over (record { cells = []; input = []; left = (8 ∷ []) ∷ []; acts = prints 5 ∷ prints 11 ∷ [] }) 0
+pub calls_and_returns : walk calls_twice 5 (opening calls_twice (given []) 2)
+    ≡ Over (record { cells = []; input = []; left = (8 ∷ []) ∷ []; acts = prints 5 ∷ prints 11 ∷ [] }) 0
 unfolding spot_at proc_at entry_of
 calls_and_returns = refl
 
-pub first_landing : acts_of (walk sends 2 (opening sends (given (0 ∷ [])) 0)) ≡ reads ∷ prints 1 ∷ prints 0 ∷ []
+pub first_landing : acts_of (walk sends 2 (opening sends (given (0 ∷ [])) 0)) ≡ reads ∷ prints 1 ∷ prints 0
+    ∷ []
 unfolding spot_at proc_at entry_of
 first_landing = refl
 
-pub last_landing : acts_of (walk sends 2 (opening sends (given (7 ∷ [])) 0)) ≡ reads ∷ prints 2 ∷ prints 0 ∷ []
+pub last_landing : acts_of (walk sends 2 (opening sends (given (7 ∷ [])) 0)) ≡ reads ∷ prints 2 ∷ prints 0
+    ∷ []
 unfolding spot_at proc_at entry_of
 last_landing = refl
 

@@ -1,5 +1,6 @@
 -- Lemmas on the blocks of a graph and their lists.
-use Rattle.std.proofs.Common.{◌≡◌, length, map, ap, arith, ℕ, List, [], ◌∷◌, set, refl, ◌∙◌, suc, inl, inr, ◌++◌, zero, ◌≤◌, ◌+◌, Bool, true, false, if◌then◌else◌}
+use Rattle.std.proofs.Common.{◌≡◌, length, map, ap, arith, ℕ, List, [], ◌∷◌, set, refl, ◌∙◌, suc, inl, inr}
+use Rattle.std.proofs.Common.{◌++◌, zero, ◌≤◌, ◌+◌, Bool, true, false, if◌then◌else◌}
 use Rattle.std.proofs.lemmas.List.{length-map, length-set}
 use Rattle.cfg_core.specs.Graph.{spots, Term, Spot, no_spot, Block, spots_in, Graph, GraphProc, spot_at}
 use Rattle.cfg_core.specs.View as view
@@ -10,17 +11,25 @@ use Rattle.std.specs.List.{AllByRecursion, filter}
 use Rattle.ws_words.specs.Items.{nth, or_else, In}
 use Rattle.cfg_core.specs.Rules.{BlockNumbers, IsGraph}
 
-pub count_is : (table : GraphTable) → TableIs table → length table.spots.items ≡ length (spots (view.graph table.graph.now))
+pub count_is : (table : GraphTable) → TableIs table → length table.spots.items
+    ≡ length (spots (view.graph table.graph.now))
 count_is table h =
-    let e : length (map spot_in_code table.spots.items) ≡ length (map spot_in_graph (spots (view.graph table.graph.now))) = ap length h.spots in
-    omega (arith, e, length-map table.spots.items spot_in_code, length-map (spots (view.graph table.graph.now)) spot_in_graph)
+    let e : length (map spot_in_code table.spots.items) ≡ length
+    (map spot_in_graph (spots (view.graph table.graph.now))) = ap length h.spots in
+    omega (
+      arith,
+      e,
+      length-map table.spots.items spot_in_code,
+      length-map (spots (view.graph table.graph.now)) spot_in_graph,
+    )
 
 pub landed_count : (names words vars : List ℕ) → length (landed names words vars) ≡ length vars
 landed_count [] words vars = refl
 landed_count (x ∷ names) [] vars = refl
 landed_count (x ∷ names) (w ∷ words) vars = landed_count names words (set vars x w) ∙ length-set vars x w
 
-pub values_count : (ts : List Term) (vars : List ℕ) (cells : List (List ℕ)) → length (values ts vars cells) ≡ length ts
+pub values_count : (ts : List Term) (vars : List ℕ) (cells : List (List ℕ))
+    → length (values ts vars cells) ≡ length ts
 values_count [] vars cells = refl
 values_count (t ∷ ts) vars cells = ap suc (values_count ts vars cells)
 
@@ -33,21 +42,26 @@ past [] k le = refl
 past (x ∷ xs) zero le = absurd (omega arith)
 past (x ∷ xs) (suc k) le = past xs k (omega arith)
 
-pub nth_right : {A : Type 0} (xs ys : List A) (n k m : ℕ) → length xs ≡ n → m ≡ n + k → nth (xs ++ ys) m ≡ nth ys k
+pub nth_right : {A : Type 0} (xs ys : List A) (n k m : ℕ) → length xs ≡ n → m ≡ n + k
+    → nth (xs ++ ys) m ≡ nth ys k
 nth_right [] ys n k m e em = ap (nth ys) (omega (arith, e, em))
 nth_right (x ∷ xs) ys zero k m e em = absurd (omega (arith, e))
 nth_right (x ∷ xs) ys (suc n) k zero e em = absurd (omega (arith, em))
 nth_right (x ∷ xs) ys (suc n) k (suc m) e em = nth_right xs ys n k m (omega (arith, e)) (omega (arith, em))
 
-pub spots_in_both : (home vars : ℕ) (xs ys : List Block) → spots_in home vars (xs ++ ys) ≡ spots_in home vars xs ++ spots_in home vars ys
+pub spots_in_both : (home vars : ℕ) (xs ys : List Block) → spots_in home vars (xs ++ ys) ≡ spots_in home vars
+    xs ++ spots_in home vars ys
 spots_in_both home vars [] ys = refl
-spots_in_both home vars (x ∷ xs) ys = ap (λ (zs : List Spot). record { home = home; vars = vars; block = x } ∷ zs) (spots_in_both home vars xs ys)
+spots_in_both home vars (x ∷ xs) ys =
+    ap (λ (zs : List Spot). record { home = home; vars = vars; block = x } ∷ zs)
+    (spots_in_both home vars xs ys)
 
 pub in_filter : (p : ℕ → Bool) (xs : List ℕ) (x : ℕ) → In x xs → p x ≡ true → In x (filter p xs)
 in_filter p [] x h e = absurd h
 in_filter p (y ∷ xs) x h e = by_test (p y) refl h (λ i. in_filter p xs x i e)
   where
-    by_test : (b : Bool) → p y ≡ b → In x (y ∷ xs) → (In x xs → In x (filter p xs)) → In x (if b then y ∷ filter p xs else filter p xs)
+    by_test : (b : Bool) → p y ≡ b → In x (y ∷ xs) → (In x xs → In x (filter p xs))
+        → In x (if b then y ∷ filter p xs else filter p xs)
     by_test true ey (inl same) rest = inl same
     by_test true ey (inr i) rest = inr (rest i)
     by_test false ey (inl same) rest = let z : p x ≡ p y = ap p same in absurd (cc)
@@ -57,7 +71,8 @@ pub filter_in : (p : ℕ → Bool) (xs : List ℕ) (x : ℕ) → In x (filter p 
 filter_in p [] x h = absurd h
 filter_in p (y ∷ xs) x h = by_test (p y) refl h (λ i. filter_in p xs x i)
   where
-    by_test : (b : Bool) → p y ≡ b → In x (if b then y ∷ filter p xs else filter p xs) → (In x (filter p xs) → In x xs × (p x ≡ true)) → In x (y ∷ xs) × (p x ≡ true)
+    by_test : (b : Bool) → p y ≡ b → In x (if b then y ∷ filter p xs else filter p xs)
+        → (In x (filter p xs) → In x xs × (p x ≡ true)) → In x (y ∷ xs) × (p x ≡ true)
     by_test true ey (inl same) rest = (inl same, ap p same ∙ ey)
     by_test true ey (inr i) rest = let r = rest i in (inr r.0, r.1)
     by_test false ey i rest = let r = rest i in (inr r.0, r.1)
@@ -70,11 +85,13 @@ rooms_count : (first : ℕ) (procs : List GraphProc) → length (rooms_from firs
 rooms_count first [] = refl
 rooms_count first (p ∷ procs) = ap suc (rooms_count (first + length p.blocks) procs)
 
-pub rooms_are : (table : GraphTable) → TableIs table → length table.rooms.items ≡ length (view.graph table.graph.now).procs
+pub rooms_are : (table : GraphTable) → TableIs table → length table.rooms.items
+    ≡ length (view.graph table.graph.now).procs
 rooms_are table h = ap length h.rooms ∙ rooms_count 0 (view.graph table.graph.now).procs
 
 -- what is kept of all items is kept of the one at a place, and of what stands for one that isn't there
-pub each_at : {A : Type 0} (P : A → Type 0) (xs : List A) (none : A) → AllByRecursion P xs → P none → (k : ℕ) → P (or_else (nth xs k) none)
+pub each_at : {A : Type 0} (P : A → Type 0) (xs : List A) (none : A) → AllByRecursion P xs → P none → (k : ℕ)
+    → P (or_else (nth xs k) none)
 each_at P [] none h p k = p
 each_at P (x ∷ xs) none h p zero = h.0
 each_at P (x ∷ xs) none h p (suc k) = each_at P xs none h.1 p k
@@ -82,4 +99,5 @@ each_at P (x ∷ xs) none h p (suc k) = each_at P xs none h.1 p k
 -- what a block names exists
 pub numbers_at : (g : Graph) → IsGraph g → (b : ℕ) → BlockNumbers g (spot_at g b)
 unfolding spot_at no_spot
-numbers_at g rules b = each_at (BlockNumbers g) (spots g) no_spot rules.numbers.blocks (record { ops = tt; exit = tt; named = tt; once = tt }) b
+numbers_at g rules b = each_at (BlockNumbers g) (spots g) no_spot rules.numbers.blocks
+    (record { ops = tt; exit = tt; named = tt; once = tt }) b

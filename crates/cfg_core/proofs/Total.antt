@@ -1,8 +1,11 @@
 -- A walk of any number of turns comes to an answer: each block makes it lighter.
-use Rattle.std.proofs.Common.{ℕ, zero, suc, ◌+◌, ◌-◌, ◌*◌, ◌≡◌, ◌<◌, ◌≤◌, ◌==◌, min, Bool, true, false, List, [], ◌∷◌, length, if◌then◌else◌, refl, ap, inl, inr, arith}
+use Rattle.std.proofs.Common.{ℕ, zero, suc, ◌+◌, ◌-◌, ◌*◌, ◌≡◌, ◌<◌, ◌≤◌, ◌==◌, min, Bool, true, false, List}
+use Rattle.std.proofs.Common.{[], ◌∷◌, length, if◌then◌else◌, refl, ap, inl, inr, arith}
 use Rattle.ws_words.specs.Outside.{Outside, ProcState}
-use Rattle.cfg_core.specs.Graph.{Exit, Goto, Branch, Call, Return, Send, Stop, Graph, Spot, no_spot, spots, spot_at, block_at, entry_of}
-use Rattle.cfg_core.specs.Walk.{value_of, values_of, OpsOutcome, Done, Out, run_ops, Frame, Config, At, Over, Going, landing, returned, leave, passed, step, walk, IsOver}
+use Rattle.cfg_core.specs.Graph.{Exit, Goto, Branch, Call, Return, Send, Stop, Graph, Spot, no_spot, spots}
+use Rattle.cfg_core.specs.Graph.{spot_at, block_at, entry_of}
+use Rattle.cfg_core.specs.Walk.{value_of, values_of, OpsOutcome, Done, Out, run_ops, Frame, Config, At, Over}
+use Rattle.cfg_core.specs.Walk.{Going, landing, returned, leave, passed, step, walk, IsOver}
 use Rattle.cfg_core.specs.Rules.{Leads, has_turn, has_tick, calls, Lands, IsGraph}
 use Rattle.cfg_core.proofs.Turns.{AtMost, Fewer, ops_most, ops_fewer, has_tick_turns}
 use Rattle.cfg_core.proofs.Rank.{rank, rank_most, rank_falls}
@@ -33,41 +36,57 @@ no_more_rows n a b r q le lt = grind arith
 module _ (g : Graph) where
   fewer_rounds : (f k e j b c : ℕ) → e + 2 * j < f + 2 * k → weight g e j c < weight g f k b
   unfolding weight
-  fewer_rounds f k e j b c lt = more_rows (length (spots g)) (e + 2 * j) (f + 2 * k) (rank g c) (rank g b) lt (rank_most g c)
+  fewer_rounds f k e j b c lt = more_rows (length (spots g)) (e + 2 * j) (f + 2 * k) (rank g c) (rank g b) lt
+      (rank_most g c)
 
   lower_rank : (f k j b c : ℕ) → j ≤ k → rank g c < rank g b → weight g f j c < weight g f k b
   unfolding weight
-  lower_rank f k j b c le lt = no_more_rows (length (spots g)) (f + 2 * j) (f + 2 * k) (rank g c) (rank g b) (omega arith) lt
+  lower_rank f k j b c le lt = no_more_rows (length (spots g)) (f + 2 * j) (f + 2 * k) (rank g c) (rank g b)
+      (omega arith) lt
 
-  if_lighter : (w : ℕ) (b : Bool) (c d : Config) → Lighter g w c → Lighter g w d → Lighter g w (if b then c else d)
+  if_lighter : (w : ℕ) (b : Bool) (c d : Config) → Lighter g w c → Lighter g w d
+      → Lighter g w (if b then c else d)
   if_lighter w true c d h i = h
   if_lighter w false c d h i = i
 
   module _ (w : ℕ) (frames : List Frame) (k : ℕ) where
-    returned_lighter : ((c : ℕ) (f : Frame) (fs : List Frame) → frames ≡ f ∷ fs → weight g (length fs) k c < w) → (v : ℕ) (o : Outside) (fs : List Frame) → frames ≡ fs → Lighter g w (returned v o fs k)
+    returned_lighter : ((c : ℕ) (f : Frame) (fs : List Frame) → frames ≡ f ∷ fs
+        → weight g (length fs) k c < w) → (v : ℕ) (o : Outside) (fs : List Frame) → frames ≡ fs
+        → Lighter g w (returned v o fs k)
     returned_lighter small v o [] e = tt
     returned_lighter small v o (f ∷ fs) e = small f.back f fs e
 
     -- after a turn
-    leave_turn : ((c : ℕ) (fs : List Frame) → length fs ≤ suc (length frames) → weight g (length fs) k c < w) → (exit : Exit) (s : ProcState) → Lighter g w (leave g exit s frames k)
+    leave_turn : ((c : ℕ) (fs : List Frame) → length fs ≤ suc (length frames) → weight g (length fs) k c < w)
+        → (exit : Exit) (s : ProcState) → Lighter g w (leave g exit s frames k)
     leave_turn small (Goto b) s = small b frames (omega arith)
-    leave_turn small (Branch t a b) s = if_lighter w ((value_of t s).0 == 0) _ _ (small b frames (omega arith)) (small a frames (omega arith))
-    leave_turn small (Call x f ts back) s = small (entry_of g f) (record { result = x; back = back; vars = (values_of ts s).1.vars } ∷ frames) (omega arith)
-    leave_turn small (Return t) s = returned_lighter (λ c f fs e. small c fs (omega (arith, ap length e))) _ _ frames refl
+    leave_turn small (Branch t a b) s = if_lighter w ((value_of t s).0 == 0) _ _
+        (small b frames (omega arith)) (small a frames (omega arith))
+    leave_turn small (Call x f ts back) s =
+        small (entry_of g f) (record { result = x; back = back; vars = (values_of ts s).1.vars } ∷ frames)
+        (omega arith)
+    leave_turn small (Return t) s = returned_lighter (λ c f fs e. small c fs (omega (arith, ap length e))) _ _
+        frames refl
     leave_turn small (Send t ts ls) s = small _ frames (omega arith)
     leave_turn small Stop s = tt
 
     -- along an edge
-    leave_quiet : ((c : ℕ) (f : Frame) (fs : List Frame) → frames ≡ f ∷ fs → weight g (length fs) k c < w) → (exit : Exit) → Lands g exit → calls exit ≡ false → ((c : ℕ) → Leads exit c → weight g (length frames) k c < w) → (s : ProcState) → Lighter g w (leave g exit s frames k)
+    leave_quiet : ((c : ℕ) (f : Frame) (fs : List Frame) → frames ≡ f ∷ fs → weight g (length fs) k c < w)
+        → (exit : Exit) → Lands g exit → calls exit ≡ false
+        → ((c : ℕ) → Leads exit c → weight g (length frames) k c < w) → (s : ProcState)
+        → Lighter g w (leave g exit s frames k)
     leave_quiet small (Goto b) lands none edge s = edge b refl
-    leave_quiet small (Branch t a b) lands none edge s = if_lighter w ((value_of t s).0 == 0) _ _ (edge b (inr refl)) (edge a (inl refl))
+    leave_quiet small (Branch t a b) lands none edge s = if_lighter w ((value_of t s).0 == 0) _ _
+        (edge b (inr refl)) (edge a (inl refl))
     leave_quiet small (Call x f ts back) lands none edge s = absurd (no_both refl none)
     leave_quiet small (Return t) lands none edge s = returned_lighter small _ _ frames refl
     leave_quiet small (Send t ts ls) lands none edge s = edge _ (in_landing (value_of t s).0 ls lands.0)
     leave_quiet small Stop lands none edge s = tt
 
-  passed_turn : (o : OpsOutcome) (exit : Exit) (frames : List Frame) (k b : ℕ) → Fewer k o → Lighter g (weight g (length frames) k b) (passed g o exit frames)
-  passed_turn (Done s j) exit frames k b lt = leave_turn (weight g (length frames) k b) frames j (λ c fs le. fewer_rounds (length frames) k (length fs) j b c (omega arith)) exit s
+  passed_turn : (o : OpsOutcome) (exit : Exit) (frames : List Frame) (k b : ℕ) → Fewer k o
+      → Lighter g (weight g (length frames) k b) (passed g o exit frames)
+  passed_turn (Done s j) exit frames k b lt = leave_turn (weight g (length frames) k b) frames j
+      (λ c fs le. fewer_rounds (length frames) k (length fs) j b c (omega arith)) exit s
   passed_turn (Out o) exit frames k b lt = tt
 
   module _ (rules : IsGraph g) where
@@ -78,11 +97,15 @@ module _ (g : Graph) where
 
     ticks_at : (b : ℕ) → calls (block_at g b).exit ≡ true → has_tick (block_at g b).ops ≡ true
     unfolding spot_at no_spot
-    ticks_at b = each_at (λ (s : Spot). calls s.block.exit ≡ true → has_tick s.block.ops ≡ true) (spots g) no_spot rules.call_ticks (λ e. absurd (no_both e refl)) b
+    ticks_at b = each_at (λ (s : Spot). calls s.block.exit ≡ true → has_tick s.block.ops ≡ true) (spots g)
+        no_spot rules.call_ticks (λ e. absurd (no_both e refl)) b
 
-    passed_quiet : (b : ℕ) → has_turn (block_at g b).ops ≡ false → (o : OpsOutcome) (frames : List Frame) (k : ℕ) → AtMost k o → Lighter g (weight g (length frames) k b) (passed g o (block_at g b).exit frames)
+    passed_quiet : (b : ℕ) → has_turn (block_at g b).ops ≡ false → (o : OpsOutcome) (frames : List Frame)
+        (k : ℕ) → AtMost k o → Lighter g (weight g (length frames) k b)
+        (passed g o (block_at g b).exit frames)
     passed_quiet b e (Done s j) frames k le = leave_quiet (weight g (length frames) k b) frames j
-        (λ c f fs d. fewer_rounds (length frames) k (length fs) j b c (let h : length frames ≡ suc (length fs) = ap length d in omega arith))
+        (λ c f fs d. fewer_rounds (length frames) k (length fs) j b c
+        (let h : length frames ≡ suc (length fs) = ap length d in omega arith))
         (block_at g b).exit (lands_at b) (no_call (calls (block_at g b).exit) refl)
         (λ c edge. lower_rank (length frames) k j b c le (rank_falls g rules.cycles b c e edge)) s
       where
@@ -92,9 +115,12 @@ module _ (g : Graph) where
     passed_quiet b e (Out o) frames k le = tt
 
     -- each block leads to a place that weighs less
-    pub step_lighter : (b : ℕ) (s : ProcState) (frames : List Frame) (k : ℕ) → Lighter g (weight g (length frames) k b) (step g (At b s frames k))
-    step_lighter b s frames k = by_bool (has_turn (block_at g b).ops) (Lighter g (weight g (length frames) k b) (step g (At b s frames k)))
-        (λ e. passed_turn (run_ops (block_at g b).ops s k) (block_at g b).exit frames k b (ops_fewer (block_at g b).ops e s k))
+    pub step_lighter : (b : ℕ) (s : ProcState) (frames : List Frame) (k : ℕ)
+        → Lighter g (weight g (length frames) k b) (step g (At b s frames k))
+    step_lighter b s frames k = by_bool (has_turn (block_at g b).ops)
+        (Lighter g (weight g (length frames) k b) (step g (At b s frames k)))
+        (λ e. passed_turn (run_ops (block_at g b).ops s k) (block_at g b).exit frames k b
+        (ops_fewer (block_at g b).ops e s k))
         (λ e. passed_quiet b e (run_ops (block_at g b).ops s k) frames k (ops_most (block_at g b).ops s k))
 
     -- from a place the walk comes to an answer
@@ -106,7 +132,8 @@ module _ (g : Graph) where
     comes_below w (Going o) h = (0, tt)
     comes_below zero (At b s frames k) h = absurd (omega arith)
     comes_below (suc w) (At b s frames k) h =
-        let r = comes_below w (step g (At b s frames k)) (lighter_still (step g (At b s frames k)) (step_lighter b s frames k)) in (suc r.0, r.1)
+        let r = comes_below w (step g (At b s frames k))
+        (lighter_still (step g (At b s frames k)) (step_lighter b s frames k)) in (suc r.0, r.1)
       where
         lighter_still : (c : Config) → Lighter g (weight g (length frames) k b) c → Lighter g w c
         lighter_still (At d u fs j) i = omega arith

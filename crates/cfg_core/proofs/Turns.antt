@@ -1,5 +1,6 @@
 -- Operations never have more turns left than they had, and fewer after a turn.
-use Rattle.std.proofs.Common.{ℕ, zero, suc, ◌≡◌, ◌<◌, ◌≤◌, ◌==◌, Bool, true, false, ◌||◌, List, [], ◌∷◌, if◌then◌else◌, refl, sym, ap, ◌∙◌, arith}
+use Rattle.std.proofs.Common.{ℕ, zero, suc, ◌≡◌, ◌<◌, ◌≤◌, ◌==◌, Bool, true, false, ◌||◌, List, [], ◌∷◌}
+use Rattle.std.proofs.Common.{if◌then◌else◌, refl, sym, ap, ◌∙◌, arith}
 use Rattle.ws_words.specs.Outside.{ProcState}
 use Rattle.cfg_core.specs.Graph.{Op, Assign, Store, Print, Read, Give, Take, Choose, Tick, TickBy}
 use Rattle.cfg_core.specs.Walk.{value_of, OpsOutcome, Done, Out, and_then, spend, run_op, run_ops}
@@ -49,14 +50,16 @@ op_most (Give p x) s k = omega arith
 op_most (Take p t) s k = omega arith
 op_most (Choose x t a b) s k = if_most k ((value_of t s).0 == 0) _ _ (omega arith) (omega arith)
 op_most (Tick n) s k = spend_most n s k
-op_most (TickBy t n m) s k = if_most k ((value_of t s).0 == 0) _ _ (spend_most m (value_of t s).1 k) (spend_most n (value_of t s).1 k)
+op_most (TickBy t n m) s k = if_most k ((value_of t s).0 == 0) _ _ (spend_most m (value_of t s).1 k)
+    (spend_most n (value_of t s).1 k)
 
 op_fewer : (op : Op) (s : ProcState) (k : ℕ) → takes_turn op ≡ true → Fewer k (run_op op s k)
 op_fewer (Tick zero) s k h = absurd (cc)
 op_fewer (Tick (suc n)) s k h = spend_fewer n s k
 op_fewer (TickBy t zero m) s k h = absurd (cc)
 op_fewer (TickBy t (suc n) zero) s k h = absurd (cc)
-op_fewer (TickBy t (suc n) (suc m)) s k h = if_fewer k ((value_of t s).0 == 0) _ _ (spend_fewer m (value_of t s).1 k) (spend_fewer n (value_of t s).1 k)
+op_fewer (TickBy t (suc n) (suc m)) s k h = if_fewer k ((value_of t s).0 == 0) _ _
+    (spend_fewer m (value_of t s).1 k) (spend_fewer n (value_of t s).1 k)
 op_fewer (Assign x t) s k h = absurd (cc)
 op_fewer (Store a t u) s k h = absurd (cc)
 op_fewer (Print t) s k h = absurd (cc)
@@ -65,7 +68,8 @@ op_fewer (Give p x) s k h = absurd (cc)
 op_fewer (Take p t) s k h = absurd (cc)
 op_fewer (Choose x t a b) s k h = absurd (cc)
 
-then_most : (k : ℕ) (o : OpsOutcome) (go : ProcState → ℕ → OpsOutcome) → AtMost k o → ((s : ProcState) (j : ℕ) → AtMost j (go s j)) → AtMost k (and_then o go)
+then_most : (k : ℕ) (o : OpsOutcome) (go : ProcState → ℕ → OpsOutcome) → AtMost k o
+    → ((s : ProcState) (j : ℕ) → AtMost j (go s j)) → AtMost k (and_then o go)
 then_most k (Done s j) go h f = raise j k h (go s j) (f s j)
 then_most k (Out o) go h f = tt
 
@@ -82,11 +86,13 @@ most_fewer : (j k : ℕ) → j < k → (o : OpsOutcome) → AtMost j o → Fewer
 most_fewer j k lt (Done s i) h = omega arith
 most_fewer j k lt (Out o) h = tt
 
-first_fewer : (k : ℕ) (o : OpsOutcome) (go : ProcState → ℕ → OpsOutcome) → Fewer k o → ((s : ProcState) (j : ℕ) → AtMost j (go s j)) → Fewer k (and_then o go)
+first_fewer : (k : ℕ) (o : OpsOutcome) (go : ProcState → ℕ → OpsOutcome) → Fewer k o
+    → ((s : ProcState) (j : ℕ) → AtMost j (go s j)) → Fewer k (and_then o go)
 first_fewer k (Done s j) go h f = most_fewer j k h (go s j) (f s j)
 first_fewer k (Out o) go h f = tt
 
-rest_fewer : (k : ℕ) (o : OpsOutcome) (go : ProcState → ℕ → OpsOutcome) → AtMost k o → ((s : ProcState) (j : ℕ) → Fewer j (go s j)) → Fewer k (and_then o go)
+rest_fewer : (k : ℕ) (o : OpsOutcome) (go : ProcState → ℕ → OpsOutcome) → AtMost k o
+    → ((s : ProcState) (j : ℕ) → Fewer j (go s j)) → Fewer k (and_then o go)
 rest_fewer k (Done s j) go h f = fewer_raise j k h (go s j) (f s j)
 rest_fewer k (Out o) go h f = tt
 
@@ -95,9 +101,11 @@ pub ops_fewer : (ops : List Op) → has_turn ops ≡ true → (s : ProcState) (k
 ops_fewer [] h s k = absurd (cc)
 ops_fewer (op ∷ ops) h s k = by_first (takes_turn op) refl
     (λ e. first_fewer k (run_op op s k) (run_ops ops) (op_fewer op s k e) (ops_most ops))
-    (λ e. rest_fewer k (run_op op s k) (run_ops ops) (op_most op s k) (ops_fewer ops (sym (ap (λ b. b || has_turn ops) e) ∙ h)))
+    (λ e. rest_fewer k (run_op op s k) (run_ops ops) (op_most op s k)
+    (ops_fewer ops (sym (ap (λ b. b || has_turn ops) e) ∙ h)))
   where
-    by_first : (b : Bool) → takes_turn op ≡ b → (takes_turn op ≡ true → Fewer k (run_ops (op ∷ ops) s k)) → (takes_turn op ≡ false → Fewer k (run_ops (op ∷ ops) s k)) → Fewer k (run_ops (op ∷ ops) s k)
+    by_first : (b : Bool) → takes_turn op ≡ b → (takes_turn op ≡ true → Fewer k (run_ops (op ∷ ops) s k))
+        → (takes_turn op ≡ false → Fewer k (run_ops (op ∷ ops) s k)) → Fewer k (run_ops (op ∷ ops) s k)
     by_first true e f i = f e
     by_first false e f i = i e
 
@@ -121,4 +129,5 @@ or_up false b false d f g h = g h
 -- a Tick is a turn
 pub has_tick_turns : (ops : List Op) → has_tick ops ≡ true → has_turn ops ≡ true
 has_tick_turns [] h = h
-has_tick_turns (op ∷ ops) h = or_up (is_tick op) (has_tick ops) (takes_turn op) (has_turn ops) (tick_turns op) (has_tick_turns ops) h
+has_tick_turns (op ∷ ops) h = or_up (is_tick op) (has_tick ops) (takes_turn op) (has_turn ops) (tick_turns op)
+    (has_tick_turns ops) h

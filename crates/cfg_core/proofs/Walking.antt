@@ -1,5 +1,7 @@
 -- What the code does block by block is what the walk does.
-use Rattle.std.proofs.Common.{ℕ, zero, suc, ◌+◌, ◌-◌, ◌≡◌, ◌<◌, ◌≤◌, Bool, true, false, List, [], ◌∷◌, ◌++◌, length, drop, map, if◌then◌else◌, refl, sym, ap, ◌∙◌, subst, append_assoc, arith}
+use Rattle.std.proofs.Common.{ℕ, zero, suc, ◌+◌, ◌-◌, ◌≡◌, ◌<◌, ◌≤◌, Bool, true, false, List, [], ◌∷◌, ◌++◌}
+use Rattle.std.proofs.Common.{length, drop, map, if◌then◌else◌, refl, sym, ap, ◌∙◌, subst, append_assoc}
+use Rattle.std.proofs.Common.{arith}
 use Rattle.ws_words.specs.Outside.{Outside, ProcState, World, zeros, opening_out}
 use Rattle.std.proofs.lemmas.List.{length-map}
 use Rattle.cfg_core.specs.Graph.{Graph, GraphArray, entry_of, proc_at}
@@ -33,14 +35,25 @@ pub record WalkUpto (g : Graph) (c : Config) (b : ℕ) (w : Walker) : Type 0 whe
   pub shows : Shows state frames left w
   pub same : walk g blocks c ≡ At b state frames left
 
-at_next : (g : Graph) (c d : Config) (n : ℕ) (b : ℕ) (w : Walker) → walk g n c ≡ d → NextIs d (next.At b) w → WalkUpto g c b w
-at_next g c (At e s frames k) n b w same h = record { blocks = n; state = s; frames = frames; left = k; shows = h.1; same = same ∙ ap (λ m. At m s frames k) h.0 }
+at_next : (g : Graph) (c d : Config) (n : ℕ) (b : ℕ) (w : Walker) → walk g n c ≡ d → NextIs d (next.At b) w
+    → WalkUpto g c b w
+at_next g c (At e s frames k) n b w same h = record {
+  blocks = n;
+  state = s;
+  frames = frames;
+  left = k;
+  shows = h.1;
+  same = same ∙ ap (λ m. At m s frames k) h.0;
+}
 at_next g c (Over o k) n b w same h = absurd h
 at_next g c (Going o) n b w same h = absurd h
 
 -- the code has come to the next block
-pub walk_next : (g : Graph) (c : Config) (b d : ℕ) (w n : Walker) → WalkUpto g c b w → ((s : ProcState) (frames : List walks.Frame) (k : ℕ) → Shows s frames k w → NextIs (step g (At b s frames k)) (next.At d) n) → WalkUpto g c d n
-walk_next g c b d w n u f = at_next g c (step g (At b u.state u.frames u.left)) (suc u.blocks) d n (walk_more g u.blocks c ∙ ap (step g) u.same) (f u.state u.frames u.left u.shows)
+pub walk_next : (g : Graph) (c : Config) (b d : ℕ) (w n : Walker) → WalkUpto g c b w
+    → ((s : ProcState) (frames : List walks.Frame) (k : ℕ) → Shows s frames k w
+    → NextIs (step g (At b s frames k)) (next.At d) n) → WalkUpto g c d n
+walk_next g c b d w n u f = at_next g c (step g (At b u.state u.frames u.left)) (suc u.blocks) d n
+    (walk_more g u.blocks c ∙ ap (step g) u.same) (f u.state u.frames u.left u.shows)
 
 over_final : (d : Config) (w : Walker) → NextIs d next.Over w → FinalIs d true w
 over_final (At e s frames k) w h = absurd h
@@ -53,19 +66,37 @@ going_final (Over o k) w h = absurd h
 going_final (Going o) w h = h
 
 -- the code has come to the end
-pub walk_over : (g : Graph) (c : Config) (b : ℕ) (w n : Walker) → WalkUpto g c b w → ((s : ProcState) (frames : List walks.Frame) (k : ℕ) → Shows s frames k w → NextIs (step g (At b s frames k)) next.Over n) → AnswerIs g c true n
-walk_over g c b w n u f = record { blocks = suc u.blocks; final = step g (At b u.state u.frames u.left); same = walk_more g u.blocks c ∙ ap (step g) u.same; is = over_final (step g (At b u.state u.frames u.left)) n (f u.state u.frames u.left u.shows) }
+pub walk_over : (g : Graph) (c : Config) (b : ℕ) (w n : Walker) → WalkUpto g c b w
+    → ((s : ProcState) (frames : List walks.Frame) (k : ℕ) → Shows s frames k w
+    → NextIs (step g (At b s frames k)) next.Over n) → AnswerIs g c true n
+walk_over g c b w n u f = record {
+  blocks = suc u.blocks;
+  final = step g (At b u.state u.frames u.left);
+  same = walk_more g u.blocks c ∙ ap (step g) u.same;
+  is = over_final (step g (At b u.state u.frames u.left)) n (f u.state u.frames u.left u.shows);
+}
 
 -- the code is out of turns
-pub walk_going : (g : Graph) (c : Config) (b : ℕ) (w n : Walker) → WalkUpto g c b w → ((s : ProcState) (frames : List walks.Frame) (k : ℕ) → Shows s frames k w → NextIs (step g (At b s frames k)) next.Going n) → AnswerIs g c false n
-walk_going g c b w n u f = record { blocks = suc u.blocks; final = step g (At b u.state u.frames u.left); same = walk_more g u.blocks c ∙ ap (step g) u.same; is = going_final (step g (At b u.state u.frames u.left)) n (f u.state u.frames u.left u.shows) }
+pub walk_going : (g : Graph) (c : Config) (b : ℕ) (w n : Walker) → WalkUpto g c b w
+    → ((s : ProcState) (frames : List walks.Frame) (k : ℕ) → Shows s frames k w
+    → NextIs (step g (At b s frames k)) next.Going n) → AnswerIs g c false n
+walk_going g c b w n u f = record {
+  blocks = suc u.blocks;
+  final = step g (At b u.state u.frames u.left);
+  same = walk_more g u.blocks c ∙ ap (step g) u.same;
+  is = going_final (step g (At b u.state u.frames u.left)) n (f u.state u.frames u.left u.shows);
+}
 
-length_stacked : (fs : List Frame) (below : List walks.Frame) → length (stacked fs below) ≡ length fs + length below
+length_stacked : (fs : List Frame) (below : List walks.Frame) → length (stacked fs below) ≡ length fs + length
+    below
 length_stacked [] below = omega arith
-length_stacked (f ∷ fs) below = let h = length_stacked fs (record { result = f.result; back = f.back; vars = f.vars } ∷ below) in omega (arith, h)
+length_stacked (f ∷ fs) below = let h =
+    length_stacked fs (record { result = f.result; back = f.back; vars = f.vars } ∷ below) in omega (arith, h)
 
-frames_of : (s : ProcState) (frames : List walks.Frame) (k : ℕ) (w : Walker) → Shows s frames k w → length frames ≡ length w.frames.items
-frames_of s frames k w sh = let h = length_stacked w.frames.items [] in ap length sh.waiting ∙ omega (arith, h)
+frames_of : (s : ProcState) (frames : List walks.Frame) (k : ℕ) (w : Walker) → Shows s frames k w
+    → length frames ≡ length w.frames.items
+frames_of s frames k w sh = let h = length_stacked w.frames.items [] in
+    ap length sh.waiting ∙ omega (arith, h)
 
 held_next : (d : Config) (b : ℕ) (w : Walker) → NextIs d (next.At b) w → Held w
 held_next (At e s frames k) b w h = record { state = s; frames = frames; left = k; shows = h.1 }
@@ -73,29 +104,41 @@ held_next (Over o k) b w h = absurd h
 held_next (Going o) b w h = absurd h
 
 -- the code holds a state at the next block
-pub still_held : (g : Graph) (b d : ℕ) (w n : Walker) → Held w → ((s : ProcState) (frames : List walks.Frame) (k : ℕ) → Shows s frames k w → NextIs (step g (At b s frames k)) (next.At d) n) → Held n
-still_held g b d w n h f = held_next (step g (At b h.state h.frames h.left)) d n (f h.state h.frames h.left h.shows)
+pub still_held : (g : Graph) (b d : ℕ) (w n : Walker) → Held w
+    → ((s : ProcState) (frames : List walks.Frame) (k : ℕ) → Shows s frames k w
+    → NextIs (step g (At b s frames k)) (next.At d) n) → Held n
+still_held g b d w n h f = held_next (step g (At b h.state h.frames h.left)) d n
+    (f h.state h.frames h.left h.shows)
 
 -- what falls at each block
 abbrev pub heft : Graph → ℕ → Walker → ℕ
 heft g b w = weight g (length w.frames.items) w.turns b
 
-lighter_next : (g : Graph) (limit : ℕ) (d : Config) (b : ℕ) (w : Walker) → Lighter g limit d → NextIs d (next.At b) w → heft g b w < limit
+lighter_next : (g : Graph) (limit : ℕ) (d : Config) (b : ℕ) (w : Walker) → Lighter g limit d
+    → NextIs d (next.At b) w → heft g b w < limit
 lighter_next g limit (At e s frames k) b w l h =
-    subst (λ n. weight g n w.turns b < limit) (frames_of s frames k w h.1) (subst (λ n. weight g (length frames) n b < limit) h.1.turns (subst (λ n. weight g (length frames) k n < limit) h.0 l))
+    subst (λ n. weight g n w.turns b < limit) (frames_of s frames k w h.1)
+    (subst (λ n. weight g (length frames) n b < limit) h.1.turns
+    (subst (λ n. weight g (length frames) k n < limit) h.0 l))
 lighter_next g limit (Over o k) b w l h = absurd h
 lighter_next g limit (Going o) b w l h = absurd h
 
 -- the measure falls at each block
-pub falls : (g : Graph) → IsGraph g → (b d : ℕ) (w n : Walker) → Held w → ((s : ProcState) (frames : List walks.Frame) (k : ℕ) → Shows s frames k w → NextIs (step g (At b s frames k)) (next.At d) n) → heft g d n < heft g b w
+pub falls : (g : Graph) → IsGraph g → (b d : ℕ) (w n : Walker) → Held w
+    → ((s : ProcState) (frames : List walks.Frame) (k : ℕ) → Shows s frames k w
+    → NextIs (step g (At b s frames k)) (next.At d) n) → heft g d n < heft g b w
 falls g rules b d w n h f =
     let l : Lighter g (heft g b w) (step g (At b h.state h.frames h.left)) =
-    subst (λ m. Lighter g (weight g m w.turns b) (step g (At b h.state h.frames h.left))) (frames_of h.state h.frames h.left w h.shows)
-    (subst (λ m. Lighter g (weight g (length h.frames) m b) (step g (At b h.state h.frames h.left))) h.shows.turns (step_lighter g rules b h.state h.frames h.left)) in
-    lighter_next g (heft g b w) (step g (At b h.state h.frames h.left)) d n l (f h.state h.frames h.left h.shows)
+    subst (λ m. Lighter g (weight g m w.turns b) (step g (At b h.state h.frames h.left)))
+    (frames_of h.state h.frames h.left w h.shows)
+    (subst (λ m. Lighter g (weight g (length h.frames) m b) (step g (At b h.state h.frames h.left)))
+    h.shows.turns (step_lighter g rules b h.state h.frames h.left)) in
+    lighter_next g (heft g b w) (step g (At b h.state h.frames h.left)) d n l
+    (f h.state h.frames h.left h.shows)
 
 -- one array more
-shown_one : (a : GraphArray) (more : List GraphArray) (cells : List (List ℕ)) (i : ℕ) → shown_cells (a ∷ more) (drop i cells) ≡ shown_at a cells i ++ shown_cells more (drop (suc i) cells)
+shown_one : (a : GraphArray) (more : List GraphArray) (cells : List (List ℕ)) (i : ℕ)
+    → shown_cells (a ∷ more) (drop i cells) ≡ shown_at a cells i ++ shown_cells more (drop (suc i) cells)
 shown_one a more [] zero = none_shown (has_name a) more
   where
     none_shown : (b : Bool) (more : List GraphArray) → [] ≡ (if b then [] else []) ++ shown_cells more []
@@ -112,13 +155,17 @@ shown_one a more [] (suc i) = none_shown (has_name a) more
     none_shown false (x ∷ more) = refl
 shown_one a more (r ∷ cells) zero = by_name (has_name a)
   where
-    by_name : (b : Bool) → (if b then r ∷ shown_cells more cells else shown_cells more cells) ≡ (if b then r ∷ [] else []) ++ shown_cells more cells
+    by_name : (b : Bool) → (if b then r ∷ shown_cells more cells else shown_cells more cells)
+        ≡ (if b then r ∷ [] else []) ++ shown_cells more cells
     by_name true = refl
     by_name false = refl
 shown_one a more (r ∷ cells) (suc i) = shown_one a more cells i
 
 -- one array more is shown
-pub shown_more : (arrays : List CodeArray) (cells rows next whole : List (List ℕ)) (i j : ℕ) (a : CodeArray) → j ≡ suc i → drop i arrays ≡ a ∷ drop j arrays → next ≡ rows ++ shown_at (view.array a) cells i → rows ++ shown_cells (map view.array (drop i arrays)) (drop i cells) ≡ whole → next ++ shown_cells (map view.array (drop j arrays)) (drop j cells) ≡ whole
+pub shown_more : (arrays : List CodeArray) (cells rows next whole : List (List ℕ)) (i j : ℕ) (a : CodeArray)
+    → j ≡ suc i → drop i arrays ≡ a ∷ drop j arrays → next ≡ rows ++ shown_at (view.array a) cells i
+    → rows ++ shown_cells (map view.array (drop i arrays)) (drop i cells) ≡ whole
+    → next ++ shown_cells (map view.array (drop j arrays)) (drop j cells) ≡ whole
 shown_more arrays cells rows next whole i j a ej e en h =
     let more = map view.array (drop j arrays) in
     ap (λ (rs : List (List ℕ)). rs ++ shown_cells more (drop j cells)) en
@@ -130,21 +177,31 @@ shown_more arrays cells rows next whole i j a ej e en h =
 
 -- the walk begins at this block, with so many variables
 abbrev pub start : Graph → World → ℕ → ℕ → ℕ → Config
-start g world turns b n = At b (record { vars = zeros n; out = opening_out (walks.cells_of g.arrays) world }) [] turns
+start g world turns b n = At b (record { vars = zeros n; out = opening_out (walks.cells_of g.arrays) world })
+    [] turns
 
-begun : (g : Graph) (world : World) (turns main entry vars : ℕ) (ended : Bool) (w : Walker) → main ≡ length g.procs - 1 → entry ≡ entry_of g main → vars ≡ (proc_at g main).vars → AnswerIs g (start g world turns entry vars) ended w → AnswerIs g (opening g world turns) ended w
+begun : (g : Graph) (world : World) (turns main entry vars : ℕ) (ended : Bool) (w : Walker)
+    → main ≡ length g.procs - 1 → entry ≡ entry_of g main → vars ≡ (proc_at g main).vars
+    → AnswerIs g (start g world turns entry vars) ended w → AnswerIs g (opening g world turns) ended w
 begun g world turns main entry vars ended w em ee ev h =
     subst (λ (c : Config). AnswerIs g c ended w)
-    (ap (λ n. start g world turns n vars) (ee ∙ ap (entry_of g) em) ∙ ap (start g world turns (entry_of g (length g.procs - 1))) (ev ∙ ap (λ n. (proc_at g n).vars) em)) h
+    (ap (λ n. start g world turns n vars) (ee ∙ ap (entry_of g) em)
+    ∙ ap (start g world turns (entry_of g (length g.procs - 1))) (ev ∙ ap (λ n. (proc_at g n).vars) em)) h
 
 -- the walk that the code begins is that of the graph
-pub opened : (table graph : CodeGraph) (world : World) (turns main entry vars : ℕ) (ended : Bool) (w : Walker) → table ≡ graph → main ≡ length graph.procs.items - 1 → entry ≡ entry_of (view.graph table) main → vars ≡ (proc_at (view.graph table) main).vars → AnswerIs (view.graph table) (start (view.graph graph) world turns entry vars) ended w → AnswerIs (view.graph graph) (opening (view.graph graph) world turns) ended w
+pub opened : (table graph : CodeGraph) (world : World) (turns main entry vars : ℕ) (ended : Bool) (w : Walker)
+    → table ≡ graph → main ≡ length graph.procs.items - 1 → entry ≡ entry_of (view.graph table) main
+    → vars ≡ (proc_at (view.graph table) main).vars → AnswerIs (view.graph table)
+    (start (view.graph graph) world turns entry vars) ended w → AnswerIs (view.graph graph)
+    (opening (view.graph graph) world turns) ended w
 opened table graph world turns main entry vars ended w same em ee ev h =
-    let last : main ≡ length (map view.proc graph.procs.items) - 1 = omega (arith, em, length-map graph.procs.items view.proc) in
+    let last : main ≡ length (map view.proc graph.procs.items) - 1 =
+    omega (arith, em, length-map graph.procs.items view.proc) in
     begun (view.graph graph) world turns main entry vars ended w last
     (subst (λ (x : CodeGraph). entry ≡ entry_of (view.graph x) main) same ee)
     (subst (λ (x : CodeGraph). vars ≡ (proc_at (view.graph x) main).vars) same ev)
-    (subst (λ (x : CodeGraph). AnswerIs (view.graph x) (start (view.graph graph) world turns entry vars) ended w) same h)
+    (subst (λ (x : CodeGraph). AnswerIs (view.graph x) (start (view.graph graph) world turns entry vars) ended
+    w) same h)
 
 pub record EndedIs (g : Graph) (world : World) (turns : ℕ) (w : Walker) : Type 0 where
   pub outside : Outside
@@ -152,19 +209,26 @@ pub record EndedIs (g : Graph) (world : World) (turns : ℕ) (w : Walker) : Type
   pub ends : EndsWith g world turns outside w.turns
 
 -- a run that ended is a walk that ends
-pub ended_is : (g : Graph) (world : World) (turns : ℕ) (w : Walker) (ended : Bool) → ended ≡ true → AnswerIs g (opening g world turns) ended w → EndedIs g world turns w
-ended_is g world turns w ended t h = by_final h.final h.same (subst (λ (b : Bool). FinalIs h.final b w) t h.is)
+pub ended_is : (g : Graph) (world : World) (turns : ℕ) (w : Walker) (ended : Bool) → ended ≡ true
+    → AnswerIs g (opening g world turns) ended w → EndedIs g world turns w
+ended_is g world turns w ended t h =
+    by_final h.final h.same (subst (λ (b : Bool). FinalIs h.final b w) t h.is)
   where
-    by_final : (c : Config) → walk g h.blocks (opening g world turns) ≡ c → FinalIs c true w → EndedIs g world turns w
+    by_final : (c : Config) → walk g h.blocks (opening g world turns) ≡ c → FinalIs c true w
+        → EndedIs g world turns w
     by_final (At b s frames k) e f = absurd f
-    by_final (Over o k) e f = record { outside = o; shows = f.0; ends = (h.blocks, e ∙ ap (λ n. Over o n) f.1) }
+    by_final (Over o k) e f =
+        record { outside = o; shows = f.0; ends = (h.blocks, e ∙ ap (λ n. Over o n) f.1) }
     by_final (Going o) e f = absurd f
 
 -- a run that did not is a walk that is going
-pub going_is : (g : Graph) (world : World) (turns : ℕ) (w : Walker) (ended : Bool) → ended ≡ false → AnswerIs g (opening g world turns) ended w → GoesSo g world turns w.memory.printed
-going_is g world turns w ended t h = by_final h.final h.same (subst (λ (b : Bool). FinalIs h.final b w) t h.is)
+pub going_is : (g : Graph) (world : World) (turns : ℕ) (w : Walker) (ended : Bool) → ended ≡ false
+    → AnswerIs g (opening g world turns) ended w → GoesSo g world turns w.memory.printed
+going_is g world turns w ended t h =
+    by_final h.final h.same (subst (λ (b : Bool). FinalIs h.final b w) t h.is)
   where
-    by_final : (c : Config) → walk g h.blocks (opening g world turns) ≡ c → FinalIs c false w → GoesSo g world turns w.memory.printed
+    by_final : (c : Config) → walk g h.blocks (opening g world turns) ≡ c → FinalIs c false w
+        → GoesSo g world turns w.memory.printed
     by_final (At b s frames k) e f = absurd f
     by_final (Over o k) e f = absurd f
     by_final (Going o) e f = record { outside = o; goes = (h.blocks, e); prints = sym f.same_printed }
@@ -174,7 +238,9 @@ pub in_time : (g : Graph) (world : World) (turns : ℕ) (w : Walker) → EndedIs
 in_time g world turns w h = let r = fewer g world turns w.turns h.outside h.ends in omega (arith, r.1)
 
 -- the answer says how the walk ends
-pub ends_so : (g : Graph) (world : World) (turns : ℕ) (w : Walker) (arrays : List (List ℕ)) → EndedIs g world turns w → arrays ≡ shown_cells g.arrays w.memory.cells → EndsInTurns g world turns w.memory.printed arrays w.memory.took (turns - w.turns)
+pub ends_so : (g : Graph) (world : World) (turns : ℕ) (w : Walker) (arrays : List (List ℕ))
+    → EndedIs g world turns w → arrays ≡ shown_cells g.arrays w.memory.cells
+    → EndsInTurns g world turns w.memory.printed arrays w.memory.took (turns - w.turns)
 ends_so g world turns w arrays h e =
     let r = fewer g world turns w.turns h.outside h.ends in
     let n : r.0 ≡ turns - w.turns = omega (arith, r.1) in

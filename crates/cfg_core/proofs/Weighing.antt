@@ -1,15 +1,22 @@
 -- What the blocks of a walk weigh is paid by a potential and by the turns.
-use Rattle.std.proofs.Common.{ℕ, zero, suc, ◌+◌, ◌-◌, ◌*◌, ◌≡◌, ◌<◌, ◌≤◌, ◌==◌, min, max, Bool, true, false, List, [], ◌∷◌, ◌++◌, length, if◌then◌else◌, refl, sym, ap, ◌∙◌, subst, inl, inr, arith}
+use Rattle.std.proofs.Common.{ℕ, zero, suc, ◌+◌, ◌-◌, ◌*◌, ◌≡◌, ◌<◌, ◌≤◌, ◌==◌, min, max, Bool, true, false}
+use Rattle.std.proofs.Common.{List, [], ◌∷◌, ◌++◌, length, if◌then◌else◌, refl, sym, ap, ◌∙◌, subst, inl, inr}
+use Rattle.std.proofs.Common.{arith}
 use Rattle.std.specs.List.{AllByRecursion, sum_by}
 use Rattle.std.proofs.Math.Nat.{mul-add, add-mul, mul_assoc, mul_comm}
 use Rattle.std.proofs.lemmas.Nat.{mul-le}
 use Rattle.std.proofs.lemmas.List.{length-append}
 use Rattle.std.proofs.lemmas.List.Sums.{sum_by-cons, sum_by-append}
 use Rattle.ws_words.specs.Outside.{Outside, ProcState, zeros}
-use Rattle.cfg_core.specs.Graph.{Op, Assign, Store, Print, Read, Give, Take, Choose, Tick, TickBy, Exit, Goto, Branch, Call, Return, Send, Stop, Block, GraphProc, Graph, no_spot, spots_in, spots_from, spots, spot_at, block_at, proc_at, entry_from, entry_of}
-use Rattle.cfg_core.specs.Walk.{value_of, values_of, OpsOutcome, Done, Out, and_then, spend, run_op, run_ops, Frame, Config, At, Over, Going, landed, landing, with_result, entered, returned, leave, passed, step, opening}
+use Rattle.cfg_core.specs.Graph.{Op, Assign, Store, Print, Read, Give, Take, Choose, Tick, TickBy, Exit, Goto}
+use Rattle.cfg_core.specs.Graph.{Branch, Call, Return, Send, Stop, Block, GraphProc, Graph, no_spot, spots_in}
+use Rattle.cfg_core.specs.Graph.{spots_from, spots, spot_at, block_at, proc_at, entry_from, entry_of}
+use Rattle.cfg_core.specs.Walk.{value_of, values_of, OpsOutcome, Done, Out, and_then, spend, run_op, run_ops}
+use Rattle.cfg_core.specs.Walk.{Frame, Config, At, Over, Going, landed, landing, with_result, entered}
+use Rattle.cfg_core.specs.Walk.{returned, leave, passed, step, opening}
 use Rattle.cfg_core.specs.Rules.{Lands, ExitIn, ProcNumbers, BlockNumbers, IsGraph}
-use Rattle.cfg_core.specs.Weights.{turns_of, turns_at, block_left, path, highest, handed_on, IsPotential, WeighsAtMost, first_block, WalksWeigh}
+use Rattle.cfg_core.specs.Weights.{turns_of, turns_at, block_left, path, highest, handed_on, IsPotential}
+use Rattle.cfg_core.specs.Weights.{WeighsAtMost, first_block, WalksWeigh}
 use Rattle.cfg_core.proofs.Total.{in_landing, lands_at}
 use Rattle.ws_words.specs.Items.{In}
 use Rattle.cfg_core.proofs.Spots.{each_at}
@@ -31,7 +38,8 @@ less : (n m k : ℕ) (o : OpsOutcome) → m ≤ n → Takes n k o → Takes m k 
 less n m k (Done s j) le h = omega arith
 less n m k (Out o) le h = tt
 
-if_takes : (n k : ℕ) (b : Bool) (o u : OpsOutcome) → Takes n k o → Takes n k u → Takes n k (if b then o else u)
+if_takes : (n k : ℕ) (b : Bool) (o u : OpsOutcome) → Takes n k o → Takes n k u
+    → Takes n k (if b then o else u)
 if_takes n k true o u h i = h
 if_takes n k false o u h i = i
 
@@ -55,7 +63,8 @@ op_takes (TickBy t n m) s k =
     (less m (min n m) k (spend m v.1 k) (omega arith) (spend_takes m v.1 k))
     (less n (min n m) k (spend n v.1 k) (omega arith) (spend_takes n v.1 k))
 
-then_takes : (n m k : ℕ) (o : OpsOutcome) (go : ProcState → ℕ → OpsOutcome) → Takes n k o → ((s : ProcState) (j : ℕ) → Takes m j (go s j)) → Takes (n + m) k (and_then o go)
+then_takes : (n m k : ℕ) (o : OpsOutcome) (go : ProcState → ℕ → OpsOutcome) → Takes n k o
+    → ((s : ProcState) (j : ℕ) → Takes m j (go s j)) → Takes (n + m) k (and_then o go)
 then_takes n m k (Done s j) go h f = still (go s j) (f s j)
   where
     still : (u : OpsOutcome) → Takes m j u → Takes (n + m) k u
@@ -67,7 +76,8 @@ ops_take : (ops : List Op) (s : ProcState) (k : ℕ) → Takes (sum_by turns_of 
 ops_take [] s k = no_turn s k
 ops_take (op ∷ ops) s k =
     subst (λ n. Takes n k (run_ops (op ∷ ops) s k)) (sym (sum_by-cons turns_of op ops))
-    (then_takes (turns_of op) (sum_by turns_of ops) k (run_op op s k) (run_ops ops) (op_takes op s k) (ops_take ops))
+    (then_takes (turns_of op) (sum_by turns_of ops) k (run_op op s k) (run_ops ops) (op_takes op s k)
+    (ops_take ops))
 
 -- Procedures begin at blocks that are there.
 
@@ -75,12 +85,24 @@ pub count_in : (home vars : ℕ) (xs : List Block) → length (spots_in home var
 count_in home vars [] = refl
 count_in home vars (x ∷ xs) = ap suc (count_in home vars xs)
 
-entry_there : (home first : ℕ) (ps : List GraphProc) → AllByRecursion ProcNumbers ps → (f : ℕ) → f < length ps → entry_from first ps f < first + length (spots_from home ps)
+entry_there : (home first : ℕ) (ps : List GraphProc) → AllByRecursion ProcNumbers ps → (f : ℕ) → f < length ps
+    → entry_from first ps f < first + length (spots_from home ps)
 entry_there home first [] h f lt = absurd (omega arith)
 entry_there home first (p ∷ ps) h zero lt =
-    omega (arith, length-append (spots_in home p.vars p.blocks) (spots_from (suc home) ps), count_in home p.vars p.blocks, h.0.some_block)
+    omega (
+      arith,
+      length-append (spots_in home p.vars p.blocks) (spots_from (suc home) ps),
+      count_in home p.vars p.blocks,
+      h.0.some_block,
+    )
 entry_there home first (p ∷ ps) h (suc f) lt =
-    omega (arith, length-append (spots_in home p.vars p.blocks) (spots_from (suc home) ps), count_in home p.vars p.blocks, entry_there (suc home) (first + length p.blocks) ps h.1 f (omega arith))
+    omega (
+      arith,
+      length-append (spots_in home p.vars p.blocks) (spots_from (suc home) ps),
+      count_in home p.vars p.blocks,
+      entry_there (suc home) (first + length p.blocks) ps h.1 f
+          (omega arith),
+    )
 
 highest_of : (p : ℕ → ℕ) (b : ℕ) (bs : List ℕ) → In b bs → p b ≤ highest p bs
 highest_of p b (c ∷ bs) (inl e) = let h : p b ≡ p c = ap p e in omega (arith, h)
@@ -88,24 +110,28 @@ highest_of p b (c ∷ bs) (inr i) = let h = highest_of p b bs i in omega (arith,
 highest_of p b [] i = absurd i
 
 paid_by_turns : (pay j n k : ℕ) → j + n ≤ k → pay * j + pay * n ≤ pay * k
-paid_by_turns pay j n k le = let e = mul-add pay j n in let h = mul-le pay (j + n) pay k (omega arith) le in omega (arith, e, h)
+paid_by_turns pay j n k le = let e = mul-add pay j n in let h = mul-le pay (j + n) pay k (omega arith) le in
+    omega (arith, e, h)
 
 all_in : (P : ℕ → Type 0) (bs : List ℕ) → AllByRecursion P bs → (b : ℕ) → In b bs → P b
 all_in P [] h b i = absurd i
 all_in P (c ∷ bs) h b (inl e) = subst P (sym e) h.0
 all_in P (c ∷ bs) h b (inr i) = all_in P bs h.1 b i
 
-module _ (g : Graph) (rules : IsGraph g) (weight : ℕ → ℕ) (pay : ℕ) (p : ℕ → ℕ) (paid : IsPotential g weight pay p) where
+module _ (g : Graph) (rules : IsGraph g) (weight : ℕ → ℕ) (pay : ℕ) (p : ℕ → ℕ)
+    (paid : IsPotential g weight pay p) where
   abbrev There : ℕ → Type 0
   There b = b < length (spots g)
 
   entry_in : (f : ℕ) → f < length g.procs → There (entry_of g f)
   unfolding entry_of
-  entry_in f lt = let z : 0 + length (spots g) ≡ length (spots g) = omega arith in subst (λ n. entry_of g f < n) z (entry_there 0 0 g.procs rules.numbers.procs f lt)
+  entry_in f lt = let z : 0 + length (spots g) ≡ length (spots g) = omega arith in
+      subst (λ n. entry_of g f < n) z (entry_there 0 0 g.procs rules.numbers.procs f lt)
 
   numbers_at : (b : ℕ) → BlockNumbers g (spot_at g b)
   unfolding spot_at no_spot
-  numbers_at b = each_at (BlockNumbers g) (spots g) no_spot rules.numbers.blocks (record { ops = tt; exit = tt; named = tt; once = tt }) b
+  numbers_at b = each_at (BlockNumbers g) (spots g) no_spot rules.numbers.blocks
+      (record { ops = tt; exit = tt; named = tt; once = tt }) b
 
   -- the potential of the return blocks of the calls that wait
   abbrev waiting : List Frame → ℕ
@@ -132,21 +158,32 @@ module _ (g : Graph) (rules : IsGraph g) (weight : ℕ → ℕ) (pay : ℕ) (p :
     abbrev Stepped : Config → Type 0
     Stepped d = IsThere d × (sum_by weight (block_left (At b s frames k) d) + left d ≤ left (At b s frames k))
 
-    leads_to : (c : ℕ) (t : ProcState) (fs : List Frame) (j : ℕ) → There c → AllThere fs → weight b + (p c + waiting fs) ≤ p b + pay * turns_at g b + waiting frames → j + turns_at g b ≤ k → Stepped (At c t fs j)
-    leads_to c t fs j here all h le = ((here, all), omega (arith, sum_by-cons weight b [], paid_by_turns pay j (turns_at g b) k le, h))
+    leads_to : (c : ℕ) (t : ProcState) (fs : List Frame) (j : ℕ) → There c → AllThere fs
+        → weight b + (p c + waiting fs) ≤ p b + pay * turns_at g b + waiting frames → j + turns_at g b ≤ k
+        → Stepped (At c t fs j)
+    leads_to c t fs j here all h le =
+        ((here, all), omega (arith, sum_by-cons weight b [], paid_by_turns pay j (turns_at g b) k le, h))
 
-    ends_at : (o : Outside) (j : ℕ) → weight b ≤ p b + pay * turns_at g b → j + turns_at g b ≤ k → Stepped (Over o j)
-    ends_at o j h le = (tt, omega (arith, sum_by-cons weight b [], paid_by_turns pay j (turns_at g b) k le, h))
+    ends_at : (o : Outside) (j : ℕ) → weight b ≤ p b + pay * turns_at g b → j + turns_at g b ≤ k
+        → Stepped (Over o j)
+    ends_at o j h le =
+        (tt, omega (arith, sum_by-cons weight b [], paid_by_turns pay j (turns_at g b) k le, h))
 
     if_stepped : (v : Bool) (c d : Config) → Stepped c → Stepped d → Stepped (if v then c else d)
     if_stepped true c d h i = h
     if_stepped false c d h i = i
 
-    returned_pays : (v : ℕ) (o : Outside) (fs : List Frame) (j : ℕ) → AllThere fs → waiting fs ≡ waiting frames → weight b ≤ p b + pay * turns_at g b → j + turns_at g b ≤ k → Stepped (returned v o fs j)
+    returned_pays : (v : ℕ) (o : Outside) (fs : List Frame) (j : ℕ) → AllThere fs
+        → waiting fs ≡ waiting frames → weight b ≤ p b + pay * turns_at g b → j + turns_at g b ≤ k
+        → Stepped (returned v o fs j)
     returned_pays v o [] j all e h le = ends_at o j h le
-    returned_pays v o (f ∷ fs) j all e h le = leads_to f.back (record { vars = with_result f.result v f.vars; out = o }) fs j all.0 all.1 (omega (arith, e, h)) le
+    returned_pays v o (f ∷ fs) j all e h le =
+        leads_to f.back (record { vars = with_result f.result v f.vars; out = o }) fs j all.0 all.1
+        (omega (arith, e, h)) le
 
-    leave_pays : (exit : Exit) (home vars : ℕ) → ExitIn g home vars exit → Lands g exit → weight b + handed_on g p exit ≤ p b + pay * turns_at g b → (t : ProcState) (j : ℕ) → j + turns_at g b ≤ k → Stepped (leave g exit t frames j)
+    leave_pays : (exit : Exit) (home vars : ℕ) → ExitIn g home vars exit → Lands g exit
+        → weight b + handed_on g p exit ≤ p b + pay * turns_at g b → (t : ProcState) (j : ℕ)
+        → j + turns_at g b ≤ k → Stepped (leave g exit t frames j)
     leave_pays (Goto c) home vars fit lands h t j le = leads_to c t frames j fit.0 there (omega (arith, h)) le
     leave_pays (Branch u c d) home vars fit lands h t j le =
         let v = value_of u t in
@@ -155,17 +192,26 @@ module _ (g : Graph) (rules : IsGraph g) (weight : ℕ → ℕ) (pay : ℕ) (p :
         (leads_to c v.1 frames j fit.1.0 there (omega (arith, h)) le)
     leave_pays (Call x f ts back) home vars fit lands h t j le =
         let vs = values_of ts t in
-        leads_to (entry_of g f) (record { vars = entered (proc_at g f) vs.0; out = vs.1.out }) (record { result = x; back = back; vars = vs.1.vars } ∷ frames) j (entry_in f fit.1) (fit.4.0, there) (omega (arith, h)) le
-    leave_pays (Return u) home vars fit lands h t j le = returned_pays (value_of u t).0 (value_of u t).1.out frames j there refl (omega (arith, h)) le
+        leads_to (entry_of g f) (record { vars = entered (proc_at g f) vs.0; out = vs.1.out })
+        (record { result = x; back = back; vars = vs.1.vars } ∷ frames) j (entry_in f fit.1)
+        (fit.4.0, there) (omega (arith, h)) le
+    leave_pays (Return u) home vars fit lands h t j le = returned_pays (value_of u t).0 (value_of u t).1.out
+        frames j there refl (omega (arith, h)) le
     leave_pays (Send u ts ls) home vars fit lands h t j le =
         let a = value_of u t in let c = landing a.0 ls in
         let i : In c ls = in_landing a.0 ls lands.0 in
         let vs = values_of ts a.1 in
-        leads_to c (record { vars = landed (block_at g c).named vs.0 (zeros (spot_at g c).vars); out = vs.1.out }) frames j (all_in There ls fit.2 c i) there (omega (arith, h, highest_of p c ls i)) le
+        leads_to c (record {
+          vars = landed (block_at g c).named vs.0 (zeros (spot_at g c).vars);
+          out = vs.1.out;
+        }) frames j (all_in There ls fit.2 c i) there
+        (omega (arith, h, highest_of p c ls i)) le
     leave_pays Stop home vars fit lands h t j le = ends_at t.out j (omega (arith, h)) le
 
-    passed_pays : (o : OpsOutcome) → Takes (turns_at g b) k o → There b → Stepped (passed g o (block_at g b).exit frames)
-    passed_pays (Done t j) le here = leave_pays (block_at g b).exit (spot_at g b).home (spot_at g b).vars (numbers_at b).exit (lands_at g rules b) (paid b here) t j le
+    passed_pays : (o : OpsOutcome) → Takes (turns_at g b) k o → There b
+        → Stepped (passed g o (block_at g b).exit frames)
+    passed_pays (Done t j) le here = leave_pays (block_at g b).exit (spot_at g b).home (spot_at g b).vars
+        (numbers_at b).exit (lands_at g rules b) (paid b here) t j le
     passed_pays (Out o) le here = (tt, omega arith)
 
     step_pays : There b → Stepped (step g (At b s frames k))
@@ -173,16 +219,20 @@ module _ (g : Graph) (rules : IsGraph g) (weight : ℕ → ℕ) (pay : ℕ) (p :
 
   none_left : (n : ℕ) (c : Config) → step g c ≡ c → block_left c c ≡ [] → path g n c ≡ []
   none_left zero c e h = refl
-  none_left (suc n) c e h = subst (λ (d : Config). block_left c d ++ path g n d ≡ []) (sym e) (ap (λ (bs : List ℕ). bs ++ path g n c) h ∙ none_left n c e h)
+  none_left (suc n) c e h = subst (λ (d : Config). block_left c d ++ path g n d ≡ []) (sym e)
+      (ap (λ (bs : List ℕ). bs ++ path g n c) h ∙ none_left n c e h)
 
   path_paid : (n : ℕ) (c : Config) → IsThere c → sum_by weight (path g n c) ≤ left c
   path_paid zero c h = omega arith
   path_paid (suc n) (At b s frames k) h =
       let c = At b s frames k in let d = step g c in
-      let r : IsThere d × (sum_by weight (block_left c d) + left d ≤ left c) = step_pays b s frames k h.1 h.0 in
+      let r : IsThere d × (sum_by weight (block_left c d) + left d ≤ left c) =
+      step_pays b s frames k h.1 h.0 in
       omega (arith, sum_by-append weight (block_left c d) (path g n d), path_paid n d r.0, r.1)
-  path_paid (suc n) (Over o k) h = let e = ap (sum_by weight) (none_left (suc n) (Over o k) refl refl) in omega (arith, e)
-  path_paid (suc n) (Going o) h = let e = ap (sum_by weight) (none_left (suc n) (Going o) refl refl) in omega (arith, e)
+  path_paid (suc n) (Over o k) h = let e = ap (sum_by weight) (none_left (suc n) (Over o k) refl refl) in
+      omega (arith, e)
+  path_paid (suc n) (Going o) h = let e = ap (sum_by weight) (none_left (suc n) (Going o) refl refl) in
+      omega (arith, e)
 
   -- from the first block of the last procedure, with n turns
   pub walk_paid : WalksWeigh g weight (p (first_block g)) pay
@@ -198,12 +248,15 @@ highest_times d p [] = omega arith
 highest_times d p (b ∷ bs) = most_times d (p b) (highest p bs) _ (highest_times d p bs)
   where
     most_times : (d m n k : ℕ) → k ≤ d * n → max (d * m) k ≤ d * max m n
-    most_times d m n k le = let h = mul-le d m d (max m n) (omega arith) (omega arith) in let i = mul-le d n d (max m n) (omega arith) (omega arith) in omega (arith, h, i)
+    most_times d m n k le = let h = mul-le d m d (max m n) (omega arith) (omega arith) in
+        let i = mul-le d n d (max m n) (omega arith) (omega arith) in omega (arith, h, i)
 
 max_times : (d m n : ℕ) → max (d * m) (d * n) ≤ d * max m n
-max_times d m n = let h = mul-le d m d (max m n) (omega arith) (omega arith) in let i = mul-le d n d (max m n) (omega arith) (omega arith) in omega (arith, h, i)
+max_times d m n = let h = mul-le d m d (max m n) (omega arith) (omega arith) in
+    let i = mul-le d n d (max m n) (omega arith) (omega arith) in omega (arith, h, i)
 
-handed_times : (g : Graph) (d : ℕ) (p : ℕ → ℕ) (exit : Exit) → handed_on g (λ b. d * p b) exit ≤ d * handed_on g p exit
+handed_times : (g : Graph) (d : ℕ) (p : ℕ → ℕ) (exit : Exit) → handed_on g (λ b. d * p b) exit ≤ d * handed_on
+    g p exit
 handed_times g d p (Goto b) = omega arith
 handed_times g d p (Branch t a b) = max_times d (p a) (p b)
 handed_times g d p (Call x f ts back) = let e = mul-add d (p (entry_of g f)) (p back) in omega (arith, e)
@@ -211,20 +264,28 @@ handed_times g d p (Return t) = omega arith
 handed_times g d p (Send t ts ls) = highest_times d p ls
 handed_times g d p Stop = omega arith
 
-scale : (base pay more weight turns p after times : ℕ) → weight ≤ base + pay * turns → 1 + after ≤ p + more * turns → times ≤ base * after → weight + times ≤ base * p + (pay + more * base) * turns
+scale : (base pay more weight turns p after times : ℕ) → weight ≤ base + pay * turns
+    → 1 + after ≤ p + more * turns → times ≤ base * after → weight + times ≤ base * p + (pay + more * base)
+    * turns
 scale base pay more weight turns p after times h i j =
     let a = mul-le base (1 + after) base (p + more * turns) (omega arith) i in
     let b = mul-add base 1 after in let c = mul-add base p (more * turns) in
     let d = add-mul pay (more * base) turns in
-    let e : base * (more * turns) ≡ more * base * turns = sym (mul_assoc base more turns) ∙ ap (λ n. n * turns) (mul_comm base more) in
+    let e : base * (more * turns) ≡ more * base * turns = sym (mul_assoc base more turns)
+    ∙ ap (λ n. n * turns) (mul_comm base more) in
     omega (arith, a, b, c, d, e, h, j)
 
-pub multiple_pays : (g : Graph) (weight p : ℕ → ℕ) (base pay more : ℕ) → IsPotential g (λ b. 1) more p → WeighsAtMost g weight base pay → IsPotential g weight (pay + more * base) (λ b. base * p b)
+pub multiple_pays : (g : Graph) (weight p : ℕ → ℕ) (base pay more : ℕ) → IsPotential g (λ b. 1) more p
+    → WeighsAtMost g weight base pay → IsPotential g weight (pay + more * base) (λ b. base * p b)
 multiple_pays g weight p base pay more one most b lt =
-    scale base pay more (weight b) (turns_at g b) (p b) (handed_on g p (block_at g b).exit) _ (most b lt) (one b lt) (handed_times g base p (block_at g b).exit)
+    scale base pay more (weight b) (turns_at g b) (p b) (handed_on g p (block_at g b).exit) _ (most b lt)
+    (one b lt) (handed_times g base p (block_at g b).exit)
 
 -- where the walk begins at a potential of at most 1
-pub walk_bounded : (g : Graph) (weight p : ℕ → ℕ) (base pay more : ℕ) → IsGraph g → IsPotential g (λ b. 1) more p → p (first_block g) ≤ 1 → WeighsAtMost g weight base pay → WalksWeigh g weight base (pay + more * base)
+pub walk_bounded : (g : Graph) (weight p : ℕ → ℕ) (base pay more : ℕ) → IsGraph g
+    → IsPotential g (λ b. 1) more p → p (first_block g) ≤ 1 → WeighsAtMost g weight base pay
+    → WalksWeigh g weight base (pay + more * base)
 walk_bounded g weight p base pay more rules one low most world n m =
-    let h = walk_paid g rules weight (pay + more * base) (λ b. base * p b) (multiple_pays g weight p base pay more one most) world n m in
+    let h = walk_paid g rules weight (pay + more * base) (λ b. base * p b)
+    (multiple_pays g weight p base pay more one most) world n m in
     omega (arith, h, mul-le base (p (first_block g)) base 1 (omega arith) low)

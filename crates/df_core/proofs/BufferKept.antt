@@ -1,5 +1,6 @@
 -- An issue keeps the buffer legal.
-use Rattle.std.proofs.Common.{ℕ, suc, ◌≡◌, ◌<◌, ◌≤◌, ◌⊎◌, Bool, true, false, List, Option, Some, None, sym, ap, ◌∙◌, inl, inr, arith}
+use Rattle.std.proofs.Common.{ℕ, suc, ◌≡◌, ◌<◌, ◌≤◌, ◌⊎◌, Bool, true, false, List, Option, Some, None, sym}
+use Rattle.std.proofs.Common.{ap, ◌∙◌, inl, inr, arith}
 use Rattle.std.proofs.lemmas.Bool.{cases_Bool, cases_lt, both_ways}
 use Rattle.ws_words.specs.Outside.{Outside, World}
 use Rattle.ws_isa.specs.Image.{Image, is_memory, is_load, note_of, answer, is_past}
@@ -15,8 +16,11 @@ use Rattle.df_core.proofs.Effects.{effect_quiet}
 use Rattle.df_core.proofs.Pauses.{load_quiet, no_op_no_write, mem_same}
 use Rattle.df_core.proofs.Passing.{later_op, later, passes_legal}
 
-module _ (image : Image) (world : World) (facts : WalkFacts image world) (issued : ℕ → ℕ → Option ℕ) (chain : Chain) (stopped : Bool) (memory : Outside) (settled : NoneNext image issued chain) (w i : ℕ) (xs : List ℕ) (may : Issuable image issued chain stopped w i xs)
-    (u : ℕ) (x : Inst) (at : FiresAt image world w i u x) (xs_are : x.operands ≡ xs) (mi : is_memory image i ≡ true)
+module _ (image : Image) (world : World) (facts : WalkFacts image world) (issued : ℕ → ℕ → Option ℕ)
+    (chain : Chain) (stopped : Bool) (memory : Outside) (settled : NoneNext image issued chain) (w i : ℕ)
+    (xs : List ℕ) (may : Issuable image issued chain stopped w i xs)
+    (u : ℕ) (x : Inst) (at : FiresAt image world w i u x) (xs_are : x.operands ≡ xs)
+    (mi : is_memory image i ≡ true)
     (cut : ℕ) (ord : Ordered image world cut issued chain memory) where
   mx : is_memory image x.instr ≡ true
   mx = ap (is_memory image) at.instr ∙ mi
@@ -26,15 +30,18 @@ module _ (image : Image) (world : World) (facts : WalkFacts image world) (issued
 
   pub from : cut ≤ u
   from = elim (cases_lt u cut) [
-    | inl l ↦ (let e : issued w i ≡ Some x.result = rw (at.wave, at.instr) at (ord.passed u x l at.fires mx) in
+    | inl l ↦
+        (let e : issued w i ≡ Some x.result = rw (at.wave, at.instr) at (ord.passed u x l at.fires mx) in
         let f : Some x.result ≡ None = sym e ∙ may.fresh in cc)
     | inr l ↦ l
   ]
 
   quiet : NoWrite image world cut u
   quiet = elim may.turn [
-    | inl n ↦ no_op_no_write image world cut u (facts.only_first cut u x at.fires mx wave_now (rw (at.instr, ← ord.chain) n))
-    | inr l ↦ facts.rippled cut u x from at.fires (ap (is_load image) at.instr ∙ l.0) wave_now (rw (at.instr, ← ord.chain) l.2)
+    | inl n ↦ no_op_no_write image world cut u (facts.only_first cut u x at.fires mx wave_now
+        (rw (at.instr, ← ord.chain) n))
+    | inr l ↦ facts.rippled cut u x from at.fires (ap (is_load image) at.instr ∙ l.0) wave_now
+        (rw (at.instr, ← ord.chain) l.2)
   ]
 
   memory_now : effect_at image world u ≡ memory
@@ -44,19 +51,28 @@ module _ (image : Image) (world : World) (facts : WalkFacts image world) (issued
   answer_right = rw (← memory_now, ← xs_are, ← at.instr) (sym (facts.answered u x at.fires mx))
 
   pub here : issued_with image issued memory w i xs x.wave x.instr ≡ Some x.result
-  here = rw (at.wave, at.instr) (with_key_same w i (Some (answer image i xs memory)) issued ∙ ap (λ (n : ℕ). Some n) answer_right)
+  here = rw (at.wave, at.instr) (with_key_same w i (Some (answer image i xs memory)) issued
+      ∙ ap (λ (n : ℕ). Some n) answer_right)
 
-  still_passed : (t : ℕ) (y : Inst) → t < cut → fires image world t ≡ Some y → is_memory image y.instr ≡ true → issued_with image issued memory w i xs y.wave y.instr ≡ Some y.result
-  still_passed t y l fy my = elim (with_key_cases w i (Some (answer image i xs memory)) issued y.wave y.instr) [
-    | inl h ↦ (let e : issued w i ≡ Some y.result = rw (h.0.wave, h.0.instr) (ord.passed t y l fy my) in
-        let f : Some y.result ≡ None = sym e ∙ may.fresh in cc)
-    | inr h ↦ h.1 ∙ ord.passed t y l fy my
-  ]
+  still_passed : (t : ℕ) (y : Inst) → t < cut → fires image world t ≡ Some y → is_memory image y.instr ≡ true
+      → issued_with image issued memory w i xs y.wave y.instr ≡ Some y.result
+  still_passed t y l fy my =
+      elim (with_key_cases w i (Some (answer image i xs memory)) issued y.wave y.instr) [
+        | inl h ↦ (let e : issued w i ≡ Some y.result = rw (h.0.wave, h.0.instr) (ord.passed t y l fy my) in
+            let f : Some y.result ≡ None = sym e ∙ may.fresh in cc)
+        | inr h ↦ h.1 ∙ ord.passed t y l fy my
+      ]
 
   -- an issued operation: this one, or one that was issued before
-  pub issued_from : (a b n : ℕ) → issued_with image issued memory w i xs a b ≡ Some n → (SameKey w i a b × (n ≡ x.result)) ⊎ (issued a b ≡ Some n)
+  pub issued_from : (a b n : ℕ) → issued_with image issued memory w i xs a b ≡ Some n
+      → (SameKey w i a b × (n ≡ x.result)) ⊎ (issued a b ≡ Some n)
   issued_from a b n e = elim (with_key_cases w i (Some (answer image i xs memory)) issued a b) [
-    | inl h ↦ inl (h.0, (let f : Some (answer image i xs memory) ≡ Some n = sym h.1 ∙ e in let g : answer image i xs memory ≡ n = cc in sym g ∙ answer_right))
+    | inl h ↦
+        inl (
+          h.0,
+          (let f : Some (answer image i xs memory) ≡ Some n = sym h.1 ∙ e in
+              let g : answer image i xs memory ≡ n = cc in sym g ∙ answer_right),
+        )
     | inr h ↦ inr (sym h.1 ∙ e)
   ]
 
@@ -64,12 +80,16 @@ module _ (image : Image) (world : World) (facts : WalkFacts image world) (issued
     here_within : is_past image x.instr x.operands ≡ false
     here_within = rw (xs_are, at.instr) inside
 
-    pub next_ordered : IsNext chain (note_of image i) → Ordered image world (suc u) (issued_with image issued memory w i xs) (pass chain (note_of image x.instr)) (effect_after image i xs memory)
+    pub next_ordered : IsNext chain (note_of image i) → Ordered image world (suc u)
+        (issued_with image issued memory w i xs) (pass chain (note_of image x.instr))
+        (effect_after image i xs memory)
     next_ordered nx =
         let nx' : IsNext (chain_at image world cut) (note_of image x.instr) = rw (at.instr, ← ord.chain) nx in
         let first : NoOp image world cut u = facts.only_first cut u x at.fires mx wave_now nx' in
-        let after_u : effect_after image i xs memory ≡ effect_at image world (suc u) = rw (← memory_now, ← xs_are, ← at.instr) (sym (facts.mem_op u x at.fires mx)) in
-        later image world facts cut u x from first at.fires mx (issued_with image issued memory w i xs) chain (effect_after image i xs memory) still_passed ord.within here_within ord.chain after_u here
+        let after_u : effect_after image i xs memory ≡ effect_at image world (suc u) =
+        rw (← memory_now, ← xs_are, ← at.instr) (sym (facts.mem_op u x at.fires mx)) in
+        later image world facts cut u x from first at.fires mx (issued_with image issued memory w i xs) chain
+        (effect_after image i xs memory) still_passed ord.within here_within ord.chain after_u here
         (λ a b n e. elim (issued_from a b n e) [
           | inl h ↦ (record {
             time = u;
@@ -82,12 +102,14 @@ module _ (image : Image) (world : World) (facts : WalkFacts image world) (issued
           | inr h ↦ later_op image world facts cut u x from first at.fires mx a b n (ord.others a b n h)
         ])
 
-    pub early_ordered : is_load image i ≡ true → Ordered image world cut (issued_with image issued memory w i xs) chain (effect_after image i xs memory)
+    pub early_ordered : is_load image i ≡ true → Ordered image world cut
+        (issued_with image issued memory w i xs) chain (effect_after image i xs memory)
     early_ordered l = record {
       passed = still_passed;
       within = ord.within;
       chain = ord.chain;
-      memory = ap (effect_after image i xs) ord.memory ∙ effect_quiet image world i xs cut (load_quiet image i l);
+      memory = ap (effect_after image i xs) ord.memory ∙ effect_quiet image world i xs cut
+          (load_quiet image i l);
       others = λ a b n e. elim (issued_from a b n e) [
         | inl h ↦ (record {
           time = u;
@@ -95,28 +117,54 @@ module _ (image : Image) (world : World) (facts : WalkFacts image world) (issued
           at = record { fires = at.fires; wave = at.wave ∙ h.0.wave; instr = at.instr ∙ h.0.instr };
           memory = ap (is_memory image) (sym h.0.instr) ∙ mi;
           answer = h.1;
-          place = inr (from, record { load = ap (is_load image) at.instr ∙ l; within = here_within; wave = wave_now; no_write = quiet });
+          place = inr (
+            from,
+            record {
+              load = ap (is_load image) at.instr ∙ l;
+              within = here_within;
+              wave = wave_now;
+              no_write = quiet;
+            },
+          );
         })
         | inr h ↦ ord.others a b n h
       ];
     }
 
-    new_legal_next : IsNext chain (note_of image i) → (c : Chain) → Passes image (issued_with image issued memory w i xs) chain c → Legal image world (issued_with image issued memory w i xs) waiting stopped c (effect_after image i xs memory)
-    new_legal_next nx c (stays none) = absurd (none i (answer image i xs memory) (rw (← may.current) (with_key_same w i (Some (answer image i xs memory)) issued)) nx)
+    new_legal_next : IsNext chain (note_of image i) → (c : Chain)
+        → Passes image (issued_with image issued memory w i xs) chain c
+        → Legal image world (issued_with image issued memory w i xs) waiting stopped c
+        (effect_after image i xs memory)
+    new_legal_next nx c (stays none) =
+        absurd (none i (answer image i xs memory)
+        (rw (← may.current) (with_key_same w i (Some (answer image i xs memory)) issued)) nx)
     new_legal_next nx c (passes j a e nj rest) =
-        let ij : i ≡ j = elim (issued_from chain.wave j a e) [ inl h ↦ h.0.instr | inr h ↦ absurd (settled j a h nj) ] in
+        let ij : i ≡ j = elim (issued_from chain.wave j a e) [
+          | inl h ↦ h.0.instr
+          | inr h ↦
+              absurd (settled j a h nj)
+        ] in
         let e' : x.instr ≡ j = at.instr ∙ ij in
-        let o : Ordered image world (suc u) (issued_with image issued memory w i xs) (pass chain (note_of image x.instr)) (effect_after image i xs memory) = next_ordered nx in
-        passes_legal image world facts (issued_with image issued memory w i xs) waiting stopped may.going (pass chain (note_of image j)) c (effect_after image i xs memory) (suc u) rest (rw e' at o)
+        let o : Ordered image world (suc u) (issued_with image issued memory w i xs)
+        (pass chain (note_of image x.instr)) (effect_after image i xs memory) = next_ordered nx in
+        passes_legal image world facts (issued_with image issued memory w i xs) waiting stopped may.going
+        (pass chain (note_of image j)) c (effect_after image i xs memory) (suc u) rest (rw e' at o)
 
-    new_legal_early : is_load image i ≡ true → (c : Chain) → Passes image (issued_with image issued memory w i xs) chain c → Legal image world (issued_with image issued memory w i xs) waiting stopped c (effect_after image i xs memory)
-    new_legal_early l c p = passes_legal image world facts (issued_with image issued memory w i xs) waiting stopped may.going chain c (effect_after image i xs memory) cut p (early_ordered l)
+    new_legal_early : is_load image i ≡ true → (c : Chain)
+        → Passes image (issued_with image issued memory w i xs) chain c
+        → Legal image world (issued_with image issued memory w i xs) waiting stopped c
+        (effect_after image i xs memory)
+    new_legal_early l c p = passes_legal image world facts (issued_with image issued memory w i xs) waiting
+        stopped may.going chain c (effect_after image i xs memory) cut p (early_ordered l)
 
-    pub new_legal : (c : Chain) → Passes image (issued_with image issued memory w i xs) chain c → Legal image world (issued_with image issued memory w i xs) waiting stopped c (effect_after image i xs memory)
+    pub new_legal : (c : Chain) → Passes image (issued_with image issued memory w i xs) chain c
+        → Legal image world (issued_with image issued memory w i xs) waiting stopped c
+        (effect_after image i xs memory)
     new_legal c p = elim may.turn [ inl n ↦ new_legal_next n c p | inr l ↦ new_legal_early l.0 c p ]
 
   -- past the end: it is next, and all before it are passed
-  module _ (beyond : is_past image i xs ≡ true) (waiting : ℕ → ℕ → Option (List ℕ)) (waits : waiting w i ≡ Some xs) where
+  module _ (beyond : is_past image i xs ≡ true) (waiting : ℕ → ℕ → Option (List ℕ))
+      (waits : waiting w i ≡ Some xs) where
     pub here_past : is_past image x.instr x.operands ≡ true
     here_past = rw (xs_are, at.instr) beyond
 
@@ -132,7 +180,11 @@ module _ (image : Image) (world : World) (facts : WalkFacts image world) (issued
       fired = at.fires;
       is_past = past_is image x ∙ here_past;
       first = λ t y l fy. past_is image y ∙ elim (cases_Bool (is_memory image y.instr)) [
-        | inl my ↦ elim (cases_lt t cut) [ inl h ↦ ord.within t y h fy my | inr h ↦ absurd (none_between t y h l fy my) ]
+        | inl my ↦ elim (cases_lt t cut) [
+          | inl h ↦ ord.within t y h fy my
+          | inr h ↦
+              absurd (none_between t y h l fy my)
+        ]
         | inr my ↦ plain_within image y.instr y.operands my
       ];
     }

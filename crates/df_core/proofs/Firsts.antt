@@ -1,5 +1,6 @@
 -- Of the requests that wait in a wave, the one that is next has the smallest number.
-use Rattle.std.proofs.Common.{ℕ, ◌≡◌, ◌<◌, ◌≤◌, Bool, true, List, Option, Some, None, inl, inr, sym, ap, ◌∙◌, subst, arith}
+use Rattle.std.proofs.Common.{ℕ, ◌≡◌, ◌<◌, ◌≤◌, Bool, true, List, Option, Some, None, inl, inr, sym, ap, ◌∙◌}
+use Rattle.std.proofs.Common.{subst, arith}
 use Rattle.std.proofs.lemmas.Bool.{cases_lt, cases_eq}
 use Rattle.ws_words.specs.Outside.{World, Outside}
 use Rattle.ws_isa.specs.Image.{Image, note_of, is_memory}
@@ -34,7 +35,8 @@ module _ (image : Image) (world : World) (formed : Formed image) (sound : Sound 
         | inr q ↦ absurd (elim (cases_lt x.time y.time) [
           | inl l ↦ (
               let up : seq image x.inst.instr < seq image y.inst.instr =
-              seq_up image world sound.shape sound.links x.time y.time x.inst y.inst l x.at.fires mx y.at.fires my ww in
+              seq_up image world sound.shape sound.links x.time y.time x.inst y.inst l x.at.fires mx
+              y.at.fires my ww in
               omega (arith, si, sj, up, same))
           | inr l ↦ (
               let up : seq image y.inst.instr < seq image x.inst.instr =

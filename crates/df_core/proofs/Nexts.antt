@@ -30,7 +30,8 @@ is_nothing' Unknown e = absurd (let f : Unknown ≡ Nothing = e in cc)
 
 after_is : (o : Option Note) (n : Note) → next_after o n ≡ true → NextAfter o n
 after_is None n e = nothing_is n.pred e
-after_is (Some m) n e = elim (either (names m.succ n.seq) (names n.pred m.seq) e) [ inl h ↦ inl (names_is m.succ n.seq h) | inr h ↦ inr (names_is n.pred m.seq h) ]
+after_is (Some m) n e = elim (either (names m.succ n.seq) (names n.pred m.seq) e)
+    [ inl h ↦ inl (names_is m.succ n.seq h) | inr h ↦ inr (names_is n.pred m.seq h) ]
 
 is_after : (o : Option Note) (n : Note) → NextAfter o n → next_after o n ≡ true
 is_after None n h = is_nothing' n.pred h

@@ -1,5 +1,7 @@
 -- The parts of the opening state.
-use Rattle.std.proofs.Common.{ℕ, zero, suc, ◌≡◌, ◌≤◌, Bool, true, false, cond, eqb, List, [], ◌++◌, length, map, replicate, Option, None, slice_index_or, refl, sym, ap, ◌∙◌, subst, inl, inr, is_some}
+use Rattle.std.proofs.Common.{ℕ, zero, suc, ◌≡◌, ◌≤◌, Bool, true, false, cond, eqb, List, [], ◌++◌, length}
+use Rattle.std.proofs.Common.{map, replicate, Option, None, slice_index_or, refl, sym, ap, ◌∙◌, subst, inl}
+use Rattle.std.proofs.Common.{inr, is_some}
 use Rattle.std.proofs.lemmas.List.{append-nil}
 use Rattle.std.specs.HashMap.{IsEmpty}
 use Rattle.ws_words.specs.Outside.{World, opening_out}
@@ -37,8 +39,10 @@ either_none : (b : Bool) (o : Option ℕ) → o ≡ None → cond b o None ≡ N
 either_none true o e = e
 either_none false o e = refl
 
-nothing_kept : (n : ℕ) (spill : Spill) → IsEmpty spill → (w i p : ℕ) → partial_of (replicate n empty_slot) spill w i p ≡ None
-nothing_kept n spill e w i p = rw (empty_at n i, either_none (eqb 0 w) (port_of empty_slot p) (no_port p), e) (no_port p)
+nothing_kept : (n : ℕ) (spill : Spill) → IsEmpty spill → (w i p : ℕ) → partial_of (replicate n empty_slot)
+    spill w i p ≡ None
+nothing_kept n spill e w i p = rw (empty_at n i, either_none (eqb 0 w) (port_of empty_slot p) (no_port p), e)
+    (no_port p)
 
 pub start_is : (image : Image) → pad_of (block_at image 1).pads 0 ≡ start_dests image
 unfolding start_dests
@@ -47,19 +51,30 @@ start_is image = refl
 pub start_few : (image : Image) → Formed image → length (start_dests image) ≤ 8
 start_few image formed = subst (λ (ds : List Dest). length ds ≤ 8) (start_is image) (pad_few image formed 1 0)
 
-sent_first : (old new : Way) (ts : List plain.Token) → old.now.items ≡ [] → old.later.items ≡ [] → SentTo old new ts → way_of new ≡ ts
-sent_first old new ts a b (inl h) = ap (λ xs. xs ++ map token_of new.later.items) (h.0 ∙ ap (λ ys. map token_of ys ++ ts) a) ∙ ap (λ ys. ts ++ map token_of ys) (h.1 ∙ b) ∙ append-nil ts
-sent_first old new ts a b (inr h) = ap (λ ys. map token_of ys ++ map token_of new.later.items) (h.0 ∙ a) ∙ h.1 ∙ ap (λ ys. map token_of ys ++ ts) b
+sent_first : (old new : Way) (ts : List plain.Token) → old.now.items ≡ [] → old.later.items ≡ []
+    → SentTo old new ts → way_of new ≡ ts
+sent_first old new ts a b (inl h) = ap (λ xs. xs ++ map token_of new.later.items)
+    (h.0 ∙ ap (λ ys. map token_of ys ++ ts) a) ∙ ap (λ ys. ts ++ map token_of ys) (h.1 ∙ b) ∙ append-nil ts
+sent_first old new ts a b (inr h) = ap (λ ys. map token_of ys ++ map token_of new.later.items) (h.0 ∙ a) ∙ h.1
+    ∙ ap (λ ys. map token_of ys ++ ts) b
 
-pub opens_so : (image : Image) (world : World) (old : Way) (new : Flow) (n : ℕ) → new.slots.slots.items ≡ replicate n empty_slot → IsEmpty new.slots.spill → old.now.items ≡ [] → old.later.items ≡ [] →
-    SentTo old new.way (tokens_to 0 0 (start_dests image)) → new.asked.items ≡ [] → new.early.items ≡ [] → chain_of new.chain ≡ record { wave = 1; last = None } → new.fault ≡ None → MemoryIs (opening_out (cells_of image.arrays) world) new.memory → new.fired ≡ 0 →
+pub opens_so : (image : Image) (world : World) (old : Way) (new : Flow) (n : ℕ)
+    → new.slots.slots.items ≡ replicate n empty_slot → IsEmpty new.slots.spill → old.now.items ≡ []
+    → old.later.items ≡ [] →
+    SentTo old new.way (tokens_to 0 0 (start_dests image)) → new.asked.items ≡ [] → new.early.items ≡ []
+    → chain_of new.chain ≡ record { wave = 1; last = None } → new.fault ≡ None
+    → MemoryIs (opening_out (cells_of image.arrays) world) new.memory → new.fired ≡ 0 →
     Sound image → Formed image → FlowIs image world [] new (core_opening image world)
 unfolding core_opening start_tokens opening_memory
-opens_so image world old new n slots spill now later sent asked early chain stopped memory fired sound formed =
+opens_so image world old new n slots spill now later sent asked early chain stopped memory fired sound
+    formed =
     let st = opens image world (facts_of image world (ports_there image formed) sound) in
-    let w : way_of new.way ≡ tokens_to 0 0 (start_dests image) = sent_first old new.way (tokens_to 0 0 (start_dests image)) now later sent in
+    let w : way_of new.way ≡ tokens_to 0 0 (start_dests image) = sent_first old new.way
+    (tokens_to 0 0 (start_dests image)) now later sent in
     record {
-      stands = rw (slots, w, asked, early) (stands_alike image world (λ a b c. None) (partial_of (replicate n empty_slot) new.slots.spill) (tokens_to 0 0 (start_dests image)) [] [] (core_opening image world) (nothing_kept n new.slots.spill spill) st);
+      stands = rw (slots, w, asked, early) (stands_alike image world (λ a b c. None)
+          (partial_of (replicate n empty_slot) new.slots.spill) (tokens_to 0 0 (start_dests image)) [] []
+          (core_opening image world) (nothing_kept n new.slots.spill spill) st);
       chain_is = sym chain;
       stopped_is = ap is_some (sym stopped);
       fault_is = rw stopped tt;

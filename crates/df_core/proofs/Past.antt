@@ -7,17 +7,20 @@ use Rattle.ws_isa.specs.Image.{Image, Array, instr_at, is_memory, is_memory_op, 
 use Rattle.ws_isa.specs.Walk.{Inst}
 use Rattle.ws_isa.specs.Operations.{past}
 
-plain_within_op : (arrays : List Array) (op : Op) (xs : List ℕ) → is_memory_op op ≡ false → is_past_op arrays op xs ≡ false
+plain_within_op : (arrays : List Array) (op : Op) (xs : List ℕ) → is_memory_op op ≡ false
+    → is_past_op arrays op xs ≡ false
 plain_within_op arrays (Load a) xs e = absurd (both_ways true e refl)
 plain_within_op arrays (Store a) xs e = absurd (both_ways true e refl)
 plain_within_op arrays _ xs e = refl
 
-past_memory_op : (arrays : List Array) (op : Op) (xs : List ℕ) → is_past_op arrays op xs ≡ true → is_memory_op op ≡ true
+past_memory_op : (arrays : List Array) (op : Op) (xs : List ℕ) → is_past_op arrays op xs ≡ true
+    → is_memory_op op ≡ true
 past_memory_op arrays (Load a) xs e = refl
 past_memory_op arrays (Store a) xs e = refl
 past_memory_op arrays _ xs e = absurd (both_ways false refl e)
 
-pub plain_within : (image : Image) (k : ℕ) (xs : List ℕ) → is_memory image k ≡ false → is_past image k xs ≡ false
+pub plain_within : (image : Image) (k : ℕ) (xs : List ℕ) → is_memory image k ≡ false
+    → is_past image k xs ≡ false
 unfolding is_memory is_past
 plain_within image k xs e = plain_within_op image.arrays (instr_at image k).op xs e
 

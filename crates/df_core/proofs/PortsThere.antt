@@ -5,7 +5,8 @@ use Rattle.std.proofs.lemmas.Bool.{cond_both}
 use Rattle.ws_isa.specs.declared.instr.Op.{Op}
 use Rattle.ws_isa.specs.declared.instr.Op.TheVariants.{Steer, Send}
 use Rattle.ws_isa.specs.declared.instr.Dest.{Dest}
-use Rattle.ws_isa.specs.Image.{Image, Instr, Pad, Block, flat, ports, pad_of, instr_at, block_at, no_instr, no_block, now_of, now_dests, edge_of, edge_dests, target, start_dests}
+use Rattle.ws_isa.specs.Image.{Image, Instr, Pad, Block, flat, ports, pad_of, instr_at, block_at, no_instr}
+use Rattle.ws_isa.specs.Image.{no_block, now_of, now_dests, edge_of, edge_dests, target, start_dests}
 use Rattle.ws_isa.specs.Formed.{Formed, DestsIn}
 use Rattle.ws_isa.specs.Sound.{HasDest, PortsThere}
 use Rattle.ws_isa.proofs.There.{all_nth}
@@ -13,28 +14,35 @@ use Rattle.ws_isa.proofs.There.{all_nth}
 module _ (image : Image) where
   in_there : (ds : List Dest) (j q : ℕ) → DestsIn image ds → HasDest ds j q → q < ports image j
   in_there [] j q a h = absurd h
-  in_there (d ∷ ds) j q a (inl h) = subst (λ (n : ℕ). n < ports image j) h.1 (subst (λ (n : ℕ). d.port < ports image n) h.0 a.0.1)
+  in_there (d ∷ ds) j q a (inl h) = subst (λ (n : ℕ). n < ports image j) h.1
+      (subst (λ (n : ℕ). d.port < ports image n) h.0 a.0.1)
   in_there (d ∷ ds) j q a (inr h) = in_there ds j q a.1 h
 
-  pads_in : (pads : List Pad) (k : ℕ) → AllByRecursion (λ (p : Pad). DestsIn image p.dests) pads → DestsIn image (pad_of pads k)
+  pads_in : (pads : List Pad) (k : ℕ) → AllByRecursion (λ (p : Pad). DestsIn image p.dests) pads
+      → DestsIn image (pad_of pads k)
   pads_in [] k a = tt
-  pads_in (p ∷ ps) k a = cond_both (eqb p.number k) p.dests (pad_of ps k) (DestsIn image) (λ e. a.0) (λ e. pads_in ps k a.1)
+  pads_in (p ∷ ps) k a = cond_both (eqb p.number k) p.dests (pad_of ps k) (DestsIn image) (λ e. a.0)
+      (λ e. pads_in ps k a.1)
 
   module _ (formed : Formed image) where
     pad_in : (b k : ℕ) → DestsIn image (pad_of (block_at image b).pads k)
     unfolding block_at no_block
     pad_in zero k = tt
-    pad_in (suc b) k = pads_in (block_at image (suc b)).pads k (all_nth (λ (x : Block). AllByRecursion (λ (p : Pad). DestsIn image p.dests) x.pads) image.blocks b no_block tt formed.suited.references.pads)
+    pad_in (suc b) k = pads_in (block_at image (suc b)).pads k
+        (all_nth (λ (x : Block). AllByRecursion (λ (p : Pad). DestsIn image p.dests) x.pads) image.blocks b
+        no_block tt formed.suited.references.pads)
 
     dests_in : (k : ℕ) → DestsIn image (instr_at image k).dests
     unfolding instr_at no_instr
     dests_in zero = tt
-    dests_in (suc k) = all_nth (λ (i : Instr). DestsIn image i.dests) (flat image.blocks) k no_instr tt formed.suited.references.dests
+    dests_in (suc k) = all_nth (λ (i : Instr). DestsIn image i.dests) (flat image.blocks) k no_instr tt
+        formed.suited.references.dests
 
     others_in : (k : ℕ) → DestsIn image (instr_at image k).others
     unfolding instr_at no_instr
     others_in zero = tt
-    others_in (suc k) = all_nth (λ (i : Instr). DestsIn image i.others) (flat image.blocks) k no_instr tt formed.suited.references.others
+    others_in (suc k) = all_nth (λ (i : Instr). DestsIn image i.others) (flat image.blocks) k no_instr tt
+        formed.suited.references.others
 
     now_in : (op : Op) (ds : List Dest) → DestsIn image ds → DestsIn image (now_of op ds)
     now_in Steer ds a = tt
@@ -42,7 +50,8 @@ module _ (image : Image) where
     now_in _ ds a = a
 
     edge_in : (b r k : ℕ) (op : Op) → DestsIn image (edge_of image b r (instr_at image k) op)
-    edge_in b r k Steer = cond_both (eqb r 0) (instr_at image k).others (instr_at image k).dests (DestsIn image) (λ e. others_in k) (λ e. dests_in k)
+    edge_in b r k Steer = cond_both (eqb r 0) (instr_at image k).others (instr_at image k).dests
+        (DestsIn image) (λ e. others_in k) (λ e. dests_in k)
     edge_in b r k (Send p) = pad_in (target image b r) p
     edge_in b r k _ = tt
 
@@ -50,6 +59,8 @@ module _ (image : Image) where
     unfolding start_dests now_dests edge_dests
     ports_there = record {
       start = λ j q h. in_there (pad_of (block_at image 1).pads 0) j q (pad_in 1 0) h;
-      now = λ k j q h. in_there (now_of (instr_at image k).op (instr_at image k).dests) j q (now_in (instr_at image k).op (instr_at image k).dests (dests_in k)) h;
-      edge = λ b r k j q h. in_there (edge_of image b r (instr_at image k) (instr_at image k).op) j q (edge_in b r k (instr_at image k).op) h;
+      now = λ k j q h. in_there (now_of (instr_at image k).op (instr_at image k).dests) j q
+          (now_in (instr_at image k).op (instr_at image k).dests (dests_in k)) h;
+      edge = λ b r k j q h. in_there (edge_of image b r (instr_at image k) (instr_at image k).op) j q
+          (edge_in b r k (instr_at image k).op) h;
     }

@@ -4,7 +4,8 @@ use Rattle.std.proofs.lemmas.Bool.{cases_Bool}
 use Rattle.ws_words.specs.Outside.{World}
 use Rattle.ws_isa.specs.Image.{Image, is_memory}
 use Rattle.ws_isa.specs.Walk.{no_ports, start_tokens}
-use Rattle.df_core.specs.Core.{State, IsSent, Event, Match, Issue, Step, put_all, matched, issue, core_opening}
+use Rattle.df_core.specs.Core.{State, IsSent, Event, Match, Issue, Step, put_all, matched, issue}
+use Rattle.df_core.specs.Core.{core_opening}
 use Rattle.df_core.specs.Fit.{chain_at, Fit, Grounded}
 use Rattle.df_core.proofs.Facts.{WalkFacts}
 use Rattle.df_core.proofs.Effects.{effect_start}
@@ -18,15 +19,20 @@ unfolding chain_at
 chain_start image world = refl
 
 module _ (image : Image) (world : World) (facts : WalkFacts image world) where
-  pub start_sent : (w i p v : ℕ) → put_all no_ports (start_tokens image) no_ports w i p ≡ Some v → IsSent (start_tokens image) w i p v
-  start_sent w i p v e = elim (put_all_from no_ports (start_tokens image) no_ports w i p v e) [ inl h ↦ cc | inr h ↦ h ]
+  pub start_sent : (w i p v : ℕ) → put_all no_ports (start_tokens image) no_ports w i p ≡ Some v
+      → IsSent (start_tokens image) w i p v
+  start_sent w i p v e = elim (put_all_from no_ports (start_tokens image) no_ports w i p v e)
+      [ inl h ↦ cc | inr h ↦ h ]
 
-  pub start_there' : (w i p v : ℕ) → IsSent (start_tokens image) w i p v → (None ≡ Some v) ⊎ (put_all no_ports (start_tokens image) no_ports w i p ≡ Some v)
+  pub start_there' : (w i p v : ℕ) → IsSent (start_tokens image) w i p v
+      → (None ≡ Some v) ⊎ (put_all no_ports (start_tokens image) no_ports w i p ≡ Some v)
   start_there' w i p v h =
       let r = put_all_lands no_ports (start_tokens image) no_ports w i p v h in
       elim r.1 [
         | inl k ↦ cc
-        | inr k ↦ inr (k ∙ ap (λ (n : ℕ). Some n) (same_value image world facts w i p r.0 v (facts.start w i p r.0 (start_sent w i p r.0 k)) (facts.start w i p v h)))
+        | inr k ↦
+            inr (k ∙ ap (λ (n : ℕ). Some n) (same_value image world facts w i p r.0 v
+            (facts.start w i p r.0 (start_sent w i p r.0 k)) (facts.start w i p v h)))
       ]
 
   pub opening_fit : Fit image world (core_opening image world)
@@ -39,11 +45,18 @@ module _ (image : Image) (world : World) (facts : WalkFacts image world) where
     fired_full = λ w i h. absurd h;
     full_fired = λ w i pos f. (let r = f 0 pos in cc);
     start_there = start_there';
-    sent_there = λ t x fx told w i p v h. elim (cases_Bool (is_memory image x.instr)) [ inl m ↦ (let r = told.issued m in cc) | inr m ↦ absurd (told.fired m) ];
+    sent_there = λ t x fx told w i p v h. elim (cases_Bool (is_memory image x.instr))
+        [ inl m ↦ (let r = told.issued m in cc) | inr m ↦ absurd (told.fired m) ];
     asked = λ t x fx m h. absurd h;
     legal = record {
       cut = 0;
-      ordered = record { passed = λ t x l. absurd (omega arith); within = λ t x l. absurd (omega arith); chain = chain_start image world; memory = effect_start image world; others = λ w i a e. cc };
+      ordered = record {
+        passed = λ t x l. absurd (omega arith);
+        within = λ t x l. absurd (omega arith);
+        chain = chain_start image world;
+        memory = effect_start image world;
+        others = λ w i a e. cc;
+      };
       settled = λ i a e. cc;
       halted = λ e. cc;
     };
@@ -58,11 +71,21 @@ module _ (image : Image) (world : World) (facts : WalkFacts image world) where
   }
 
   pub step_kept : (s new : State) (e : Event) → Fit image world s → Step image s e new → Fit image world new
-  step_kept s new (Match w i p) fit st = fit_same image world new (matched image s w i p st.value) st.becomes (match_fit image world facts s fit w i p st.value st.on_way)
-  step_kept s new (Issue w i) fit (inl st) = fit_same image world new (record s { stopped = true }) st.becomes (stop_fit image world facts s fit w i st.operands st.ready.waits st.ready.issuable st.past)
-  step_kept s new (Issue w i) fit (inr st) = fit_same image world new (issue image s w i st.operands st.chain) st.becomes (issue_fit image world facts s fit w i st.operands st.ready.waits st.ready.issuable st.chain st.passed st.within)
+  step_kept s new (Match w i p) fit st = fit_same image world new (matched image s w i p st.value) st.becomes
+      (match_fit image world facts s fit w i p st.value st.on_way)
+  step_kept s new (Issue w i) fit (inl st) = fit_same image world new (record s { stopped = true }) st.becomes
+      (stop_fit image world facts s fit w i st.operands st.ready.waits st.ready.issuable st.past)
+  step_kept s new (Issue w i) fit (inr st) = fit_same image world new (issue image s w i st.operands st.chain)
+      st.becomes (issue_fit image world facts s fit w i st.operands st.ready.waits st.ready.issuable st.chain
+      st.passed st.within)
 
-  pub step_grounded : (s new : State) (e : Event) → Fit image world s → Grounded image world s → Step image s e new → Grounded image world new
-  step_grounded s new (Match w i p) fit g st = grounded_same image world new (matched image s w i p st.value) st.becomes (match_grounded image world facts s fit w i p st.value st.on_way g)
-  step_grounded s new (Issue w i) fit g (inl st) = grounded_same image world new (record s { stopped = true }) st.becomes (stop_grounded image world s g)
-  step_grounded s new (Issue w i) fit g (inr st) = grounded_same image world new (issue image s w i st.operands st.chain) st.becomes (issue_grounded image world facts s fit w i st.operands st.ready.waits st.ready.issuable st.chain st.passed g)
+  pub step_grounded : (s new : State) (e : Event) → Fit image world s → Grounded image world s
+      → Step image s e new → Grounded image world new
+  step_grounded s new (Match w i p) fit g st = grounded_same image world new (matched image s w i p st.value)
+      st.becomes (match_grounded image world facts s fit w i p st.value st.on_way g)
+  step_grounded s new (Issue w i) fit g (inl st) = grounded_same image world new (record s { stopped = true })
+      st.becomes (stop_grounded image world s g)
+  step_grounded s new (Issue w i) fit g (inr st) = grounded_same image world new
+      (issue image s w i st.operands st.chain) st.becomes
+      (issue_grounded image world facts s fit w i st.operands st.ready.waits st.ready.issuable st.chain
+      st.passed g)

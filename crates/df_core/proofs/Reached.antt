@@ -22,7 +22,8 @@ module _ (image : Image) (world : World) (facts : WalkFacts image world) where
     once = rw e.fired k.once;
   }
 
-  pub kept : (events : List Event) (s new : State) → Kept image world s → Run image s events new → Kept image world new
+  pub kept : (events : List Event) (s new : State) → Kept image world s → Run image s events new
+      → Kept image world new
   kept [] s new k r = same_kept s new r k
   kept (e ∷ es) s new k r = kept es r.0 new (record {
     fit = step_kept image world facts s r.0 e k.fit r.1;
@@ -32,7 +33,11 @@ module _ (image : Image) (world : World) (facts : WalkFacts image world) where
 
   pub opened : Kept image world (core_opening image world)
   unfolding core_opening
-  opened = record { fit = opening_fit image world facts; grounded = opening_grounded image world facts; once = tt }
+  opened = record {
+    fit = opening_fit image world facts;
+    grounded = opening_grounded image world facts;
+    once = tt;
+  }
 
   pub reached : (s : State) → Reach image world s → Kept image world s
   reached s r = kept r.0 (core_opening image world) s opened r.1

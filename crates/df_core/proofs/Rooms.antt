@@ -1,5 +1,6 @@
 -- FlowRoom for what is left to happen.
-use Rattle.std.proofs.Common.{ℕ, suc, ◌+◌, ◌≡◌, ◌≤◌, true, false, [], ◌∷◌, ◌++◌, Vec, Global, vec_len, vec_capacity, ap, inl, inr, arith}
+use Rattle.std.proofs.Common.{ℕ, suc, ◌+◌, ◌≡◌, ◌≤◌, true, false, [], ◌∷◌, ◌++◌, Vec, Global, vec_len}
+use Rattle.std.proofs.Common.{vec_capacity, ap, inl, inr, arith}
 use Rattle.std.proofs.lemmas.Bool.{cases_Bool}
 use Rattle.std.specs.HashMap.{spare}
 use Rattle.ws_isa.specs.declared.instr.Op.{Op}
@@ -18,26 +19,33 @@ space_less m a b l s = record {
 }
 
 -- tokens were sent, and the instance that sent them is no more to fire
-pub room_sent : (old new : Flow) (k n : ℕ) → k ≤ 8 → new.slots ≡ old.slots → new.asked ≡ old.asked → new.early ≡ old.early → new.memory ≡ old.memory →
-    vec_len new.way.now + vec_len new.way.later ≡ vec_len old.way.now + vec_len old.way.later + k → vec_capacity new.way.now ≡ vec_capacity old.way.now → vec_capacity new.way.later ≡ vec_capacity old.way.later →
+pub room_sent : (old new : Flow) (k n : ℕ) → k ≤ 8 → new.slots ≡ old.slots → new.asked ≡ old.asked
+    → new.early ≡ old.early → new.memory ≡ old.memory →
+    vec_len new.way.now + vec_len new.way.later ≡ vec_len old.way.now + vec_len old.way.later + k
+    → vec_capacity new.way.now ≡ vec_capacity old.way.now → vec_capacity new.way.later ≡ vec_capacity
+    old.way.later →
     FlowRoom old 0 (suc n) → FlowRoom new 0 n
 room_sent old new k n l slots asked early memory both now later r =
     let cs : spare new.slots.spill ≡ spare old.slots.spill = ap (λ (s : MatchStore). spare s.spill) slots in
     let la : vec_len new.asked ≡ vec_len old.asked = ap (λ (v : Vec Asked Global). vec_len v) asked in
-    let ca : vec_capacity new.asked ≡ vec_capacity old.asked = ap (λ (v : Vec Asked Global). vec_capacity v) asked in
+    let ca : vec_capacity new.asked ≡ vec_capacity old.asked = ap (λ (v : Vec Asked Global). vec_capacity v)
+    asked in
     let le : vec_len new.early ≡ vec_len old.early = ap (λ (v : Vec ℕ Global). vec_len v) early in
-    let ce : vec_capacity new.early ≡ vec_capacity old.early = ap (λ (v : Vec ℕ Global). vec_capacity v) early in
+    let ce : vec_capacity new.early ≡ vec_capacity old.early = ap (λ (v : Vec ℕ Global). vec_capacity v)
+    early in
     record {
       now = omega (arith, r.now);
       later = omega (arith, r.later);
       spill = omega (arith, r.spill);
       asked = omega (arith, r.asked);
       early = omega (arith, r.early);
-      memory = rw memory (space_less old.memory (vec_len old.asked + suc n) (vec_len new.asked + n) (omega arith) r.memory);
+      memory = rw memory (space_less old.memory (vec_len old.asked + suc n) (vec_len new.asked + n)
+          (omega arith) r.memory);
     }
 
 -- the token in hand was put down, or is forgotten
-pub room_put : (old new : Flow) (n m : ℕ) → n ≡ m → spare old.slots.spill ≤ spare new.slots.spill + 1 → new.way ≡ old.way → new.asked ≡ old.asked → new.early ≡ old.early → new.memory ≡ old.memory →
+pub room_put : (old new : Flow) (n m : ℕ) → n ≡ m → spare old.slots.spill ≤ spare new.slots.spill + 1
+    → new.way ≡ old.way → new.asked ≡ old.asked → new.early ≡ old.early → new.memory ≡ old.memory →
     FlowRoom old 1 n → FlowRoom new 0 m
 room_put old new n m nm cs way asked early memory r = rw (way, asked, early, memory) (record {
   now = omega (arith, r.now);
@@ -49,9 +57,13 @@ room_put old new n m nm cs way asked early memory r = rw (way, asked, early, mem
 })
 
 -- a request was issued
-pub room_issued : (old new : Flow) (k n : ℕ) → k ≤ 8 → new.slots ≡ old.slots → vec_len new.asked + 1 ≡ vec_len old.asked → vec_capacity new.asked ≡ vec_capacity old.asked → vec_len new.early ≤ vec_len old.early + 1 → vec_capacity new.early ≡ vec_capacity old.early →
+pub room_issued : (old new : Flow) (k n : ℕ) → k ≤ 8 → new.slots ≡ old.slots
+    → vec_len new.asked + 1 ≡ vec_len old.asked → vec_capacity new.asked ≡ vec_capacity old.asked
+    → vec_len new.early ≤ vec_len old.early + 1 → vec_capacity new.early ≡ vec_capacity old.early →
     ((q : ℕ) → Space old.memory (suc q) → Space new.memory q) →
-    vec_len new.way.now + vec_len new.way.later ≡ vec_len old.way.now + vec_len old.way.later + k → vec_capacity new.way.now ≡ vec_capacity old.way.now → vec_capacity new.way.later ≡ vec_capacity old.way.later →
+    vec_len new.way.now + vec_len new.way.later ≡ vec_len old.way.now + vec_len old.way.later + k
+    → vec_capacity new.way.now ≡ vec_capacity old.way.now → vec_capacity new.way.later ≡ vec_capacity
+    old.way.later →
     FlowRoom old 0 n → FlowRoom new 0 n
 room_issued old new k n l slots la ca le ce memory both now later r =
     let cs : spare new.slots.spill ≡ spare old.slots.spill = ap (λ (s : MatchStore). spare s.spill) slots in
@@ -61,10 +73,13 @@ room_issued old new k n l slots la ca le ce memory both now later r =
       spill = omega (arith, r.spill);
       asked = omega (arith, r.asked);
       early = omega (arith, r.early);
-      memory = memory (vec_len new.asked + n) (space_less old.memory (vec_len old.asked + n) (suc (vec_len new.asked + n)) (omega arith) r.memory);
+      memory = memory (vec_len new.asked + n) (space_less old.memory (vec_len old.asked + n)
+          (suc (vec_len new.asked + n)) (omega arith) r.memory);
     }
 
-pub asked_more : (old new : Flow) (op : Op) (a : Asked) → (is_memory_op op ≡ true → new.asked.items ≡ old.asked.items ++ a ∷ []) → (is_memory_op op ≡ false → new.asked ≡ old.asked) → AskedMore old new
+pub asked_more : (old new : Flow) (op : Op) (a : Asked)
+    → (is_memory_op op ≡ true → new.asked.items ≡ old.asked.items ++ a ∷ [])
+    → (is_memory_op op ≡ false → new.asked ≡ old.asked) → AskedMore old new
 asked_more old new op a has not' = elim (cases_Bool (is_memory_op op)) [
   | inl e ↦ inr (a, has e)
   | inr e ↦ inl (ap (λ (v : Vec Asked Global). v.items) (not' e))

@@ -1,5 +1,6 @@
 -- One more operation that the chain passes.
-use Rattle.std.proofs.Common.{ℕ, zero, suc, ◌≡◌, ◌<◌, ◌⊎◌, Bool, List, [], ◌∷◌, ◌++◌, length, slice_index, slice_index_or, true, false, refl, sym, ap, ◌∙◌, subst, inl, inr, arith}
+use Rattle.std.proofs.Common.{ℕ, zero, suc, ◌≡◌, ◌<◌, ◌⊎◌, Bool, List, [], ◌∷◌, ◌++◌, length, slice_index}
+use Rattle.std.proofs.Common.{slice_index_or, true, false, refl, sym, ap, ◌∙◌, subst, inl, inr, arith}
 use Rattle.std.specs.List.{remove}
 use Rattle.std.proofs.lemmas.Bool.{both_ways}
 use Rattle.ws_isa.specs.declared.instr.Link.{Link}
@@ -16,7 +17,11 @@ use Rattle.ws_words.proofs.Places.{in_place}
 pub in_at : (xs : List ℕ) (i : ℕ) → In i xs → (k : ℕ) × (k < length xs) × (slice_index xs k ≡ i)
 in_at [] i h = absurd h
 in_at (x ∷ xs) i (inl h) = (0, omega arith, sym h)
-in_at (x ∷ xs) i (inr h) = let r = in_at xs i h in (suc r.0, (let l : r.0 < length xs = r.1 in omega arith), r.2)
+in_at (x ∷ xs) i (inr h) = let r = in_at xs i h in (
+  suc r.0,
+  (let l : r.0 < length xs = r.1 in omega arith),
+  r.2,
+)
 
 remove_back : (xs : List ℕ) (k j : ℕ) → In j (remove xs k) → In j xs
 remove_back [] k j h = nothing k h
@@ -33,16 +38,22 @@ remove_forth [] k j l h = absurd h
 remove_forth (x ∷ xs) zero j l (inl h) = inl (sym h)
 remove_forth (x ∷ xs) zero j l (inr h) = inr h
 remove_forth (x ∷ xs) (suc k) j l (inl h) = inr (inl h)
-remove_forth (x ∷ xs) (suc k) j l (inr h) = elim (remove_forth xs k j (omega arith) h) [ inl g ↦ inl g | inr g ↦ inr (inr g) ]
+remove_forth (x ∷ xs) (suc k) j l (inr h) = elim (remove_forth xs k j (omega arith) h)
+    [ inl g ↦ inl g | inr g ↦ inr (inr g) ]
 
 -- the chain passes one of them
-pub one_more : (image : Image) (c d new : Chain) (early rest left : List ℕ) (k : ℕ) (n : Note) → k < length early → IsNext c (note_of image (slice_index early k)) → n ≡ note_of image (slice_index early k) →
-    rest ≡ left_after n (remove early k) → new ≡ pass c n → Settles image new rest d left → Settles image c early d left
+pub one_more : (image : Image) (c d new : Chain) (early rest left : List ℕ) (k : ℕ) (n : Note)
+    → k < length early → IsNext c (note_of image (slice_index early k))
+    → n ≡ note_of image (slice_index early k) →
+    rest ≡ left_after n (remove early k) → new ≡ pass c n → Settles image new rest d left
+    → Settles image c early d left
 one_more image c d new early rest left k n l nx e f g s =
     let i = slice_index early k in
-    goes i (remove early k) (in_place early k l) nx (λ j h. remove_back early k j h) (λ j h. remove_forth early k j l h)
+    goes i (remove early k) (in_place early k l) nx (λ j h. remove_back early k j h)
+    (λ j h. remove_forth early k j l h)
     (subst (λ (m : Note). Settles image (pass c m) (left_after m (remove early k)) d left) e
-    (subst (λ (xs : List ℕ). Settles image (pass c n) xs d left) f (subst (λ (x : Chain). Settles image x rest d left) g s)))
+    (subst (λ (xs : List ℕ). Settles image (pass c n) xs d left) f
+    (subst (λ (x : Chain). Settles image x rest d left) g s)))
 
 pub index_is : (xs : List ℕ) (k x : ℕ) → k < length xs → x ≡ slice_index_or xs k x → x ≡ slice_index xs k
 index_is [] k x l e = absurd (omega arith)
@@ -50,9 +61,12 @@ index_is (y ∷ xs) zero x l e = e
 index_is (y ∷ xs) (suc k) x l e = index_is xs k x (omega arith) e
 
 -- one that was looked at
-pub seen_at : (image : Image) (c : Chain) (xs : List ℕ) (at k : ℕ) (n : Note) (b : Bool) → at ≡ k → n ≡ note_of image (slice_index xs at) → b ≡ next_flag c n → b ≡ false → IsNext c (note_of image (slice_index xs k)) → ⊥
+pub seen_at : (image : Image) (c : Chain) (xs : List ℕ) (at k : ℕ) (n : Note) (b : Bool) → at ≡ k
+    → n ≡ note_of image (slice_index xs at) → b ≡ next_flag c n → b ≡ false
+    → IsNext c (note_of image (slice_index xs k)) → ⊥
 seen_at image c xs at k n b same note flag held =
-    let e : n ≡ note_of image (slice_index xs k) = note ∙ ap (λ (j : ℕ). note_of image (slice_index xs j)) same in
+    let e : n ≡ note_of image (slice_index xs k) = note ∙ ap (λ (j : ℕ). note_of image (slice_index xs j))
+    same in
     next_not c (note_of image (slice_index xs k)) (ap (λ (m : Note). next_flag c m) (sym e) ∙ sym flag ∙ held)
 
 -- behind the last operation of a wave none is left, and behind another all are
@@ -67,8 +81,10 @@ all_by (Is n) xs e = refl
 all_by Unknown xs e = refl
 
 -- behind the last operation of a wave nothing is left to pass
-pub all_passed : (image : Image) (c : Chain) (n : Note) (early left : List ℕ) → is_nothing n.succ ≡ true → left ≡ left_after n early → Settles image c left c left
-all_passed image c n early left e f = done (λ i h nx. let g : left ≡ [] = f ∙ none_by n.succ early e in subst (λ (xs : List ℕ). In i xs) g h)
+pub all_passed : (image : Image) (c : Chain) (n : Note) (early left : List ℕ) → is_nothing n.succ ≡ true
+    → left ≡ left_after n early → Settles image c left c left
+all_passed image c n early left e f = done (λ i h nx. let g : left ≡ [] = f ∙ none_by n.succ early e in
+    subst (λ (xs : List ℕ). In i xs) g h)
 
 same_by : (c : Chain) (n : Note) (l : Link) → is_nothing l ≡ false → (pass_by c n l).wave ≡ c.wave
 same_by c n Nothing e = absurd (both_ways true (e) refl)
@@ -79,10 +95,13 @@ pub same_wave : (c : Chain) (n : Note) → is_nothing n.succ ≡ false → (pass
 same_wave c n e = same_by c n n.succ e
 
 -- an operation that ends its wave is passed, and none is left behind it
-pub wave_ended : (image : Image) (c d : Chain) (i : ℕ) (n : Note) (early left : List ℕ) → n ≡ note_of image i → next_flag c n ≡ true → is_nothing n.succ ≡ true → d ≡ pass c n → left ≡ [] → PassedOn image c i early d left
+pub wave_ended : (image : Image) (c d : Chain) (i : ℕ) (n : Note) (early left : List ℕ) → n ≡ note_of image i
+    → next_flag c n ≡ true → is_nothing n.succ ≡ true → d ≡ pass c n → left ≡ []
+    → PassedOn image c i early d left
 wave_ended image c d i n early left note next ends behind none =
     let nx : IsNext c (note_of image i) = subst (IsNext c) note (next_is c n next) in
-    let e : left_after (note_of image i) early ≡ [] = none_by (note_of image i).succ early (subst (λ (m : Note). is_nothing m.succ ≡ true) note ends) in
+    let e : left_after (note_of image i) early ≡ [] = none_by (note_of image i).succ early
+    (subst (λ (m : Note). is_nothing m.succ ≡ true) note ends) in
     let p : d ≡ pass c (note_of image i) = behind ∙ ap (pass c) note in
     inl (nx, rw (p, none, e) (done (λ j h. absurd h)))
 

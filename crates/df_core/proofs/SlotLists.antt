@@ -10,7 +10,8 @@ sent_to w v [] j q h = absurd h
 sent_to w v (d ∷ ds) j q (inl h) = inl (refl, h.0, h.1, refl)
 sent_to w v (d ∷ ds) j q (inr h) = inr (sent_to w v ds j q h)
 
-pub sent_from : (w v : ℕ) (ds : List Dest) (a j q u : ℕ) → IsSent (tokens_to w v ds) a j q u → HasDest ds j q × (w ≡ a) × (v ≡ u)
+pub sent_from : (w v : ℕ) (ds : List Dest) (a j q u : ℕ) → IsSent (tokens_to w v ds) a j q u
+    → HasDest ds j q × (w ≡ a) × (v ≡ u)
 sent_from w v [] a j q u h = absurd h
 sent_from w v (d ∷ ds) a j q u (inl h) = (inl (h.1, h.2), h.0, h.3)
 sent_from w v (d ∷ ds) a j q u (inr h) = let r = sent_from w v ds a j q u h in (inr r.0, r.1, r.2)
@@ -24,7 +25,9 @@ pub is_sent_append_right : (ts us : List Token) (w i p v : ℕ) → IsSent us w 
 is_sent_append_right [] us w i p v h = h
 is_sent_append_right (t ∷ ts) us w i p v h = inr (is_sent_append_right ts us w i p v h)
 
-pub is_sent_append_cases : (ts us : List Token) (w i p v : ℕ) → IsSent (ts ++ us) w i p v → IsSent ts w i p v ⊎ IsSent us w i p v
+pub is_sent_append_cases : (ts us : List Token) (w i p v : ℕ) → IsSent (ts ++ us) w i p v
+    → IsSent ts w i p v ⊎ IsSent us w i p v
 is_sent_append_cases [] us w i p v h = inr h
 is_sent_append_cases (t ∷ ts) us w i p v (inl h) = inl (inl h)
-is_sent_append_cases (t ∷ ts) us w i p v (inr h) = elim (is_sent_append_cases ts us w i p v h) [ inl g ↦ inl (inr g) | inr g ↦ inr g ]
+is_sent_append_cases (t ∷ ts) us w i p v (inr h) = elim (is_sent_append_cases ts us w i p v h)
+    [ inl g ↦ inl (inr g) | inr g ↦ inr g ]

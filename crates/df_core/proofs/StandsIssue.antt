@@ -1,11 +1,13 @@
 -- An issue keeps what a core's parts stand for.
-use Rattle.std.proofs.Common.{ℕ, suc, ◌≡◌, ◌≤◌, ◌⊎◌, true, false, List, ◌∷◌, ◌++◌, Some, None, refl, sym, ap, ◌∙◌, subst, inl, inr, arith}
+use Rattle.std.proofs.Common.{ℕ, suc, ◌≡◌, ◌≤◌, ◌⊎◌, true, false, List, ◌∷◌, ◌++◌, Some, None, refl, sym, ap}
+use Rattle.std.proofs.Common.{◌∙◌, subst, inl, inr, arith}
 use Rattle.std.proofs.lemmas.Bool.{both_ways}
 use Rattle.ws_words.specs.Outside.{World}
 use Rattle.ws_isa.specs.Image.{Image, Token, is_memory, is_load, is_past, note_of, answer, sends}
 use Rattle.ws_isa.specs.Walk.{Inst, Ports}
 use Rattle.df_core.specs.Effect.{effect_after}
-use Rattle.df_core.specs.Core.{Apart, Chain, State, IsSent, IsNext, Passes, stays, passes, pass, Issuable, issued_with, issue}
+use Rattle.df_core.specs.Core.{Apart, Chain, State, IsSent, IsNext, Passes, stays, passes, pass, Issuable}
+use Rattle.df_core.specs.Core.{issued_with, issue}
 use Rattle.df_core.specs.Fit.{FiresAt, IssuedOp, Ordered, IsThere, HasTold, Fit}
 use Rattle.df_core.specs.Stands.{Request, HasRequest, left_after, HasEarly, Settles, Stands, EarlyIssued}
 use Rattle.df_core.proofs.Facts.{WalkFacts}
@@ -16,7 +18,8 @@ use Rattle.df_core.proofs.IssueKept.{issue_fit, issue_grounded, stop_fit, stop_g
 use Rattle.df_core.proofs.StandsMatch.{apart_append, new_place}
 use Rattle.df_core.proofs.Settling.{EarlyAt, settle, early_any, one_time, pass_early, pass_issued}
 
-module _ (image : Image) (world : World) (facts : WalkFacts image world) (s : State) (partial : Ports) (way : List Token) (w i : ℕ) (xs : List ℕ) (rest : List Request) (early : List ℕ)
+module _ (image : Image) (world : World) (facts : WalkFacts image world) (s : State) (partial : Ports)
+    (way : List Token) (w i : ℕ) (xs : List ℕ) (rest : List Request) (early : List ℕ)
     (st : Stands image world partial way (record { wave = w; instr = i; operands = xs } ∷ rest) early s) where
   pub waits : s.waiting w i ≡ Some xs
   waits = st.asked_from w i xs (inl (refl, refl, refl))
@@ -26,7 +29,8 @@ module _ (image : Image) (world : World) (facts : WalkFacts image world) (s : St
 
   module _ (may : Issuable image s.issued s.chain s.stopped w i xs) where
     -- past the end the chain stops
-    pub stop_stands : is_past image i xs ≡ true → Stands image world partial way (record { wave = w; instr = i; operands = xs } ∷ rest) early (record s { stopped = true })
+    pub stop_stands : is_past image i xs ≡ true → Stands image world partial way
+        (record { wave = w; instr = i; operands = xs } ∷ rest) early (record s { stopped = true })
     stop_stands beyond = record {
       fit = stop_fit image world facts s st.fit w i xs waits may beyond;
       grounded = stop_grounded image world s st.grounded;
@@ -44,9 +48,11 @@ module _ (image : Image) (world : World) (facts : WalkFacts image world) (s : St
       early_all = st.early_all;
     }
 
-    module _ (inside : is_past image i xs ≡ false) (u : ℕ) (x : Inst) (at : FiresAt image world w i u x) (xs_are : x.operands ≡ xs) (mi : is_memory image i ≡ true) where
+    module _ (inside : is_past image i xs ≡ false) (u : ℕ) (x : Inst) (at : FiresAt image world w i u x)
+        (xs_are : x.operands ≡ xs) (mi : is_memory image i ≡ true) where
       answer_right : answer image i xs s.memory ≡ x.result
-      answer_right = B.answer_right image world facts s.issued s.chain s.stopped s.memory st.fit.legal.settled w i xs may u x at xs_are mi st.fit.legal.cut st.fit.legal.ordered
+      answer_right = B.answer_right image world facts s.issued s.chain s.stopped s.memory st.fit.legal.settled
+          w i xs may u x at xs_are mi st.fit.legal.cut st.fit.legal.ordered
 
       unfoldable pub listed : List Token
       listed = sends image w i xs (answer image i xs s.memory)
@@ -56,7 +62,9 @@ module _ (image : Image) (world : World) (facts : WalkFacts image world) (s : St
       the_tokens = rw (answer_right, ← xs_are, ← at.wave, ← at.instr) refl
 
       not_told : HasTold image s x → ⊥
-      not_told told = clash (sym r.1 ∙ subst (λ (n : ℕ). s.issued x.wave n ≡ None) (sym at.instr) (subst (λ (n : ℕ). s.issued n i ≡ None) (sym at.wave) fresh))
+      not_told told =
+          clash (sym r.1 ∙ subst (λ (n : ℕ). s.issued x.wave n ≡ None) (sym at.instr)
+          (subst (λ (n : ℕ). s.issued n i ≡ None) (sym at.wave) fresh))
         where
           r : (a : ℕ) × (s.issued x.wave x.instr ≡ Some a)
           r = told.issued (ap (is_memory image) at.instr ∙ mi)
@@ -65,11 +73,15 @@ module _ (image : Image) (world : World) (facts : WalkFacts image world) (s : St
           clash c = cc
 
       no_place : (a b q v y : ℕ) → IsSent listed a b q v → IsThere s a b q y → ⊥
-      no_place a b q v y h k = new_place image world facts s st.grounded u x at.fires not_told a b q v y (subst (λ (ts : List Token). IsSent ts a b q v) the_tokens h) k
+      no_place a b q v y h k = new_place image world facts s st.grounded u x at.fires not_told a b q v y
+          (subst (λ (ts : List Token). IsSent ts a b q v) the_tokens h) k
 
-      still_issued : (a b n : ℕ) → s.issued a b ≡ Some n → issued_with image s.issued s.memory w i xs a b ≡ Some n
+      still_issued : (a b n : ℕ) → s.issued a b ≡ Some n → issued_with image s.issued s.memory w i xs a b
+          ≡ Some n
       still_issued a b n e = elim (with_key_cases w i (Some (answer image i xs s.memory)) s.issued a b) [
-        | inl k ↦ absurd (let f : s.issued w i ≡ Some n = subst (λ (m : ℕ). s.issued w m ≡ Some n) (sym k.0.instr) (subst (λ (m : ℕ). s.issued m b ≡ Some n) (sym k.0.wave) e) in
+        | inl k ↦
+            absurd (let f : s.issued w i ≡ Some n = subst (λ (m : ℕ). s.issued w m ≡ Some n) (sym k.0.instr)
+            (subst (λ (m : ℕ). s.issued m b ≡ Some n) (sym k.0.wave) e) in
             let g : Some n ≡ None = sym f ∙ fresh in cc)
         | inr k ↦ k.1 ∙ e
       ]
@@ -78,7 +90,8 @@ module _ (image : Image) (world : World) (facts : WalkFacts image world) (s : St
       is_issued = with_key_same w i (Some (answer image i xs s.memory)) s.issued
 
       old_early : EarlyAt image world s.issued st.fit.legal.cut early
-      old_early a b n t e z az mb l = st.early_all st.fit.legal.cut a b n t st.fit.legal.ordered.chain e z az mb l
+      old_early a b n t e z az mb l = st.early_all st.fit.legal.cut a b n t st.fit.legal.ordered.chain e z az
+          mb l
 
       -- what the chain passes, and what stays unpassed
       pub record Ends (d : Chain) (left : List ℕ) : Type 0 where
@@ -86,20 +99,39 @@ module _ (image : Image) (world : World) (facts : WalkFacts image world) (s : St
         pub issued_are : EarlyIssued (issued_with image s.issued s.memory w i xs) d left
         pub early_all : HasEarly image world (issued_with image s.issued s.memory w i xs) d left
 
-      issued_from : (a b n : ℕ) → issued_with image s.issued s.memory w i xs a b ≡ Some n → (SameKey w i a b × (n ≡ x.result)) ⊎ (s.issued a b ≡ Some n)
-      issued_from = B.issued_from image world facts s.issued s.chain s.stopped s.memory st.fit.legal.settled w i xs may u x at xs_are mi st.fit.legal.cut st.fit.legal.ordered
+      issued_from : (a b n : ℕ) → issued_with image s.issued s.memory w i xs a b ≡ Some n
+          → (SameKey w i a b × (n ≡ x.result)) ⊎ (s.issued a b ≡ Some n)
+      issued_from = B.issued_from image world facts s.issued s.chain s.stopped s.memory st.fit.legal.settled w
+          i xs may u x at xs_are mi st.fit.legal.cut st.fit.legal.ordered
 
-      pub next_ends : (d : Chain) (left : List ℕ) → IsNext s.chain (note_of image i) → Settles image (pass s.chain (note_of image i)) (left_after (note_of image i) early) d left → Ends d left
+      pub next_ends : (d : Chain) (left : List ℕ) → IsNext s.chain (note_of image i)
+          → Settles image (pass s.chain (note_of image i)) (left_after (note_of image i) early) d left
+          → Ends d left
       next_ends d left nx settles =
-          let o' : Ordered image world (suc u) (issued_with image s.issued s.memory w i xs) (pass s.chain (note_of image x.instr)) (effect_after image i xs s.memory) =
-          B.next_ordered image world facts s.issued s.chain s.stopped s.memory st.fit.legal.settled w i xs may u x at xs_are mi st.fit.legal.cut st.fit.legal.ordered inside s.waiting nx in
-          let o : Ordered image world (suc u) (issued_with image s.issued s.memory w i xs) (pass s.chain (note_of image i)) (effect_after image i xs s.memory) =
-          subst (λ (n : ℕ). Ordered image world (suc u) (issued_with image s.issued s.memory w i xs) (pass s.chain (note_of image n)) (effect_after image i xs s.memory)) at.instr o' in
-          let from : st.fit.legal.cut ≤ u = B.from image world facts s.issued s.chain s.stopped s.memory st.fit.legal.settled w i xs may u x at xs_are mi st.fit.legal.cut st.fit.legal.ordered in
-          let r = settle image world facts (issued_with image s.issued s.memory w i xs) (pass s.chain (note_of image i)) d (effect_after image i xs s.memory) (suc u) (left_after (note_of image i) early) left settles o
-          (pass_issued image world facts (issued_with image s.issued s.memory w i xs) s.chain i early (λ j h. let k = st.early_issued j h in (k.0, still_issued s.chain.wave j k.0 k.1)))
-          (pass_early image world facts (issued_with image s.issued s.memory w i xs) s.chain (effect_after image i xs s.memory) u i early o (λ a b n t e z az mb l. elim (issued_from a b n e) [
-            | inl k ↦ absurd (let az' : FiresAt image world w i t z = record { fires = az.fires; wave = az.wave ∙ sym k.0.wave; instr = az.instr ∙ sym k.0.instr } in
+          let o' : Ordered image world (suc u) (issued_with image s.issued s.memory w i xs)
+          (pass s.chain (note_of image x.instr)) (effect_after image i xs s.memory) =
+          B.next_ordered image world facts s.issued s.chain s.stopped s.memory st.fit.legal.settled w i xs may
+          u x at xs_are mi st.fit.legal.cut st.fit.legal.ordered inside s.waiting nx in
+          let o : Ordered image world (suc u) (issued_with image s.issued s.memory w i xs)
+          (pass s.chain (note_of image i)) (effect_after image i xs s.memory) =
+          subst (λ (n : ℕ). Ordered image world (suc u) (issued_with image s.issued s.memory w i xs)
+          (pass s.chain (note_of image n)) (effect_after image i xs s.memory)) at.instr o' in
+          let from : st.fit.legal.cut ≤ u = B.from image world facts s.issued s.chain s.stopped s.memory
+          st.fit.legal.settled w i xs may u x at xs_are mi st.fit.legal.cut st.fit.legal.ordered in
+          let r = settle image world facts (issued_with image s.issued s.memory w i xs)
+          (pass s.chain (note_of image i)) d (effect_after image i xs s.memory) (suc u)
+          (left_after (note_of image i) early) left settles o
+          (pass_issued image world facts (issued_with image s.issued s.memory w i xs) s.chain i early
+          (λ j h. let k = st.early_issued j h in (k.0, still_issued s.chain.wave j k.0 k.1)))
+          (pass_early image world facts (issued_with image s.issued s.memory w i xs) s.chain
+          (effect_after image i xs s.memory) u i early o (λ a b n t e z az mb l.
+          elim (issued_from a b n e) [
+            | inl k ↦
+                absurd (let az' : FiresAt image world w i t z = record {
+                  fires = az.fires;
+                  wave = az.wave ∙ sym k.0.wave;
+                  instr = az.instr ∙ sym k.0.instr;
+                } in
                 let q : t ≡ u = one_time image world facts w i t u z x az' at in omega arith)
             | inr k ↦ (
               old_early a b n t k z az mb (omega arith),
@@ -107,17 +139,22 @@ module _ (image : Image) (world : World) (facts : WalkFacts image world) (s : St
                   let q : op.time ≡ t = one_time image world facts a b op.time t op.inst z op.at az in
                   elim op.place [
                     | inl h ↦ absurd (omega arith)
-                    | inr h ↦ sym op.at.wave ∙ h.1.wave ∙ ap (λ (c : Chain). c.wave) (sym st.fit.legal.ordered.chain)
+                    | inr h ↦ sym op.at.wave ∙ h.1.wave ∙ ap (λ (c : Chain). c.wave)
+                        (sym st.fit.legal.ordered.chain)
                   ]),
             )
           ])) in
           record {
-            passed = passes i (answer image i xs s.memory) (subst (λ (n : ℕ). issued_with image s.issued s.memory w i xs n i ≡ Some (answer image i xs s.memory)) may.current is_issued) nx r.passed;
+            passed = passes i (answer image i xs s.memory)
+                (subst (λ (n : ℕ). issued_with image s.issued s.memory w i xs n i
+                ≡ Some (answer image i xs s.memory)) may.current is_issued) nx r.passed;
             issued_are = r.issued_are;
-            early_all = early_any image world facts (issued_with image s.issued s.memory w i xs) d (effect_after image i xs s.memory) r.cut left r.ordered r.early;
+            early_all = early_any image world facts (issued_with image s.issued s.memory w i xs) d
+                (effect_after image i xs s.memory) r.cut left r.ordered r.early;
           }
 
-      pub early_ends : (IsNext s.chain (note_of image i) → ⊥) → is_load image i ≡ true → Ends s.chain (i ∷ early)
+      pub early_ends : (IsNext s.chain (note_of image i) → ⊥) → is_load image i ≡ true
+          → Ends s.chain (i ∷ early)
       early_ends not_next l = record {
         passed = stays (λ j a e nj. elim (issued_from s.chain.wave j a e) [
           | inl k ↦ not_next (subst (λ (n : ℕ). IsNext s.chain (note_of image n)) (sym k.0.instr) nj)
@@ -126,14 +163,22 @@ module _ (image : Image) (world : World) (facts : WalkFacts image world) (s : St
         issued_are = λ j h. elim h [
           | inl e ↦ (
             answer image i xs s.memory,
-            subst (λ (n : ℕ). issued_with image s.issued s.memory w i xs s.chain.wave n ≡ Some (answer image i xs s.memory)) (sym e)
-                (subst (λ (n : ℕ). issued_with image s.issued s.memory w i xs n i ≡ Some (answer image i xs s.memory)) may.current is_issued),
+            subst (λ (n : ℕ). issued_with image s.issued s.memory w i xs s.chain.wave n
+                ≡ Some (answer image i xs s.memory)) (sym e)
+                (subst (λ (n : ℕ). issued_with image s.issued s.memory w i xs n i
+                ≡ Some (answer image i xs s.memory)) may.current is_issued),
           )
           | inr k ↦ (let r = st.early_issued j k in (r.0, still_issued s.chain.wave j r.0 r.1))
         ];
-        early_all = early_any image world facts (issued_with image s.issued s.memory w i xs) s.chain (effect_after image i xs s.memory) st.fit.legal.cut (i ∷ early)
-            (B.early_ordered image world facts s.issued s.chain s.stopped s.memory st.fit.legal.settled w i xs may u x at xs_are mi st.fit.legal.cut st.fit.legal.ordered inside s.waiting l)
-            (λ a b n t e z az mb h. elim (issued_from a b n e) [ inl k ↦ inl (sym k.0.instr) | inr k ↦ inr (old_early a b n t k z az mb h) ]);
+        early_all = early_any image world facts (issued_with image s.issued s.memory w i xs) s.chain
+            (effect_after image i xs s.memory) st.fit.legal.cut (i ∷ early)
+            (B.early_ordered image world facts s.issued s.chain s.stopped s.memory st.fit.legal.settled w i xs
+            may u x at xs_are mi st.fit.legal.cut st.fit.legal.ordered inside s.waiting l)
+            (λ a b n t e z az mb h. elim (issued_from a b n e) [
+              | inl k ↦ inl (sym k.0.instr)
+              | inr k ↦
+                  inr (old_early a b n t k z az mb h)
+            ]);
       }
 
       module _ (d : Chain) (left : List ℕ) (ends : Ends d left) where
@@ -155,18 +200,23 @@ module _ (image : Image) (world : World) (facts : WalkFacts image world) (s : St
           way_from = λ a b q v h. elim (is_sent_append_cases way listed a b q v h) [
             | inl g ↦ put_all_keeps s.held listed s.way a b q v (st.way_from a b q v g)
             | inr g ↦ elim (new_fit.sent_there u x at.fires (record {
-              fired = λ m. absurd (both_ways (is_memory image i) (ap (is_memory image) (sym at.instr) ∙ m) mi);
+              fired = λ m. absurd (both_ways (is_memory image i) (ap (is_memory image) (sym at.instr) ∙ m)
+                  mi);
               issued = λ m. (
                 answer image i xs s.memory,
-                subst (λ (n : ℕ). issued_with image s.issued s.memory w i xs x.wave n ≡ Some (answer image i xs s.memory)) (sym at.instr)
-                    (subst (λ (n : ℕ). issued_with image s.issued s.memory w i xs n i ≡ Some (answer image i xs s.memory)) (sym at.wave) is_issued),
+                subst (λ (n : ℕ). issued_with image s.issued s.memory w i xs x.wave n
+                    ≡ Some (answer image i xs s.memory)) (sym at.instr)
+                    (subst (λ (n : ℕ). issued_with image s.issued s.memory w i xs n i
+                    ≡ Some (answer image i xs s.memory)) (sym at.wave) is_issued),
               );
             }) a b q v (subst (λ (ts : List Token). IsSent ts a b q v) the_tokens g)) [
               | inl k ↦ absurd (no_place a b q v v g (inl k))
               | inr k ↦ k
             ]
           ];
-          way_apart = apart_append way listed st.way_apart (subst Apart (sym the_tokens) (facts.sends_apart u x at.fires)) (λ a b q y z h k. no_place a b q z y k (inr (st.way_from a b q y h)));
+          way_apart = apart_append way listed st.way_apart
+              (subst Apart (sym the_tokens) (facts.sends_apart u x at.fires))
+              (λ a b q y z h k. no_place a b q z y k (inr (st.way_from a b q y h)));
           asked_to = λ a b ys e. elim (with_key_cases w i None s.waiting a b) [
             | inl h ↦ absurd (let f : None ≡ Some ys = sym h.1 ∙ e in cc)
             | inr h ↦ elim (st.asked_to a b ys (sym h.1 ∙ e)) [
@@ -175,7 +225,9 @@ module _ (image : Image) (world : World) (facts : WalkFacts image world) (s : St
             ]
           ];
           asked_from = λ a b ys h. elim (with_key_cases w i None s.waiting a b) [
-            | inl k ↦ absurd (st.asked_once.0 ys (subst (λ (n : ℕ). HasRequest rest w n ys) (sym k.0.instr) (subst (λ (n : ℕ). HasRequest rest n b ys) (sym k.0.wave) h)))
+            | inl k ↦
+                absurd (st.asked_once.0 ys (subst (λ (n : ℕ). HasRequest rest w n ys) (sym k.0.instr)
+                (subst (λ (n : ℕ). HasRequest rest n b ys) (sym k.0.wave) h)))
             | inr k ↦ k.1 ∙ st.asked_from a b ys (inr h)
           ];
           asked_once = st.asked_once.1;

@@ -1,19 +1,23 @@
 -- A match keeps what a core's parts stand for.
-use Rattle.std.proofs.Common.{ℕ, zero, suc, ◌≡◌, ◌<◌, ◌⊎◌, true, false, List, [], ◌∷◌, ◌++◌, length, Option, Some, None, refl, sym, ap, ◌∙◌, subst, inl, inr, arith, eq-eqb, ne_eqb}
+use Rattle.std.proofs.Common.{ℕ, zero, suc, ◌≡◌, ◌<◌, ◌⊎◌, true, false, List, [], ◌∷◌, ◌++◌, length, Option}
+use Rattle.std.proofs.Common.{Some, None, refl, sym, ap, ◌∙◌, subst, inl, inr, arith, eq-eqb, ne_eqb}
 use Rattle.std.proofs.lemmas.Bool.{cases_eq, both_ways, cond-true, cond-false}
 use Rattle.ws_words.specs.Outside.{World}
 use Rattle.ws_isa.specs.Image.{Image, Token, ports, is_memory, result_of, sends}
 use Rattle.ws_isa.specs.Walk.{Inst, Ports, fires, gather}
-use Rattle.df_core.specs.Core.{Apart, State, HasFired, IsSent, with_at, with_key, is_full, operands_in, arrived, asks, tells, matched}
+use Rattle.df_core.specs.Core.{Apart, State, HasFired, IsSent, with_at, with_key, is_full, operands_in}
+use Rattle.df_core.specs.Core.{arrived, asks, tells, matched}
 use Rattle.df_core.specs.Fit.{RightToken, IsThere, HasTold, Fit, Grounded}
 use Rattle.df_core.specs.Stands.{Request, cleared, Stands}
 use Rattle.df_core.proofs.Facts.{WalkFacts}
-use Rattle.df_core.proofs.Ports.{SameKey, with_at_cases, with_key_cases, with_key_same, put_all_keeps, put_all_from, full_all}
+use Rattle.df_core.proofs.Ports.{SameKey, with_at_cases, with_key_cases, with_key_same, put_all_keeps}
+use Rattle.df_core.proofs.Ports.{put_all_from, full_all}
 use Rattle.df_core.proofs.SlotLists.{is_sent_append_left, is_sent_append_right, is_sent_append_cases}
 use Rattle.df_core.proofs.MatchKept.{right_operands, match_fit, match_grounded}
 use Rattle.ws_words.proofs.Places.{nth_short}
 
-pub apart_append : (ts us : List Token) → Apart ts → Apart us → ((w i p a b : ℕ) → IsSent ts w i p a → IsSent us w i p b → ⊥) → Apart (ts ++ us)
+pub apart_append : (ts us : List Token) → Apart ts → Apart us
+    → ((w i p a b : ℕ) → IsSent ts w i p a → IsSent us w i p b → ⊥) → Apart (ts ++ us)
 apart_append [] us a b f = b
 apart_append (t ∷ ts) us a b f = (
   (λ v h. elim (is_sent_append_cases ts us t.wave t.instr t.port v h) [
@@ -27,21 +31,25 @@ pub full_agree : (f g : Ports) (w i n : ℕ) → ((p : ℕ) → f w i p ≡ g w 
 full_agree f g w i zero e = refl
 full_agree f g w i (suc n) e = rw (e n, full_agree f g w i n e) refl
 
-pub gather_agree : (f g : Ports) (w i p n : ℕ) → ((q : ℕ) → f w i q ≡ g w i q) → gather f w i p n ≡ gather g w i p n
+pub gather_agree : (f g : Ports) (w i p n : ℕ) → ((q : ℕ) → f w i q ≡ g w i q)
+    → gather f w i p n ≡ gather g w i p n
 gather_agree f g w i p zero e = refl
 gather_agree f g w i p (suc n) e = rw (e p, gather_agree f g w i (suc p) n e) refl
 
-pub cleared_cases : (w i : ℕ) (f : Ports) (a b q : ℕ) → (SameKey w i a b × (cleared w i f a b q ≡ None)) ⊎ ((SameKey w i a b → ⊥) × (cleared w i f a b q ≡ f a b q))
+pub cleared_cases : (w i : ℕ) (f : Ports) (a b q : ℕ) → (SameKey w i a b × (cleared w i f a b q ≡ None))
+    ⊎ ((SameKey w i a b → ⊥) × (cleared w i f a b q ≡ f a b q))
 cleared_cases w i f a b q = go (cases_eq w a) (cases_eq i b)
   where
-    go : (w ≡ a) ⊎ (w ≡ a → ⊥) → (i ≡ b) ⊎ (i ≡ b → ⊥) → (SameKey w i a b × (cleared w i f a b q ≡ None)) ⊎ ((SameKey w i a b → ⊥) × (cleared w i f a b q ≡ f a b q))
+    go : (w ≡ a) ⊎ (w ≡ a → ⊥) → (i ≡ b) ⊎ (i ≡ b → ⊥) → (SameKey w i a b × (cleared w i f a b q ≡ None))
+        ⊎ ((SameKey w i a b → ⊥) × (cleared w i f a b q ≡ f a b q))
     go (inl e) (inl g) = inl (record { wave = e; instr = g }, rw (eq-eqb w a e, eq-eqb i b g) refl)
     go (inr n) g = inr ((λ s. n s.wave), rw (ne_eqb w a n) refl)
     go (inl e) (inr n) = inr ((λ s. n s.instr), rw (eq-eqb w a e, ne_eqb i b n) refl)
 
 module _ (image : Image) (world : World) (facts : WalkFacts image world) where
   -- an instance with a token on the way hasn't fired
-  pub way_unfired : (s : State) → Fit image world s → (w i p v : ℕ) → s.way w i p ≡ Some v → HasFired s.fired w i → ⊥
+  pub way_unfired : (s : State) → Fit image world s → (w i p v : ℕ) → s.way w i p ≡ Some v
+      → HasFired s.fired w i → ⊥
   way_unfired s fit w i p v e h = clash (sym e ∙ fit.one w i p g.0 g.1)
     where
       clash : Some v ≡ None → ⊥
@@ -60,7 +68,9 @@ module _ (image : Image) (world : World) (facts : WalkFacts image world) where
       g = (fit.fired_full w i h).1 p (omega (arith, l, n))
 
   -- what an instance sends stands nowhere before it has told
-  pub new_place : (s : State) → Grounded image world s → (t : ℕ) (x : Inst) → fires image world t ≡ Some x → (HasTold image s x → ⊥) → (w i p a b : ℕ) → IsSent (sends image x.wave x.instr x.operands x.result) w i p a → IsThere s w i p b → ⊥
+  pub new_place : (s : State) → Grounded image world s → (t : ℕ) (x : Inst) → fires image world t ≡ Some x
+      → (HasTold image s x → ⊥) → (w i p a b : ℕ) → IsSent (sends image x.wave x.instr x.operands x.result) w
+      i p a → IsThere s w i p b → ⊥
   new_place s g t x fx n w i p a b h k = elim (g.tokens w i p b k) [
     | inl l ↦ facts.no_maker t x fx w i p b a l h
     | inr l ↦ (let e : l.time ≡ t = facts.one_maker l.time t l.inst x l.fires fx w i p b a l.sent h in
@@ -69,8 +79,10 @@ module _ (image : Image) (world : World) (facts : WalkFacts image world) where
         n (subst (HasTold image s) i l.told))
   ]
 
-  module _ (s : State) (partial : Ports) (rest : List Token) (asked : List Request) (early : List ℕ) (w i p v : ℕ)
-      (st : Stands image world partial (record { wave = w; instr = i; port = p; value = v } ∷ rest) asked early s) where
+  module _ (s : State) (partial : Ports) (rest : List Token) (asked : List Request) (early : List ℕ)
+      (w i p v : ℕ)
+      (st : Stands image world partial (record { wave = w; instr = i; port = p; value = v } ∷ rest) asked
+      early s) where
     pub on_way : s.way w i p ≡ Some v
     on_way = st.way_from w i p v (inl (refl, refl, refl, refl))
 
@@ -83,17 +95,32 @@ module _ (image : Image) (world : World) (facts : WalkFacts image world) where
     new_grounded : Grounded image world (matched image s w i p v)
     new_grounded = match_grounded image world facts s st.fit w i p v on_way st.grounded
 
-    held_is : (a b q : ℕ) → (HasFired s.fired a b → ⊥) → (arrived s w i p v).held a b q ≡ with_at w i p (Some v) partial a b q
+    held_is : (a b q : ℕ) → (HasFired s.fired a b → ⊥) → (arrived s w i p v).held a b q ≡ with_at w i p
+        (Some v) partial a b q
     held_is a b q n = elim (with_at_cases w i p (Some v) s.held a b q) [
-      | inl h ↦ h.1 ∙ (elim (with_at_cases w i p (Some v) partial a b q) [ inl g ↦ sym g.1 | inr g ↦ absurd (g.0 h.0) ])
-      | inr h ↦ h.1 ∙ (elim (with_at_cases w i p (Some v) partial a b q) [ inl g ↦ absurd (h.0 g.0) | inr g ↦ st.held a b q n ∙ sym g.1 ])
+      | inl h ↦
+          h.1 ∙ (elim (with_at_cases w i p (Some v) partial a b q) [
+            | inl g ↦ sym g.1
+            | inr g ↦
+                absurd (g.0 h.0)
+          ])
+      | inr h ↦
+          h.1 ∙ (elim (with_at_cases w i p (Some v) partial a b q) [
+            | inl g ↦ absurd (h.0 g.0)
+            | inr g ↦
+                st.held a b q n ∙ sym g.1
+          ])
     ]
 
-    full_is : is_full (arrived s w i p v).held w i (ports image i) ≡ is_full (with_at w i p (Some v) partial) w i (ports image i)
-    full_is = full_agree (arrived s w i p v).held (with_at w i p (Some v) partial) w i (ports image i) (λ q. held_is w i q unfired)
+    full_is : is_full (arrived s w i p v).held w i (ports image i) ≡ is_full (with_at w i p (Some v) partial)
+        w i (ports image i)
+    full_is = full_agree (arrived s w i p v).held (with_at w i p (Some v) partial) w i (ports image i)
+        (λ q. held_is w i q unfired)
 
-    operands_are : operands_in image (arrived s w i p v).held w i ≡ gather (with_at w i p (Some v) partial) w i 0 (ports image i)
-    operands_are = gather_agree (arrived s w i p v).held (with_at w i p (Some v) partial) w i 0 (ports image i) (λ q. held_is w i q unfired)
+    operands_are : operands_in image (arrived s w i p v).held w i ≡ gather (with_at w i p (Some v) partial) w
+        i 0 (ports image i)
+    operands_are = gather_agree (arrived s w i p v).held (with_at w i p (Some v) partial) w i 0
+        (ports image i) (λ q. held_is w i q unfired)
 
     way_to' : (a b q u : ℕ) → (arrived s w i p v).way a b q ≡ Some u → IsSent rest a b q u
     way_to' a b q u e = elim (with_at_cases w i p None s.way a b q) [
@@ -106,7 +133,10 @@ module _ (image : Image) (world : World) (facts : WalkFacts image world) where
 
     way_from' : (a b q u : ℕ) → IsSent rest a b q u → (arrived s w i p v).way a b q ≡ Some u
     way_from' a b q u h = elim (with_at_cases w i p None s.way a b q) [
-      | inl g ↦ absurd (st.way_apart.0 u (subst (λ (n : ℕ). IsSent rest w i n u) (sym g.0.port) (subst (λ (n : ℕ). IsSent rest w n q u) (sym g.0.instr) (subst (λ (n : ℕ). IsSent rest n b q u) (sym g.0.wave) h))))
+      | inl g ↦
+          absurd (st.way_apart.0 u (subst (λ (n : ℕ). IsSent rest w i n u) (sym g.0.port)
+          (subst (λ (n : ℕ). IsSent rest w n q u) (sym g.0.instr)
+          (subst (λ (n : ℕ). IsSent rest n b q u) (sym g.0.wave) h))))
       | inr g ↦ g.1 ∙ st.way_from a b q u (inr h)
     ]
 
@@ -116,14 +146,17 @@ module _ (image : Image) (world : World) (facts : WalkFacts image world) where
       unfolding matched
       waits_is = cond-false (is_full (arrived s w i p v).held w i (ports image i)) _ _ (full_is ∙ less)
 
-      pub waits_stands : Stands image world (with_at w i p (Some v) partial) rest asked early (arrived s w i p v)
+      pub waits_stands : Stands image world (with_at w i p (Some v) partial) rest asked early
+          (arrived s w i p v)
       waits_stands = record {
         fit = subst (Fit image world) waits_is new_fit;
         grounded = subst (Grounded image world) waits_is new_grounded;
         once = st.once;
         held = held_is;
         gone = λ a b q h. elim (with_at_cases w i p (Some v) partial a b q) [
-          | inl g ↦ absurd (unfired (subst (λ (n : ℕ). HasFired s.fired w n) (sym g.0.instr) (subst (λ (n : ℕ). HasFired s.fired n b) (sym g.0.wave) h)))
+          | inl g ↦
+              absurd (unfired (subst (λ (n : ℕ). HasFired s.fired w n) (sym g.0.instr)
+              (subst (λ (n : ℕ). HasFired s.fired n b) (sym g.0.wave) h)))
           | inr g ↦ g.1 ∙ st.gone a b q h
         ];
         way_to = way_to';
@@ -137,27 +170,42 @@ module _ (image : Image) (world : World) (facts : WalkFacts image world) where
         early_all = st.early_all;
       }
 
-      pub match_waits : Stands image world (with_at w i p (Some v) partial) rest asked early (matched image s w i p v)
-      match_waits = subst (Stands image world (with_at w i p (Some v) partial) rest asked early) (sym waits_is) waits_stands
+      pub match_waits : Stands image world (with_at w i p (Some v) partial) rest asked early
+          (matched image s w i p v)
+      match_waits = subst (Stands image world (with_at w i p (Some v) partial) rest asked early)
+          (sym waits_is) waits_stands
 
     -- the instance is full
     module _ (full : is_full (with_at w i p (Some v) partial) w i (ports image i) ≡ true) where
-      held_cleared : (a b q : ℕ) → (((w ≡ a) × (i ≡ b)) ⊎ HasFired s.fired a b → ⊥) → (arrived s w i p v).held a b q ≡ cleared w i partial a b q
-      held_cleared a b q n = held_is a b q (λ h. n (inr h)) ∙ (elim (with_at_cases w i p (Some v) partial a b q) [
-        | inl g ↦ absurd (n (inl (g.0.wave, g.0.instr)))
-        | inr g ↦ g.1 ∙ (elim (cleared_cases w i partial a b q) [ inl k ↦ absurd (n (inl (k.0.wave, k.0.instr))) | inr k ↦ sym k.1 ])
-      ])
+      held_cleared : (a b q : ℕ) → (((w ≡ a) × (i ≡ b)) ⊎ HasFired s.fired a b → ⊥)
+          → (arrived s w i p v).held a b q ≡ cleared w i partial a b q
+      held_cleared a b q n = held_is a b q (λ h. n (inr h))
+          ∙ (elim (with_at_cases w i p (Some v) partial a b q) [
+            | inl g ↦ absurd (n (inl (g.0.wave, g.0.instr)))
+            | inr g ↦
+                g.1 ∙ (elim (cleared_cases w i partial a b q) [
+                  | inl k ↦ absurd (n (inl (k.0.wave, k.0.instr)))
+                  | inr k ↦ sym k.1
+                ])
+          ])
 
-      gone_cleared : (a b q : ℕ) → ((w ≡ a) × (i ≡ b)) ⊎ HasFired s.fired a b → cleared w i partial a b q ≡ None
+      gone_cleared : (a b q : ℕ) → ((w ≡ a) × (i ≡ b)) ⊎ HasFired s.fired a b
+          → cleared w i partial a b q ≡ None
       gone_cleared a b q h = elim (cleared_cases w i partial a b q) [
         | inl k ↦ k.1
-        | inr k ↦ k.1 ∙ (elim h [ inl g ↦ absurd (k.0 (record { wave = g.0; instr = g.1 })) | inr g ↦ st.gone a b q g ])
+        | inr k ↦
+            k.1 ∙ (elim h [
+              | inl g ↦ absurd (k.0 (record { wave = g.0; instr = g.1 }))
+              | inr g ↦
+                  st.gone a b q g
+            ])
       ]
 
       module _ (memory : is_memory image i ≡ true) where
         pub asks_is : matched image s w i p v ≡ asks image w i (arrived s w i p v)
         unfolding matched
-        asks_is = cond-true (is_full (arrived s w i p v).held w i (ports image i)) _ _ (full_is ∙ full) ∙ cond-true (is_memory image i) _ _ memory
+        asks_is = cond-true (is_full (arrived s w i p v).held w i (ports image i)) _ _ (full_is ∙ full)
+            ∙ cond-true (is_memory image i) _ _ memory
 
         not_asked : (xs : List ℕ) → s.waiting w i ≡ Some xs → ⊥
         not_asked xs e = unfired (st.grounded.requests w i xs e)
@@ -166,7 +214,13 @@ module _ (image : Image) (world : World) (facts : WalkFacts image world) where
         not_issued None e = e
         not_issued (Some a) e = absurd (unfired (st.grounded.issued w i a e))
 
-        pub asks_stands : Stands image world (cleared w i partial) rest (record { wave = w; instr = i; operands = gather (with_at w i p (Some v) partial) w i 0 (ports image i) } ∷ asked) early (asks image w i (arrived s w i p v))
+        pub asks_stands : Stands image world (cleared w i partial) rest
+            (record {
+              wave = w;
+              instr = i;
+              operands = gather (with_at w i p (Some v) partial) w i 0
+                  (ports image i);
+            } ∷ asked) early (asks image w i (arrived s w i p v))
         asks_stands = record {
           fit = subst (Fit image world) asks_is new_fit;
           grounded = subst (Grounded image world) asks_is new_grounded;
@@ -176,37 +230,58 @@ module _ (image : Image) (world : World) (facts : WalkFacts image world) where
           way_to = way_to';
           way_from = way_from';
           way_apart = st.way_apart.1;
-          asked_to = λ a b ys e. elim (with_key_cases w i (Some (operands_in image (arrived s w i p v).held w i)) s.waiting a b) [
-            | inl h ↦ (let f : Some (operands_in image (arrived s w i p v).held w i) ≡ Some ys = sym h.1 ∙ e in
-                let g : operands_in image (arrived s w i p v).held w i ≡ ys = cc in
-                inl (h.0.wave, h.0.instr, sym operands_are ∙ g))
-            | inr h ↦ inr (st.asked_to a b ys (sym h.1 ∙ e))
-          ];
+          asked_to =
+              λ a b ys e. elim (with_key_cases w i (Some (operands_in image (arrived s w i p v).held w i))
+              s.waiting a b) [
+                | inl h ↦ (let f : Some (operands_in image (arrived s w i p v).held w i) ≡ Some ys = sym h.1
+                    ∙ e in
+                    let g : operands_in image (arrived s w i p v).held w i ≡ ys = cc in
+                    inl (h.0.wave, h.0.instr, sym operands_are ∙ g))
+                | inr h ↦ inr (st.asked_to a b ys (sym h.1 ∙ e))
+              ];
           asked_from = λ a b ys h. elim h [
-            | inl g ↦ (let e : with_key w i (Some (operands_in image (arrived s w i p v).held w i)) s.waiting w i ≡ Some ys = with_key_same w i _ s.waiting ∙ ap (λ (l : List ℕ). Some l) (operands_are ∙ g.2) in
-                subst (λ (n : ℕ). with_key w i (Some (operands_in image (arrived s w i p v).held w i)) s.waiting a n ≡ Some ys) g.1 (subst (λ (n : ℕ). with_key w i (Some (operands_in image (arrived s w i p v).held w i)) s.waiting n i ≡ Some ys) g.0 e))
+            | inl g ↦ (let e : with_key w i (Some (operands_in image (arrived s w i p v).held w i)) s.waiting
+                w i ≡ Some ys = with_key_same w i _ s.waiting ∙ ap (λ (l : List ℕ). Some l)
+                (operands_are ∙ g.2) in
+                subst (λ (n : ℕ). with_key w i (Some (operands_in image (arrived s w i p v).held w i))
+                s.waiting a n ≡ Some ys) g.1
+                (subst (λ (n : ℕ). with_key w i (Some (operands_in image (arrived s w i p v).held w i))
+                s.waiting n i ≡ Some ys) g.0 e))
             | inr g ↦ (let e : s.waiting a b ≡ Some ys = st.asked_from a b ys g in
-                elim (with_key_cases w i (Some (operands_in image (arrived s w i p v).held w i)) s.waiting a b) [
-                  | inl k ↦ absurd (not_asked ys (subst (λ (n : ℕ). s.waiting w n ≡ Some ys) (sym k.0.instr) (subst (λ (n : ℕ). s.waiting n b ≡ Some ys) (sym k.0.wave) e)))
+                elim (with_key_cases w i (Some (operands_in image (arrived s w i p v).held w i)) s.waiting a
+                b) [
+                  | inl k ↦
+                      absurd (not_asked ys (subst (λ (n : ℕ). s.waiting w n ≡ Some ys) (sym k.0.instr)
+                      (subst (λ (n : ℕ). s.waiting n b ≡ Some ys) (sym k.0.wave) e)))
                   | inr k ↦ k.1 ∙ e
                 ])
           ];
           asked_once = ((λ ys h. not_asked ys (st.asked_from w i ys h)), st.asked_once);
-          unissued = λ a b ys e. elim (with_key_cases w i (Some (operands_in image (arrived s w i p v).held w i)) s.waiting a b) [
-            | inl k ↦ subst (λ (n : ℕ). s.issued a n ≡ None) k.0.instr (subst (λ (n : ℕ). s.issued n i ≡ None) k.0.wave (not_issued (s.issued w i) refl))
-            | inr k ↦ st.unissued a b ys (sym k.1 ∙ e)
-          ];
+          unissued =
+              λ a b ys e. elim (with_key_cases w i (Some (operands_in image (arrived s w i p v).held w i))
+              s.waiting a b) [
+                | inl k ↦ subst (λ (n : ℕ). s.issued a n ≡ None) k.0.instr
+                    (subst (λ (n : ℕ). s.issued n i ≡ None) k.0.wave (not_issued (s.issued w i) refl))
+                | inr k ↦ st.unissued a b ys (sym k.1 ∙ e)
+              ];
           early_issued = st.early_issued;
           early_all = st.early_all;
         }
 
-        pub match_asks : Stands image world (cleared w i partial) rest (record { wave = w; instr = i; operands = gather (with_at w i p (Some v) partial) w i 0 (ports image i) } ∷ asked) early (matched image s w i p v)
+        pub match_asks : Stands image world (cleared w i partial) rest
+            (record {
+              wave = w;
+              instr = i;
+              operands = gather (with_at w i p (Some v) partial) w i 0
+                  (ports image i);
+            } ∷ asked) early (matched image s w i p v)
         match_asks = subst (Stands image world (cleared w i partial) rest _ early) (sym asks_is) asks_stands
 
       module _ (plain : is_memory image i ≡ false) where
         pub tells_is : matched image s w i p v ≡ tells image w i (arrived s w i p v)
         unfolding matched
-        tells_is = cond-true (is_full (arrived s w i p v).held w i (ports image i)) _ _ (full_is ∙ full) ∙ cond-false (is_memory image i) _ _ plain
+        tells_is = cond-true (is_full (arrived s w i p v).held w i (ports image i)) _ _ (full_is ∙ full)
+            ∙ cond-false (is_memory image i) _ _ plain
 
         token : RightToken image world w i p v
         token = st.fit.way_right w i p v on_way
@@ -218,59 +293,87 @@ module _ (image : Image) (world : World) (facts : WalkFacts image world) where
         right_held q u e = elim (with_at_cases w i p (Some v) s.held w i q) [
           | inl h ↦ (let f : Some v ≡ Some u = sym h.1 ∙ e in
               let g : v ≡ u = cc in
-              subst (λ (n : ℕ). RightToken image world w i n u) h.0.port (subst (λ (n : ℕ). RightToken image world w i p n) g token))
+              subst (λ (n : ℕ). RightToken image world w i n u) h.0.port
+              (subst (λ (n : ℕ). RightToken image world w i p n) g token))
           | inr h ↦ st.fit.held_right w i q u (sym h.1 ∙ e)
         ]
 
         their_operands : operands_in image (arrived s w i p v).held w i ≡ token.inst.operands
-        their_operands = right_operands image world facts (arrived s w i p v).held w i token.time token.inst token.at right_held filled
+        their_operands = right_operands image world facts (arrived s w i p v).held w i token.time token.inst
+            token.at right_held filled
 
-        the_tokens : sends image w i (operands_in image (arrived s w i p v).held w i) (result_of image i (operands_in image (arrived s w i p v).held w i)) ≡ sends image token.inst.wave token.inst.instr token.inst.operands token.inst.result
+        the_tokens : sends image w i (operands_in image (arrived s w i p v).held w i)
+            (result_of image i (operands_in image (arrived s w i p v).held w i)) ≡ sends image token.inst.wave
+            token.inst.instr token.inst.operands token.inst.result
         the_tokens =
             let m : is_memory image token.inst.instr ≡ false = ap (is_memory image) token.at.instr ∙ plain in
-            let r : token.inst.result ≡ result_of image token.inst.instr token.inst.operands = facts.plain token.time token.inst token.at.fires m in
+            let r : token.inst.result ≡ result_of image token.inst.instr token.inst.operands =
+            facts.plain token.time token.inst token.at.fires m in
             let e : operands_in image (arrived s w i p v).held w i ≡ token.inst.operands = their_operands in
             rw (e, r, token.at.wave, token.at.instr) refl
 
         unfoldable pub listed : List Token
-        listed = sends image w i (gather (with_at w i p (Some v) partial) w i 0 (ports image i)) (result_of image i (gather (with_at w i p (Some v) partial) w i 0 (ports image i)))
+        listed = sends image w i (gather (with_at w i p (Some v) partial) w i 0 (ports image i))
+            (result_of image i (gather (with_at w i p (Some v) partial) w i 0 (ports image i)))
 
-        listed_is : listed ≡ sends image w i (operands_in image (arrived s w i p v).held w i) (result_of image i (operands_in image (arrived s w i p v).held w i))
+        listed_is : listed ≡ sends image w i (operands_in image (arrived s w i p v).held w i)
+            (result_of image i (operands_in image (arrived s w i p v).held w i))
         unfolding listed
         listed_is = ap (λ (xs : List ℕ). sends image w i xs (result_of image i xs)) (sym operands_are)
 
         not_told : HasTold image s token.inst → ⊥
-        not_told told = unfired (subst (λ (n : ℕ). HasFired s.fired w n) token.at.instr (subst (λ (n : ℕ). HasFired s.fired n token.inst.instr) token.at.wave (told.fired (ap (is_memory image) token.at.instr ∙ plain))))
+        not_told told =
+            unfired (subst (λ (n : ℕ). HasFired s.fired w n) token.at.instr
+            (subst (λ (n : ℕ). HasFired s.fired n token.inst.instr) token.at.wave
+            (told.fired (ap (is_memory image) token.at.instr ∙ plain))))
 
         no_place : (a b q u y : ℕ) → IsSent listed a b q u → IsThere s a b q y → ⊥
-        no_place a b q u y h k = new_place s st.grounded token.time token.inst token.at.fires not_told a b q u y (subst (λ (ts : List Token). IsSent ts a b q u) (listed_is ∙ the_tokens) h) k
+        no_place a b q u y h k = new_place s st.grounded token.time token.inst token.at.fires not_told a b q u
+            y (subst (λ (ts : List Token). IsSent ts a b q u) (listed_is ∙ the_tokens) h) k
 
-        tells_way : (a b q u : ℕ) → (tells image w i (arrived s w i p v)).way a b q ≡ Some u → IsSent (rest ++ listed) a b q u
-        tells_way a b q u e = elim (put_all_from (arrived s w i p v).held (sends image w i (operands_in image (arrived s w i p v).held w i) (result_of image i (operands_in image (arrived s w i p v).held w i))) (arrived s w i p v).way a b q u e) [
-          | inl h ↦ is_sent_append_left rest listed a b q u (way_to' a b q u h)
-          | inr h ↦ is_sent_append_right rest listed a b q u (subst (λ (ts : List Token). IsSent ts a b q u) (sym listed_is) h)
-        ]
+        tells_way : (a b q u : ℕ) → (tells image w i (arrived s w i p v)).way a b q ≡ Some u
+            → IsSent (rest ++ listed) a b q u
+        tells_way a b q u e =
+            elim (put_all_from (arrived s w i p v).held
+            (sends image w i (operands_in image (arrived s w i p v).held w i)
+            (result_of image i (operands_in image (arrived s w i p v).held w i))) (arrived s w i p v).way a b
+            q u e) [
+              | inl h ↦ is_sent_append_left rest listed a b q u (way_to' a b q u h)
+              | inr h ↦ is_sent_append_right rest listed a b q u
+                  (subst (λ (ts : List Token). IsSent ts a b q u) (sym listed_is) h)
+            ]
 
         tells_fit : Fit image world (tells image w i (arrived s w i p v))
         tells_fit = subst (Fit image world) tells_is new_fit
 
-        sent_way : (a b q u : ℕ) → IsSent listed a b q u → IsThere (tells image w i (arrived s w i p v)) a b q u → (tells image w i (arrived s w i p v)).way a b q ≡ Some u
+        sent_way : (a b q u : ℕ) → IsSent listed a b q u → IsThere (tells image w i (arrived s w i p v)) a b q
+            u → (tells image w i (arrived s w i p v)).way a b q ≡ Some u
         sent_way a b q u h (inr e) = e
         sent_way a b q u h (inl e) = elim (with_at_cases w i p (Some v) s.held a b q) [
-          | inl k ↦ absurd (no_place a b q u v h (inr (subst (λ (n : ℕ). s.way a b n ≡ Some v) k.0.port (subst (λ (n : ℕ). s.way a n p ≡ Some v) k.0.instr (subst (λ (n : ℕ). s.way n i p ≡ Some v) k.0.wave on_way)))))
+          | inl k ↦
+              absurd (no_place a b q u v h
+              (inr (subst (λ (n : ℕ). s.way a b n ≡ Some v) k.0.port
+              (subst (λ (n : ℕ). s.way a n p ≡ Some v) k.0.instr
+              (subst (λ (n : ℕ). s.way n i p ≡ Some v) k.0.wave on_way)))))
           | inr k ↦ absurd (no_place a b q u u h (inl (sym k.1 ∙ e)))
         ]
 
-        tells_back : (a b q u : ℕ) → IsSent (rest ++ listed) a b q u → (tells image w i (arrived s w i p v)).way a b q ≡ Some u
+        tells_back : (a b q u : ℕ) → IsSent (rest ++ listed) a b q u
+            → (tells image w i (arrived s w i p v)).way a b q ≡ Some u
         tells_back a b q u h = elim (is_sent_append_cases rest listed a b q u h) [
-          | inl g ↦ put_all_keeps (arrived s w i p v).held (sends image w i (operands_in image (arrived s w i p v).held w i) (result_of image i (operands_in image (arrived s w i p v).held w i))) (arrived s w i p v).way a b q u (way_from' a b q u g)
+          | inl g ↦ put_all_keeps (arrived s w i p v).held
+              (sends image w i (operands_in image (arrived s w i p v).held w i)
+              (result_of image i (operands_in image (arrived s w i p v).held w i))) (arrived s w i p v).way a
+              b q u (way_from' a b q u g)
           | inr g ↦ sent_way a b q u g (tells_fit.sent_there token.time token.inst token.at.fires (record {
             fired = λ m. inl (sym token.at.wave, sym token.at.instr);
-            issued = λ m. absurd (both_ways (is_memory image i) plain (ap (is_memory image) (sym token.at.instr) ∙ m));
+            issued = λ m.
+                absurd (both_ways (is_memory image i) plain (ap (is_memory image) (sym token.at.instr) ∙ m));
           }) a b q u (subst (λ (ts : List Token). IsSent ts a b q u) (listed_is ∙ the_tokens) g))
         ]
 
-        pub tells_stands : Stands image world (cleared w i partial) (rest ++ listed) asked early (tells image w i (arrived s w i p v))
+        pub tells_stands : Stands image world (cleared w i partial) (rest ++ listed) asked early
+            (tells image w i (arrived s w i p v))
         tells_stands = record {
           fit = tells_fit;
           grounded = subst (Grounded image world) tells_is new_grounded;
@@ -279,7 +382,9 @@ module _ (image : Image) (world : World) (facts : WalkFacts image world) where
           gone = gone_cleared;
           way_to = tells_way;
           way_from = tells_back;
-          way_apart = apart_append rest listed st.way_apart.1 (subst Apart (sym (listed_is ∙ the_tokens)) (facts.sends_apart token.time token.inst token.at.fires))
+          way_apart = apart_append rest listed st.way_apart.1
+              (subst Apart (sym (listed_is ∙ the_tokens))
+              (facts.sends_apart token.time token.inst token.at.fires))
               (λ a b q x y h k. no_place a b q y x k (inr (st.way_from a b q x (inr h))));
           asked_to = st.asked_to;
           asked_from = st.asked_from;
@@ -289,6 +394,10 @@ module _ (image : Image) (world : World) (facts : WalkFacts image world) where
           early_all = st.early_all;
         }
 
-        pub match_tells : Stands image world (cleared w i partial) (rest ++ sends image w i (gather (with_at w i p (Some v) partial) w i 0 (ports image i)) (result_of image i (gather (with_at w i p (Some v) partial) w i 0 (ports image i)))) asked early (matched image s w i p v)
+        pub match_tells : Stands image world (cleared w i partial)
+            (rest ++ sends image w i (gather (with_at w i p (Some v) partial) w i 0 (ports image i))
+            (result_of image i (gather (with_at w i p (Some v) partial) w i 0 (ports image i)))) asked early
+            (matched image s w i p v)
         unfolding listed
-        match_tells = subst (Stands image world (cleared w i partial) (rest ++ listed) asked early) (sym tells_is) tells_stands
+        match_tells = subst (Stands image world (cleared w i partial) (rest ++ listed) asked early)
+            (sym tells_is) tells_stands

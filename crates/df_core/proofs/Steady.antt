@@ -19,12 +19,15 @@ same_parts a = record {
 }
 
 -- a token was taken off the way
-pub room_taken : (old new : Flow) (n : ℕ) → new.slots ≡ old.slots → new.asked ≡ old.asked → new.early ≡ old.early → new.memory ≡ old.memory →
+pub room_taken : (old new : Flow) (n : ℕ) → new.slots ≡ old.slots → new.asked ≡ old.asked
+    → new.early ≡ old.early → new.memory ≡ old.memory →
     vec_len new.way.now + vec_len new.way.later + 1 ≡ vec_len old.way.now + vec_len old.way.later →
-    ((m : ℕ) → m ≤ vec_capacity old.way.now → m ≤ vec_capacity old.way.later → (m ≤ vec_capacity new.way.now) × (m ≤ vec_capacity new.way.later)) →
+    ((m : ℕ) → m ≤ vec_capacity old.way.now → m ≤ vec_capacity old.way.later → (m ≤ vec_capacity new.way.now)
+    × (m ≤ vec_capacity new.way.later)) →
     FlowRoom old 0 n → FlowRoom new 1 n
 room_taken old new n slots asked early memory fewer caps r =
-    let f = caps (vec_len old.way.now + vec_len old.way.later + 0 + 8 * (vec_len old.asked + n)) r.now r.later in
+    let f = caps (vec_len old.way.now + vec_len old.way.later + 0 + 8 * (vec_len old.asked + n)) r.now
+    r.later in
     rw (slots, asked, early, memory) (record {
       now = omega (arith, f.0);
       later = omega (arith, f.1);

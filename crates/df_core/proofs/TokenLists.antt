@@ -5,7 +5,10 @@ use Rattle.ws_isa.specs.Image.{Token}
 use Rattle.df_core.specs.Rights.{token_of, tokens_of}
 
 all_front : {A : Type 0} (P : A → Type 0) (xs ys : List A) → All P (xs ++ ys) → All P xs
-all_front P xs ys all k d lt = subst P (get_or_append_left xs ys d k lt) (all k d (let e = length-append xs ys in omega (arith, e, lt)))
+all_front P xs ys all k d lt = subst P (get_or_append_left xs ys d k lt)
+    (all k d (let e = length-append xs ys in omega (arith, e, lt)))
 
-pub front_right : (P : Token → Type 0) (old new : List (ℕ × ℕ × ℕ × ℕ)) (t : ℕ × ℕ × ℕ × ℕ) → old ≡ new ++ t ∷ [] → All P (tokens_of old) → All P (tokens_of new)
-front_right P old new t is all = all_front P (tokens_of new) (token_of t ∷ []) (subst (All P) (ap tokens_of is ∙ map-append token_of new (t ∷ [])) all)
+pub front_right : (P : Token → Type 0) (old new : List (ℕ × ℕ × ℕ × ℕ)) (t : ℕ × ℕ × ℕ × ℕ)
+    → old ≡ new ++ t ∷ [] → All P (tokens_of old) → All P (tokens_of new)
+front_right P old new t is all = all_front P (tokens_of new) (token_of t ∷ [])
+    (subst (All P) (ap tokens_of is ∙ map-append token_of new (t ∷ [])) all)

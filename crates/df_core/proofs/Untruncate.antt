@@ -22,17 +22,24 @@ abbrev IsRight : Image → World → ℕ → ℕ → ℕ → ℕ → Type 0
 IsRight image world w i p v = (t : ℕ) × HasOperand (fires image world t) w i p v
 
 module _ (image : Image) (world : World) (facts : WalkFacts image world) where
-  inst_of : (t w i p v : ℕ) (o : Option Inst) → fires image world t ≡ o → HasOperand o w i p v → RightToken image world w i p v
+  inst_of : (t w i p v : ℕ) (o : Option Inst) → fires image world t ≡ o → HasOperand o w i p v
+      → RightToken image world w i p v
   inst_of t w i p v None e h = absurd h
-  inst_of t w i p v (Some x) e h = record { time = t; inst = x; at = record { fires = e; wave = h.0; instr = h.1 }; operand = h.2 }
+  inst_of t w i p v (Some x) e h =
+      record { time = t; inst = x; at = record { fires = e; wave = h.0; instr = h.1 }; operand = h.2 }
 
   to_right : (w i p v : ℕ) → IsRight image world w i p v → RightToken image world w i p v
   to_right w i p v r = inst_of r.0 w i p v (fires image world r.0) refl r.1
 
   of_right : (w i p v : ℕ) → RightToken image world w i p v → IsRight image world w i p v
-  of_right w i p v r = (r.time, subst (λ (o : Option Inst). HasOperand o w i p v) (sym r.at.fires) (r.at.wave, r.at.instr, r.operand))
+  of_right w i p v r = (
+    r.time,
+    subst (λ (o : Option Inst). HasOperand o w i p v) (sym r.at.fires)
+        (r.at.wave, r.at.instr, r.operand),
+  )
 
-  key_of : (t w i p v : ℕ) (o : Option Inst) → fires image world t ≡ o → HasOperand o w i p v → (x : Inst) × FiresAt image world w i t x
+  key_of : (t w i p v : ℕ) (o : Option Inst) → fires image world t ≡ o → HasOperand o w i p v
+      → (x : Inst) × FiresAt image world w i t x
   key_of t w i p v None e h = absurd h
   key_of t w i p v (Some x) e h = (x, record { fires = e; wave = h.0; instr = h.1 })
 
@@ -40,7 +47,8 @@ module _ (image : Image) (world : World) (facts : WalkFacts image world) where
   one_right w i p v a b =
       let ka = key_of a.0 w i p v (fires image world a.0) refl a.1 in
       let kb = key_of b.0 w i p v (fires image world b.0) refl b.1 in
-      let e : a.0 ≡ b.0 = facts.once a.0 b.0 ka.0 kb.0 ka.1.fires kb.1.fires (ka.1.wave ∙ sym kb.1.wave) (ka.1.instr ∙ sym kb.1.instr) in
+      let e : a.0 ≡ b.0 = facts.once a.0 b.0 ka.0 kb.0 ka.1.fires kb.1.fires (ka.1.wave ∙ sym kb.1.wave)
+      (ka.1.instr ∙ sym kb.1.instr) in
       Σ_prop_path (λ t. HasOperand-prop (fires image world t) w i p v) e
 
   pub right_of : (w i p v : ℕ) → ∥ RightToken image world w i p v ∥₁ → RightToken image world w i p v

@@ -1,8 +1,10 @@
 -- A wave number is at most the number of instances that have fired.
-use Rattle.std.proofs.Common.{ℕ, zero, suc, ◌≡◌, ◌<◌, ◌≤◌, ◌⊎◌, Bool, true, false, cond, List, [], ◌∷◌, length, Some, refl, sym, ap, subst, inl, inr, arith}
+use Rattle.std.proofs.Common.{ℕ, zero, suc, ◌≡◌, ◌<◌, ◌≤◌, ◌⊎◌, Bool, true, false, cond, List, [], ◌∷◌}
+use Rattle.std.proofs.Common.{length, Some, refl, sym, ap, subst, inl, inr, arith}
 use Rattle.std.proofs.lemmas.Bool.{cases_eq}
 use Rattle.ws_words.specs.Outside.{World}
-use Rattle.ws_isa.specs.Image.{Image, is_advance, now_dests, edge_dests, block_of, selector, sends, start_dests}
+use Rattle.ws_isa.specs.Image.{Image, is_advance, now_dests, edge_dests, block_of, selector, sends}
+use Rattle.ws_isa.specs.Image.{start_dests}
 use Rattle.ws_isa.specs.Walk.{Inst, fires, start_tokens}
 use Rattle.df_core.specs.Core.{Key, State, HasFired, IsSent, Once}
 use Rattle.df_core.specs.Fit.{RightToken, Fit, Grounded}
@@ -21,11 +23,14 @@ either_wave : (b : Bool) (w a : ℕ) → cond b (suc w) w ≡ a → (a ≡ w) �
 either_wave true w a e = inr (sym e)
 either_wave false w a e = inl (sym e)
 
-sends_wave : (image : Image) (w k : ℕ) (xs : List ℕ) (r a i p v : ℕ) → IsSent (sends image w k xs r) a i p v → (a ≡ w) ⊎ (a ≡ suc w)
+sends_wave : (image : Image) (w k : ℕ) (xs : List ℕ) (r a i p v : ℕ) → IsSent (sends image w k xs r) a i p v
+    → (a ≡ w) ⊎ (a ≡ suc w)
 unfolding sends
 sends_wave image w k xs r a i p v h = elim (is_sent_append_cases _ _ a i p v h) [
   | inl g ↦ either_wave (is_advance image k) w a (sent_from _ r (now_dests image k) a i p v g).1
-  | inr g ↦ either_wave (is_advance image k) w a (sent_from _ r (edge_dests image (block_of image k) (selector image k xs) k) a i p v g).1
+  | inr g ↦
+      either_wave (is_advance image k) w a
+      (sent_from _ r (edge_dests image (block_of image k) (selector image k xs) k) a i p v g).1
 ]
 
 -- one instance of each of the waves below a number
@@ -37,7 +42,13 @@ record OfWaves (fired : List Key) (n : ℕ) : Type 0 where
   among : (w i : ℕ) → HasFired keys w i → HasFired fired w i
 
 of_waves : (fired : List Key) (n : ℕ) → ((w : ℕ) → w < n → (i : ℕ) × HasFired fired w i) → OfWaves fired n
-of_waves fired zero f = record { keys = []; count = refl; once = tt; lower = λ w i h. absurd h; among = λ w i h. absurd h }
+of_waves fired zero f = record {
+  keys = [];
+  count = refl;
+  once = tt;
+  lower = λ w i h. absurd h;
+  among = λ w i h. absurd h;
+}
 of_waves fired (suc n) f =
     let here = f n (omega arith) in
     let r : OfWaves fired n = of_waves fired n (λ w l. f w (omega arith)) in
@@ -45,7 +56,11 @@ of_waves fired (suc n) f =
       keys = record { wave = n; instr = here.0 } ∷ r.keys;
       count = ap suc r.count;
       once = ((λ h. let l : n < n = r.lower n here.0 h in omega arith), r.once);
-      lower = λ w i h. elim h [ inl e ↦ (let g : n ≡ w = e.0 in omega arith) | inr g ↦ (let l : w < n = r.lower w i g in omega arith) ];
+      lower = λ w i h. elim h [
+        | inl e ↦ (let g : n ≡ w = e.0 in omega arith)
+        | inr g ↦
+            (let l : w < n = r.lower w i g in omega arith)
+      ];
       among = λ w i h. elim h [ inl e ↦ has_same fired n here.0 w i e.0 e.1 here.1 | inr g ↦ r.among w i g ];
     }
 
@@ -55,32 +70,41 @@ waves_few fired n f =
     let l : length r.keys ≤ length fired = once_length r.keys fired r.once r.among in
     omega (arith, r.count)
 
-module _ (image : Image) (world : World) (facts : WalkFacts image world) (s : State) (fit : Fit image world s) (grounded : Grounded image world s) where
+module _ (image : Image) (world : World) (facts : WalkFacts image world) (s : State) (fit : Fit image world s)
+    (grounded : Grounded image world s) where
   -- an instance has fired that made this operand of a fired instance
-  maker_fired : (x : Inst) (v : ℕ) → s.held x.wave x.instr 0 ≡ Some v → (t : ℕ) (m : Maker image world t x.wave x.instr 0 v) → HasFired s.fired m.inst.wave m.inst.instr
+  maker_fired : (x : Inst) (v : ℕ) → s.held x.wave x.instr 0 ≡ Some v
+      → (t : ℕ) (m : Maker image world t x.wave x.instr 0 v) → HasFired s.fired m.inst.wave m.inst.instr
   maker_fired x v held t m = elim (grounded.tokens x.wave x.instr 0 v (inl held)) [
     | inl st ↦ absurd (facts.no_maker m.time m.inst m.fires x.wave x.instr 0 v v st m.sent)
-    | inr f ↦ (let e : f.time ≡ m.time = facts.one_maker f.time m.time f.inst m.inst f.fires m.fires x.wave x.instr 0 v v f.sent m.sent in
-        subst (λ (y : Inst). HasFired s.fired y.wave y.instr) (same_fired image world facts f.time m.time f.inst m.inst f.fires m.fires e) f.fired)
+    | inr f ↦ (let e : f.time ≡ m.time = facts.one_maker f.time m.time f.inst m.inst f.fires m.fires x.wave
+        x.instr 0 v v f.sent m.sent in
+        subst (λ (y : Inst). HasFired s.fired y.wave y.instr)
+        (same_fired image world facts f.time m.time f.inst m.inst f.fires m.fires e) f.fired)
   ]
 
-  lower_fired : (n t : ℕ) (x : Inst) → t < n → fires image world t ≡ Some x → HasFired s.fired x.wave x.instr → (w : ℕ) → w < x.wave → (i : ℕ) × HasFired s.fired w i
+  lower_fired : (n t : ℕ) (x : Inst) → t < n → fires image world t ≡ Some x → HasFired s.fired x.wave x.instr
+      → (w : ℕ) → w < x.wave → (i : ℕ) × HasFired s.fired w i
   lower_fired zero t x l fx h w k = absurd (omega arith)
   lower_fired (suc n) t x l fx h w k =
       let full = fit.fired_full x.wave x.instr h in
       let hv = full.1 0 full.0 in
       let r : RightToken image world x.wave x.instr 0 hv.0 = fit.held_right x.wave x.instr 0 hv.0 hv.1 in
-      let same : r.inst ≡ x = same_inst image world facts x.wave x.instr r.time t r.inst x r.at (record { fires = fx; wave = refl; instr = refl }) in
+      let same : r.inst ≡ x = same_inst image world facts x.wave x.instr r.time t r.inst x r.at
+      (record { fires = fx; wave = refl; instr = refl }) in
       elim (facts.made t x fx 0 hv.0 (subst (λ (y : Inst). nth y.operands 0 ≡ Some hv.0) same r.operand)) [
         | inl st ↦ absurd (let e : x.wave ≡ 0 = start_wave image x.wave x.instr 0 hv.0 st in omega arith)
         | inr m ↦ (let f : HasFired s.fired m.inst.wave m.inst.instr = maker_fired x hv.0 hv.1 t m in
             let e : m.time < t = m.earlier in
             elim (cases_eq w m.inst.wave) [
-              | inl g ↦ (m.inst.instr, has_same s.fired m.inst.wave m.inst.instr w m.inst.instr (sym g) refl f)
-              | inr g ↦ lower_fired n m.time m.inst (omega arith) m.fires f w (elim (sends_wave image m.inst.wave m.inst.instr m.inst.operands m.inst.result x.wave x.instr 0 hv.0 m.sent) [
-                | inl q ↦ omega arith
-                | inr q ↦ omega arith
-              ])
+              | inl g ↦
+                  (m.inst.instr, has_same s.fired m.inst.wave m.inst.instr w m.inst.instr (sym g) refl f)
+              | inr g ↦ lower_fired n m.time m.inst (omega arith) m.fires f w
+                  (elim (sends_wave image m.inst.wave m.inst.instr m.inst.operands m.inst.result x.wave
+                  x.instr 0 hv.0 m.sent) [
+                    | inl q ↦ omega arith
+                    | inr q ↦ omega arith
+                  ])
             ])
       ]
 
@@ -90,7 +114,8 @@ module _ (image : Image) (world : World) (facts : WalkFacts image world) (s : St
       let hv = full.1 0 full.0 in
       let r : RightToken image world a b 0 hv.0 = fit.held_right a b 0 hv.0 hv.1 in
       let wa : r.inst.wave ≡ a = r.at.wave in
-      lower_fired (suc r.time) r.time r.inst (omega arith) r.at.fires (has_same s.fired a b r.inst.wave r.inst.instr (sym r.at.wave) (sym r.at.instr) h) w (omega arith)
+      lower_fired (suc r.time) r.time r.inst (omega arith) r.at.fires
+      (has_same s.fired a b r.inst.wave r.inst.instr (sym r.at.wave) (sym r.at.instr) h) w (omega arith)
 
   pub fired_wave : (w i : ℕ) → HasFired s.fired w i → w < length s.fired
   fired_wave w i h =
@@ -105,6 +130,8 @@ module _ (image : Image) (world : World) (facts : WalkFacts image world) (s : St
     | inl st ↦ (let z : w ≡ 0 = start_wave image w i p v st in omega arith)
     | inr f ↦ waves_few s.fired w (λ a k. elim (cases_eq a f.inst.wave) [
       | inl g ↦ (f.inst.instr, has_same s.fired f.inst.wave f.inst.instr a f.inst.instr (sym g) refl f.fired)
-      | inr n ↦ lower_key f.inst.wave f.inst.instr f.fired a (elim (sends_wave image f.inst.wave f.inst.instr f.inst.operands f.inst.result w i p v f.sent) [ inl q ↦ omega arith | inr q ↦ omega arith ])
+      | inr n ↦ lower_key f.inst.wave f.inst.instr f.fired a
+          (elim (sends_wave image f.inst.wave f.inst.instr f.inst.operands f.inst.result w i p v f.sent)
+          [ inl q ↦ omega arith | inr q ↦ omega arith ])
     ])
   ]

@@ -1,5 +1,6 @@
 -- Where a run ends.
-use Rattle.std.proofs.Common.{◌≡◌, ◌+◌, ◌<◌, ◌≤◌, ◌⊎◌, inl, inr, ℕ, true, false, List, Option, Some, None, is_some, length, sym, refl, ap, ◌∙◌, subst, arith}
+use Rattle.std.proofs.Common.{◌≡◌, ◌+◌, ◌<◌, ◌≤◌, ◌⊎◌, inl, inr, ℕ, true, false, List, Option, Some, None}
+use Rattle.std.proofs.Common.{is_some, length, sym, refl, ap, ◌∙◌, subst, arith}
 use Rattle.std.proofs.lemmas.Bool.{both_ways, and_parts}
 use Rattle.ws_words.specs.Outside.{Outside, World}
 use Rattle.ws_isa.specs.Image.{Image, Token, ports, is_memory}
@@ -32,11 +33,15 @@ use Rattle.fire_crew.specs.Ends.{AllRun, SomeRun, FaultRun}
 use Rattle.df_core.proofs.Owing.{nothing, some_only, waits_cases}
 use Rattle.ws_words.proofs.Places.{nth_short}
 
-kept_of : (image : Image) (o : Option Kept) → is_some o ≡ true → (xs : List ℕ) × (operands_if image o ≡ Some xs)
+kept_of : (image : Image) (o : Option Kept) → is_some o ≡ true → (xs : List ℕ)
+    × (operands_if image o ≡ Some xs)
 kept_of image None e = cc
 kept_of image (Some k) e = (_, refl)
 
-module _ (image : Image) (world : World) (formed : Formed image) (sound : Sound image) (began : List (Option Began)) (t : Tables) (tok : TablesOk image world t) (once : Once t.fired) (c : Content) (m : Outside) (is : IsBuffer image world began c m) (fit : Fit image world (shown image t (buffer_in image c m))) where
+module _ (image : Image) (world : World) (formed : Formed image) (sound : Sound image)
+    (began : List (Option Began)) (t : Tables) (tok : TablesOk image world t) (once : Once t.fired)
+    (c : Content) (m : Outside) (is : IsBuffer image world began c m)
+    (fit : Fit image world (shown image t (buffer_in image c m))) where
   facts : WalkFacts image world
   facts = facts_of image world (ports_there image formed) sound
 
@@ -64,11 +69,13 @@ module _ (image : Image) (world : World) (formed : Formed image) (sound : Sound 
   pub not_stopped : c.fault ≡ None → s.stopped ≡ false
   not_stopped e = stopped_is ∙ ap has e
 
-  requests : AllKnown image t c.kept → (w i : ℕ) → HasFired t.fired w i → is_memory image i ≡ true → (xs : List ℕ) × (b.kept w i ≡ Some xs)
+  requests : AllKnown image t c.kept → (w i : ℕ) → HasFired t.fired w i → is_memory image i ≡ true
+      → (xs : List ℕ) × (b.kept w i ≡ Some xs)
   requests known w i h mm = kept_of image (entry_of c.kept w i) (known w i h mm)
 
   out_at : (n : ℕ) → effect_at image world n ≡ s.memory → HoldsOut began (mem image world n) c.outside
-  out_at n e = out_of began (mem image world n) c.outside (subst (λ (o : Outside). HoldsOut began o c.outside) (sym memory_is ∙ sym e ∙ effect_is image world n) is.outside)
+  out_at n e = out_of began (mem image world n) c.outside (subst (λ (o : Outside). HoldsOut began o c.outside)
+      (sym memory_is ∙ sym e ∙ effect_is image world n) is.outside)
 
   pub owes : AllKnown image t c.kept → HaveCome t.held (owed image t b) → OwesNothing image t b
   owes known come = record { tokens = come; requests = requests known }
@@ -77,37 +84,56 @@ module _ (image : Image) (world : World) (formed : Formed image) (sound : Sound 
   whole_only e (inl w) = w
   whole_only e (inr f) = absurd (both_ways _ (not_stopped e) f.stopped)
 
-  pub all_run : c.fault ≡ None → WholeRun image world s ⊎ AtFault image world s → ((w : WholeRun image world s) (n : ℕ) → length (walk image world n) ≤ length s.fired) → (n : ℕ) × (length s.fired ≤ length (walk image world n)) → AllRun image world began t.fired c.outside
+  pub all_run : c.fault ≡ None → WholeRun image world s ⊎ AtFault image world s
+      → ((w : WholeRun image world s) (n : ℕ) → length (walk image world n) ≤ length s.fired)
+      → (n : ℕ) × (length s.fired ≤ length (walk image world n)) → AllRun image world began t.fired c.outside
   all_run e either counted f =
       let w = whole_only e either in
-      let all : (n : ℕ) → length (walk image world n) ≤ length t.fired = λ n. subst (λ ks. length (walk image world n) ≤ length ks) fired_is (counted w n) in
+      let all : (n : ℕ) → length (walk image world n) ≤ length t.fired =
+      λ n. subst (λ ks. length (walk image world n) ≤ length ks) fired_is (counted w n) in
       record {
         no_fault = w.within;
         cost = all;
         steps = f.0;
-        count = (let a = all f.0 in let d : length t.fired ≤ length (walk image world f.0) = subst (λ ks. length ks ≤ length (walk image world f.0)) fired_is f.1 in omega (arith, a, d));
+        count = (let a = all f.0 in let d : length t.fired ≤ length (walk image world f.0) =
+            subst (λ ks. length ks ≤ length (walk image world f.0)) fired_is f.1 in omega (arith, a, d));
         all = λ n x fx. subst (λ ks. HasFired ks x.wave x.instr) fired_is (w.fired n x fx);
         left = λ n l. out_at n (
-            let quiet : NoOp image world n (n + w.end) = none_fires image world (length t.fired) n (n + w.end) all l in
-            sym (mem_same image world facts n (n + w.end) (omega arith) (no_op_no_write image world n (n + w.end) quiet)) ∙ w.memory (n + w.end) (omega arith));
+            let quiet : NoOp image world n (n + w.end) = none_fires image world (length t.fired) n (n + w.end)
+            all l in
+            sym (mem_same image world facts n (n + w.end) (omega arith)
+            (no_op_no_write image world n (n + w.end) quiet)) ∙ w.memory (n + w.end) (omega arith));
       }
 
   -- nothing may be issued
-  pub none_issues : AllKnown image t c.kept → NoneIssuable image b → (w i : ℕ) → Enabled image s (Issue w i) → ⊥
+  pub none_issues : AllKnown image t c.kept → NoneIssuable image b → (w i : ℕ) → Enabled image s (Issue w i)
+      → ⊥
   unfolding shown
   none_issues known none w i e = elim (waits_cases (b.issued w i) (b.kept w i) _ e.0 e.1.waits) [
-    | inl h ↦ none w i e.0 h (record { going = e.1.issuable.going; current = e.1.issuable.current; fresh = e.1.issuable.fresh; turn = e.1.issuable.turn })
-    | inr h ↦ (let q = and_parts (lists t.fired w i) (is_memory image i) (some_only _ (operands_in image t.held w i) e.0 h.1) in
+    | inl h ↦
+        none w i e.0 h (record {
+          going = e.1.issuable.going;
+          current = e.1.issuable.current;
+          fresh = e.1.issuable.fresh;
+          turn = e.1.issuable.turn;
+        })
+    | inr h ↦
+        (let q = and_parts (lists t.fired w i) (is_memory image i)
+        (some_only _ (operands_in image t.held w i) e.0 h.1) in
         let r = requests known w i (lists_true t.fired w i q.0) q.1 in
         nothing r.0 (sym h.0 ∙ r.1))
   ]
 
   -- an instance of which a token is missing hasn't fired
-  pub not_fired : (x : Token) (right : IsRight image world x) → IsMissing t.held x → HasFired s.fired right.inst.wave right.inst.instr → ⊥
+  pub not_fired : (x : Token) (right : IsRight image world x) → IsMissing t.held x
+      → HasFired s.fired right.inst.wave right.inst.instr → ⊥
   not_fired x right missing h =
-      let f = tok.fired_full x.wave x.instr (subst (λ (k : ℕ × ℕ). HasFired t.fired k.0 k.1) (λ j. (right.at.wave j, right.at.instr j)) (subst (λ ks. HasFired ks right.inst.wave right.inst.instr) fired_is h)) in
+      let f = tok.fired_full x.wave x.instr (subst (λ (k : ℕ × ℕ). HasFired t.fired k.0 k.1)
+      (λ j. (right.at.wave j, right.at.instr j))
+      (subst (λ ks. HasFired ks right.inst.wave right.inst.instr) fired_is h)) in
       let l = nth_short right.inst.operands x.port x.value right.operand in
-      let n : length right.inst.operands ≡ ports image x.instr = facts.filled right.time right.inst right.at.fires ∙ ap (ports image) right.at.instr in
+      let n : length right.inst.operands ≡ ports image x.instr = facts.filled right.time right.inst
+      right.at.fires ∙ ap (ports image) right.at.instr in
       let g = f.1 x.port (omega (arith, l, n)) in
       nothing g.0 (sym missing ∙ g.1)
 
@@ -118,7 +144,8 @@ module _ (image : Image) (world : World) (formed : Formed image) (sound : Sound 
       let r : RightToken image world w i 0 g.0 = fit.held_right w i 0 g.0 g.1 in
       (r.time, r.inst, r.at)
 
-  pub some_run : (n : ℕ) × (length s.fired < length (walk image world n)) → (p : ℕ) × Passed image world s p → SomeRun image world began t.fired c.outside
+  pub some_run : (n : ℕ) × (length s.fired < length (walk image world n)) → (p : ℕ) × Passed image world s p
+      → SomeRun image world began t.fired c.outside
   some_run r q =
       let of : StepsOf image world s.fired = steps_of image world facts s.fired shown_once fired_at in
       let count : length (ops image world q.1.memory.steps) ≡ q.0 = q.1.memory.count in
@@ -141,15 +168,20 @@ module _ (image : Image) (world : World) (formed : Formed image) (sound : Sound 
   pub stopped_so : (array : ℕ) → c.fault ≡ Some array → s.stopped ≡ true
   stopped_so array e = stopped_is ∙ ap has e
 
-  pub fault_run : (array : ℕ) → c.fault ≡ Some array → AtFault image world s → ((p : ℕ) (one other : Outside) → Effect image world p one → Effect image world p other → one ≡ other) → FaultRun image world began array c.outside
+  pub fault_run : (array : ℕ) → c.fault ≡ Some array → AtFault image world s
+      → ((p : ℕ) (one other : Outside) → Effect image world p one → Effect image world p other → one ≡ other)
+      → FaultRun image world began array c.outside
   fault_run array e at same =
       let f = subst (λ (o : Option ℕ). FaultIs image world o) e is.fault in
       let times : at.time ≡ f.0 = one_fault image world facts at.time f.0 at.fault f.1 in
-      let left : Effect image world (length (ops image world f.0)) s.memory = subst (λ (n : ℕ). Effect image world (length (ops image world n)) s.memory) times at.memory in
-      let here : Effect image world (length (ops image world f.0)) (effect_of (mem image world f.0)) = record { steps = f.0; count = refl; left = refl } in
+      let left : Effect image world (length (ops image world f.0)) s.memory =
+      subst (λ (n : ℕ). Effect image world (length (ops image world n)) s.memory) times at.memory in
+      let here : Effect image world (length (ops image world f.0)) (effect_of (mem image world f.0)) =
+      record { steps = f.0; count = refl; left = refl } in
       record {
         time = f.0;
         fault = f.1;
         array_is = f.2;
-        left = out_at f.0 (effect_is image world f.0 ∙ same (length (ops image world f.0)) (effect_of (mem image world f.0)) s.memory here left);
+        left = out_at f.0 (effect_is image world f.0 ∙ same (length (ops image world f.0))
+            (effect_of (mem image world f.0)) s.memory here left);
       }

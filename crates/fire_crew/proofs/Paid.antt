@@ -1,5 +1,7 @@
 -- Tokens that have come, and those that are missing.
-use Rattle.std.proofs.Common.{◌≡◌, inl, inr, ℕ, zero, Bool, true, false, cond, List, [], ◌∷◌, ◌++◌, ◌+◌, ◌<◌, ◌≤◌, suc, Option, Some, None, is_some, All, length, take, slice_index_or, add-one, arith, sym, refl, ap, ◌∙◌, subst}
+use Rattle.std.proofs.Common.{◌≡◌, inl, inr, ℕ, zero, Bool, true, false, cond, List, [], ◌∷◌, ◌++◌, ◌+◌, ◌<◌}
+use Rattle.std.proofs.Common.{◌≤◌, suc, Option, Some, None, is_some, All, length, take, slice_index_or}
+use Rattle.std.proofs.Common.{add-one, arith, sym, refl, ap, ◌∙◌, subst}
 use Rattle.std.proofs.lemmas.Bool.{cases_lt}
 use Rattle.std.proofs.lemmas.List.{take_all, append_assoc, get_or-map}
 use Rattle.std.proofs.lemmas.List.Elements.{All-get_or, All-more, All-push}
@@ -24,7 +26,8 @@ use Rattle.store_buf.specs.Contents.{buffer_in}
 use Rattle.store_buf.specs.Ordering.{no_request}
 use Rattle.match_table.specs.Together.{all_fired, behind, together}
 use Rattle.match_table.specs.Growth.{content_at, no_content}
-use Rattle.fire_crew.specs.Owing.{HaveCome, IsMissing, IsKnown, AllKnown, ResultsCame, ResultsCameAt, ToldIn, HasAnswered}
+use Rattle.fire_crew.specs.Owing.{HaveCome, IsMissing, IsKnown, AllKnown, ResultsCame, ResultsCameAt, ToldIn}
+use Rattle.fire_crew.specs.Owing.{HasAnswered}
 use Rattle.match_table.proofs.FiredPlaces.{none_fired, fired_place, asked_there}
 use Rattle.match_table.proofs.Union.{listed_at}
 use Rattle.match_table.proofs.Held.{has_none}
@@ -38,76 +41,124 @@ module _ (held : Ports) where
   pub come_none : HaveCome held []
   come_none w i p v s = absurd s
 
-  pub come_more : (t : Token) (ts : List Token) → has (held t.wave t.instr t.port) ≡ true → HaveCome held ts → HaveCome held (t ∷ ts)
-  come_more t ts h come w i p v (inl e) = has_some (held w i p) (subst (λ (x : ℕ × ℕ × ℕ). has (held x.0 x.1 x.2) ≡ true) (λ j. (e.0 j, e.1 j, e.2 j)) h)
+  pub come_more : (t : Token) (ts : List Token) → has (held t.wave t.instr t.port) ≡ true → HaveCome held ts
+      → HaveCome held (t ∷ ts)
+  come_more t ts h come w i p v (inl e) =
+      has_some (held w i p) (subst (λ (x : ℕ × ℕ × ℕ). has (held x.0 x.1 x.2) ≡ true)
+      (λ j. (e.0 j, e.1 j, e.2 j)) h)
   come_more t ts h come w i p v (inr s) = come w i p v s
 
   pub come_append : (ts us : List Token) → HaveCome held ts → HaveCome held us → HaveCome held (ts ++ us)
-  come_append ts us a b w i p v s = elim (is_sent_append_cases ts us w i p v s) [ inl x ↦ a w i p v x | inr x ↦ b w i p v x ]
+  come_append ts us a b w i p v s = elim (is_sent_append_cases ts us w i p v s)
+      [ inl x ↦ a w i p v x | inr x ↦ b w i p v x ]
 
   -- what the instances of a list owe
-  pub come_plain : (image : Image) (ks : List Key) → ((w i : ℕ) → HasFired ks w i → is_memory image i ≡ false → HaveCome held (sends image w i (operands_in image held w i) (result_of image i (operands_in image held w i)))) → HaveCome held (plain_tokens image held ks)
+  pub come_plain : (image : Image) (ks : List Key) → ((w i : ℕ) → HasFired ks w i → is_memory image i ≡ false
+      → HaveCome held
+      (sends image w i (operands_in image held w i) (result_of image i (operands_in image held w i))))
+      → HaveCome held (plain_tokens image held ks)
   come_plain image [] each = come_none
-  come_plain image (k ∷ ks) each = come_append _ (plain_tokens image held ks) (here (is_memory image k.instr) (each k.wave k.instr (inl (refl, refl)))) (come_plain image ks (λ w i h. each w i (inr h)))
+  come_plain image (k ∷ ks) each = come_append _ (plain_tokens image held ks)
+      (here (is_memory image k.instr) (each k.wave k.instr (inl (refl, refl))))
+      (come_plain image ks (λ w i h. each w i (inr h)))
     where
-      here : (b : Bool) → (b ≡ false → HaveCome held (sends image k.wave k.instr (operands_in image held k.wave k.instr) (result_of image k.instr (operands_in image held k.wave k.instr)))) →
-          HaveCome held (cond b [] (sends image k.wave k.instr (operands_in image held k.wave k.instr) (result_of image k.instr (operands_in image held k.wave k.instr))))
+      here : (b : Bool)
+          → (b ≡ false
+          → HaveCome held (sends image k.wave k.instr (operands_in image held k.wave k.instr)
+          (result_of image k.instr (operands_in image held k.wave k.instr)))) →
+          HaveCome held
+          (cond b [] (sends image k.wave k.instr (operands_in image held k.wave k.instr)
+          (result_of image k.instr (operands_in image held k.wave k.instr))))
       here true f = come_none
       here false f = f refl
 
-  pub come_ops : (image : Image) (b : Buffer) (ks : List Key) → ((w i : ℕ) → HasFired ks w i → HaveCome held (sends image w i (or_else (b.kept w i) []) (or_else (b.issued w i) 0))) → HaveCome held (op_tokens image b ks)
+  pub come_ops : (image : Image) (b : Buffer) (ks : List Key)
+      → ((w i : ℕ) → HasFired ks w i
+      → HaveCome held (sends image w i (or_else (b.kept w i) []) (or_else (b.issued w i) 0)))
+      → HaveCome held (op_tokens image b ks)
   come_ops image b [] each = come_none
-  come_ops image b (k ∷ ks) each = come_append _ (op_tokens image b ks) (each k.wave k.instr (inl (refl, refl))) (come_ops image b ks (λ w i h. each w i (inr h)))
+  come_ops image b (k ∷ ks) each = come_append _ (op_tokens image b ks)
+      (each k.wave k.instr (inl (refl, refl))) (come_ops image b ks (λ w i h. each w i (inr h)))
 
-  sent_one : (w v : ℕ) (ds : List Dest) (k : ℕ) (d : Dest) → k < length ds → has (held w (slice_index_or ds k d).instr (slice_index_or ds k d).port) ≡ true → HaveCome held (tokens_to w v (take k ds)) → HaveCome held (tokens_to w v (take (suc k) ds))
+  sent_one : (w v : ℕ) (ds : List Dest) (k : ℕ) (d : Dest) → k < length ds
+      → has (held w (slice_index_or ds k d).instr (slice_index_or ds k d).port) ≡ true
+      → HaveCome held (tokens_to w v (take k ds)) → HaveCome held (tokens_to w v (take (suc k) ds))
   sent_one w v [] k d lt h come = absurd (omega (arith, lt))
-  sent_one w v (x ∷ ds) zero d lt h come = come_more (record { wave = w; instr = x.instr; port = x.port; value = v }) [] h come_none
+  sent_one w v (x ∷ ds) zero d lt h come =
+      come_more (record { wave = w; instr = x.instr; port = x.port; value = v }) [] h come_none
   sent_one w v (x ∷ ds) (suc k) d lt h come = λ a i p u s. elim s [
     | inl e ↦ come a i p u (inl e)
     | inr r ↦ sent_one w v ds k d (omega (arith, lt)) h (λ b j q y z. come b j q y (inr z)) a i p u r
   ]
 
   -- one more of the tokens of a word has come
-  pub come_sent : (w v : ℕ) (ds : List Dest) (k : ℕ) (d : Dest) → k < length ds → has (held w (slice_index_or ds k d).instr (slice_index_or ds k d).port) ≡ true → HaveCome held (tokens_to w v (take k ds)) → HaveCome held (tokens_to w v (take (k + 1) ds))
+  pub come_sent : (w v : ℕ) (ds : List Dest) (k : ℕ) (d : Dest) → k < length ds
+      → has (held w (slice_index_or ds k d).instr (slice_index_or ds k d).port) ≡ true
+      → HaveCome held (tokens_to w v (take k ds)) → HaveCome held (tokens_to w v (take (k + 1) ds))
   come_sent w v ds k d lt h come = rw (add-one k) (sent_one w v ds k d lt h come)
 
   -- one more token has been looked at: it has come
-  pub keep_come : (all front rest : List Token) (t : Token) (found : List Token) (old : List Token) → all ≡ front ++ rest → (mid : List Token) → front ≡ mid ++ t ∷ [] → has (held t.wave t.instr t.port) ≡ true → (found ≡ [] → (old ≡ []) × HaveCome held rest) →
+  pub keep_come : (all front rest : List Token) (t : Token) (found : List Token) (old : List Token)
+      → all ≡ front ++ rest → (mid : List Token) → front ≡ mid ++ t ∷ []
+      → has (held t.wave t.instr t.port) ≡ true → (found ≡ [] → (old ≡ []) × HaveCome held rest) →
       (more : List Token) × (all ≡ mid ++ more) × (found ≡ [] → (old ≡ []) × HaveCome held more)
-  keep_come all front rest t found old is mid e h ih = (t ∷ rest, is ∙ ap (λ (l : List Token). l ++ rest) e ∙ append_assoc mid (t ∷ []) rest, λ n. (let r = ih n in (r.0, come_more t rest h r.1)))
+  keep_come all front rest t found old is mid e h ih = (
+    t ∷ rest,
+    is ∙ ap (λ (l : List Token). l ++ rest) e ∙ append_assoc mid (t ∷ []) rest,
+    λ n. (let r = ih n in (r.0, come_more t rest h r.1)),
+  )
 
   -- or it is missing, and is found
-  pub keep_found : (all front rest : List Token) (t : Token) (found new : List Token) (old : List Token) → all ≡ front ++ rest → (mid : List Token) → front ≡ mid ++ t ∷ [] → new ≡ found ++ t ∷ [] →
+  pub keep_found : (all front rest : List Token) (t : Token) (found new : List Token) (old : List Token)
+      → all ≡ front ++ rest → (mid : List Token) → front ≡ mid ++ t ∷ [] → new ≡ found ++ t ∷ [] →
       (more : List Token) × (all ≡ mid ++ more) × (new ≡ [] → (old ≡ []) × HaveCome held more)
-  keep_found all front rest t found new old is mid e n = (t ∷ rest, is ∙ ap (λ (l : List Token). l ++ rest) e ∙ append_assoc mid (t ∷ []) rest, λ z. absurd (not_empty found t (sym n ∙ z)))
+  keep_found all front rest t found new old is mid e n = (
+    t ∷ rest,
+    is ∙ ap (λ (l : List Token). l ++ rest) e ∙ append_assoc mid (t ∷ []) rest,
+    λ z. absurd (not_empty found t (sym n ∙ z)),
+  )
 
-  pub found_missing : (found new : List Token) (t : Token) → new ≡ found ++ t ∷ [] → has (held t.wave t.instr t.port) ≡ false → All (IsMissing held) found → All (IsMissing held) new
-  found_missing found new t n h a = subst (λ (l : List Token). All (IsMissing held) l) (sym n) (All-push (IsMissing held) found t a (has_none (held t.wave t.instr t.port) h))
+  pub found_missing : (found new : List Token) (t : Token) → new ≡ found ++ t ∷ []
+      → has (held t.wave t.instr t.port) ≡ false → All (IsMissing held) found → All (IsMissing held) new
+  found_missing found new t n h a = subst (λ (l : List Token). All (IsMissing held) l) (sym n)
+      (All-push (IsMissing held) found t a (has_none (held t.wave t.instr t.port) h))
 
 -- one more of a list is done
-pub one_more : {X : Type 0} (P : X → Type 0) (fs all : List X) (k : ℕ) (d : X) → fs ≡ all → k < length fs → All P (take k all) → P (slice_index_or fs k d) → All P (take (k + 1) all)
-one_more {X} P fs all k d is lt a p = All-more P all k d (subst (λ (l : List X). k < length l) is lt) a (subst (λ (l : List X). P (slice_index_or l k d)) is p)
+pub one_more : {X : Type 0} (P : X → Type 0) (fs all : List X) (k : ℕ) (d : X) → fs ≡ all → k < length fs
+    → All P (take k all) → P (slice_index_or fs k d) → All P (take (k + 1) all)
+one_more {X} P fs all k d is lt a p = All-more P all k d (subst (λ (l : List X). k < length l) is lt) a
+    (subst (λ (l : List X). P (slice_index_or l k d)) is p)
 
-pub all_done : {X : Type 0} (P : X → Type 0) (all : List X) (k : ℕ) → length all ≤ k → All P (take k all) → All P all
+pub all_done : {X : Type 0} (P : X → Type 0) (all : List X) (k : ℕ) → length all ≤ k → All P (take k all)
+    → All P all
 all_done {X} P all k le a = subst (λ (l : List X). All P l) (take_all k all le) a
 
 -- the one that a table lists at a place has told, by its key or as the code finds it
-pub told_key : (image : Image) (all : Ports) (place : ℕ) (c : TableContent) (k : Key) → ((d : Key) → slice_index_or c.fired place d ≡ k) → ResultsCame image all (operands_in image (held c) k.wave k.instr) k → ResultsCameAt image all place c
-told_key image all place c k at now d = subst (λ (y : Key). ResultsCame image all (operands_in image (held c) y.wave y.instr) y) (sym (at d)) now
+pub told_key : (image : Image) (all : Ports) (place : ℕ) (c : TableContent) (k : Key)
+    → ((d : Key) → slice_index_or c.fired place d ≡ k)
+    → ResultsCame image all (operands_in image (held c) k.wave k.instr) k → ResultsCameAt image all place c
+told_key image all place c k at now d =
+    subst (λ (y : Key). ResultsCame image all (operands_in image (held c) y.wave y.instr) y) (sym (at d)) now
 
-pub told_at : (image : Image) (all : Ports) (place : ℕ) (c : TableContent) (f : Fired) → ((d : Key) → slice_index_or c.fired place d ≡ key_of f) → listed f.operands ≡ operands_in image (held c) f.wave f.instr → ResultsCame image all (listed f.operands) (key_of f) → ResultsCameAt image all place c
-told_at image all place c f at operands now = told_key image all place c (key_of f) at (subst (λ (xs : List ℕ). ResultsCame image all xs (key_of f)) operands now)
+pub told_at : (image : Image) (all : Ports) (place : ℕ) (c : TableContent) (f : Fired)
+    → ((d : Key) → slice_index_or c.fired place d ≡ key_of f) → listed f.operands ≡ operands_in image (held c)
+    f.wave f.instr → ResultsCame image all (listed f.operands) (key_of f) → ResultsCameAt image all place c
+told_at image all place c f at operands now = told_key image all place c (key_of f) at
+    (subst (λ (xs : List ℕ). ResultsCame image all xs (key_of f)) operands now)
 
 -- one more of a stretch is done
-pub told_more : (image : Image) (all : Ports) (from place : ℕ) (c : TableContent) → ToldIn image all from place c → ResultsCameAt image all place c → ToldIn image all from (place + 1) c
+pub told_more : (image : Image) (all : Ports) (from place : ℕ) (c : TableContent)
+    → ToldIn image all from place c → ResultsCameAt image all place c → ToldIn image all from (place + 1) c
 told_more image all from place c before now k d low high within = elim (cases_lt k place) [
   | inl x ↦ before k d low x within
   | inr x ↦ (let same : place ≡ k = omega (arith, high, x) in
-      subst (λ (j : ℕ). ResultsCame image all (operands_in image (held c) (slice_index_or c.fired j d).wave (slice_index_or c.fired j d).instr) (slice_index_or c.fired j d)) same (now d))
+      subst (λ (j : ℕ). ResultsCame image all (operands_in image (held c) (slice_index_or c.fired j d).wave
+      (slice_index_or c.fired j d).instr) (slice_index_or c.fired j d)) same (now d))
 ]
 
 -- one stretch after another
-pub told_join : (image : Image) (all : Ports) (from mid to : ℕ) (c : TableContent) → ToldIn image all from mid c → ToldIn image all mid to c → ToldIn image all from to c
+pub told_join : (image : Image) (all : Ports) (from mid to : ℕ) (c : TableContent)
+    → ToldIn image all from mid c → ToldIn image all mid to c → ToldIn image all from to c
 told_join image all from mid to c a b k d low high within = elim (cases_lt k mid) [
   | inl x ↦ a k d low x within
   | inr x ↦ b k d x high within
@@ -115,30 +166,41 @@ told_join image all from mid to c a b k d low high within = elim (cases_lt k mid
 
 -- each that the table lists has told so
 abbrev pub AllTold : Image → Ports → TableContent → Type 0
-AllTold image all c = All (λ (k : Key). ResultsCame image all (operands_in image (held c) k.wave k.instr) k) c.fired
+AllTold image all c = All (λ (k : Key). ResultsCame image all (operands_in image (held c) k.wave k.instr) k)
+    c.fired
 
 -- all of a list are done
-pub told_all : (image : Image) (all : Ports) (to : ℕ) (c : TableContent) → length c.fired ≤ to → ToldIn image all 0 to c → AllTold image all c
+pub told_all : (image : Image) (all : Ports) (to : ℕ) (c : TableContent) → length c.fired ≤ to
+    → ToldIn image all 0 to c → AllTold image all c
 told_all image all to c le told k d lt = told k d (omega arith) (omega (arith, lt, le)) lt
 
 -- one more table is done
-pub next_table : (P : TableContent → Type 0) (cs : List TableContent) (n : ℕ) (c : TableContent) → c ≡ content_at cs n → ((k : ℕ) → k < n → P (content_at cs k)) → P c → (k : ℕ) → k < n + 1 → P (content_at cs k)
+pub next_table : (P : TableContent → Type 0) (cs : List TableContent) (n : ℕ) (c : TableContent)
+    → c ≡ content_at cs n → ((k : ℕ) → k < n → P (content_at cs k)) → P c → (k : ℕ) → k < n + 1
+    → P (content_at cs k)
 next_table P cs n c is before now k lt = elim (cases_lt k n) [
   | inl x ↦ before k x
-  | inr x ↦ (let e : n ≡ k = omega (arith, lt, x) in subst (λ (j : ℕ). P (content_at cs j)) e (subst P is now))
+  | inr x ↦ (let e : n ≡ k = omega (arith, lt, x) in subst (λ (j : ℕ). P (content_at cs j)) e
+      (subst P is now))
 ]
 
 -- or one more that stands behind a reference
-pub next_behind : (P : TableContent → Type 0) (rs : List (Bor TableContent)) (n : ℕ) (d : Bor TableContent) → n < length rs → ((k : ℕ) → k < n → P (content_at (behind rs) k)) → P (slice_index_or rs n d).now → (k : ℕ) → k < n + 1 → P (content_at (behind rs) k)
-next_behind P rs n d lt before now = next_table P (behind rs) n (slice_index_or rs n d).now (sym (get_or-map (λ (r : Bor TableContent). r.now) rs n d no_content lt)) before now
+pub next_behind : (P : TableContent → Type 0) (rs : List (Bor TableContent)) (n : ℕ) (d : Bor TableContent)
+    → n < length rs → ((k : ℕ) → k < n → P (content_at (behind rs) k)) → P (slice_index_or rs n d).now
+    → (k : ℕ) → k < n + 1 → P (content_at (behind rs) k)
+next_behind P rs n d lt before now = next_table P (behind rs) n (slice_index_or rs n d).now
+    (sym (get_or-map (λ (r : Bor TableContent). r.now) rs n d no_content lt)) before now
 
-pub known_all : (image : Image) (kept : List Kept) (cs : List TableContent) → length cs ≡ 16 → ((k : ℕ) → k < 16 → All (IsKnown kept) (of_memory image (content_at cs k).fired)) → AllKnown image (together cs) kept
+pub known_all : (image : Image) (kept : List Kept) (cs : List TableContent) → length cs ≡ 16
+    → ((k : ℕ) → k < 16 → All (IsKnown kept) (of_memory image (content_at cs k).fired))
+    → AllKnown image (together cs) kept
 known_all image kept cs count each w i h m =
     let r = listed_at cs w i h in
     let asked : List Key = of_memory image (content_at cs r.0).fired in
     let p = fired_place asked w i (asked_there image (content_at cs r.0).fired w i r.2 m) in
     let b = r.1 in
-    let k : IsKnown kept (slice_index_or asked p.place none_fired) = All-get_or (IsKnown kept) asked p.place none_fired p.below (each r.0 (omega (arith, b, count))) in
+    let k : IsKnown kept (slice_index_or asked p.place none_fired) = All-get_or (IsKnown kept) asked p.place
+    none_fired p.below (each r.0 (omega (arith, b, count))) in
     subst (λ (x : ℕ × ℕ). is_some (entry_of kept x.0 x.1) ≡ true) (λ j. (p.wave j, p.instr j)) k
 
 record Answered (ks : List Kept) (w i : ℕ) : Type 0 where
@@ -154,41 +216,87 @@ answered_at [] w i h = absurd h
 answered_at (k ∷ ks) w i h = go k.answer refl h (λ x. answered_at ks w i x)
   where
     later : Answered ks w i → Answered (k ∷ ks) w i
-    later r = record { place = suc r.place; below = (let b = r.below in omega (arith, b)); wave = r.wave; instr = r.instr; word = r.word; answer = r.answer }
+    later r = record {
+      place = suc r.place;
+      below = (let b = r.below in omega (arith, b));
+      wave = r.wave;
+      instr = r.instr;
+      word = r.word;
+      answer = r.answer;
+    }
 
-    go : (o : Option ℕ) → k.answer ≡ o → HasFired (key_if o k (issued_keys ks)) w i → (HasFired (issued_keys ks) w i → Answered ks w i) → Answered (k ∷ ks) w i
+    go : (o : Option ℕ) → k.answer ≡ o → HasFired (key_if o k (issued_keys ks)) w i
+        → (HasFired (issued_keys ks) w i → Answered ks w i) → Answered (k ∷ ks) w i
     go None e x ih = later (ih x)
-    go (Some a) e (inl x) ih = record { place = 0; below = omega arith; wave = x.0; instr = x.1; word = a; answer = e }
+    go (Some a) e (inl x) ih = record {
+      place = 0;
+      below = omega arith;
+      wave = x.0;
+      instr = x.1;
+      word = a;
+      answer = e;
+    }
     go (Some a) e (inr x) ih = later (ih x)
 
-module _ (image : Image) (cs : List TableContent) (count : length cs ≡ 16) (same : (k : ℕ) → k < 16 → All (λ (f : Key). operands_in image (held (content_at cs k)) f.wave f.instr ≡ operands_in image (together cs).held f.wave f.instr) (content_at cs k).fired) where
+module _ (image : Image) (cs : List TableContent) (count : length cs ≡ 16) (same : (k : ℕ) → k < 16
+    → All (λ (f : Key). operands_in image (held (content_at cs k)) f.wave f.instr ≡ operands_in image
+    (together cs).held f.wave f.instr) (content_at cs k).fired) where
   abbrev hold : Ports
   hold = (together cs).held
 
-  plain_all : ((k : ℕ) → k < 16 → AllTold image hold (content_at cs k)) → (w i : ℕ) → HasFired (all_fired cs) w i → is_memory image i ≡ false → HaveCome hold (sends image w i (operands_in image hold w i) (result_of image i (operands_in image hold w i)))
+  plain_all : ((k : ℕ) → k < 16 → AllTold image hold (content_at cs k)) → (w i : ℕ)
+      → HasFired (all_fired cs) w i → is_memory image i ≡ false
+      → HaveCome hold
+      (sends image w i (operands_in image hold w i) (result_of image i (operands_in image hold w i)))
   plain_all each w i h m =
       let r = listed_at cs w i h in
       let p = fired_place (content_at cs r.0).fired w i r.2 in
       let b = r.1 in
       let f : Key = slice_index_or (content_at cs r.0).fired p.place none_fired in
       let lt : r.0 < 16 = omega (arith, b, count) in
-      let k : ResultsCame image hold (operands_in image (held (content_at cs r.0)) f.wave f.instr) f = All-get_or (λ (x : Key). ResultsCame image hold (operands_in image (held (content_at cs r.0)) x.wave x.instr) x) (content_at cs r.0).fired p.place none_fired p.below (each r.0 lt) in
-      let t : operands_in image (held (content_at cs r.0)) f.wave f.instr ≡ operands_in image hold f.wave f.instr = All-get_or (λ (x : Key). operands_in image (held (content_at cs r.0)) x.wave x.instr ≡ operands_in image hold x.wave x.instr) (content_at cs r.0).fired p.place none_fired p.below (same r.0 lt) in
-      let t' : operands_in image (held (content_at cs r.0)) f.wave f.instr ≡ operands_in image hold w i = t ∙ ap (λ (x : ℕ × ℕ). operands_in image hold x.0 x.1) (λ j. (p.wave j, p.instr j)) in
-      subst (λ (x : ℕ × ℕ × List ℕ). HaveCome hold (sends image x.0 x.1 x.2 (result_of image x.1 x.2))) (λ j. (p.wave j, p.instr j, t' j)) (k (ap (is_memory image) p.instr ∙ m))
+      let k : ResultsCame image hold (operands_in image (held (content_at cs r.0)) f.wave f.instr) f =
+      All-get_or
+      (λ (x : Key). ResultsCame image hold (operands_in image (held (content_at cs r.0)) x.wave x.instr)
+      x) (content_at cs r.0).fired p.place none_fired p.below (each r.0 lt) in
+      let t : operands_in image (held (content_at cs r.0)) f.wave f.instr ≡ operands_in image hold f.wave
+      f.instr = All-get_or (λ (x : Key). operands_in image (held (content_at cs r.0)) x.wave x.instr
+      ≡ operands_in image hold x.wave x.instr) (content_at cs r.0).fired p.place none_fired p.below
+      (same r.0 lt) in
+      let t' : operands_in image (held (content_at cs r.0)) f.wave f.instr ≡ operands_in image hold w i =
+      t ∙ ap (λ (x : ℕ × ℕ). operands_in image hold x.0 x.1) (λ j. (p.wave j, p.instr j)) in
+      subst (λ (x : ℕ × ℕ × List ℕ). HaveCome hold (sends image x.0 x.1 x.2 (result_of image x.1 x.2)))
+      (λ j. (p.wave j, p.instr j, t' j)) (k (ap (is_memory image) p.instr ∙ m))
 
-  module _ (c : buf.Content) (m : Outside) (once : All (λ (k : Kept). entry_of c.kept k.wave k.instr ≡ Some k) c.kept) where
-    ops_all : All (HasAnswered image hold) c.kept → (w i : ℕ) → HasFired (issued_keys c.kept) w i → HaveCome hold (sends image w i (or_else ((buffer_in image c m).kept w i) []) (or_else ((buffer_in image c m).issued w i) 0))
+  module _ (c : buf.Content) (m : Outside) (once : All (λ (k : Kept). entry_of c.kept k.wave k.instr ≡ Some k)
+      c.kept) where
+    ops_all : All (HasAnswered image hold) c.kept → (w i : ℕ) → HasFired (issued_keys c.kept) w i
+        → HaveCome hold (sends image w i (or_else ((buffer_in image c m).kept w i) [])
+        (or_else ((buffer_in image c m).issued w i) 0))
     ops_all each w i h =
         let p = answered_at c.kept w i h in
         let k : Kept = slice_index_or c.kept p.place no_request in
-        let own : entry_of c.kept k.wave k.instr ≡ Some k = All-get_or (λ (k : Kept). entry_of c.kept k.wave k.instr ≡ Some k) c.kept p.place no_request p.below once in
-        let own' : entry_of c.kept w i ≡ Some k = ap (λ (x : ℕ × ℕ). entry_of c.kept x.0 x.1) (λ j. (sym p.wave j, sym p.instr j)) ∙ own in
-        let ops : operands_of (ports image k.instr) k.first k.second ≡ or_else ((buffer_in image c m).kept w i) [] = ap (λ (o : Option Kept). or_else (operands_if image o) []) (sym own') in
-        let ans : p.word ≡ or_else ((buffer_in image c m).issued w i) 0 = ap (λ (o : Option ℕ). or_else o 0) (sym (ap answer_if own' ∙ p.answer)) in
-        let a : HasAnswered image hold k = All-get_or (HasAnswered image hold) c.kept p.place no_request p.below each in
-        subst (λ (x : ℕ × ℕ × List ℕ × ℕ). HaveCome hold (sends image x.0 x.1 x.2 x.3)) (λ j. (p.wave j, p.instr j, ops j, ans j)) (a p.word p.answer)
+        let own : entry_of c.kept k.wave k.instr ≡ Some k =
+        All-get_or (λ (k : Kept). entry_of c.kept k.wave k.instr ≡ Some k) c.kept p.place no_request
+        p.below once in
+        let own' : entry_of c.kept w i ≡ Some k = ap (λ (x : ℕ × ℕ). entry_of c.kept x.0 x.1)
+        (λ j. (sym p.wave j, sym p.instr j)) ∙ own in
+        let ops : operands_of (ports image k.instr) k.first k.second ≡ or_else
+        ((buffer_in image c m).kept w i) [] = ap (λ (o : Option Kept). or_else (operands_if image o) [])
+        (sym own') in
+        let ans : p.word ≡ or_else ((buffer_in image c m).issued w i) 0 =
+        ap (λ (o : Option ℕ). or_else o 0) (sym (ap answer_if own' ∙ p.answer)) in
+        let a : HasAnswered image hold k = All-get_or (HasAnswered image hold) c.kept p.place no_request
+        p.below each in
+        subst (λ (x : ℕ × ℕ × List ℕ × ℕ). HaveCome hold (sends image x.0 x.1 x.2 x.3))
+        (λ j. (p.wave j, p.instr j, ops j, ans j)) (a p.word p.answer)
 
-    pub all_come : HaveCome hold (start_tokens image) → ((k : ℕ) → k < 16 → AllTold image hold (content_at cs k)) → All (HasAnswered image hold) c.kept → HaveCome hold (owed image (together cs) (buffer_in image c m))
-    all_come start plain ops = come_append hold (start_tokens image) (plain_tokens image hold (all_fired cs) ++ op_tokens image (buffer_in image c m) (issued_keys c.kept)) start
-        (come_append hold (plain_tokens image hold (all_fired cs)) (op_tokens image (buffer_in image c m) (issued_keys c.kept)) (come_plain hold image (all_fired cs) (plain_all plain)) (come_ops hold image (buffer_in image c m) (issued_keys c.kept) (ops_all ops)))
+    pub all_come : HaveCome hold (start_tokens image)
+        → ((k : ℕ) → k < 16 → AllTold image hold (content_at cs k)) → All (HasAnswered image hold) c.kept
+        → HaveCome hold (owed image (together cs) (buffer_in image c m))
+    all_come start plain ops = come_append hold (start_tokens image)
+        (plain_tokens image hold (all_fired cs) ++ op_tokens image (buffer_in image c m) (issued_keys c.kept))
+        start
+        (come_append hold (plain_tokens image hold (all_fired cs))
+        (op_tokens image (buffer_in image c m) (issued_keys c.kept))
+        (come_plain hold image (all_fired cs) (plain_all plain))
+        (come_ops hold image (buffer_in image c m) (issued_keys c.kept) (ops_all ops)))

@@ -20,20 +20,38 @@ pub record Steady (old new : List TableContent) (budget phases : ℕ) : Type 0 w
   pub room : length (all_fired new) < budget → phases ≤ count
   pub came : Came (together old).held (together new).held count
 
-pub steady_start : (cs : List TableContent) (budget : ℕ) → ServeFrom 0 cs → length (all_fired cs) ≤ budget → Steady cs cs budget 0
-steady_start cs budget s w = record { serve = s; within = w; grow = all_grow_same cs; count = 0; few = omega arith; room = λ r. omega arith; came = came_none (together cs).held }
+pub steady_start : (cs : List TableContent) (budget : ℕ) → ServeFrom 0 cs → length (all_fired cs) ≤ budget
+    → Steady cs cs budget 0
+steady_start cs budget s w = record {
+  serve = s;
+  within = w;
+  grow = all_grow_same cs;
+  count = 0;
+  few = omega arith;
+  room = λ r. omega arith;
+  came = came_none (together cs).held;
+}
 
-pub steady_moved : (old new : List TableContent) (budget phases : ℕ) → Steady old new budget phases → MovedOn (together old).held (together new).held phases
+pub steady_moved : (old new : List TableContent) (budget phases : ℕ) → Steady old new budget phases
+    → MovedOn (together old).held (together new).held phases
 steady_moved old new budget phases s = (s.count, s.few, s.came)
 
-module _ (old mid new : List TableContent) (budget phases left : ℕ) (s : Steady old mid budget phases) (grow : AllGrow mid new) (is : left ≡ budget - length (all_fired mid)) (some : 0 < left) where
+module _ (old mid new : List TableContent) (budget phases left : ℕ) (s : Steady old mid budget phases)
+    (grow : AllGrow mid new) (is : left ≡ budget - length (all_fired mid)) (some : 0 < left) where
   no_more : phases ≤ s.count
   no_more = s.room (omega (arith, is, some))
 
   pub steady_last : MovedOn (together old).held (together new).held (phases + 1)
-  steady_last = (s.count, (let n = no_more in omega (arith, n)), came_keep (together old).held (together mid).held (together new).held s.count s.came (grow_keep mid new grow))
+  steady_last = (
+    s.count,
+    (let n = no_more in omega (arith, n)),
+    came_keep (together old).held
+        (together mid).held (together new).held s.count s.came (grow_keep mid new grow),
+  )
 
-  module _ (serve : ServeFrom 0 new) (within : length (all_fired new) ≤ budget) (w i p : ℕ) (free : (together mid).held w i p ≡ None) (come : length (all_fired new) < budget → has ((together new).held w i p) ≡ true) where
+  module _ (serve : ServeFrom 0 new) (within : length (all_fired new) ≤ budget) (w i p : ℕ)
+      (free : (together mid).held w i p ≡ None) (come : length (all_fired new) < budget
+      → has ((together new).held w i p) ≡ true) where
     pub steady_more : Steady old new budget (phases + 1)
     steady_more = elim (cases_lt (length (all_fired new)) budget) [
       | inl x ↦ record {
@@ -43,7 +61,8 @@ module _ (old mid new : List TableContent) (budget phases left : ℕ) (s : Stead
         count = suc s.count;
         few = (let n = no_more in omega (arith, n));
         room = λ r. (let n = no_more in omega (arith, n));
-        came = came_more (together old).held (together mid).held (together new).held s.count (grow_keep old mid s.grow) s.came (grow_keep mid new grow) w i p free (come x);
+        came = came_more (together old).held (together mid).held (together new).held s.count
+            (grow_keep old mid s.grow) s.came (grow_keep mid new grow) w i p free (come x);
       }
       | inr x ↦ record {
         serve = serve;
@@ -52,6 +71,7 @@ module _ (old mid new : List TableContent) (budget phases left : ℕ) (s : Stead
         count = s.count;
         few = (let n = no_more in omega (arith, n));
         room = λ r. absurd (omega (arith, r, x));
-        came = came_keep (together old).held (together mid).held (together new).held s.count s.came (grow_keep mid new grow);
+        came = came_keep (together old).held (together mid).held (together new).held s.count s.came
+            (grow_keep mid new grow);
       }
     ]

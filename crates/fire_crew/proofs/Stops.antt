@@ -14,4 +14,6 @@ pub going : (c : Content) → stop_of c.fault c.failed c.starved ≡ None → Is
 going c e = going_of c.fault c.failed c.starved e
 
 pub stopped : (c : Content) (f : BufFault) → stop_of c.fault c.failed c.starved ≡ Some f → IsGoing c → ⊥
-stopped c f e g = let q : None ≡ Some f = sym (ap (λ (k : Option ℕ × Option ℕ × Bool). stop_of k.0 k.1 k.2) (λ j. (g.0 j, g.1 j, g.2 j))) ∙ e in absurd (let r : None ≡ Some f = q in cc)
+stopped c f e g = let q : None ≡ Some f =
+    sym (ap (λ (k : Option ℕ × Option ℕ × Bool). stop_of k.0 k.1 k.2) (λ j. (g.0 j, g.1 j, g.2 j))) ∙ e in
+    absurd (let r : None ≡ Some f = q in cc)

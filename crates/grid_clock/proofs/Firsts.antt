@@ -1,5 +1,7 @@
 -- The first in the chain of the operations that may be issued.
-use Rattle.std.proofs.Common.{ℕ, suc, ◌≡◌, ◌<◌, ◌≤◌, ◌⊎◌, true, false, List, length, [], Option, Some, None, is_some, IfSome, MatchOption, refl, sym, ap, ◌∙◌, subst, inl, inr, eqb-true, ◌==◌, arith}
+use Rattle.std.proofs.Common.{ℕ, suc, ◌≡◌, ◌<◌, ◌≤◌, ◌⊎◌, true, false, List, length, [], Option, Some, None}
+use Rattle.std.proofs.Common.{is_some, IfSome, MatchOption, refl, sym, ap, ◌∙◌, subst, inl, inr, eqb-true}
+use Rattle.std.proofs.Common.{◌==◌, arith}
 use Rattle.std.proofs.lemmas.Bool.{cases_Bool, cases_eq, and_parts}
 use Rattle.ws_words.specs.Outside.{World}
 use Rattle.ws_isa.specs.Image as plain
@@ -18,41 +20,65 @@ use Rattle.grid_clock.specs.Schedule.{FirstIssue}
 use Rattle.grid_clock.specs.During.{IsFirst, Least}
 
 -- as the code holds it: where a request is next, it comes first of those that may be issued
-pub next_is_first : (image : Image) (flow : Flow) (place : ℕ) → GoingBeside image [] flow → place < length flow.asked.items → AskedMay image flow place →
-    next_flag (chain_of flow.chain) (note_of image (asked_at flow place).instr) ≡ true → IsFirst image flow place
+pub next_is_first : (image : Image) (flow : Flow) (place : ℕ) → GoingBeside image [] flow
+    → place < length flow.asked.items → AskedMay image flow place →
+    next_flag (chain_of flow.chain) (note_of image (asked_at flow place).instr) ≡ true
+    → IsFirst image flow place
 next_is_first image flow place g l may next k b may_k =
     let h = g.going.holds in
     let st = h.stands in
     let s : State = g.going.state in
-    let waits = st.asked_from (asked_at flow place).wave (asked_at flow place).instr (listed (ports image (asked_at flow place).instr) (asked_at flow place).operands) (has_asked image flow.asked.items place l) in
-    let waits_k = st.asked_from (asked_at flow k).wave (asked_at flow k).instr (listed (ports image (asked_at flow k).instr) (asked_at flow k).operands) (has_asked image flow.asked.items k b) in
-    let w : (asked_at flow place).wave ≡ flow.chain.wave = eqb-true (asked_at flow place).wave flow.chain.wave (and_parts ((asked_at flow place).wave == flow.chain.wave) _ may).0 in
-    let a : (asked_at flow k).wave ≡ flow.chain.wave = eqb-true (asked_at flow k).wave flow.chain.wave (and_parts ((asked_at flow k).wave == flow.chain.wave) _ may_k).0 in
+    let waits = st.asked_from (asked_at flow place).wave (asked_at flow place).instr
+    (listed (ports image (asked_at flow place).instr) (asked_at flow place).operands)
+    (has_asked image flow.asked.items place l) in
+    let waits_k = st.asked_from (asked_at flow k).wave (asked_at flow k).instr
+    (listed (ports image (asked_at flow k).instr) (asked_at flow k).operands)
+    (has_asked image flow.asked.items k b) in
+    let w : (asked_at flow place).wave ≡ flow.chain.wave = eqb-true (asked_at flow place).wave flow.chain.wave
+    (and_parts ((asked_at flow place).wave == flow.chain.wave) _ may).0 in
+    let a : (asked_at flow k).wave ≡ flow.chain.wave = eqb-true (asked_at flow k).wave flow.chain.wave
+    (and_parts ((asked_at flow k).wave == flow.chain.wave) _ may_k).0 in
     let c : flow.chain.wave ≡ s.chain.wave = ap (λ (d : Chain). d.wave) (sym h.chain_is) in
-    let n : IsNext s.chain (note_of image (asked_at flow place).instr) = subst (λ (d : Chain). IsNext d (note_of image (asked_at flow place).instr)) (sym h.chain_is) (next_is (chain_of flow.chain) (note_of image (asked_at flow place).instr) next) in
+    let n : IsNext s.chain (note_of image (asked_at flow place).instr) =
+    subst (λ (d : Chain). IsNext d (note_of image (asked_at flow place).instr)) (sym h.chain_is)
+    (next_is (chain_of flow.chain) (note_of image (asked_at flow place).instr) next) in
     next_first image g.going.world g.going.formed g.going.sound st.fit.legal
-    (asked_at flow place).wave (asked_at flow place).instr (listed (ports image (asked_at flow place).instr) (asked_at flow place).operands)
-    (asked_at flow k).wave (asked_at flow k).instr (listed (ports image (asked_at flow k).instr) (asked_at flow k).operands)
-    (st.fit.request_right (asked_at flow place).wave (asked_at flow place).instr (listed (ports image (asked_at flow place).instr) (asked_at flow place).operands) waits)
-    (st.fit.request_right (asked_at flow k).wave (asked_at flow k).instr (listed (ports image (asked_at flow k).instr) (asked_at flow k).operands) waits_k)
-    (st.unissued (asked_at flow k).wave (asked_at flow k).instr (listed (ports image (asked_at flow k).instr) (asked_at flow k).operands) waits_k) (w ∙ c) (a ∙ c) n
+    (asked_at flow place).wave (asked_at flow place).instr (listed (ports image (asked_at flow place).instr)
+    (asked_at flow place).operands)
+    (asked_at flow k).wave (asked_at flow k).instr (listed (ports image (asked_at flow k).instr)
+    (asked_at flow k).operands)
+    (st.fit.request_right (asked_at flow place).wave (asked_at flow place).instr
+    (listed (ports image (asked_at flow place).instr) (asked_at flow place).operands) waits)
+    (st.fit.request_right (asked_at flow k).wave (asked_at flow k).instr
+    (listed (ports image (asked_at flow k).instr) (asked_at flow k).operands) waits_k)
+    (st.unissued (asked_at flow k).wave (asked_at flow k).instr
+    (listed (ports image (asked_at flow k).instr) (asked_at flow k).operands) waits_k) (w ∙ c) (a ∙ c) n
 
 -- what comes first of those comes first of the issues that are enabled
-pub first_of : (image : Image) (world : World) (beside : List plain.Token) (flow : Flow) (s : State) → FlowIs image world beside flow s → (place : ℕ) → IsFirst image flow place → FirstIssue image s (asked_at flow place).instr
+pub first_of : (image : Image) (world : World) (beside : List plain.Token) (flow : Flow) (s : State)
+    → FlowIs image world beside flow s → (place : ℕ) → IsFirst image flow place
+    → FirstIssue image s (asked_at flow place).instr
 first_of image world beside flow s h place first a j e =
     let r = has_at image flow.asked.items a j e.0 (h.stands.asked_to a j e.0 e.1.waits) in
-    let m1 : Issuable image s.issued (chain_of flow.chain) s.stopped a j e.0 = subst (λ (c : Chain). Issuable image s.issued c s.stopped a j e.0) h.chain_is e.1.issuable in
-    let m2 : Issuable image s.issued (chain_of flow.chain) s.stopped (asked_at flow r.0).wave (asked_at flow r.0).instr (listed (ports image (asked_at flow r.0).instr) (asked_at flow r.0).operands) = rw (r.2, r.4, r.3) m1 in
-    subst (λ (k : ℕ). seq image (asked_at flow place).instr ≤ seq image k) r.3 (first r.0 r.1 (flagged image s.issued (chain_of flow.chain) s.stopped (asked_at flow r.0) m2))
+    let m1 : Issuable image s.issued (chain_of flow.chain) s.stopped a j e.0 =
+    subst (λ (c : Chain). Issuable image s.issued c s.stopped a j e.0) h.chain_is e.1.issuable in
+    let m2 : Issuable image s.issued (chain_of flow.chain) s.stopped (asked_at flow r.0).wave
+    (asked_at flow r.0).instr (listed (ports image (asked_at flow r.0).instr)
+    (asked_at flow r.0).operands) = rw (r.2, r.4, r.3) m1 in
+    subst (λ (k : ℕ). seq image (asked_at flow place).instr ≤ seq image k) r.3
+    (first r.0 r.1 (flagged image s.issued (chain_of flow.chain) s.stopped (asked_at flow r.0) m2))
 
 -- one more request is looked at
-pub least_taken : (image : Image) (flow : Flow) (n m : ℕ) (other : Option ℕ) → m ≡ suc n → n < length flow.asked.items → Least image flow n other → AskedMay image flow n →
-    IfSome other (λ o. seq image (asked_at flow n).instr < seq image (asked_at flow o).instr) → Least image flow m (Some n)
+pub least_taken : (image : Image) (flow : Flow) (n m : ℕ) (other : Option ℕ) → m ≡ suc n
+    → n < length flow.asked.items → Least image flow n other → AskedMay image flow n →
+    IfSome other (λ o. seq image (asked_at flow n).instr < seq image (asked_at flow o).instr)
+    → Least image flow m (Some n)
 least_taken image flow n m None e l least may before = (
   l,
   may,
   λ k b may_k. elim (cases_eq k n) [
-    | inl q ↦ (let s : seq image (asked_at flow k).instr ≡ seq image (asked_at flow n).instr = ap (λ (j : ℕ). seq image (asked_at flow j).instr) q in omega (arith, s))
+    | inl q ↦ (let s : seq image (asked_at flow k).instr ≡ seq image (asked_at flow n).instr =
+        ap (λ (j : ℕ). seq image (asked_at flow j).instr) q in omega (arith, s))
     | inr q ↦ absurd (least k (omega (arith, b, e, q)) may_k)
   ],
 )
@@ -60,14 +86,19 @@ least_taken image flow n m (Some o) e l least may before = (
   l,
   may,
   λ k b may_k. elim (cases_eq k n) [
-    | inl q ↦ (let s : seq image (asked_at flow k).instr ≡ seq image (asked_at flow n).instr = ap (λ (j : ℕ). seq image (asked_at flow j).instr) q in omega (arith, s))
-    | inr q ↦ (let s : seq image (asked_at flow o).instr ≤ seq image (asked_at flow k).instr = least.2 k (omega (arith, b, e, q)) may_k in
-        let t : seq image (asked_at flow n).instr < seq image (asked_at flow o).instr = before in omega (arith, s, t))
+    | inl q ↦ (let s : seq image (asked_at flow k).instr ≡ seq image (asked_at flow n).instr =
+        ap (λ (j : ℕ). seq image (asked_at flow j).instr) q in omega (arith, s))
+    | inr q ↦ (let s : seq image (asked_at flow o).instr ≤ seq image (asked_at flow k).instr =
+        least.2 k (omega (arith, b, e, q)) may_k in
+        let t : seq image (asked_at flow n).instr < seq image (asked_at flow o).instr = before in
+        omega (arith, s, t))
   ],
 )
 
-pub least_kept : (image : Image) (flow : Flow) (n m : ℕ) (other : Option ℕ) → m ≡ suc n → Least image flow n other →
-    MatchOption other (AskedMay image flow n → ⊥) (λ o. AskedMay image flow n → seq image (asked_at flow o).instr ≤ seq image (asked_at flow n).instr) → Least image flow m other
+pub least_kept : (image : Image) (flow : Flow) (n m : ℕ) (other : Option ℕ) → m ≡ suc n
+    → Least image flow n other →
+    MatchOption other (AskedMay image flow n → ⊥) (λ o. AskedMay image flow n
+    → seq image (asked_at flow o).instr ≤ seq image (asked_at flow n).instr) → Least image flow m other
 least_kept image flow n m None e least ahead = λ k b may_k. elim (cases_eq k n) [
   | inl q ↦ ahead (subst (AskedMay image flow) q may_k)
   | inr q ↦ least k (omega (arith, b, e, q)) may_k
@@ -76,19 +107,28 @@ least_kept image flow n m (Some o) e least ahead = (
   least.0,
   least.1,
   λ k b may_k. elim (cases_eq k n) [
-    | inl q ↦ subst (λ (j : ℕ). seq image (asked_at flow o).instr ≤ seq image (asked_at flow j).instr) (sym q) (ahead (subst (AskedMay image flow) q may_k))
+    | inl q ↦ subst (λ (j : ℕ). seq image (asked_at flow o).instr ≤ seq image (asked_at flow j).instr) (sym q)
+        (ahead (subst (AskedMay image flow) q may_k))
     | inr q ↦ least.2 k (omega (arith, b, e, q)) may_k
   ],
 )
 
-least_none : (image : Image) (flow : Flow) → ((k : ℕ) → k < length flow.asked.items → AskedMay image flow k → ⊥) → NoneAskedMay image flow
-least_none image flow f k l = elim (cases_Bool (may_flag image (chain_of flow.chain) (asked_at flow k).wave (asked_at flow k).instr (asked_at flow k).operands.first)) [
-  | inl e ↦ absurd (f k l e)
-  | inr e ↦ e
-]
+least_none : (image : Image) (flow : Flow) → ((k : ℕ) → k < length flow.asked.items → AskedMay image flow k
+    → ⊥) → NoneAskedMay image flow
+least_none image flow f k l =
+    elim (cases_Bool (may_flag image (chain_of flow.chain) (asked_at flow k).wave (asked_at flow k).instr
+    (asked_at flow k).operands.first)) [
+      | inl e ↦ absurd (f k l e)
+      | inr e ↦ e
+    ]
 
 -- all have been looked at
-pub least_found : (image : Image) (flow : Flow) (n : ℕ) (first : Option ℕ) → n ≡ length flow.asked.items → is_some flow.fault ≡ false → Least image flow n first → MatchOption first ((is_some flow.fault ≡ true) ⊎ NoneAskedMay image flow)
-    (λ place. (place < length flow.asked.items) × (is_some flow.fault ≡ false) × AskedMay image flow place × IsFirst image flow place)
-least_found image flow n None e going least = inr (least_none image flow (λ k l. least k (omega (arith, l, e))))
-least_found image flow n (Some first) e going least = (least.0, going, least.1, λ k l may. least.2 k (omega (arith, l, e)) may)
+pub least_found : (image : Image) (flow : Flow) (n : ℕ) (first : Option ℕ) → n ≡ length flow.asked.items
+    → is_some flow.fault ≡ false → Least image flow n first
+    → MatchOption first ((is_some flow.fault ≡ true) ⊎ NoneAskedMay image flow)
+    (λ place. (place < length flow.asked.items) × (is_some flow.fault ≡ false) × AskedMay image flow place
+    × IsFirst image flow place)
+least_found image flow n None e going least =
+    inr (least_none image flow (λ k l. least k (omega (arith, l, e))))
+least_found image flow n (Some first) e going least =
+    (least.0, going, least.1, λ k l may. least.2 k (omega (arith, l, e)) may)

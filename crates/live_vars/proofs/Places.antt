@@ -1,5 +1,6 @@
 -- Blocks by number, in the graph and in its table.
-use Rattle.std.proofs.Common.{ℕ, ◌+◌, ◌≡◌, ◌<◌, ◌≤◌, List, length, slice_index_or, sym, ap, subst, inl, inr, arith}
+use Rattle.std.proofs.Common.{ℕ, ◌+◌, ◌≡◌, ◌<◌, ◌≤◌, List, length, slice_index_or, sym, ap, subst, inl, inr}
+use Rattle.std.proofs.Common.{arith}
 use Rattle.std.proofs.lemmas.Bool.{cases_lt}
 use Rattle.cfg_core.specs.Graph.{Spot, no_spot, spots, spot_at, Graph, block_at}
 use Rattle.cfg_core.specs.View as view
@@ -13,21 +14,29 @@ use Rattle.live_vars.specs.Found.{Writes, Carried}
 use Rattle.live_vars.proofs.Bits.{marks_none}
 use Rattle.cfg_core.proofs.Spots.{spot_beyond}
 
-pub vars_in : (table : GraphTable) (b : ℕ) (x : code.Spot) → TableIs table → b < length table.spots.items → x ≡ slice_index_or table.spots.items b x → (spot_at (view.graph table.graph.now) b).vars ≡ x.vars
+pub vars_in : (table : GraphTable) (b : ℕ) (x : code.Spot) → TableIs table → b < length table.spots.items
+    → x ≡ slice_index_or table.spots.items b x → (spot_at (view.graph table.graph.now) b).vars ≡ x.vars
 unfolding spot_at
-vars_in table b x h lt e = (spot_in table.spots.items (spots (view.graph table.graph.now)) b x h.spots lt e).vars
+vars_in table b x h lt e =
+    (spot_in table.spots.items (spots (view.graph table.graph.now)) b x h.spots lt e).vars
 
-pub vars_more : (table : GraphTable) (i m n : ℕ) (x : code.Spot) → TableIs table → i < length table.spots.items → x ≡ slice_index_or table.spots.items i x → ((b : ℕ) → b < i → (spot_at (view.graph table.graph.now) b).vars ≤ m) → m ≤ n → x.vars ≤ n → (b : ℕ) → b < i + 1 → (spot_at (view.graph table.graph.now) b).vars ≤ n
+pub vars_more : (table : GraphTable) (i m n : ℕ) (x : code.Spot) → TableIs table
+    → i < length table.spots.items → x ≡ slice_index_or table.spots.items i x
+    → ((b : ℕ) → b < i → (spot_at (view.graph table.graph.now) b).vars ≤ m) → m ≤ n → x.vars ≤ n → (b : ℕ)
+    → b < i + 1 → (spot_at (view.graph table.graph.now) b).vars ≤ n
 vars_more table i m n x h lt e all le fits b below = elim (cases_lt b i) [
   | inl before ↦ omega (arith, all b before)
   | inr from ↦
       let is : b ≡ i = omega arith in
-      subst (λ k. (spot_at (view.graph table.graph.now) k).vars ≤ n) (sym is) (omega (arith, vars_in table i x h lt e))
+      subst (λ k. (spot_at (view.graph table.graph.now) k).vars ≤ n) (sym is)
+      (omega (arith, vars_in table i x h lt e))
 ]
 
-pub vars_beyond : (table : GraphTable) (b : ℕ) → TableIs table → length table.spots.items ≤ b → (spot_at (view.graph table.graph.now) b).vars ≡ 0
+pub vars_beyond : (table : GraphTable) (b : ℕ) → TableIs table → length table.spots.items ≤ b
+    → (spot_at (view.graph table.graph.now) b).vars ≡ 0
 unfolding spot_at no_spot
-vars_beyond table b h le = ap (λ (s : Spot). s.vars) (spot_past table.spots.items (spots (view.graph table.graph.now)) b h.spots le)
+vars_beyond table b h le =
+    ap (λ (s : Spot). s.vars) (spot_past table.spots.items (spots (view.graph table.graph.now)) b h.spots le)
 
 nothing_read : (s : Spot) (x : ℕ) → s ≡ no_spot → ReadsFirst s.block.ops s.block.exit x → ⊥
 unfolding no_spot
@@ -35,7 +44,8 @@ nothing_read s x e h = subst (λ (s : Spot). ReadsFirst s.block.ops s.block.exit
 
 nothing_written : (s : Spot) (x : ℕ) → s ≡ no_spot → Writes s.block.ops s.block.exit x → ⊥
 unfolding no_spot
-nothing_written s x e h = elim (subst (λ (s : Spot). Writes s.block.ops s.block.exit x) e h) [ inl i ↦ i | inr i ↦ i ]
+nothing_written s x e h = elim (subst (λ (s : Spot). Writes s.block.ops s.block.exit x) e h)
+    [ inl i ↦ i | inr i ↦ i ]
 
 nothing_after : (s : Spot) (c : ℕ) → s ≡ no_spot → Carries s.block.exit c → ⊥
 unfolding no_spot
@@ -47,11 +57,17 @@ not_live g b x le (reads _ _ h) = nothing_read (spot_at g b) x (spot_beyond g b 
 not_live g b x le (passes _ c _ w e k l) = nothing_after (spot_at g b) c (spot_beyond g b le) k
 
 -- a block that isn't there
-pub reads_none : (g : Graph) (b low : ℕ) → spot_at g b ≡ no_spot → Marks low 0 (ReadsFirst (block_at g b).ops (block_at g b).exit)
-reads_none g b low e = marks_none low (ReadsFirst (block_at g b).ops (block_at g b).exit) (λ x h. nothing_read (spot_at g b) x e h)
+pub reads_none : (g : Graph) (b low : ℕ) → spot_at g b ≡ no_spot
+    → Marks low 0 (ReadsFirst (block_at g b).ops (block_at g b).exit)
+reads_none g b low e = marks_none low (ReadsFirst (block_at g b).ops (block_at g b).exit)
+    (λ x h. nothing_read (spot_at g b) x e h)
 
-pub writes_none : (g : Graph) (b low : ℕ) → spot_at g b ≡ no_spot → Marks low 0 (Writes (block_at g b).ops (block_at g b).exit)
-writes_none g b low e = marks_none low (Writes (block_at g b).ops (block_at g b).exit) (λ x h. nothing_written (spot_at g b) x e h)
+pub writes_none : (g : Graph) (b low : ℕ) → spot_at g b ≡ no_spot
+    → Marks low 0 (Writes (block_at g b).ops (block_at g b).exit)
+writes_none g b low e = marks_none low (Writes (block_at g b).ops (block_at g b).exit)
+    (λ x h. nothing_written (spot_at g b) x e h)
 
-pub carried_none : (g : Graph) (b low : ℕ) (words : List ℕ) → spot_at g b ≡ no_spot → Marks low 0 (Carried (block_at g b).exit low words)
-carried_none g b low words e = marks_none low (Carried (block_at g b).exit low words) (λ x h. nothing_after (spot_at g b) h.0 e h.1)
+pub carried_none : (g : Graph) (b low : ℕ) (words : List ℕ) → spot_at g b ≡ no_spot
+    → Marks low 0 (Carried (block_at g b).exit low words)
+carried_none g b low words e = marks_none low (Carried (block_at g b).exit low words)
+    (λ x h. nothing_after (spot_at g b) h.0 e h.1)

@@ -1,5 +1,6 @@
 -- A token comes to one of sixteen tables.
-use Rattle.std.proofs.Common.{◌≡◌, ◌+◌, ◌<◌, ◌≤◌, ◌%◌, ⊎_elim, ℕ, zero, suc, true, List, [], ◌∷◌, Option, Some, None, length, length-append, slice_set, sym, refl, ap, ◌∙◌, subst, arith}
+use Rattle.std.proofs.Common.{◌≡◌, ◌+◌, ◌<◌, ◌≤◌, ◌%◌, ⊎_elim, ℕ, zero, suc, true, List, [], ◌∷◌, Option}
+use Rattle.std.proofs.Common.{Some, None, length, length-append, slice_set, sym, refl, ap, ◌∙◌, subst, arith}
 use Rattle.std.proofs.lemmas.Nat.{mod_below}
 use Rattle.ws_isa.specs.Image.{Image, Token}
 use Rattle.ws_isa.specs.Walk.{Ports}
@@ -17,22 +18,35 @@ use Rattle.match_table.proofs.Served.{all_ok}
 use Rattle.match_table.specs.Together.{ServeFrom, all_fired, together}
 use Rattle.match_table.specs.Coming.{BroughtSo, Came, served}
 
-serve_at : (n : ℕ) (cs : List TableContent) (k : ℕ) → ServeFrom n cs → k < length cs → Serves (n + k) (content_at cs k)
+serve_at : (n : ℕ) (cs : List TableContent) (k : ℕ) → ServeFrom n cs → k < length cs
+    → Serves (n + k) (content_at cs k)
 serve_at n [] k s lt = absurd (omega (arith, lt))
 serve_at n (c ∷ cs) zero s lt = subst (λ (m : ℕ). Serves m c) (let e : n ≡ n + 0 = omega arith in e) s.0
-serve_at n (c ∷ cs) (suc k) s lt = subst (λ (m : ℕ). Serves m (content_at cs k)) (let e : suc n + k ≡ n + suc k = omega arith in e) (serve_at (suc n) cs k s.1 (omega (arith, lt)))
+serve_at n (c ∷ cs) (suc k) s lt = subst (λ (m : ℕ). Serves m (content_at cs k))
+    (let e : suc n + k ≡ n + suc k = omega arith in e) (serve_at (suc n) cs k s.1 (omega (arith, lt)))
 
-set_serve : (n : ℕ) (cs : List TableContent) (k : ℕ) (c : TableContent) → ServeFrom n cs → Serves (n + k) c → ServeFrom n (slice_set cs k c)
+set_serve : (n : ℕ) (cs : List TableContent) (k : ℕ) (c : TableContent) → ServeFrom n cs → Serves (n + k) c
+    → ServeFrom n (slice_set cs k c)
 set_serve n [] k c s x = tt
-set_serve n (d ∷ cs) zero c s x = (subst (λ (m : ℕ). Serves m c) (let e : n + 0 ≡ n = omega arith in e) x, s.1)
-set_serve n (d ∷ cs) (suc k) c s x = (s.0, set_serve (suc n) cs k c s.1 (subst (λ (m : ℕ). Serves m c) (let e : n + suc k ≡ suc n + k = omega arith in e) x))
+set_serve n (d ∷ cs) zero c s x = (
+  subst (λ (m : ℕ). Serves m c) (let e : n + 0 ≡ n = omega arith in e) x,
+  s.1,
+)
+set_serve n (d ∷ cs) (suc k) c s x = (
+  s.0,
+  set_serve (suc n) cs k c s.1
+      (subst (λ (m : ℕ). Serves m c) (let e : n + suc k ≡ suc n + k = omega arith in e) x),
+)
 
-set_grow : (cs : List TableContent) (k : ℕ) (c : TableContent) → Grows (content_at cs k) c → AllGrow cs (slice_set cs k c)
+set_grow : (cs : List TableContent) (k : ℕ) (c : TableContent) → Grows (content_at cs k) c
+    → AllGrow cs (slice_set cs k c)
 set_grow [] k c g = tt
 set_grow (d ∷ cs) zero c g = (g, all_grow_same cs)
 set_grow (d ∷ cs) (suc k) c g = ((all_grow_same (d ∷ cs)).0, set_grow cs k c g)
 
-set_count : (cs : List TableContent) (k : ℕ) (c : TableContent) → length c.fired ≤ length (content_at cs k).fired + 1 → length (all_fired (slice_set cs k c)) ≤ length (all_fired cs) + 1
+set_count : (cs : List TableContent) (k : ℕ) (c : TableContent)
+    → length c.fired ≤ length (content_at cs k).fired + 1 → length (all_fired (slice_set cs k c))
+    ≤ length (all_fired cs) + 1
 set_count [] k c le = omega arith
 set_count (d ∷ cs) zero c le =
     let a = length-append c.fired (all_fired cs) in
@@ -44,51 +58,71 @@ set_count (d ∷ cs) (suc k) c le =
     let r = set_count cs k c le in
     omega (arith, a, b, r)
 
-arrives_there : (old new : TableContent) (t : Token) → Arrives old t new → has (held new t.wave t.instr t.port) ≡ true
-arrives_there old new t a = ap has (a.more t.wave t.instr t.port ∙ with_at_same t.wave t.instr t.port (Some t.value) (held old))
+arrives_there : (old new : TableContent) (t : Token) → Arrives old t new
+    → has (held new t.wave t.instr t.port) ≡ true
+arrives_there old new t a =
+    ap has (a.more t.wave t.instr t.port ∙ with_at_same t.wave t.instr t.port (Some t.value) (held old))
 
 module _ {J : Type 0} where
-  there : (image : Image) (old new : TableContent) (t : Token) (rs : Results J) (answer : Took) → TookAs image old t new rs answer → (answer ≡ took.NoMemory → ⊥) → has (held new t.wave t.instr t.port) ≡ true
+  there : (image : Image) (old new : TableContent) (t : Token) (rs : Results J) (answer : Took)
+      → TookAs image old t new rs answer → (answer ≡ took.NoMemory → ⊥)
+      → has (held new t.wave t.instr t.port) ≡ true
   there image old new t rs took.Waits m some = arrives_there old new t m.0.0
   there image old new t rs took.Fires m some = arrives_there old new t m.0.0
   there image old new t rs took.Asks m some = arrives_there old new t m.3.0
-  there image old new t rs took.Old m some = ap (λ (c : TableContent). has (held c t.wave t.instr t.port)) m.0.1 ∙ m.0.2
+  there image old new t rs took.Old m some = ap (λ (c : TableContent). has (held c t.wave t.instr t.port))
+      m.0.1 ∙ m.0.2
   there image old new t rs took.NoMemory m some = absurd (some refl)
 
-  module _ (image : Image) (old new : List TableContent) (count : length old ≡ 16) (t : Token) (rs : Results J) (answer : Took) (b : BroughtSo image old t new rs answer) where
+  module _ (image : Image) (old new : List TableContent) (count : length old ≡ 16) (t : Token)
+      (rs : Results J) (answer : Took) (b : BroughtSo image old t new rs answer) where
     abbrev k : ℕ
     k = served t
 
     pub brought_grow : AllGrow old new
-    brought_grow = subst (λ (cs : List TableContent). AllGrow old cs) (sym b.0) (set_grow old k (content_at new k) (all_grows image (content_at old k) (content_at new k) t rs answer b.1))
+    brought_grow = subst (λ (cs : List TableContent). AllGrow old cs) (sym b.0)
+        (set_grow old k (content_at new k) (all_grows image (content_at old k) (content_at new k) t rs answer
+        b.1))
 
     module _ (s : ServeFrom 0 old) where
       below : k < length old
       below = let m = mod_below (t.wave + t.instr) 16 (omega arith) in omega (arith, m, count)
 
       served_old : Serves k (content_at old k)
-      served_old = subst (λ (m : ℕ). Serves m (content_at old k)) (let e : 0 + k ≡ k = omega arith in e) (serve_at 0 old k s below)
+      served_old = subst (λ (m : ℕ). Serves m (content_at old k)) (let e : 0 + k ≡ k = omega arith in e)
+          (serve_at 0 old k s below)
 
-      ok : Serves k (content_at new k) × (length (content_at new k).fired ≤ length (content_at old k).fired + 1)
-      ok = all_ok image (content_at old k) (content_at new k) t rs answer k (length (content_at old k).fired + 1) served_old (omega arith) refl (λ f. omega arith) b.1 b.2
+      ok : Serves k (content_at new k) × (length (content_at new k).fired ≤ length (content_at old k).fired
+          + 1)
+      ok = all_ok image (content_at old k) (content_at new k) t rs answer k
+          (length (content_at old k).fired + 1) served_old (omega arith) refl (λ f. omega arith) b.1 b.2
 
       pub brought_serve : ServeFrom 0 new
-      brought_serve = subst (λ (cs : List TableContent). ServeFrom 0 cs) (sym b.0) (set_serve 0 old k (content_at new k) s (subst (λ (m : ℕ). Serves m (content_at new k)) (let e : k ≡ 0 + k = omega arith in e) ok.0))
+      brought_serve = subst (λ (cs : List TableContent). ServeFrom 0 cs) (sym b.0)
+          (set_serve 0 old k (content_at new k) s (subst (λ (m : ℕ). Serves m (content_at new k))
+          (let e : k ≡ 0 + k = omega arith in e) ok.0))
 
       pub brought_one : length (all_fired new) ≤ length (all_fired old) + 1
-      brought_one = subst (λ (cs : List TableContent). length (all_fired cs) ≤ length (all_fired old) + 1) (sym b.0) (set_count old k (content_at new k) ok.1)
+      brought_one = subst (λ (cs : List TableContent). length (all_fired cs) ≤ length (all_fired old) + 1)
+          (sym b.0) (set_count old k (content_at new k) ok.1)
 
     pub brought_there : (answer ≡ took.NoMemory → ⊥) → has ((together new).held t.wave t.instr t.port) ≡ true
     brought_there some = there image (content_at old k) (content_at new k) t rs answer b.1 some
 
 -- the same said at the number of the table
 module _ {J : Type 0} where
-  pub brought_at : (image : Image) (old new : List TableContent) (t : Token) (rs : Results J) (answer : Took) (n : ℕ) → served t ≡ n → new ≡ slice_set old n (content_at new n) → TookAs image (content_at old n) t (content_at new n) rs answer → FiresSo answer (will_fire image (content_at old n) t) → BroughtSo image old t new rs answer
+  pub brought_at : (image : Image) (old new : List TableContent) (t : Token) (rs : Results J) (answer : Took)
+      (n : ℕ) → served t ≡ n → new ≡ slice_set old n (content_at new n)
+      → TookAs image (content_at old n) t (content_at new n) rs answer
+      → FiresSo answer (will_fire image (content_at old n) t) → BroughtSo image old t new rs answer
   brought_at image old new t rs answer n is same a f =
-      subst (λ (k : ℕ). (new ≡ slice_set old k (content_at new k)) × TookAs image (content_at old k) t (content_at new k) rs answer × FiresSo answer (will_fire image (content_at old k) t)) (sym is) (same, a, f)
+      subst (λ (k : ℕ). (new ≡ slice_set old k (content_at new k)) × TookAs image (content_at old k) t
+      (content_at new k) rs answer × FiresSo answer (will_fire image (content_at old k) t)) (sym is)
+      (same, a, f)
 
 -- what tables held that have grown they hold
-grow_at : (olds news : List TableContent) (k w i p v : ℕ) → AllGrow olds news → held (content_at olds k) w i p ≡ Some v → held (content_at news k) w i p ≡ Some v
+grow_at : (olds news : List TableContent) (k w i p v : ℕ) → AllGrow olds news
+    → held (content_at olds k) w i p ≡ Some v → held (content_at news k) w i p ≡ Some v
 grow_at [] [] k w i p v g e = e
 grow_at [] (n ∷ news) k w i p v g e = absurd g
 grow_at (o ∷ olds) [] k w i p v g e = absurd g
@@ -98,7 +132,8 @@ grow_at (o ∷ olds) (n ∷ news) (suc k) w i p v g e = grow_at olds news k w i 
 abbrev pub Keep : Ports → Ports → Type 0
 Keep old new = (w i p v : ℕ) → old w i p ≡ Some v → new w i p ≡ Some v
 
-pub grow_keep : (olds news : List TableContent) → AllGrow olds news → Keep (together olds).held (together news).held
+pub grow_keep : (olds news : List TableContent) → AllGrow olds news
+    → Keep (together olds).held (together news).held
 grow_keep olds news g w i p v e = grow_at olds news ((w + i) % 16) w i p v g e
 
 free_before : (old mid : Ports) (w i p : ℕ) → Keep old mid → mid w i p ≡ None → old w i p ≡ None
@@ -109,12 +144,25 @@ free_before old mid w i p keep free = go (old w i p) refl
     go (Some v) e = absurd (let f : None ≡ Some v = sym free ∙ keep w i p v e in cc)
 
 pub came_none : (ports : Ports) → Came ports ports 0
-came_none ports = record { tokens = []; count_is = refl; apart = tt; fresh = λ w i p v s. absurd s; there = λ w i p v s. absurd s }
+came_none ports = record {
+  tokens = [];
+  count_is = refl;
+  apart = tt;
+  fresh = λ w i p v s. absurd s;
+  there = λ w i p v s. absurd s;
+}
 
 pub came_keep : (old mid new : Ports) (n : ℕ) → Came old mid n → Keep mid new → Came old new n
-came_keep old mid new n c keep = record { tokens = c.tokens; count_is = c.count_is; apart = c.apart; fresh = c.fresh; there = λ w i p v s. keep w i p v (c.there w i p v s) }
+came_keep old mid new n c keep = record {
+  tokens = c.tokens;
+  count_is = c.count_is;
+  apart = c.apart;
+  fresh = c.fresh;
+  there = λ w i p v s. keep w i p v (c.there w i p v s);
+}
 
-pub came_more : (old mid new : Ports) (n : ℕ) → Keep old mid → Came old mid n → Keep mid new → (w i p : ℕ) → mid w i p ≡ None → has (new w i p) ≡ true → Came old new (suc n)
+pub came_more : (old mid new : Ports) (n : ℕ) → Keep old mid → Came old mid n → Keep mid new → (w i p : ℕ)
+    → mid w i p ≡ None → has (new w i p) ≡ true → Came old new (suc n)
 came_more old mid new n before c keep w i p free here =
     let h = has_some (new w i p) here in
     let t : Token = record { wave = w; instr = i; port = p; value = h.0 } in
@@ -123,9 +171,12 @@ came_more old mid new n before c keep w i p free here =
       count_is = ap suc c.count_is;
       apart = ((λ v s. (let f : None ≡ Some v = sym free ∙ c.there w i p v s in cc)), c.apart);
       fresh = λ a b q v s. ⊎_elim
-          (λ (e : (w ≡ a) × (i ≡ b) × (p ≡ q) × (h.0 ≡ v)). subst (λ (k : ℕ × ℕ × ℕ). old k.0 k.1 k.2 ≡ None) (λ j. (e.0 j, e.1 j, e.2 j)) (free_before old mid w i p before free))
+          (λ (e : (w ≡ a) × (i ≡ b) × (p ≡ q) × (h.0 ≡ v)). subst (λ (k : ℕ × ℕ × ℕ). old k.0 k.1 k.2 ≡ None)
+          (λ j. (e.0 j, e.1 j, e.2 j)) (free_before old mid w i p before free))
           (λ (r : IsSent c.tokens a b q v). c.fresh a b q v r) s;
       there = λ a b q v s. ⊎_elim
-          (λ (e : (w ≡ a) × (i ≡ b) × (p ≡ q) × (h.0 ≡ v)). subst (λ (k : ℕ × ℕ × ℕ × ℕ). new k.0 k.1 k.2 ≡ Some k.3) (λ j. (e.0 j, e.1 j, e.2 j, e.3 j)) h.1)
+          (λ (e : (w ≡ a) × (i ≡ b) × (p ≡ q) × (h.0 ≡ v)).
+          subst (λ (k : ℕ × ℕ × ℕ × ℕ). new k.0 k.1 k.2 ≡ Some k.3) (λ j. (e.0 j, e.1 j, e.2 j, e.3 j))
+          h.1)
           (λ (r : IsSent c.tokens a b q v). keep a b q v (c.there a b q v r)) s;
     }

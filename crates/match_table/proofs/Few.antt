@@ -1,5 +1,6 @@
 -- How many tokens can come where the walk has an end.
-use Rattle.std.proofs.Common.{◌≡◌, ◌+◌, ◌*◌, ◌<◌, ◌≤◌, ℕ, zero, suc, Bool, cond, List, [], ◌∷◌, Some, length, eqb, inl, inr, refl, sym, subst, eq-eqb, ne_eqb, ◌⊎◌, arith}
+use Rattle.std.proofs.Common.{◌≡◌, ◌+◌, ◌*◌, ◌<◌, ◌≤◌, ℕ, zero, suc, Bool, cond, List, [], ◌∷◌, Some, length}
+use Rattle.std.proofs.Common.{eqb, inl, inr, refl, sym, subst, eq-eqb, ne_eqb, ◌⊎◌, arith}
 use Rattle.std.proofs.lemmas.Bool.{cases_eq}
 use Rattle.ws_words.specs.Outside.{World}
 use Rattle.ws_isa.specs.Image.{Image, Token, instr_at, ports, ports_of}
@@ -26,34 +27,49 @@ key_sent : (p : ℕ) (ts : List Token) (w i : ℕ) → HasFired (keys_at p ts) w
 key_sent p [] w i h = absurd h
 key_sent p (t ∷ ts) w i h = go (λ k. let r = key_sent p ts w i k in (r.0, inr r.1)) (cases_eq t.port p) h
   where
-    go : (HasFired (keys_at p ts) w i → (v : ℕ) × IsSent (t ∷ ts) w i p v) → (t.port ≡ p) ⊎ (t.port ≡ p → ⊥) → HasFired (keys_at p (t ∷ ts)) w i → (v : ℕ) × IsSent (t ∷ ts) w i p v
-    go later (inl e) h = elim (subst (λ (b : Bool). HasFired (cond b (key_of_token t ∷ keys_at p ts) (keys_at p ts)) w i) (eq-eqb t.port p e) h) [
-      | inl x ↦ (t.value, inl (x.0, x.1, e, refl))
-      | inr x ↦ later x
-    ]
-    go later (inr n) h = later (subst (λ (b : Bool). HasFired (cond b (key_of_token t ∷ keys_at p ts) (keys_at p ts)) w i) (ne_eqb t.port p n) h)
+    go : (HasFired (keys_at p ts) w i → (v : ℕ) × IsSent (t ∷ ts) w i p v) → (t.port ≡ p) ⊎ (t.port ≡ p → ⊥)
+        → HasFired (keys_at p (t ∷ ts)) w i → (v : ℕ) × IsSent (t ∷ ts) w i p v
+    go later (inl e) h =
+        elim (subst (λ (b : Bool). HasFired (cond b (key_of_token t ∷ keys_at p ts) (keys_at p ts)) w i)
+        (eq-eqb t.port p e) h) [
+          | inl x ↦ (t.value, inl (x.0, x.1, e, refl))
+          | inr x ↦ later x
+        ]
+    go later (inr n) h =
+        later (subst (λ (b : Bool). HasFired (cond b (key_of_token t ∷ keys_at p ts) (keys_at p ts)) w i)
+        (ne_eqb t.port p n) h)
 
 keys_once : (p : ℕ) (ts : List Token) → Apart ts → Once (keys_at p ts)
 keys_once p [] a = tt
 keys_once p (t ∷ ts) a = elim (cases_eq t.port p) [
-  | inl e ↦ subst (λ (b : Bool). Once (cond b (key_of_token t ∷ keys_at p ts) (keys_at p ts))) (sym (eq-eqb t.port p e))
-      ((λ h. let r = key_sent p ts t.wave t.instr h in a.0 r.0 (subst (λ (q : ℕ). IsSent ts t.wave t.instr q r.0) (sym e) r.1)), keys_once p ts a.1)
-  | inr n ↦ subst (λ (b : Bool). Once (cond b (key_of_token t ∷ keys_at p ts) (keys_at p ts))) (sym (ne_eqb t.port p n)) (keys_once p ts a.1)
+  | inl e ↦ subst (λ (b : Bool). Once (cond b (key_of_token t ∷ keys_at p ts) (keys_at p ts)))
+      (sym (eq-eqb t.port p e)) (
+        (λ h. let r = key_sent p ts t.wave t.instr h in
+            a.0 r.0 (subst (λ (q : ℕ). IsSent ts t.wave t.instr q r.0) (sym e) r.1)),
+        keys_once p ts a.1,
+      )
+  | inr n ↦ subst (λ (b : Bool). Once (cond b (key_of_token t ∷ keys_at p ts) (keys_at p ts)))
+      (sym (ne_eqb t.port p n)) (keys_once p ts a.1)
 ]
 
 -- how many there are to the ports 0, 1 and 2, if the first of the tokens is to port n
 abbrev with_first : Token → List Token → ℕ → ℕ
-with_first t ts n = length (cond (eqb n 0) (key_of_token t ∷ keys_at 0 ts) (keys_at 0 ts)) + (length (cond (eqb n 1) (key_of_token t ∷ keys_at 1 ts) (keys_at 1 ts)) + length (cond (eqb n 2) (key_of_token t ∷ keys_at 2 ts) (keys_at 2 ts)))
+with_first t ts n = length (cond (eqb n 0) (key_of_token t ∷ keys_at 0 ts) (keys_at 0 ts))
+    + (length (cond (eqb n 1) (key_of_token t ∷ keys_at 1 ts) (keys_at 1 ts)) + length
+    (cond (eqb n 2) (key_of_token t ∷ keys_at 2 ts) (keys_at 2 ts)))
 
-one_more : (t : Token) (ts : List Token) (n : ℕ) → n < 3 → length ts ≤ length (keys_at 0 ts) + (length (keys_at 1 ts) + length (keys_at 2 ts)) → length (t ∷ ts) ≤ with_first t ts n
+one_more : (t : Token) (ts : List Token) (n : ℕ) → n < 3 → length ts ≤ length (keys_at 0 ts)
+    + (length (keys_at 1 ts) + length (keys_at 2 ts)) → length (t ∷ ts) ≤ with_first t ts n
 one_more t ts zero lt r = omega (arith, r)
 one_more t ts (suc zero) lt r = omega (arith, r)
 one_more t ts (suc (suc zero)) lt r = omega (arith, r)
 one_more t ts (suc (suc (suc n))) lt r = absurd (omega (arith, lt))
 
-three_ports : (ts : List Token) → ((w i p v : ℕ) → IsSent ts w i p v → p < 3) → length ts ≤ length (keys_at 0 ts) + (length (keys_at 1 ts) + length (keys_at 2 ts))
+three_ports : (ts : List Token) → ((w i p v : ℕ) → IsSent ts w i p v → p < 3)
+    → length ts ≤ length (keys_at 0 ts) + (length (keys_at 1 ts) + length (keys_at 2 ts))
 three_ports [] f = omega arith
-three_ports (t ∷ ts) f = one_more t ts t.port (f t.wave t.instr t.port t.value (inl (refl, refl, refl, refl))) (three_ports ts (λ w i p v s. f w i p v (inr s)))
+three_ports (t ∷ ts) f = one_more t ts t.port (f t.wave t.instr t.port t.value (inl (refl, refl, refl, refl)))
+    (three_ports ts (λ w i p v s. f w i p v (inr s)))
 
 module _ (image : Image) (world : World) (formed : Formed image) (sound : Sound image) where
   facts : WalkFacts image world
@@ -63,23 +79,28 @@ module _ (image : Image) (world : World) (formed : Formed image) (sound : Sound 
   port_below w i p v r =
       let l : p < length r.inst.operands = nth_short r.inst.operands p v r.operand in
       let n : length r.inst.operands ≡ ports image r.inst.instr = facts.filled r.time r.inst r.at.fires in
-      let e : ports image r.inst.instr ≡ ports_of (instr_at image r.inst.instr).op = ports_is_op image r.inst.instr in
+      let e : ports image r.inst.instr ≡ ports_of (instr_at image r.inst.instr).op =
+      ports_is_op image r.inst.instr in
       let f : ports_of (instr_at image r.inst.instr).op ≤ 3 = few_ports (instr_at image r.inst.instr).op in
       omega (arith, l, n, e, f)
 
-  in_walk : (w i p v : ℕ) → RightToken image world w i p v → (t : ℕ) × HasFired (keys_of (walk image world t)) w i
+  in_walk : (w i p v : ℕ) → RightToken image world w i p v → (t : ℕ) × HasFired (keys_of (walk image world t))
+      w i
   in_walk w i p v r = (
     suc r.time,
-    subst (λ (k : ℕ × ℕ). HasFired (keys_of (walk image world (suc r.time))) k.0 k.1) (λ j. (r.at.wave j, r.at.instr j))
+    subst (λ (k : ℕ × ℕ). HasFired (keys_of (walk image world (suc r.time))) k.0 k.1)
+        (λ j. (r.at.wave j, r.at.instr j))
         (walk_has image world facts (suc r.time) r.time r.inst (omega arith) r.at.fires),
   )
 
   -- no more than three for each instance of the walk
-  pub few_come : (held : Ports) → ((w i p v : ℕ) → held w i p ≡ Some v → RightToken image world w i p v) → (old : Ports) (count cost : ℕ) → Came old held count → CostAtMost image world cost → count ≤ 3 * cost
+  pub few_come : (held : Ports) → ((w i p v : ℕ) → held w i p ≡ Some v → RightToken image world w i p v)
+      → (old : Ports) (count cost : ℕ) → Came old held count → CostAtMost image world cost → count ≤ 3 * cost
   few_come held right old count cost c most =
       let at_port : (p : ℕ) → length (keys_at p c.tokens) ≤ cost = λ p. (
       let k = count_within image world facts (keys_at p c.tokens) (keys_once p c.tokens c.apart)
-      (λ w i h. let s = key_sent p c.tokens w i h in in_walk w i p s.0 (right w i p s.0 (c.there w i p s.0 s.1))) in
+      (λ w i h. let s = key_sent p c.tokens w i h in
+      in_walk w i p s.0 (right w i p s.0 (c.there w i p s.0 s.1))) in
       let l = k.1 in let m = most k.0 in omega (arith, l, m)) in
       let a = at_port 0 in
       let b = at_port 1 in

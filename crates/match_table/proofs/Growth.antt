@@ -1,5 +1,6 @@
 -- A table grows where it takes a token.
-use Rattle.std.proofs.Common.{◌≡◌, ⊎_elim, ℕ, List, [], ◌∷◌, ◌++◌, Option, Some, None, append-nil, append_assoc, sym, ap, ◌∙◌, subst}
+use Rattle.std.proofs.Common.{◌≡◌, ⊎_elim, ℕ, List, [], ◌∷◌, ◌++◌, Option, Some, None, append-nil}
+use Rattle.std.proofs.Common.{append_assoc, sym, ap, ◌∙◌, subst}
 use Rattle.ws_isa.specs.Image.{Image, Token}
 use Rattle.df_core.specs.Core.{Key, with_at, key_of_token}
 use Rattle.df_core.proofs.Ports.{SamePlace, with_at_cases}
@@ -17,7 +18,11 @@ grows_same c = record { keeps = λ w i p v e. e; goes_on = ([], sym (append-nil 
 pub grows_on : (a b c : TableContent) → Grows a b → Grows b c → Grows a c
 grows_on a b c g h = record {
   keeps = λ w i p v e. h.keeps w i p v (g.keeps w i p v e);
-  goes_on = (g.goes_on.0 ++ h.goes_on.0, h.goes_on.1 ∙ ap (λ (xs : List Key). xs ++ h.goes_on.0) g.goes_on.1 ∙ append_assoc a.fired g.goes_on.0 h.goes_on.0);
+  goes_on = (
+    g.goes_on.0 ++ h.goes_on.0,
+    h.goes_on.1 ∙ ap (λ (xs : List Key). xs ++ h.goes_on.0) g.goes_on.1
+        ∙ append_assoc a.fired g.goes_on.0 h.goes_on.0,
+  );
 }
 
 pub all_grow_same : (cs : List TableContent) → AllGrow cs cs
@@ -32,20 +37,40 @@ all_grow_on (x ∷ xs) [] zs g h = absurd g
 all_grow_on (x ∷ xs) (y ∷ ys) [] g h = absurd h
 all_grow_on (x ∷ xs) (y ∷ ys) (z ∷ zs) g h = (grows_on x y z g.0 h.0, all_grow_on xs ys zs g.1 h.1)
 
-arrives_keeps : (old new : TableContent) (t : Token) → Arrives old t new → (w i p v : ℕ) → held old w i p ≡ Some v → held new w i p ≡ Some v
+arrives_keeps : (old new : TableContent) (t : Token) → Arrives old t new → (w i p v : ℕ)
+    → held old w i p ≡ Some v → held new w i p ≡ Some v
 arrives_keeps old new t a w i p v e = ⊎_elim
-    (λ (y : SamePlace t.wave t.instr t.port w i p × (with_at t.wave t.instr t.port (Some t.value) (held old) w i p ≡ Some t.value)).
-    absurd (let here : held old t.wave t.instr t.port ≡ held old w i p = λ j. held old (y.0.wave j) (y.0.instr j) (y.0.port j) in let g : None ≡ Some v = sym a.free ∙ here ∙ e in cc))
-    (λ (n : (SamePlace t.wave t.instr t.port w i p → ⊥) × (with_at t.wave t.instr t.port (Some t.value) (held old) w i p ≡ held old w i p)). a.more w i p ∙ n.1 ∙ e)
+    (λ (y : SamePlace t.wave t.instr t.port w i p × (with_at t.wave t.instr t.port (Some t.value)
+    (held old) w i p ≡ Some t.value)).
+    absurd (let here : held old t.wave t.instr t.port ≡ held old w i p = λ j.
+    held old (y.0.wave j) (y.0.instr j) (y.0.port j) in let g : None ≡ Some v = sym a.free ∙ here ∙ e in
+    cc))
+    (λ (n : (SamePlace t.wave t.instr t.port w i p → ⊥) × (with_at t.wave t.instr t.port (Some t.value)
+    (held old) w i p ≡ held old w i p)). a.more w i p ∙ n.1 ∙ e)
     (with_at_cases t.wave t.instr t.port (Some t.value) (held old) w i p)
 
-same_keeps : (old new : TableContent) → new.entries ≡ old.entries → (w i p v : ℕ) → held old w i p ≡ Some v → held new w i p ≡ Some v
+same_keeps : (old new : TableContent) → new.entries ≡ old.entries → (w i p v : ℕ) → held old w i p ≡ Some v
+    → held new w i p ≡ Some v
 same_keeps old new e w i p v h = ap (λ (x : List (Option Entry)). held_in x w i p) e ∙ h
 
 module _ {J : Type 0} where
-  pub all_grows : (image : Image) (old new : TableContent) (t : Token) (rs : Results J) (answer : Took) → TookAs image old t new rs answer → Grows old new
-  all_grows image old new t rs took.Waits m = record { keeps = arrives_keeps old new t m.0.0; goes_on = ([], m.0.2 ∙ sym (append-nil old.fired)) }
-  all_grows image old new t rs took.Fires m = record { keeps = arrives_keeps old new t m.0.0; goes_on = (key_of_token t ∷ [], m.0.1.1.fired) }
-  all_grows image old new t rs took.Asks m = record { keeps = arrives_keeps old new t m.3.0; goes_on = (key_of_token t ∷ [], m.3.1.1.fired) }
-  all_grows image old new t rs took.Old m = subst (λ (c : TableContent). Grows old c) (sym m.0.1) (grows_same old)
-  all_grows image old new t rs took.NoMemory m = record { keeps = same_keeps old new m.0.1; goes_on = ([], m.0.2 ∙ sym (append-nil old.fired)) }
+  pub all_grows : (image : Image) (old new : TableContent) (t : Token) (rs : Results J) (answer : Took)
+      → TookAs image old t new rs answer → Grows old new
+  all_grows image old new t rs took.Waits m = record {
+    keeps = arrives_keeps old new t m.0.0;
+    goes_on = ([], m.0.2 ∙ sym (append-nil old.fired));
+  }
+  all_grows image old new t rs took.Fires m = record {
+    keeps = arrives_keeps old new t m.0.0;
+    goes_on = (key_of_token t ∷ [], m.0.1.1.fired);
+  }
+  all_grows image old new t rs took.Asks m = record {
+    keeps = arrives_keeps old new t m.3.0;
+    goes_on = (key_of_token t ∷ [], m.3.1.1.fired);
+  }
+  all_grows image old new t rs took.Old m = subst (λ (c : TableContent). Grows old c) (sym m.0.1)
+      (grows_same old)
+  all_grows image old new t rs took.NoMemory m = record {
+    keeps = same_keeps old new m.0.1;
+    goes_on = ([], m.0.2 ∙ sym (append-nil old.fired));
+  }

@@ -1,5 +1,7 @@
 -- How many instances tables list together, and what limits allow together.
-use Rattle.std.proofs.Common.{◌≡◌, ◌+◌, ◌<◌, ◌≤◌, ℕ, zero, suc, List, [], ◌∷◌, ◌++◌, length, length-append, ◌-◌, ◌/◌, inl, inr, take, slice_index, add-one, sym, refl, ap, ◌∙◌, subst, arith}
+use Rattle.std.proofs.Common.{◌≡◌, ◌+◌, ◌<◌, ◌≤◌, ℕ, zero, suc, List, [], ◌∷◌, ◌++◌, length, length-append}
+use Rattle.std.proofs.Common.{◌-◌, ◌/◌, inl, inr, take, slice_index, add-one, sym, refl, ap, ◌∙◌, subst}
+use Rattle.std.proofs.Common.{arith}
 use Rattle.std.specs.Prelude.{sum}
 use Rattle.std.proofs.Math.Nat.{div-one, div-lt_self}
 use Rattle.std.proofs.lemmas.Bool.{cases_lt}
@@ -19,15 +21,18 @@ pub all_count : (cs : List TableContent) → length (all_fired cs) ≡ total cs
 all_count [] = refl
 all_count (c ∷ cs) = length-append c.fired (all_fired cs) ∙ ap (λ (n : ℕ). length c.fired + n) (all_count cs)
 
-take_suc : (cs : List TableContent) (k : ℕ) → k < length cs → total (take (suc k) cs) ≡ total (take k cs) + length (content_at cs k).fired
+take_suc : (cs : List TableContent) (k : ℕ) → k < length cs → total (take (suc k) cs) ≡ total (take k cs)
+    + length (content_at cs k).fired
 take_suc [] k lt = absurd (omega (arith, lt))
 take_suc (c ∷ cs) zero lt = omega arith
 take_suc (c ∷ cs) (suc k) lt = let e = take_suc cs k (omega (arith, lt)) in omega (arith, e)
 
-pub take_more : (cs : List TableContent) (k : ℕ) → k < length cs → total (take (k + 1) cs) ≡ total (take k cs) + length (content_at cs k).fired
+pub take_more : (cs : List TableContent) (k : ℕ) → k < length cs → total (take (k + 1) cs) ≡ total (take k cs)
+    + length (content_at cs k).fired
 take_more cs k lt = rw (add-one k) (take_suc cs k lt)
 
-pub front_below : (cs : List TableContent) (k : ℕ) → k < length cs → total (take k cs) + length (content_at cs k).fired ≤ total cs
+pub front_below : (cs : List TableContent) (k : ℕ) → k < length cs
+    → total (take k cs) + length (content_at cs k).fired ≤ total cs
 front_below [] k lt = absurd (omega (arith, lt))
 front_below (c ∷ cs) zero lt = omega arith
 front_below (c ∷ cs) (suc k) lt = let e = front_below cs k (omega (arith, lt)) in omega (arith, e)
@@ -35,7 +40,8 @@ front_below (c ∷ cs) (suc k) lt = let e = front_below cs k (omega (arith, lt))
 pub all_taken : (cs : List TableContent) (k : ℕ) → length cs ≤ k → total (take k cs) ≡ length (all_fired cs)
 all_taken cs k le = ap total (take_all k cs le) ∙ sym (all_count cs)
 
-pub sum_allows : (cs : List TableContent) (most : List ℕ) → length cs ≡ length most → ((k : ℕ) → k < length cs → length (content_at cs k).fired ≤ slice_index most k) → total cs ≤ sum most
+pub sum_allows : (cs : List TableContent) (most : List ℕ) → length cs ≡ length most
+    → ((k : ℕ) → k < length cs → length (content_at cs k).fired ≤ slice_index most k) → total cs ≤ sum most
 sum_allows [] [] e each = omega arith
 sum_allows [] (m ∷ most) e each = omega arith
 sum_allows (c ∷ cs) [] e each = absurd (let f : length (c ∷ cs) ≡ 0 = e in omega (arith, f))
@@ -54,18 +60,26 @@ abbrev pub WithinFrom : ℕ → List TableContent → List ℕ → Type 0
 WithinFrom n [] most = Unit {0}
 WithinFrom n (c ∷ cs) most = (length c.fired ≤ slice_index most n) × WithinFrom (suc n) cs most
 
-within_at : (n : ℕ) (cs : List TableContent) (most : List ℕ) → WithinFrom n cs most → (k : ℕ) → k < length cs → length (content_at cs k).fired ≤ slice_index most (n + k)
+within_at : (n : ℕ) (cs : List TableContent) (most : List ℕ) → WithinFrom n cs most → (k : ℕ) → k < length cs
+    → length (content_at cs k).fired ≤ slice_index most (n + k)
 within_at n [] most w k lt = absurd (omega (arith, lt))
-within_at n (c ∷ cs) most w zero lt = subst (λ (m : ℕ). length c.fired ≤ slice_index most m) (let e : n ≡ n + 0 = omega arith in e) w.0
-within_at n (c ∷ cs) most w (suc k) lt = subst (λ (m : ℕ). length (content_at cs k).fired ≤ slice_index most m) (let e : suc n + k ≡ n + suc k = omega arith in e) (within_at (suc n) cs most w.1 k (omega (arith, lt)))
+within_at n (c ∷ cs) most w zero lt = subst (λ (m : ℕ). length c.fired ≤ slice_index most m)
+    (let e : n ≡ n + 0 = omega arith in e) w.0
+within_at n (c ∷ cs) most w (suc k) lt =
+    subst (λ (m : ℕ). length (content_at cs k).fired ≤ slice_index most m)
+    (let e : suc n + k ≡ n + suc k = omega arith in e) (within_at (suc n) cs most w.1 k (omega (arith, lt)))
 
-pub all_within : (cs : List TableContent) (most : List ℕ) → length cs ≡ length most → WithinFrom 0 cs most → length (all_fired cs) ≤ sum most
+pub all_within : (cs : List TableContent) (most : List ℕ) → length cs ≡ length most → WithinFrom 0 cs most
+    → length (all_fired cs) ≤ sum most
 all_within cs most e w =
     let a = all_count cs in
-    let s = sum_allows cs most e (λ k lt. subst (λ (m : ℕ). length (content_at cs k).fired ≤ slice_index most m) (let z : 0 + k ≡ k = omega arith in z) (within_at 0 cs most w k lt)) in
+    let s = sum_allows cs most e
+    (λ k lt. subst (λ (m : ℕ). length (content_at cs k).fired ≤ slice_index most m)
+    (let z : 0 + k ≡ k = omega arith in z) (within_at 0 cs most w k lt)) in
     omega (arith, a, s)
 
--- So many limits are there; they allow what the tables list, and together that and what is given. Some is left for
+-- So many limits are there; they allow what the tables list, and together that and what is given. Some is
+-- left for
 -- the table `first` until it has its share.
 pub record Given (cs : List TableContent) (first n : ℕ) (items : List ℕ) (left all : ℕ) : Type 0 where
   pub count : length items ≡ n
@@ -84,17 +98,23 @@ pub record IsShare (first n left share : ℕ) : Type 0 where
   pub others : (n ≡ first → ⊥) → share ≡ left / (16 - n)
   pub first_one : n ≡ first → 0 < left → 0 < share
 
-pub give_more : (cs : List TableContent) (first n : ℕ) (items : List ℕ) (left all share len : ℕ) → n < length cs → n < 16 → Given cs first n items left all → IsShare first n left share →
-    len ≡ length (content_at cs n).fired → (now : ℕ) → now ≡ left - share → (limit : ℕ) → limit ≡ len + share → Given cs first (n + 1) (items ++ limit ∷ []) now all
+pub give_more : (cs : List TableContent) (first n : ℕ) (items : List ℕ) (left all share len : ℕ)
+    → n < length cs → n < 16 → Given cs first n items left all → IsShare first n left share →
+    len ≡ length (content_at cs n).fired → (now : ℕ) → now ≡ left - share → (limit : ℕ) → limit ≡ len + share
+    → Given cs first (n + 1) (items ++ limit ∷ []) now all
 give_more cs first n items left all share len lt sixteen g s is now now_is limit limit_is = record {
   count = (let a = length-append items (limit ∷ []) in let b = g.count in omega (arith, a, b));
   within = λ k l. elim (cases_lt k n) [
-    | inl x ↦ subst (λ (v : ℕ). length (content_at cs k).fired ≤ v) (sym (get_or_append_left items (limit ∷ []) 0 k (let c = g.count in omega (arith, c, x)))) (g.within k x)
+    | inl x ↦ subst (λ (v : ℕ). length (content_at cs k).fired ≤ v)
+        (sym (get_or_append_left items (limit ∷ []) 0 k (let c = g.count in omega (arith, c, x))))
+        (g.within k x)
     | inr x ↦ (let e : n ≡ k = omega (arith, l, x) in
         subst (λ (j : ℕ). length (content_at cs j).fired ≤ slice_index (items ++ limit ∷ []) j) e
-        (subst (λ (v : ℕ). length (content_at cs n).fired ≤ v) (sym (get_or_push items limit 0 n g.count)) (omega (arith, is, limit_is))))
+        (subst (λ (v : ℕ). length (content_at cs n).fired ≤ v) (sym (get_or_push items limit 0 n g.count))
+        (omega (arith, is, limit_is))))
   ];
-  sum_is = (let a = sum_push items limit in let b = take_more cs n lt in let c = g.sum_is in let le = s.within in omega (arith, a, b, c, le, is, now_is, limit_is));
+  sum_is = (let a = sum_push items limit in let b = take_more cs n lt in let c = g.sum_is in
+      let le = s.within in omega (arith, a, b, c, le, is, now_is, limit_is));
   below = (let b = g.below in omega (arith, b, now_is));
   last = λ (sixteen : n + 1 ≡ 16). (
       let one : 16 - n ≡ 1 = omega (arith, sixteen) in
@@ -109,28 +129,40 @@ give_more cs first n items left all share len lt sixteen g s is now now_is limit
       let below_left : share < left = subst (λ (x : ℕ). x < left) (sym exact) less in
       omega (arith, below_left, now_is));
   more = λ (lt_first : first < n + 1) (one : 0 < all). elim (cases_lt first n) [
-    | inl x ↦ subst (λ (v : ℕ). length (content_at cs first).fired < v) (sym (get_or_append_left items (limit ∷ []) 0 first (let c = g.count in omega (arith, c, x)))) (g.more x one)
+    | inl x ↦ subst (λ (v : ℕ). length (content_at cs first).fired < v)
+        (sym (get_or_append_left items (limit ∷ []) 0 first (let c = g.count in omega (arith, c, x))))
+        (g.more x one)
     | inr x ↦ (let e : n ≡ first = omega (arith, lt_first, x) in
         subst (λ (j : ℕ). length (content_at cs j).fired < slice_index (items ++ limit ∷ []) j) e
         (subst (λ (v : ℕ). length (content_at cs n).fired < v) (sym (get_or_push items limit 0 n g.count))
-        (let h : 0 < share = s.first_one e (g.some sixteen (omega (arith, e)) one) in omega (arith, is, limit_is, h))))
+        (let h : 0 < share = s.first_one e (g.some sixteen (omega (arith, e)) one) in
+        omega (arith, is, limit_is, h))))
   ];
 }
 
 -- what serves apart and keeps within its limit fits
-within_from : (n : ℕ) (cs : List TableContent) (most : List ℕ) → ((k : ℕ) → k < length cs → length (content_at cs k).fired ≤ slice_index most (n + k)) → WithinFrom n cs most
+within_from : (n : ℕ) (cs : List TableContent) (most : List ℕ)
+    → ((k : ℕ) → k < length cs → length (content_at cs k).fired ≤ slice_index most (n + k))
+    → WithinFrom n cs most
 within_from n [] most each = tt
 within_from n (c ∷ cs) most each = (
-  subst (λ (m : ℕ). length c.fired ≤ slice_index most m) (let e : n + 0 ≡ n = omega arith in e) (each 0 (omega arith)),
-  within_from (suc n) cs most (λ k lt. subst (λ (m : ℕ). length (content_at cs k).fired ≤ slice_index most m) (let e : n + suc k ≡ suc n + k = omega arith in e) (each (suc k) (omega (arith, lt)))),
+  subst (λ (m : ℕ). length c.fired ≤ slice_index most m) (let e : n + 0 ≡ n = omega arith in e)
+      (each 0 (omega arith)),
+  within_from (suc n) cs most (λ k lt. subst (λ (m : ℕ). length (content_at cs k).fired ≤ slice_index most m)
+      (let e : n + suc k ≡ suc n + k = omega arith in e) (each (suc k) (omega (arith, lt)))),
 )
 
-fit_from : (n : ℕ) (cs : List TableContent) (most : List ℕ) → ServeFrom n cs → WithinFrom n cs most → FitFrom n cs most
+fit_from : (n : ℕ) (cs : List TableContent) (most : List ℕ) → ServeFrom n cs → WithinFrom n cs most
+    → FitFrom n cs most
 fit_from n [] most s w = tt
 fit_from n (c ∷ cs) most s w = (s.0, w.0, fit_from (suc n) cs most s.1 w.1)
 
-pub fits : (cs : List TableContent) (most : List ℕ) → ServeFrom 0 cs → ((k : ℕ) → k < length cs → length (content_at cs k).fired ≤ slice_index most k) → FitFrom 0 cs most
-fits cs most s each = fit_from 0 cs most s (within_from 0 cs most (λ k lt. subst (λ (m : ℕ). length (content_at cs k).fired ≤ slice_index most m) (let z : k ≡ 0 + k = omega arith in z) (each k lt)))
+pub fits : (cs : List TableContent) (most : List ℕ) → ServeFrom 0 cs
+    → ((k : ℕ) → k < length cs → length (content_at cs k).fired ≤ slice_index most k) → FitFrom 0 cs most
+fits cs most s each =
+    fit_from 0 cs most s
+    (within_from 0 cs most (λ k lt. subst (λ (m : ℕ). length (content_at cs k).fired ≤ slice_index most m)
+    (let z : k ≡ 0 + k = omega arith in z) (each k lt)))
 
 pub fit_serve : (n : ℕ) (cs : List TableContent) (most : List ℕ) → FitFrom n cs most → ServeFrom n cs
 fit_serve n [] most f = tt

@@ -1,5 +1,6 @@
 -- Tables that serve apart are one part of the core's state.
-use Rattle.std.proofs.Common.{◌≡◌, ◌+◌, ◌<◌, ◌%◌, ◌⊎◌, inl, inr, ℕ, zero, suc, List, [], ◌∷◌, ◌++◌, All, length, slice_index_or, sym, refl, ap, subst, arith}
+use Rattle.std.proofs.Common.{◌≡◌, ◌+◌, ◌<◌, ◌%◌, ◌⊎◌, inl, inr, ℕ, zero, suc, List, [], ◌∷◌, ◌++◌, All}
+use Rattle.std.proofs.Common.{length, slice_index_or, sym, refl, ap, subst, arith}
 use Rattle.std.proofs.lemmas.Nat.{mod_below}
 use Rattle.std.proofs.lemmas.List.Elements.{All-from_get_or}
 use Rattle.ws_words.specs.Outside.{World}
@@ -27,10 +28,15 @@ fired_cases [] ls w i h = inr h
 fired_cases (k ∷ ks) ls w i (inl h) = inl (inl h)
 fired_cases (k ∷ ks) ls w i (inr h) = elim (fired_cases ks ls w i h) [ inl x ↦ inl (inr x) | inr x ↦ inr x ]
 
-once_append : (ks ls : List Key) → Once ks → Once ls → ((w i : ℕ) → HasFired ks w i → HasFired ls w i → ⊥) → Once (ks ++ ls)
+once_append : (ks ls : List Key) → Once ks → Once ls → ((w i : ℕ) → HasFired ks w i → HasFired ls w i → ⊥)
+    → Once (ks ++ ls)
 once_append [] ls a b apart = b
 once_append (k ∷ ks) ls a b apart = (
-  (λ h. elim (fired_cases ks ls k.wave k.instr h) [ inl x ↦ a.0 x | inr x ↦ apart k.wave k.instr (inl (refl, refl)) x ]),
+  (λ h. elim (fired_cases ks ls k.wave k.instr h) [
+    | inl x ↦ a.0 x
+    | inr x ↦
+        apart k.wave k.instr (inl (refl, refl)) x
+  ]),
   once_append ks ls a.1 b (λ w i x y. apart w i (inr x) y),
 )
 
@@ -40,7 +46,8 @@ module _ (image : Image) (world : World) where
   PartsOk n [] = Unit {0}
   PartsOk n (c ∷ cs) = (Serves n c × TablesOk image world (part c) × Once c.fired) × PartsOk (suc n) cs
 
-  number_is : (n : ℕ) (c : TableContent) → Serves n c → TablesOk image world (part c) → (w i : ℕ) → HasFired c.fired w i → (w + i) % 16 ≡ n
+  number_is : (n : ℕ) (c : TableContent) → Serves n c → TablesOk image world (part c) → (w i : ℕ)
+      → HasFired c.fired w i → (w + i) % 16 ≡ n
   number_is n c s ok w i f = let e = ok.fired_full w i f in let h = e.1 0 e.0 in s w i 0 h.0 h.1
 
   record At (n : ℕ) (cs : List TableContent) (w i : ℕ) : Type 0 where
@@ -49,32 +56,46 @@ module _ (image : Image) (world : World) where
     pub fired : HasFired (content_at cs place).fired w i
     pub number : (w + i) % 16 ≡ n + place
 
-  find : (n : ℕ) (cs : List TableContent) → PartsOk n cs → (w i : ℕ) → HasFired (all_fired cs) w i → At n cs w i
+  find : (n : ℕ) (cs : List TableContent) → PartsOk n cs → (w i : ℕ) → HasFired (all_fired cs) w i
+      → At n cs w i
   find n [] ok w i h = absurd h
   find n (c ∷ cs) ok w i h = elim (fired_cases c.fired (all_fired cs) w i h) [
-    | inl x ↦ (let e = number_is n c ok.0.0 ok.0.1 w i x in record { place = 0; below = omega arith; fired = x; number = omega (arith, e) })
-    | inr x ↦ (let r = find (suc n) cs ok.1 w i x in let e = r.number in let b = r.below in record { place = suc r.place; below = omega (arith, b); fired = r.fired; number = omega (arith, e) })
+    | inl x ↦
+        (let e = number_is n c ok.0.0 ok.0.1 w i x in record {
+          place = 0;
+          below = omega arith;
+          fired = x;
+          number = omega (arith, e);
+        })
+    | inr x ↦ (let r = find (suc n) cs ok.1 w i x in let e = r.number in let b = r.below in
+        record { place = suc r.place; below = omega (arith, b); fired = r.fired; number = omega (arith, e) })
   ]
 
-  pub fired_at : (cs : List TableContent) (k w i : ℕ) → k < length cs → HasFired (content_at cs k).fired w i → HasFired (all_fired cs) w i
+  pub fired_at : (cs : List TableContent) (k w i : ℕ) → k < length cs → HasFired (content_at cs k).fired w i
+      → HasFired (all_fired cs) w i
   fired_at [] k w i lt h = absurd (omega (arith, lt))
   fired_at (c ∷ cs) zero w i lt h = fired_left c.fired (all_fired cs) w i h
-  fired_at (c ∷ cs) (suc k) w i lt h = fired_right c.fired (all_fired cs) w i (fired_at cs k w i (omega (arith, lt)) h)
+  fired_at (c ∷ cs) (suc k) w i lt h = fired_right c.fired (all_fired cs) w i
+      (fired_at cs k w i (omega (arith, lt)) h)
 
-  part_ok : (n : ℕ) (cs : List TableContent) → PartsOk n cs → (k : ℕ) → k < length cs → TablesOk image world (part (content_at cs k))
+  part_ok : (n : ℕ) (cs : List TableContent) → PartsOk n cs → (k : ℕ) → k < length cs
+      → TablesOk image world (part (content_at cs k))
   part_ok n [] ok k lt = absurd (omega (arith, lt))
   part_ok n (c ∷ cs) ok zero lt = ok.0.1
   part_ok n (c ∷ cs) ok (suc k) lt = part_ok (suc n) cs ok.1 k (omega (arith, lt))
 
-  serves : (n : ℕ) (cs : List TableContent) → PartsOk n cs → (k : ℕ) → k < length cs → Serves (n + k) (content_at cs k)
+  serves : (n : ℕ) (cs : List TableContent) → PartsOk n cs → (k : ℕ) → k < length cs
+      → Serves (n + k) (content_at cs k)
   serves n [] ok k lt = absurd (omega (arith, lt))
   serves n (c ∷ cs) ok zero lt = subst (λ (m : ℕ). Serves m c) (let e : n ≡ n + 0 = omega arith in e) ok.0.0
-  serves n (c ∷ cs) ok (suc k) lt = subst (λ (m : ℕ). Serves m (content_at cs k)) (let e : suc n + k ≡ n + suc k = omega arith in e) (serves (suc n) cs ok.1 k (omega (arith, lt)))
+  serves n (c ∷ cs) ok (suc k) lt = subst (λ (m : ℕ). Serves m (content_at cs k))
+      (let e : suc n + k ≡ n + suc k = omega arith in e) (serves (suc n) cs ok.1 k (omega (arith, lt)))
 
   all_once : (n : ℕ) (cs : List TableContent) → PartsOk n cs → Once (all_fired cs)
   all_once n [] ok = tt
   all_once n (c ∷ cs) ok = once_append c.fired (all_fired cs) ok.0.2 (all_once (suc n) cs ok.1)
-      (λ w i x y. let e = number_is n c ok.0.0 ok.0.1 w i x in let r = find (suc n) cs ok.1 w i y in let f = r.number in absurd (omega (arith, e, f)))
+      (λ w i x y. let e = number_is n c ok.0.0 ok.0.1 w i x in let r = find (suc n) cs ok.1 w i y in
+      let f = r.number in absurd (omega (arith, e, f)))
 
   module _ (cs : List TableContent) (count : length cs ≡ 16) (ok : PartsOk 0 cs) where
     below : (w i : ℕ) → (w + i) % 16 < length cs
@@ -87,28 +108,39 @@ module _ (image : Image) (world : World) where
     union_ok = record {
       right = λ w i p v e. (here w i).right w i p v e;
       fired_full = λ w i f. (let a = find 0 cs ok w i f in
-          (here w i).fired_full w i (subst (λ (k : ℕ). HasFired (content_at cs k).fired w i) (let e = a.number in let g : a.place ≡ (w + i) % 16 = omega (arith, e) in g) a.fired));
-      full_fired = λ w i some full. fired_at cs ((w + i) % 16) w i (below w i) ((here w i).full_fired w i some full);
+          (here w i).fired_full w i (subst (λ (k : ℕ). HasFired (content_at cs k).fired w i)
+          (let e = a.number in let g : a.place ≡ (w + i) % 16 = omega (arith, e) in g) a.fired));
+      full_fired = λ w i some full. fired_at cs ((w + i) % 16) w i (below w i)
+          ((here w i).full_fired w i some full);
     }
 
-    same_held : (k w i : ℕ) → (w + i) % 16 ≡ k → operands_in image (held (content_at cs k)) w i ≡ operands_in image (together cs).held w i
-    same_held k w i e = gather_same (held (content_at cs k)) (together cs).held w i 0 (ports image i) (λ p. ap (λ (n : ℕ). held (content_at cs n) w i p) (sym e))
+    same_held : (k w i : ℕ) → (w + i) % 16 ≡ k → operands_in image (held (content_at cs k)) w i ≡ operands_in
+        image (together cs).held w i
+    same_held k w i e = gather_same (held (content_at cs k)) (together cs).held w i 0 (ports image i)
+        (λ p. ap (λ (n : ℕ). held (content_at cs n) w i p) (sym e))
 
     -- the operands that a table holds of those that it lists are those that all hold together
-    pub union_held : (k : ℕ) → k < 16 → All (λ (f : Key). operands_in image (held (content_at cs k)) f.wave f.instr ≡ operands_in image (together cs).held f.wave f.instr) (content_at cs k).fired
-    union_held k lt = All-from_get_or (λ (f : Key). operands_in image (held (content_at cs k)) f.wave f.instr ≡ operands_in image (together cs).held f.wave f.instr) (content_at cs k).fired none_fired
+    pub union_held : (k : ℕ) → k < 16
+        → All (λ (f : Key). operands_in image (held (content_at cs k)) f.wave f.instr ≡ operands_in image
+        (together cs).held f.wave f.instr) (content_at cs k).fired
+    union_held k lt = All-from_get_or (λ (f : Key). operands_in image (held (content_at cs k)) f.wave f.instr
+        ≡ operands_in image (together cs).held f.wave f.instr) (content_at cs k).fired none_fired
         (λ j within. (let f : Key = slice_index_or (content_at cs k).fired j none_fired in
         let below : k < length cs = omega (arith, lt, count) in
-        let e = number_is (0 + k) (content_at cs k) (serves 0 cs ok k below) (part_ok 0 cs ok k below) f.wave f.instr (fired_there (content_at cs k).fired j within) in
+        let e = number_is (0 + k) (content_at cs k) (serves 0 cs ok k below) (part_ok 0 cs ok k below) f.wave
+        f.instr (fired_there (content_at cs k).fired j within) in
         same_held k f.wave f.instr (omega (arith, e))))
 
     pub union_once : Once (together cs).fired
     union_once = all_once 0 cs ok
 
 -- where an instance that is listed stands
-pub listed_at : (cs : List TableContent) (w i : ℕ) → HasFired (all_fired cs) w i → (k : ℕ) × (k < length cs) × HasFired (content_at cs k).fired w i
+pub listed_at : (cs : List TableContent) (w i : ℕ) → HasFired (all_fired cs) w i → (k : ℕ) × (k < length cs)
+    × HasFired (content_at cs k).fired w i
 listed_at [] w i h = absurd h
 listed_at (c ∷ cs) w i h = elim (fired_cases c.fired (all_fired cs) w i h) [
   | inl x ↦ (0, (let lt : 0 < length (c ∷ cs) = omega arith in lt), x)
-  | inr x ↦ (let r = listed_at cs w i x in (suc r.0, (let b = r.1 in let lt : suc r.0 < length (c ∷ cs) = omega (arith, b) in lt), r.2))
+  | inr x ↦
+      (let r = listed_at cs w i x in
+      (suc r.0, (let b = r.1 in let lt : suc r.0 < length (c ∷ cs) = omega (arith, b) in lt), r.2))
 ]

@@ -22,7 +22,8 @@ use Rattle.store_buf.proofs.Failing.{rose_since}
 use Rattle.store_buf.proofs.Within.{port_in}
 use Rattle.part_store.specs.declared.parts.Parts.{Parts}
 use Rattle.part_store.specs.Parted.{IsAddressed, is_store_op}
-use Rattle.part_store.specs.Calls.{AddressSo, AddressedSo, SameAs, SubmittedSo, PartFailedSo, PartIdle, PartSubmitSo}
+use Rattle.part_store.specs.Calls.{AddressSo, AddressedSo, SameAs, SubmittedSo, PartFailedSo, PartIdle}
+use Rattle.part_store.specs.Calls.{PartSubmitSo}
 use Rattle.part_store.specs.Parts.{AddressLeads, Calm, PartsOk, PartsFiled, content_of, PartsStanding}
 use Rattle.part_store.specs.Parts.{PartsSubmitLeads}
 use Rattle.part_store.proofs.Resting as R
@@ -66,7 +67,8 @@ module _ {P : Type 0} (image : Image) (world : World) (began : List (Option Bega
   stopped array e n = stands (λ f t. R.no_rule_stopped image (content_of new) array e calm.1) (none_failed n)
 
   fails : (port : ℕ) → new.failed ≡ Some port → RoseAt port old.outer.ports new.outer.ports →
-      PortWaits image new.order.kept.items (chain_of new.order.chain) port → PartsStanding image world began new
+      PortWaits image new.order.kept.items (chain_of new.order.chain) port
+      → PartsStanding image world began new
   fails port is rose waits = stands (λ f t. absurd (let g : Some port ≡ None = sym is ∙ f in cc))
       (one_failed port is rose waits)
 

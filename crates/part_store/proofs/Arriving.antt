@@ -23,7 +23,8 @@ use Rattle.part_store.proofs.Ops as O
 use Rattle.ws_words.specs.Items.{In}
 use Rattle.part_store.specs.Rules.{ComesIn}
 
-module _ (image : Image) (world : World) (began : List (Option Began)) (c d : PartContent) (k : Kept) (b : Bool)
+module _ (image : Image) (world : World) (began : List (Option Began)) (c d : PartContent) (k : Kept)
+    (b : Bool)
     (come : ComesIn c k b d) (s : Parting image world began c) (going : c.fault ≡ None)
     (right : IsKept image world b k) where
   abbrev k' : Kept

@@ -162,7 +162,8 @@ module _ (image : Image) where
               (old_without c.queued e.wave e.instr w i q' h.0)
         ]
 
-    pub moves_done : (c d : PartContent) (ts : List Token) → Moves image c ts d → Covers ts way → Done c → Done d
+    pub moves_done : (c d : PartContent) (ts : List Token) → Moves image c ts d → Covers ts way → Done c
+        → Done d
     moves_done c d ts stays sent done = done
     moves_done c d ts (opens {d = m} k a b n r) sent done = moves_done m d _ r sent (join_done c m k _ n done)
     moves_done c d ts (joins {d = m} k a b h n r) sent done =
@@ -235,7 +236,8 @@ module _ (image : Image) where
       ∙ entry_push c.kept (answered k None) m.fresh w i
 
   -- what is whole stays whole where another comes
-  come_whole : (c d : PartContent) (k : Kept) (b : Bool) (w i : ℕ) → ComesIn c k b d → IsWhole c w i → IsWhole d w i
+  come_whole : (c d : PartContent) (k : Kept) (b : Bool) (w i : ℕ) → ComesIn c k b d → IsWhole c w i
+      → IsWhole d w i
   come_whole c d k b w i m h = elim (key_cases k.wave k.instr w i) [
     | inl s ↦ absurd (nothing h.0 (subst (λ (l : ℕ × ℕ). None ≡ entry_of c.kept l.0 l.1)
         (λ j. (s.1.wave j, s.1.instr j)) (sym m.fresh) ∙ h.1))
@@ -292,7 +294,8 @@ module _ (image : Image) where
       ]
 
   -- what is known stays true where the buffer changes so
-  pay_buffer : (t : Tables) (c d : PartContent) (way : List Token) → ((w i : ℕ) → IsWhole c w i → IsWhole d w i) →
+  pay_buffer : (t : Tables) (c d : PartContent) (way : List Token)
+      → ((w i : ℕ) → IsWhole c w i → IsWhole d w i) →
       HaveAnswered image t.held way d → Paid image t c way → Paid image t d way
   pay_buffer t c d way whole done paid = record {
     start = paid.start;
@@ -311,7 +314,8 @@ module _ (image : Image) where
       (come_whole c mid k b w i m.1.1 h))
       (to_done t.held way mid d ts m.1.2 sent (come_done t.held way c mid k b m.1.1 up.answered)) up
 
-  pub addressed : (c d : PartContent) (k : Kept) (answer : Result (List Token) BufFault) (old way : List Token) →
+  pub addressed : (c d : PartContent) (k : Kept) (answer : Result (List Token) BufFault)
+      (old way : List Token) →
       AddressedSo image c k answer d → IsOffered answer old way → (t : Tables) → Paid image t c old →
       GoesOn d → Paid image t d way
   addressed c d k (Ok ts) old way so offered t paid going =
@@ -337,7 +341,8 @@ module _ (image : Image) where
       | fills h ↦ filled_whole c m.1.0 k h
     ])
 
-    pay_took : (t : Tables) (d : PartContent) (k : Kept) (ts old way : List Token) (x : Option ℕ) (y : Option ℕ)
+    pay_took : (t : Tables) (d : PartContent) (k : Kept) (ts old way : List Token) (x : Option ℕ)
+        (y : Option ℕ)
         (z : Bool) → PartTookSo image c k ts x y z d → Covers old way → Covers ts way → Paid image t c old →
         Paid image t d way
     pay_took t d k ts old way x y z m more sent paid =
@@ -352,7 +357,8 @@ module _ (image : Image) where
           | fills g ↦ fill_done t.held way world began c mid k parting g up.answered
         ])) up
 
-    pub submitted : (d : PartContent) (k : Kept) (answer : Result (List Token) BufFault) (old way : List Token) →
+    pub submitted : (d : PartContent) (k : Kept) (answer : Result (List Token) BufFault)
+        (old way : List Token) →
         SubmittedSo image c k answer d → IsOffered answer old way → (t : Tables) → Paid image t c old →
         GoesOn d → Paid image t d way
     submitted d k (Ok ts) old way so offered t paid going =
@@ -363,7 +369,8 @@ module _ (image : Image) where
         absurd (nothing p (sym going.1 ∙ so.1.0.3))
     submitted d k (Err fault.NoMemory) old way so offered t paid going = absurd offered
     submitted d k (Err fault.Old) old way so offered t paid going =
-        subst (λ (x : PartContent × List Token). Paid image t x.0 x.1) (λ j. (sym so.1.3 j, sym offered j)) paid
+        subst (λ (x : PartContent × List Token). Paid image t x.0 x.1) (λ j. (sym so.1.3 j, sym offered j))
+        paid
     submitted d k (Err (fault.Stopped p)) old way so offered t paid going =
         absurd (nothing p (sym going.1 ∙ ap (λ (x : PartContent). x.failed) so.1.2 ∙ so.1.1))
     submitted d k (Err (fault.Ended a)) old way so offered t paid going =

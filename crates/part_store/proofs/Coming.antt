@@ -304,7 +304,8 @@ module _ {P : Type 0} where
 
     -- where the chain doesn't let it go and no port has found no memory, no rule is applicable
     module _ (fed : old.starved ≡ false) (held : may_flag image
-        (chain_of old.order.chain) k.wave k.instr k.first ≡ false) (idle : PartIdle image (content_of old)) where
+        (chain_of old.order.chain) k.wave k.instr k.first ≡ false)
+        (idle : PartIdle image (content_of old)) where
       same_mid : record mid { starved = false } ≡ mid
       same_mid j = record {
         order = mid.order;

@@ -30,7 +30,8 @@ use Rattle.store_buf.specs.Contents.{RightTokens}
 use Rattle.part_store.specs.Calls.{PartSubmitSo, PartTookSo}
 use Rattle.part_store.specs.Calls.{fills as arrived}
 use Rattle.part_store.specs.Rules.{Fills, Moves, MovesTo}
-use Rattle.part_store.specs.Parts.{Beside, Calm, DrainLeads, Filled, FollowsOn, FrontsBut, FrontsBy, PartsStand, PartsSettledSo, PartsLeadTo}
+use Rattle.part_store.specs.Parts.{Beside, Calm, DrainLeads, Filled, FollowsOn, FrontsBut, FrontsBy}
+use Rattle.part_store.specs.Parts.{PartsStand, PartsSettledSo, PartsLeadTo}
 use Rattle.part_store.specs.Parts.{content_of}
 use Rattle.part_store.proofs.Filling as L
 use Rattle.part_store.proofs.Fronts as F
@@ -211,7 +212,10 @@ module _ {P : Type 0} (image : Image) (world : World) (began : List (Option Bega
 
   pub said : (r : Result (Unit {0}) BufFault) → PartsSettledSo image d r new →
       PartSubmitSo image (content_of old) k (drains.0 ++ lead.0) r (content_of new)
-  said (Ok u) s = (took None None false s.0 (s.1 ∙ unfailed) s.2, R.no_rule image new (s.3 world began formed sound led.1.0) led.1.1)
+  said (Ok u) s = (
+    took None None false s.0 (s.1 ∙ unfailed) s.2,
+    R.no_rule image new (s.3 world began formed sound led.1.0) led.1.1,
+  )
   said (Err (fault.Index array)) s = took (Some array) None false s.0 (s.1 ∙ unfailed) s.2
   said (Err (fault.Port port)) s = (
     took None (Some port) false s.0 s.1 s.2,

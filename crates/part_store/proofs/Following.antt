@@ -41,7 +41,8 @@ module _ (image : Image) (world : World) (formed : Formed image) (sound : Sound 
     (c : PartContent) (stopped : Bool) (waiting : ℕ → ℕ → Option (List ℕ)) (counts : ℕ → ℕ → Option ℕ)
     (memory : Outside) (legal : Legal image world counts waiting stopped c.chain memory)
     (p : Partly image world began counts memory c)
-    (e : Queued) (fol : FrontGoes c e) (some : List Token) (d : PartContent) (go : Followed image c e some d) where
+    (e : Queued) (fol : FrontGoes c e) (some : List Token) (d : PartContent)
+    (go : Followed image c e some d) where
   abbrev facts : WalkFacts image world
   facts = T.facts image world formed sound
 

@@ -39,7 +39,8 @@ module _ (image : Image) (world : World) (formed : Formed image) (sound : Sound 
     (may : Issuable image counts c.chain false k.wave k.instr xs)
     (row_is : is_on_row (instr_at image k.instr).op (array_at image k.instr - 1) ≡ true)
     (first_is : slice_index xs 0 ≡ k.first)
-    (word : ℕ) (d : PartContent) (go : Counted image c k word (joined (entry_at image k) c.queued) c.outside d)
+    (word : ℕ) (d : PartContent) (go : Counted image c k word (joined (entry_at image k) c.queued) c.outside
+    d)
   where
     abbrev facts : WalkFacts image world
     facts = T.facts image world formed sound

@@ -343,7 +343,8 @@ module _ (image : Image) (world : World) (formed : Formed image) (sound : Sound 
       (s.partly.right k.wave k.instr k w.kept)
 
   -- rule 2
-  joined_so : (c d : PartContent) → Parting image world began c → (k : Kept) → Fronts c → GoesByChain image c k →
+  joined_so : (c d : PartContent) → Parting image world began c → (k : Kept) → Fronts c
+      → GoesByChain image c k →
       holds_op c.queued (instr_at image k.instr).op k.first ≡ true →
       Counted image c k 0 (joined (entry_at image k) c.queued) c.outside d → Parting image world began d
   joined_so c d s k fronts g h go = elim (O.cases_row image c.queued k.instr k.first) [

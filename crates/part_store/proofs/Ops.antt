@@ -265,7 +265,8 @@ apart_op (Take p) xs o cs = refl
 apart_op _ xs o cs = refl
 
 pub outside_after : (began : List (Option Began)) (image : Image) (i : ℕ) (xs : List ℕ) (o : Outside)
-    (cs : List (List ℕ)) (h : Holding) → HoldsOut began (after_op (instr_at image i).op xs (with_cells o cs)) h →
+    (cs : List (List ℕ)) (h : Holding) → HoldsOut began (after_op (instr_at image i).op xs (with_cells o cs))
+    h →
     HoldsOut began (with_cells (effect_after image i xs o) h.cells) h
 unfolding effect_after after
 outside_after began image i xs o cs h is =

@@ -39,7 +39,8 @@ not_fired image world formed sound t tok x right missing h =
     nothing g.0 (sym missing ∙ g.1)
 
 module _ (image : Image) where
-  pub pay_more : (t : Tables) (c : PartContent) (way more : List Token) → Covers way more → Paid image t c way →
+  pub pay_more : (t : Tables) (c : PartContent) (way more : List Token) → Covers way more → Paid image t c way
+      →
       Paid image t c more
   pay_more t c way more k paid = record {
     start = up _ paid.start;

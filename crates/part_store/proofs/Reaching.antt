@@ -25,7 +25,8 @@ pub reach_by : (f g : Ports) (way more ts : List Token) →
     ((w i p : ℕ) → IsOnItsWay f way w i p → IsOnItsWay g more w i p) → AllReach f way ts → AllReach g more ts
 reach_by f g way more ts r all w i p v h = r w i p (all w i p v h)
 
-pub reach_more : (f : Ports) (way more : List Token) → Covers way more → (w i p : ℕ) → IsOnItsWay f way w i p →
+pub reach_more : (f : Ports) (way more : List Token) → Covers way more → (w i p : ℕ) → IsOnItsWay f way w i p
+    →
     IsOnItsWay f more w i p
 reach_more f way more c w i p (inl h) = inl h
 reach_more f way more c w i p (inr h) = inr (h.0, c w i p h.0 h.1)

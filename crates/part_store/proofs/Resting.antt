@@ -170,7 +170,8 @@ load_lets image c w i first current load within ripple =
     (and_from _ _ (and_from _ _ (load_is_op image i load) (false_not _ within)) (le-leb _ _ ripple)))
 
 -- a request or an address has come that the chain doesn't let go
-module _ (image : Image) (c d : PartContent) (k : Kept) (b : Bool) (come : ComesIn c k b d) (none : NoRule image c)
+module _ (image : Image) (c d : PartContent) (k : Kept) (b : Bool) (come : ComesIn c k b d)
+    (none : NoRule image c)
     (held : may_flag image c.chain k.wave k.instr k.first ≡ false) where
   abbrev k' : Kept
   k' = record { wave = k.wave; instr = k.instr; first = k.first; second = k.second; answer = None }

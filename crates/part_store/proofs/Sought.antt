@@ -121,7 +121,8 @@ module _ {P : Type 0} (image : Image) (world : World) (formed : Formed image) (s
     here = let w = U.waits image s.order ok.order p l ready in
         record { within = l; current = w.1; waits = w.0 }
 
-    ripple_is : is_load image (kept_at s.order p).instr ≡ true → is_past_at image (kept_at s.order p) ≡ false →
+    ripple_is : is_load image (kept_at s.order p).instr ≡ true → is_past_at image (kept_at s.order p) ≡ false
+        →
         ripple_of image (kept_at s.order p) ≡ Some ((note_of image (kept_at s.order p).instr).ripple)
     unfolding is_load
     ripple_is load within = ap (λ (b : Bool).
@@ -191,7 +192,8 @@ pub first_on : {P : Type 0} (image : Image) (s : Parts P) (o : Order) → o ≡ 
     (q : ℕ) → IsForemost image s.order q → go_flag image s (kept_at s.order q) ≡ false →
     (p : ℕ) → WaitsHere o p → (x : ℕ) × IsForemost image o x
     × (go_flag image (record s { order = o }) (kept_at o x) ≡ false)
-first_on image s o same q is held = subst (λ (n : Order). (p : ℕ) → WaitsHere n p → (x : ℕ) × IsForemost image n x
+first_on image s o same q is held = subst (λ (n : Order). (p : ℕ) → WaitsHere n p
+    → (x : ℕ) × IsForemost image n x
     × (go_flag image (record s { order = n }) (kept_at n x) ≡ false)) (sym same) (λ p h. (
       q,
       record {

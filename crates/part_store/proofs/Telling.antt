@@ -14,7 +14,8 @@ use Rattle.df_core.specs.Core.{Chain, Key, HasFired, IsNext, Once, has}
 use Rattle.df_core.specs.Fit.{FiresAt, NoOp, RightToken, StoppedAt, chain_at}
 use Rattle.df_core.specs.Ends.{FirstWithin}
 use Rattle.df_core.specs.Shown.{Tables, TablesOk}
-use Rattle.df_core.proofs.Counting.{keys_of, once_length, walk_has, walk_from, walk_once, count_within, has_same}
+use Rattle.df_core.proofs.Counting.{keys_of, once_length, walk_has, walk_from, walk_once, count_within}
+use Rattle.df_core.proofs.Counting.{has_same}
 use Rattle.df_core.proofs.Effects.{effect_is}
 use Rattle.df_core.proofs.Ends.{one_fault}
 use Rattle.df_core.proofs.Facts.{WalkFacts}

@@ -173,7 +173,8 @@ module _ (image : Image) (world : World) (formed : Formed image) (sound : Sound 
   ]
 
   -- a cell's first operation is the only one of its instance
-  pub first_leaves : (es : List Queued) (r j : ℕ) (e : Queued) → RisingEntries image world es → front es r j ≡ Some e →
+  pub first_leaves : (es : List Queued) (r j : ℕ) (e : Queued) → RisingEntries image world es
+      → front es r j ≡ Some e →
       without_first es r j ≡ without es e.wave e.instr
   first_leaves [] r j e rise h = refl
   first_leaves (x ∷ es) r j e rise h = elim (cell_cases x r j) [
@@ -194,7 +195,8 @@ module _ (image : Image) (world : World) (formed : Formed image) (sound : Sound 
 
   -- one more at its place keeps the order
   module _ (f : Queued) where
-    later_all : (es : List Queued) → ((g : Queued) → In g es → Earlier image world f g) → all_later es f ≡ true
+    later_all : (es : List Queued) → ((g : Queued) → In g es → Earlier image world f g)
+        → all_later es f ≡ true
     later_all [] all = refl
     later_all (x ∷ es) all = and_from (is_later x f) (all_later es f) (later_is f x (all x (inl refl)))
         (later_all es (λ g h. all g (inr h)))
@@ -207,7 +209,8 @@ module _ (image : Image) (world : World) (formed : Formed image) (sound : Sound 
         RisingEntries image world (joined f es)
     rising_joined [] rise all = ((λ g h. absurd h), tt)
     rising_joined (x ∷ es) rise all = elim (cases_Bool (all_later (x ∷ es) f)) [
-      | inl l ↦ subst (λ (b : Bool). RisingEntries image world (cond b (f ∷ x ∷ es) (x ∷ joined f es))) (sym l)
+      | inl l ↦ subst (λ (b : Bool). RisingEntries image world (cond b (f ∷ x ∷ es) (x ∷ joined f es)))
+          (sym l)
           (elim (all x (inl refl)) [
             | inl a ↦ absurd (both_ways (is_later x f) (later_not x f a)
                 (and_parts (is_later x f) (all_later es f) l).0)
@@ -220,22 +223,23 @@ module _ (image : Image) (world : World) (formed : Formed image) (sound : Sound 
               rise,
             )
           ])
-      | inr l ↦ subst (λ (b : Bool). RisingEntries image world (cond b (f ∷ x ∷ es) (x ∷ joined f es))) (sym l) (
-        (λ g h. elim (F.joined_in f es g h) [
-          | inl q ↦ subst (λ (y : Queued). Earlier image world x y) (sym q) (elim (all x (inl refl)) [
-            | inl a ↦ a
-            | inr a ↦ absurd (both_ways (all_later (x ∷ es) f) l
-                (later_all (x ∷ es) (λ g h.
-                elim h [
-                  | inl q ↦ subst (λ (y : Queued). Earlier image world f y)
-                      (sym q) a
-                  | inr k ↦ earlier_then f x g a (rise.0 g k)
-                ])))
-          ])
-          | inr k ↦ rise.0 g k
-        ]),
-        rising_joined es rise.1 (λ g h. all g (inr h)),
-      )
+      | inr l ↦ subst (λ (b : Bool). RisingEntries image world (cond b (f ∷ x ∷ es) (x ∷ joined f es)))
+          (sym l) (
+            (λ g h. elim (F.joined_in f es g h) [
+              | inl q ↦ subst (λ (y : Queued). Earlier image world x y) (sym q) (elim (all x (inl refl)) [
+                | inl a ↦ a
+                | inr a ↦ absurd (both_ways (all_later (x ∷ es) f) l
+                    (later_all (x ∷ es) (λ g h.
+                    elim h [
+                      | inl q ↦ subst (λ (y : Queued). Earlier image world f y)
+                          (sym q) a
+                      | inr k ↦ earlier_then f x g a (rise.0 g k)
+                    ])))
+              ])
+              | inr k ↦ rise.0 g k
+            ]),
+            rising_joined es rise.1 (λ g h. all g (inr h)),
+          )
     ]
 
     -- the first entry of its cell stays the first, where it is earlier
@@ -256,10 +260,12 @@ module _ (image : Image) (world : World) (formed : Formed image) (sound : Sound 
     ]
 
   module _ (w i : ℕ) where
-    pub rising_without : (es : List Queued) → RisingEntries image world es → RisingEntries image world (without es w i)
+    pub rising_without : (es : List Queued) → RisingEntries image world es
+        → RisingEntries image world (without es w i)
     rising_without [] rise = tt
     rising_without (x ∷ es) rise = elim (key_cases x.wave x.instr w i) [
-      | inl k ↦ subst (λ (b : Bool). RisingEntries image world (cond b es (x ∷ without es w i))) (sym k.0) rise.1
+      | inl k ↦ subst (λ (b : Bool). RisingEntries image world (cond b es (x ∷ without es w i))) (sym k.0)
+          rise.1
       | inr k ↦ subst (λ (b : Bool). RisingEntries image world (cond b es (x ∷ without es w i))) (sym k.0)
           ((λ g h. rise.0 g (F.without_in w i es g h)), rising_without es rise.1)
     ]

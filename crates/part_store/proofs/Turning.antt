@@ -147,11 +147,16 @@ module _ (image : Image) (world : World) (formed : Formed image) (sound : Sound 
         (chain_of o.chain) memory (early_ops o.early) going w i xs req may inside after q.0 load in (
           subst (λ (d : law.Chain). Passes image (issued_with image counts memory w i xs)
               (chain_of o.chain) d) (sym q.1) r.0,
-          subst (λ (d : law.Chain). OrderGoes image world (issued_with image counts memory w i xs) after false d
+          subst (λ (d : law.Chain). OrderGoes image world (issued_with image counts memory w i xs) after false
+              d
               (effect_after image i xs memory) (early_ops n.early)) (sym q.1)
               (early_alike image world (issued_with image counts memory w i xs) after false (chain_of o.chain)
               (effect_after image i xs memory) (i ∷ (early_ops o.early)) (early_ops n.early)
-              (λ j e. elim e [ inl h ↦ subst (λ (k : ℕ). In k (early_ops n.early)) (sym h) q.2.1 | inr h ↦ q.2.2 j h ])
+              (λ j e. elim e [
+                | inl h ↦ subst (λ (k : ℕ). In k (early_ops n.early)) (sym h) q.2.1
+                | inr h ↦
+                    q.2.2 j h
+              ])
               (λ j e. elim (q.2.0 j e) [ inl h ↦ inl (sym h) | inr h ↦ inr h ]) r.1),
         ))
   ]

@@ -365,7 +365,8 @@ module _ (image : Image) (world : World) (formed : Formed image) (sound : Sound 
   going_on : (c : PartContent) (m : Outside) → On c false m → On c (has c.fault) m
   going_on c m on = subst (λ (b : Bool). On c b m) (sym on.halts) on
 
-  pub way : (c d : PartContent) (tokens : List Token) → Moves image c tokens d → c.fault ≡ None → (m : Outside) →
+  pub way : (c d : PartContent) (tokens : List Token) → Moves image c tokens d → c.fault ≡ None
+      → (m : Outside) →
       On c false m → Way c m tokens d
   way c _ _ stays going m on = record { memory = m; issues = Holds.stays; on = going_on c m on }
   way c d _ (opens {rest = rest} k fronts o go more) going m on =

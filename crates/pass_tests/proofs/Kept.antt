@@ -21,7 +21,8 @@ doubles_kept = record {
 
 pub doubles_sends_nothing : HasNoSend doubles
 unfolding spot_at no_spot
-doubles_sends_nothing b = each_at (λ (s : Spot). NoSend s.block.exit) (spots doubles) no_spot (tt, (tt, (tt, (tt, (tt, (tt, tt)))))) tt b
+doubles_sends_nothing b = each_at (λ (s : Spot). NoSend s.block.exit) (spots doubles) no_spot
+    (tt, (tt, (tt, (tt, (tt, (tt, tt)))))) tt b
 
 some_from : OnlyFrom doubles 1 2
 unfolding spot_at no_spot
@@ -50,11 +51,13 @@ pub doubles_alone : ArmsAlone doubles
 unfolding spot_at no_spot
 doubles_alone = record { apart = apart; ahead = ahead }
   where
-    apart : (a : ℕ) (t : Term) (b c : ℕ) → (block_at doubles a).exit ≡ Branch t b c → BranchesApart doubles a b c
+    apart : (a : ℕ) (t : Term) (b c : ℕ) → (block_at doubles a).exit ≡ Branch t b c
+        → BranchesApart doubles a b c
     apart zero t b c e = absurd (cc)
     apart (suc zero) t b c e =
         let r = arms_of (Var 0) t 2 3 b c e in
-        subst (λ z. BranchesApart doubles 1 z c) (sym r.0) (subst (λ z. BranchesApart doubles 1 2 z) (sym r.1) (record { differ = λ q. omega (arith, q); first = some_from; second = none_from }))
+        subst (λ z. BranchesApart doubles 1 z c) (sym r.0) (subst (λ z. BranchesApart doubles 1 2 z) (sym r.1)
+        (record { differ = λ q. omega (arith, q); first = some_from; second = none_from }))
     apart (suc (suc zero)) t b c e = absurd (cc)
     apart (suc (suc (suc zero))) t b c e = absurd (cc)
     apart (suc (suc (suc (suc zero)))) t b c e = absurd (cc)
@@ -63,7 +66,8 @@ doubles_alone = record { apart = apart; ahead = ahead }
 
     ahead : (a : ℕ) (t : Term) (b c : ℕ) → (block_at doubles a).exit ≡ Branch t b c → (a < b) × (a < c)
     ahead zero t b c e = absurd (cc)
-    ahead (suc zero) t b c e = let r = arms_of (Var 0) t 2 3 b c e in let p : b ≡ 2 = r.0 in let q : c ≡ 3 = r.1 in (omega (arith, p), omega (arith, q))
+    ahead (suc zero) t b c e = let r = arms_of (Var 0) t 2 3 b c e in let p : b ≡ 2 = r.0 in let q : c ≡ 3 =
+        r.1 in (omega (arith, p), omega (arith, q))
     ahead (suc (suc zero)) t b c e = absurd (cc)
     ahead (suc (suc (suc zero))) t b c e = absurd (cc)
     ahead (suc (suc (suc (suc zero)))) t b c e = absurd (cc)

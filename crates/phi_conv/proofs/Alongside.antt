@@ -1,9 +1,14 @@
--- The walk of the joined graph goes along with that of the given graph, which takes a block more where an arm is one.
-use Rattle.std.proofs.Common.{ℕ, zero, suc, ◌-◌, ◌≡◌, ◌<◌, ◌≤◌, ◌⊎◌, ◌==◌, Bool, true, false, if◌then◌else◌, List, [], ◌++◌, length, Option, Some, None, refl, sym, ap, ◌∙◌, subst, inl, inr, arith}
+-- The walk of the joined graph goes along with that of the given graph, which takes a block more where an arm
+-- is one.
+use Rattle.std.proofs.Common.{ℕ, zero, suc, ◌-◌, ◌≡◌, ◌<◌, ◌≤◌, ◌⊎◌, ◌==◌, Bool, true, false, if◌then◌else◌}
+use Rattle.std.proofs.Common.{List, [], ◌++◌, length, Option, Some, None, refl, sym, ap, ◌∙◌, subst, inl, inr}
+use Rattle.std.proofs.Common.{arith}
 use Rattle.ws_words.specs.Outside.{Outside, ProcState, World, zeros, opening_out}
-use Rattle.cfg_core.specs.Graph.{Term, Op, Exit, Goto, Branch, Call, Return, Send, Stop, Block, Graph, GraphProc, spots, spot_at, block_at, proc_at, entry_of}
+use Rattle.cfg_core.specs.Graph.{Term, Op, Exit, Goto, Branch, Call, Return, Send, Stop, Block, Graph}
+use Rattle.cfg_core.specs.Graph.{GraphProc, spots, spot_at, block_at, proc_at, entry_of}
 use Rattle.cfg_core.specs.Rules.{ExitIn, Lands, IsGraph}
-use Rattle.cfg_core.specs.Walk.{value_of, OpsOutcome, Done, Out, and_then, run_ops, Frame, Config, At, Over, Going, leave, passed, step, walk, cells_of, opening, IsOver}
+use Rattle.cfg_core.specs.Walk.{value_of, OpsOutcome, Done, Out, and_then, run_ops, Frame, Config, At, Over}
+use Rattle.cfg_core.specs.Walk.{Going, leave, passed, step, walk, cells_of, opening, IsOver}
 use Rattle.cfg_core.proofs.Paired.{Match}
 use Rattle.cfg_core.proofs.Total.{lands_at}
 use Rattle.live_vars.specs.Live.{Live}
@@ -41,7 +46,8 @@ module _ (g : Graph) (rules : IsGraph g) (live : List (List ℕ)) (is : AreLive 
 
   module _ (b : ℕ) (there : b < length (spots g)) (fs es : List Frame) (stack : Stack g rules fs es) where
     -- an exit that both graphs have
-    same_exit : (x : Exit) → ExitIn g (spot_at g b).home (V b) x → Lands g x → (s r : ProcState) (k : ℕ) → States (V b) (After g x) s r → Along g rules (leave g x s fs k) (leave h x r es k)
+    same_exit : (x : Exit) → ExitIn g (spot_at g b).home (V b) x → Lands g x → (s r : ProcState) (k : ℕ)
+        → States (V b) (After g x) s r → Along g rules (leave g x s fs k) (leave h x r es k)
     same_exit (Goto c) i l s r k st = jumps g rules h b there c i s r fs es k st stack
     same_exit (Branch t c d) i l s r k st = branches g rules h b there t c d i s r fs es k st stack
     same_exit (Call x f ts back) i l s r k st = calls g rules live b there x f ts back i s r fs es k st stack
@@ -49,84 +55,132 @@ module _ (g : Graph) (rules : IsGraph g) (live : List (List ℕ)) (is : AreLive 
     same_exit (Send t ts ls) i l s r k st = sends g rules live b there t ts ls i l s r fs es k st stack
     same_exit Stop i l s r k st = stops g rules h b there s r fs es k st
 
-    same_passed : (x : Exit) → ExitIn g (spot_at g b).home (V b) x → Lands g x → (o p : OpsOutcome) → Outcomes (V b) (After g x) o p → Along g rules (passed g o x fs) (passed h p x es)
-    same_passed x i l (Done s k) (Done r j) e = subst (λ n. Along g rules (leave g x s fs k) (leave h x r es n)) e.0 (same_exit x i l s r k e.1)
+    same_passed : (x : Exit) → ExitIn g (spot_at g b).home (V b) x → Lands g x → (o p : OpsOutcome)
+        → Outcomes (V b) (After g x) o p → Along g rules (passed g o x fs) (passed h p x es)
+    same_passed x i l (Done s k) (Done r j) e =
+        subst (λ n. Along g rules (leave g x s fs k) (leave h x r es n)) e.0 (same_exit x i l s r k e.1)
     same_passed x i l (Out o) (Out p) e = e
     same_passed x i l (Done s k) (Out p) e = absurd e
     same_passed x i l (Out o) (Done r j) e = absurd e
 
     -- on to the join of a short branch
-    at_join : (j : ℕ) → j < length (spots g) → (spot_at g j).home ≡ (spot_at g b).home → (o p : OpsOutcome) → Outcomes (V b) (Live g j) o p → Along g rules (passed g o (Goto j) fs) (passed h p (Goto j) es)
-    at_join j lt home (Done s k) (Done r i) e = subst (λ n. Along g rules (At j s fs k) (At j r es n)) e.0 (goes_to g rules b j there (lt, home) s r fs es k e.1 stack)
+    at_join : (j : ℕ) → j < length (spots g) → (spot_at g j).home ≡ (spot_at g b).home → (o p : OpsOutcome)
+        → Outcomes (V b) (Live g j) o p → Along g rules (passed g o (Goto j) fs) (passed h p (Goto j) es)
+    at_join j lt home (Done s k) (Done r i) e = subst (λ n. Along g rules (At j s fs k) (At j r es n)) e.0
+        (goes_to g rules b j there (lt, home) s r fs es k e.1 stack)
     at_join j lt home (Out o) (Out p) e = e
     at_join j lt home (Done s k) (Out p) e = absurd e
     at_join j lt home (Out o) (Done r i) e = absurd e
 
     -- from the start of a way of a short branch
-    by_way : (c j : ℕ) (ops : List Op) → j < length (spots g) → (spot_at g j).home ≡ (spot_at g b).home → Way g c j ops → (a : ProcState) (k : ℕ) (p : OpsOutcome) → Outcomes (V b) (Live g j) (arm_run ops a k) p → Follows (At c a fs k) (passed h p (Goto j) es)
+    by_way : (c j : ℕ) (ops : List Op) → j < length (spots g) → (spot_at g j).home ≡ (spot_at g b).home
+        → Way g c j ops → (a : ProcState) (k : ℕ) (p : OpsOutcome)
+        → Outcomes (V b) (Live g j) (arm_run ops a k) p → Follows (At c a fs k) (passed h p (Goto j) es)
     by_way c j ops lt home (direct e empty) a k p near =
-        let done : Outcomes (V b) (Live g j) (Done a k) p = subst (λ (o : List Op). Outcomes (V b) (Live g j) (arm_run o a k) p) empty near in
-        inl (subst (λ n. Along g rules (At n a fs k) (passed h p (Goto j) es)) (sym e) (at_join j lt home (Done a k) p done))
+        let done : Outcomes (V b) (Live g j) (Done a k) p =
+        subst (λ (o : List Op). Outcomes (V b) (Live g j) (arm_run o a k) p) empty near in
+        inl (subst (λ n. Along g rules (At n a fs k) (passed h p (Goto j) es)) (sym e)
+        (at_join j lt home (Done a k) p done))
     by_way c j ops lt home (through same exit light) a k p near =
         let along = at_join j lt home (arm_run ops a k) p near in
-        let ran : run_ops (block_at g c).ops a k ≡ arm_run ops a k = ap (λ (o : List Op). run_ops o a k) (sym same) ∙ light_run ops a k light in
-        inr (subst (λ (x : Exit). Along g rules (passed g (run_ops (block_at g c).ops a k) x fs) (passed h p (Goto j) es)) (sym exit)
-        (subst (λ (o : OpsOutcome). Along g rules (passed g o (Goto j) fs) (passed h p (Goto j) es)) (sym ran) along))
+        let ran : run_ops (block_at g c).ops a k ≡ arm_run ops a k = ap (λ (o : List Op). run_ops o a k)
+        (sym same) ∙ light_run ops a k light in
+        inr (subst (λ (x : Exit). Along g rules (passed g (run_ops (block_at g c).ops a k) x fs)
+        (passed h p (Goto j) es)) (sym exit)
+        (subst (λ (o : OpsOutcome). Along g rules (passed g o (Goto j) fs) (passed h p (Goto j) es)) (sym ran)
+        along))
 
-    module _ (t : Term) (c d : ℕ) (s : Short) (exit : ExitIn g (spot_at g b).home (V b) (Branch t c d)) (short : short_to g t c d ≡ Some s) where
+    module _ (t : Term) (c d : ℕ) (s : Short) (exit : ExitIn g (spot_at g b).home (V b) (Branch t c d))
+        (short : short_to g t c d ≡ Some s) where
       join_there : (s.join < length (spots g)) × ((spot_at g s.join).home ≡ (spot_at g b).home)
       join_there = by_two (ways g t c d s short).first (ways g t c d s short).second
         where
-          by_two : Way g c s.join s.first → Way g d s.join s.second → (s.join < length (spots g)) × ((spot_at g s.join).home ≡ (spot_at g b).home)
-          by_two (direct e empty) w = subst (λ n. (n < length (spots g)) × ((spot_at g n).home ≡ (spot_at g b).home)) e (exit.1.0, exit.1.1)
+          by_two : Way g c s.join s.first → Way g d s.join s.second → (s.join < length (spots g))
+              × ((spot_at g s.join).home ≡ (spot_at g b).home)
+          by_two (direct e empty) w =
+              subst (λ n. (n < length (spots g)) × ((spot_at g n).home ≡ (spot_at g b).home)) e
+              (exit.1.0, exit.1.1)
           by_two (through same goes light) w =
-              let i = subst (λ (x : Exit). ExitIn g (spot_at g c).home (V c) x) goes (numbers_at g rules c).exit in
+              let i = subst (λ (x : Exit). ExitIn g (spot_at g c).home (V c) x) goes
+              (numbers_at g rules c).exit in
               (i.0, i.1 ∙ exit.1.1)
 
-      after_branch : (a r : ProcState) (k : ℕ) → States (V b) (After g (Branch t c d)) a r → Follows (leave g (Branch t c d) a fs k) (passed h (run_ops (joining live (V b) s) r k) (Goto s.join) es)
+      after_branch : (a r : ProcState) (k : ℕ) → States (V b) (After g (Branch t c d)) a r
+          → Follows (leave g (Branch t c d) a fs k) (passed h (run_ops (joining live (V b) s) r k)
+          (Goto s.join) es)
       after_branch a r k st = by_test ((value_of t a).0 == 0) refl
         where
-          to_join : (z : Bool) → ((value_of t a).0 == 0) ≡ z → Outcomes (V b) (Live g s.join) (arm_run (by_zero z s.first s.second) (value_of t a).1 k) (run_ops (joining live (V b) s) r k)
-          to_join z e = beside g rules live is b there t c d s exit short join_there.0 join_there.1 a r k z e st
+          to_join : (z : Bool) → ((value_of t a).0 == 0) ≡ z → Outcomes (V b) (Live g s.join)
+              (arm_run (by_zero z s.first s.second) (value_of t a).1 k) (run_ops (joining live (V b) s) r k)
+          to_join z e = beside g rules live is b there t c d s exit short join_there.0 join_there.1 a r k z e
+              st
 
-          by_test : (z : Bool) → ((value_of t a).0 == 0) ≡ z → Follows (if z then At d (value_of t a).1 fs k else At c (value_of t a).1 fs k) (passed h (run_ops (joining live (V b) s) r k) (Goto s.join) es)
-          by_test true e = by_way d s.join s.second join_there.0 join_there.1 (ways g t c d s short).second (value_of t a).1 k _ (to_join true e)
-          by_test false e = by_way c s.join s.first join_there.0 join_there.1 (ways g t c d s short).first (value_of t a).1 k _ (to_join false e)
+          by_test : (z : Bool) → ((value_of t a).0 == 0) ≡ z
+              → Follows (if z then At d (value_of t a).1 fs k else At c (value_of t a).1 fs k)
+              (passed h (run_ops (joining live (V b) s) r k) (Goto s.join) es)
+          by_test true e = by_way d s.join s.second join_there.0 join_there.1 (ways g t c d s short).second
+              (value_of t a).1 k _ (to_join true e)
+          by_test false e = by_way c s.join s.first join_there.0 join_there.1 (ways g t c d s short).first
+              (value_of t a).1 k _ (to_join false e)
 
-      after_ops : (o p : OpsOutcome) → Outcomes (V b) (After g (Branch t c d)) o p → Follows (passed g o (Branch t c d) fs) (passed h (and_then p (run_ops (joining live (V b) s))) (Goto s.join) es)
-      after_ops (Done a k) (Done r j) e = subst (λ n. Follows (leave g (Branch t c d) a fs k) (passed h (run_ops (joining live (V b) s) r n) (Goto s.join) es)) e.0 (after_branch a r k e.1)
+      after_ops : (o p : OpsOutcome) → Outcomes (V b) (After g (Branch t c d)) o p
+          → Follows (passed g o (Branch t c d) fs) (passed h (and_then p (run_ops (joining live (V b) s)))
+          (Goto s.join) es)
+      after_ops (Done a k) (Done r j) e =
+          subst (λ n. Follows (leave g (Branch t c d) a fs k)
+          (passed h (run_ops (joining live (V b) s) r n) (Goto s.join) es)) e.0 (after_branch a r k e.1)
       after_ops (Out o) (Out p) e = inl e
       after_ops (Done a k) (Out p) e = absurd e
       after_ops (Out o) (Done r j) e = absurd e
 
-    by_short : (x : Exit) (found : Option Short) → short g x ≡ found → ExitIn g (spot_at g b).home (V b) x → Lands g x → (o p : OpsOutcome) (ops : List Op) (r : ProcState) (k : ℕ) → p ≡ run_ops ops r k → Outcomes (V b) (After g x) o p
-        → Follows (passed g o x fs) (passed h (run_ops (joined_if live (V b) (record { named = []; ops = ops; exit = x }) found).ops r k) (joined_if live (V b) (record { named = []; ops = ops; exit = x }) found).exit es)
-    by_short x None e i l o p ops r k ran near = inl (subst (λ (q : OpsOutcome). Along g rules (passed g o x fs) (passed h q x es)) ran (same_passed x i l o p near))
+    by_short : (x : Exit) (found : Option Short) → short g x ≡ found → ExitIn g (spot_at g b).home (V b) x
+        → Lands g x → (o p : OpsOutcome) (ops : List Op) (r : ProcState) (k : ℕ) → p ≡ run_ops ops r k
+        → Outcomes (V b) (After g x) o p
+        → Follows (passed g o x fs)
+        (passed h (run_ops (joined_if live (V b) (record { named = []; ops = ops; exit = x }) found).ops r
+        k) (joined_if live (V b) (record { named = []; ops = ops; exit = x }) found).exit es)
+    by_short x None e i l o p ops r k ran near =
+        inl (subst (λ (q : OpsOutcome). Along g rules (passed g o x fs) (passed h q x es)) ran
+        (same_passed x i l o p near))
     by_short (Branch t c d) (Some s) e i l o p ops r k ran near =
-        let both : run_ops (ops ++ joining live (V b) s) r k ≡ and_then p (run_ops (joining live (V b) s)) = run_append ops (joining live (V b) s) r k ∙ ap (λ (q : OpsOutcome). and_then q (run_ops (joining live (V b) s))) (sym ran) in
-        subst (λ (q : OpsOutcome). Follows (passed g o (Branch t c d) fs) (passed h q (Goto s.join) es)) (sym both) (after_ops t c d s i e o p near)
+        let both : run_ops (ops ++ joining live (V b) s) r k ≡ and_then p (run_ops (joining live (V b) s)) =
+        run_append ops (joining live (V b) s) r k
+        ∙ ap (λ (q : OpsOutcome). and_then q (run_ops (joining live (V b) s))) (sym ran) in
+        subst (λ (q : OpsOutcome). Follows (passed g o (Branch t c d) fs) (passed h q (Goto s.join) es))
+        (sym both) (after_ops t c d s i e o p near)
     by_short (Goto c) (Some s) e i l o p ops r k ran near = absurd (cc)
     by_short (Call x f ts back) (Some s) e i l o p ops r k ran near = absurd (cc)
     by_short (Return t) (Some s) e i l o p ops r k ran near = absurd (cc)
     by_short (Send t ts ls) (Some s) e i l o p ops r k ran near = absurd (cc)
     by_short Stop (Some s) e i l o p ops r k ran near = absurd (cc)
 
-    at_block : (s r : ProcState) (k : ℕ) → States (V b) (Live g b) s r → Follows (step g (At b s fs k)) (step h (At b r es k))
+    at_block : (s r : ProcState) (k : ℕ) → States (V b) (Live g b) s r
+        → Follows (step g (At b s fs k)) (step h (At b r es k))
     at_block s r k st =
         let block : Block = block_at g b in
-        let near = ops_same g (V b) block.ops (After g block.exit) (numbers_at g rules b).ops s r k (weaker g (V b) (Live g b) _ s r (λ x n. needed_is_live g b x n) st) in
-        subst (λ (x : Block). Follows (passed g (run_ops block.ops s k) block.exit fs) (passed h (run_ops x.ops r k) x.exit es)) (sym (block_is g live b))
+        let near = ops_same g (V b) block.ops (After g block.exit) (numbers_at g rules b).ops s r k
+        (weaker g (V b) (Live g b) _ s r (λ x n. needed_is_live g b x n) st) in
+        subst (λ (x : Block). Follows (passed g (run_ops block.ops s k) block.exit fs)
+        (passed h (run_ops x.ops r k) x.exit es)) (sym (block_is g live b))
         (by_found block (short g block.exit) refl near)
       where
-        by_found : (block : Block) (found : Option Short) → short g (block_at g b).exit ≡ found → Outcomes (V b) (After g (block_at g b).exit) (run_ops (block_at g b).ops s k) (run_ops (block_at g b).ops r k)
-            → Follows (passed g (run_ops (block_at g b).ops s k) (block_at g b).exit fs) (passed h (run_ops (joined_if live (V b) (block_at g b) found).ops r k) (joined_if live (V b) (block_at g b) found).exit es)
-        by_found block None e near = by_short (block_at g b).exit None e (numbers_at g rules b).exit (lands_at g rules b) _ _ (block_at g b).ops r k refl near
-        by_found block (Some s) e near = by_short (block_at g b).exit (Some s) e (numbers_at g rules b).exit (lands_at g rules b) _ _ (block_at g b).ops r k refl near
+        by_found : (block : Block) (found : Option Short) → short g (block_at g b).exit ≡ found
+            → Outcomes (V b) (After g (block_at g b).exit) (run_ops (block_at g b).ops s k)
+            (run_ops (block_at g b).ops r k)
+            → Follows (passed g (run_ops (block_at g b).ops s k) (block_at g b).exit fs)
+            (passed h (run_ops (joined_if live (V b) (block_at g b) found).ops r k)
+            (joined_if live (V b) (block_at g b) found).exit es)
+        by_found block None e near = by_short (block_at g b).exit None e (numbers_at g rules b).exit
+            (lands_at g rules b) _ _ (block_at g b).ops r k refl near
+        by_found block (Some s) e near = by_short (block_at g b).exit (Some s) e (numbers_at g rules b).exit
+            (lands_at g rules b) _ _ (block_at g b).ops r k refl near
 
-  one_block : (b : ℕ) (s : ProcState) (fs : List Frame) (k : ℕ) (d : Config) → Along g rules (At b s fs k) d → Follows (step g (At b s fs k)) (step h d)
+  one_block : (b : ℕ) (s : ProcState) (fs : List Frame) (k : ℕ) (d : Config) → Along g rules (At b s fs k) d
+      → Follows (step g (At b s fs k)) (step h d)
   one_block b s fs k (At c r es j) a =
       subst (λ n. Follows (step g (At b s fs k)) (step h (At n r es j))) a.0
-      (subst (λ n. Follows (step g (At b s fs k)) (step h (At b r es n))) a.1 (at_block b a.2 fs es a.4 s r k a.3))
+      (subst (λ n. Follows (step g (At b s fs k)) (step h (At b r es n))) a.1
+      (at_block b a.2 fs es a.4 s r k a.3))
   one_block b s fs k (Over o j) a = absurd a
   one_block b s fs k (Going o) a = absurd a
 
@@ -177,12 +231,16 @@ module _ (g : Graph) (rules : IsGraph g) (live : List (List ℕ)) (is : AreLive 
   main_there : main < length g.procs
   main_there = omega (arith, rules.numbers.some_proc)
 
-  opened : (world : World) (k : ℕ) → opening h world k ≡ At (entry_of g main) (record { vars = zeros (more_vars (proc_at g main).vars); out = opening_out (cells_of g.arrays) world }) [] k
+  opened : (world : World) (k : ℕ) → opening h world k ≡ At (entry_of g main)
+      (record { vars = zeros (more_vars (proc_at g main).vars); out = opening_out (cells_of g.arrays) world })
+      [] k
   opened world k =
       let out = opening_out (cells_of g.arrays) world in
-      ap (λ n. At (entry_of h (n - 1)) (record { vars = zeros (proc_at h (n - 1)).vars; out = out }) [] k) (map_count (joined_proc g live) g.procs)
+      ap (λ n. At (entry_of h (n - 1)) (record { vars = zeros (proc_at h (n - 1)).vars; out = out }) [] k)
+      (map_count (joined_proc g live) g.procs)
       ∙ ap (λ n. At n (record { vars = zeros (proc_at h main).vars; out = out }) [] k) (entry_is g live main)
-      ∙ ap (λ (p : GraphProc). At (entry_of g main) (record { vars = zeros p.vars; out = out }) [] k) (proc_is g live main main_there)
+      ∙ ap (λ (p : GraphProc). At (entry_of g main) (record { vars = zeros p.vars; out = out }) [] k)
+      (proc_is g live main main_there)
 
   opens : (world : World) (k : ℕ) → Along g rules (opening g world k) (opening h world k)
   opens world k =
@@ -202,8 +260,11 @@ module _ (g : Graph) (rules : IsGraph g) (live : List (List ℕ)) (is : AreLive 
       )
 
   -- where the walk of the given graph comes to an answer, that of the joined graph comes to the same
-  pub forth : (world : World) (turns m : ℕ) → IsOver (walk g m (opening g world turns)) → (n : ℕ) × Match (λ (o p : Outside). o ≡ p) (walk g m (opening g world turns)) (walk h n (opening h world turns))
-  forth world turns m over = let r = answers m (opening g world turns) (opening h world turns) (inl (opens world turns)) over in (r.0, r.2)
+  pub forth : (world : World) (turns m : ℕ) → IsOver (walk g m (opening g world turns))
+      → (n : ℕ) × Match (λ (o p : Outside). o ≡ p) (walk g m (opening g world turns))
+      (walk h n (opening h world turns))
+  forth world turns m over = let r = answers m (opening g world turns) (opening h world turns)
+      (inl (opens world turns)) over in (r.0, r.2)
 
   -- in no more blocks
   pub no_more : PassesNoMore g h

@@ -1,5 +1,6 @@
 -- The test, the turns, the arms and the choices together, beside a branch and the arm that it takes.
-use Rattle.std.proofs.Common.{ℕ, ◌≡◌, ◌<◌, ◌==◌, Bool, true, false, if◌then◌else◌, List, ◌∷◌, ◌++◌, length, refl, sym, ap, ◌∙◌, subst, arith}
+use Rattle.std.proofs.Common.{ℕ, ◌≡◌, ◌<◌, ◌==◌, Bool, true, false, if◌then◌else◌, List, ◌∷◌, ◌++◌, length}
+use Rattle.std.proofs.Common.{refl, sym, ap, ◌∙◌, subst, arith}
 use Rattle.std.specs.List.{AllByRecursion}
 use Rattle.std.proofs.lemmas.List.{get_or-set_same, get_or-set_other, length-set}
 use Rattle.ws_words.specs.Outside.{ProcState, write}
@@ -26,13 +27,17 @@ still_bare s (Neg t) e = absurd (cc)
 still_bare s (Binary op a b) e = absurd (cc)
 
 -- after the test: the state, and what stands for the test's value
-pub record Tested (v : ℕ) (B : ℕ → Type 0) (a r : ProcState) (t held : Term) (ops rest : List Op) (k : ℕ) : Type 0 where
+pub record Tested (v : ℕ) (B : ℕ → Type 0) (a r : ProcState) (t held : Term) (ops rest : List Op)
+    (k : ℕ) : Type 0 where
   pub state : ProcState
   pub run : run_ops ops r k ≡ run_ops rest state k
   pub states : States v B (value_of t a).1 state
   pub value : value held state.vars state.out.cells ≡ (value_of t a).0
 
-tested : (g : Graph) (v : ℕ) (s : Short) (B : ℕ → Type 0) (a r : ProcState) (t : Term) (c : Bool) → is_still (written_by s) t ≡ c → TermIn (length g.arrays) v t → States v B a r → ((x : ℕ) → Mentions t x → B x) → (rest : List Op) (k : ℕ) → Tested v B a r t (test_if c v t) (keep_test c v t ++ rest) rest k
+tested : (g : Graph) (v : ℕ) (s : Short) (B : ℕ → Type 0) (a r : ProcState) (t : Term) (c : Bool)
+    → is_still (written_by s) t ≡ c → TermIn (length g.arrays) v t → States v B a r
+    → ((x : ℕ) → Mentions t x → B x) → (rest : List Op) (k : ℕ) → Tested v B a r t (test_if c v t)
+    (keep_test c v t ++ rest) rest k
 tested g v s B a r t true e i h known rest k = record {
   state = r;
   run = refl;
@@ -52,12 +57,15 @@ tested g v s B a r t false e i h known rest k =
         longer = length-set q.vars v w ∙ st.longer;
         out = st.out;
       };
-      value = get_or-set_same q.vars v w 0 (omega (arith, st.longer)) ∙ sym (term_value g v B a r h t i known);
+      value = get_or-set_same q.vars v w 0 (omega (arith, st.longer))
+          ∙ sym (term_value g v B a r h t i known);
     }
 
-turns_by : (test : Term) (n m : ℕ) (r : ProcState) (k : ℕ) (z : Bool) → is_bare test ≡ true → (value test r.vars r.out.cells == 0) ≡ z → run_op (TickBy test n m) r k ≡ spend (by_zero z n m) r k
+turns_by : (test : Term) (n m : ℕ) (r : ProcState) (k : ℕ) (z : Bool) → is_bare test ≡ true
+    → (value test r.vars r.out.cells == 0) ≡ z → run_op (TickBy test n m) r k ≡ spend (by_zero z n m) r k
 turns_by test n m r k z bare e =
-    ap (λ (u : ProcState). if value test r.vars r.out.cells == 0 then spend m u k else spend n u k) (bare_state test r bare)
+    ap (λ (u : ProcState). if value test r.vars r.out.cells == 0 then spend m u k else spend n u k)
+    (bare_state test r bare)
     ∙ ap (λ c. if c then spend m r k else spend n r k) e
     ∙ decided z
   where
@@ -65,7 +73,8 @@ turns_by test n m r k z bare e =
     decided true = refl
     decided false = refl
 
-turns_zero : (z : Bool) (ops ps : List Op) → by_zero z (turns_of ops) (turns_of ps) ≡ turns_of (by_zero z ops ps)
+turns_zero : (z : Bool) (ops ps : List Op) → by_zero z (turns_of ops) (turns_of ps) ≡ turns_of
+    (by_zero z ops ps)
 turns_zero true ops ps = refl
 turns_zero false ops ps = refl
 
@@ -74,10 +83,17 @@ abbrev pub arm_run : List Op → ProcState → ℕ → OpsOutcome
 arm_run ops a k = and_then (spend (turns_of ops) a k) (λ q i. Done (after ops q) i)
 
 module _ (g : Graph) (live : List (List ℕ)) (v : ℕ) (s : Short) (P B : ℕ → Type 0) where
-  module _ (reads_in : TermIn (length g.arrays) v s.test) (in_first : AllByRecursion (OpIn (length g.arrays) v) s.first) (in_second : AllByRecursion (OpIn (length g.arrays) v) s.second) (light_first : all_light s.first ≡ true) (light_second : all_light s.second ≡ true) (marked : (x : ℕ) → x < v → P x → has live s.join x ≡ true) where
+  module _ (reads_in : TermIn (length g.arrays) v s.test)
+      (in_first : AllByRecursion (OpIn (length g.arrays) v) s.first)
+      (in_second : AllByRecursion (OpIn (length g.arrays) v) s.second)
+      (light_first : all_light s.first ≡ true) (light_second : all_light s.second ≡ true)
+      (marked : (x : ℕ) → x < v → P x → has live s.join x ≡ true) where
     -- what stands for a short branch does what the test and the arm that it takes do
-    pub join_same : (a r : ProcState) (k : ℕ) (z : Bool) → ((value_of s.test a).0 == 0) ≡ z → ((x : ℕ) → Mentions s.test x → B x) → ((x : ℕ) → Needs (by_zero z s.first s.second) P x → B x) → States v B a r →
-        Outcomes v P (arm_run (by_zero z s.first s.second) (value_of s.test a).1 k) (run_ops (joining live v s) r k)
+    pub join_same : (a r : ProcState) (k : ℕ) (z : Bool) → ((value_of s.test a).0 == 0) ≡ z
+        → ((x : ℕ) → Mentions s.test x → B x) → ((x : ℕ) → Needs (by_zero z s.first s.second) P x → B x)
+        → States v B a r →
+        Outcomes v P (arm_run (by_zero z s.first s.second) (value_of s.test a).1 k)
+        (run_ops (joining live v s) r k)
     join_same a r k z e known needed h =
         let n = turns_of s.first in
         let m = turns_of s.second in
@@ -86,14 +102,23 @@ module _ (g : Graph) (live : List (List ℕ)) (v : ℕ) (s : Short) (P B : ℕ �
         let t = tested g v s B a r s.test (is_still (written_by s) s.test) refl reads_in h known rest k in
         let q : ProcState = t.state in
         let at : (value (test_of v s) q.vars q.out.cells == 0) ≡ z = ap (λ w. w == 0) t.value ∙ e in
-        let run : run_ops (joining live v s) r k ≡ and_then (spend (turns_of ops) q k) (run_ops (tail g live v s P)) =
+        let run : run_ops (joining live v s) r k ≡ and_then (spend (turns_of ops) q k)
+        (run_ops (tail g live v s P)) =
         t.run
-        ∙ ap (λ o. and_then o (run_ops (tail g live v s P))) (turns_by (test_of v s) n m q k z (test_bare g live v s P reads_in in_first in_second light_first light_second marked) at)
+        ∙ ap (λ o. and_then o (run_ops (tail g live v s P)))
+        (turns_by (test_of v s) n m q k z (test_bare g live v s P reads_in in_first in_second light_first
+        light_second marked) at)
         ∙ ap (λ i. and_then (spend i q k) (run_ops (tail g live v s P))) (turns_zero z s.first s.second) in
         let b : ProcState = (value_of s.test a).1 in
         let near : States v (Needs ops P) b q = weaker g v B (Needs ops P) b q needed t.states in
         subst (λ o. Outcomes v P (arm_run ops b k) o) (sym run) (
-        spend_rel v P (turns_of ops) k b q (λ u i. Done (after ops u) i) (run_ops (tail g live v s P)) near.out (
-        λ j. subst (λ o. Outcomes v P (Done (after ops b) j) o) (sym (tail_run g live v s P reads_in in_first in_second light_first light_second marked q j z at)) (refl, settled_states g live v s P reads_in in_first in_second light_first light_second marked z b q near)
+        spend_rel v P (turns_of ops) k b q (λ u i. Done (after ops u) i) (run_ops (tail g live v s P))
+        near.out (
+        λ j. subst (λ o. Outcomes v P (Done (after ops b) j) o)
+        (sym (tail_run g live v s P reads_in in_first in_second light_first light_second marked q j z at)) (
+          refl,
+          settled_states g live v s P reads_in in_first in_second light_first light_second marked z b
+              q near,
+        )
         )
         )

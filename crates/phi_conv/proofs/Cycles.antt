@@ -1,9 +1,12 @@
 -- A path of the joined graph that may take no turn is one of the given graph.
-use Rattle.std.proofs.Common.{ℕ, zero, suc, ◌≡◌, ◌⊎◌, ◌||◌, Bool, true, false, List, [], ◌∷◌, ◌++◌, Option, Some, None, refl, sym, subst, inl, inr, arith}
-use Rattle.cfg_core.specs.Graph.{Term, Op, Assign, Store, Print, Read, Give, Take, Choose, Tick, TickBy, Exit, Goto, Branch, Call, Return, Send, Stop, Block, Graph, spot_at, block_at}
+use Rattle.std.proofs.Common.{ℕ, zero, suc, ◌≡◌, ◌⊎◌, ◌||◌, Bool, true, false, List, [], ◌∷◌, ◌++◌, Option}
+use Rattle.std.proofs.Common.{Some, None, refl, sym, subst, inl, inr, arith}
+use Rattle.cfg_core.specs.Graph.{Term, Op, Assign, Store, Print, Read, Give, Take, Choose, Tick, TickBy, Exit}
+use Rattle.cfg_core.specs.Graph.{Goto, Branch, Call, Return, Send, Stop, Block, Graph, spot_at, block_at}
 use Rattle.cfg_core.specs.Rules.{takes_turn, has_turn, Leads, Quiet, one, more}
 use Rattle.phi_conv.specs.Short.{Short, is_bare, all_light, short, short_to}
-use Rattle.phi_conv.specs.Joined.{written_by, first_base, second_base, turns_of, arm, is_still, keep_test, test_of, choices, joining, joined_if, joined}
+use Rattle.phi_conv.specs.Joined.{written_by, first_base, second_base, turns_of, arm, is_still, keep_test}
+use Rattle.phi_conv.specs.Joined.{test_of, choices, joining, joined_if, joined}
 use Rattle.phi_conv.specs.IsShort.{Way, direct, through}
 use Rattle.phi_conv.proofs.Ways.{ways}
 use Rattle.phi_conv.proofs.Placing.{block_is}
@@ -57,16 +60,20 @@ module _ (g : Graph) (live : List (List ℕ)) where
 
   module _ (b v : ℕ) (quiet : has_turn (block_at g b).ops ≡ false) where
     -- by a way without turns, out of a block that takes none
-    by_way : (c j : ℕ) (ops : List Op) → Leads (block_at g b).exit c → turns_of ops ≡ 0 → Way g c j ops → Quiet g b j
+    by_way : (c j : ℕ) (ops : List Op) → Leads (block_at g b).exit c → turns_of ops ≡ 0 → Way g c j ops
+        → Quiet g b j
     by_way c j ops leads none (direct e empty) = subst (Quiet g b) e (one b c quiet leads)
     by_way c j ops leads none (through same exit light) =
-        let at : has_turn (block_at g c).ops ≡ false = subst (λ (o : List Op). has_turn o ≡ false) same (light_quiet ops light none) in
+        let at : has_turn (block_at g c).ops ≡ false = subst (λ (o : List Op). has_turn o ≡ false) same
+        (light_quiet ops light none) in
         more b c j (one b c quiet leads) at (subst (λ (x : Exit). Leads x j) (sym exit) refl)
 
-    by_branch : (t : Term) (c d : ℕ) (s : Short) → (block_at g b).exit ≡ Branch t c d → short_to g t c d ≡ Some s → has_turn (joining live v s) ≡ false → Quiet g b s.join
+    by_branch : (t : Term) (c d : ℕ) (s : Short) → (block_at g b).exit ≡ Branch t c d
+        → short_to g t c d ≡ Some s → has_turn (joining live v s) ≡ false → Quiet g b s.join
     by_branch t c d s is short none =
         let w = ways g t c d s short in
-        let rest : List Op = arm (first_base v) [] s.first ++ (arm (second_base v) [] s.second ++ choices live v s) in
+        let rest : List Op = arm (first_base v) [] s.first ++ (arm (second_base v) [] s.second ++ choices live
+        v s) in
         let by : Op = TickBy (test_of v s) (turns_of s.first) (turns_of s.second) in
         let tail = quiet_right (keep_test (is_still (written_by s) s.test) v s.test) (by ∷ rest) none in
         elim (none_of_two (test_of v s) (turns_of s.first) (turns_of s.second) (quiet_head by rest tail)) [
@@ -74,7 +81,8 @@ module _ (g : Graph) (live : List (List ℕ)) where
           | inr e ↦ by_way d s.join s.second (subst (λ (x : Exit). Leads x d) (sym is) (inr refl)) e w.second
         ]
 
-    by_exit : (x : Exit) (s : Short) → (block_at g b).exit ≡ x → short g x ≡ Some s → has_turn (joining live v s) ≡ false → Quiet g b s.join
+    by_exit : (x : Exit) (s : Short) → (block_at g b).exit ≡ x → short g x ≡ Some s
+        → has_turn (joining live v s) ≡ false → Quiet g b s.join
     by_exit (Branch t c d) s is e none = by_branch t c d s is e none
     by_exit (Goto c) s is e none = absurd (cc)
     by_exit (Call r f ts back) s is e none = absurd (cc)
@@ -84,15 +92,22 @@ module _ (g : Graph) (live : List (List ℕ)) where
 
   -- an edge of the joined graph out of a block that may take no turn
   edge : (b c : ℕ) → has_turn (block_at h b).ops ≡ false → Leads (block_at h b).exit c → Quiet g b c
-  edge b c quiet leads = by_short (short g (block_at g b).exit) refl (subst (λ (x : Block). has_turn x.ops ≡ false) (block_is g live b) quiet) (subst (λ (x : Block). Leads x.exit c) (block_is g live b) leads)
+  edge b c quiet leads = by_short (short g (block_at g b).exit) refl
+      (subst (λ (x : Block). has_turn x.ops ≡ false) (block_is g live b) quiet)
+      (subst (λ (x : Block). Leads x.exit c) (block_is g live b) leads)
     where
       v : ℕ
       v = (spot_at g b).vars
 
-      by_short : (found : Option Short) → short g (block_at g b).exit ≡ found → has_turn (joined_if live (spot_at g b).vars (block_at g b) found).ops ≡ false → Leads (joined_if live (spot_at g b).vars (block_at g b) found).exit c → Quiet g b c
+      by_short : (found : Option Short) → short g (block_at g b).exit ≡ found
+          → has_turn (joined_if live (spot_at g b).vars (block_at g b) found).ops ≡ false
+          → Leads (joined_if live (spot_at g b).vars (block_at g b) found).exit c → Quiet g b c
       by_short None e q l = one b c q l
       by_short (Some s) e q l =
-          subst (Quiet g b) (sym l) (by_exit b (spot_at g b).vars (quiet_left (block_at g b).ops (joining live (spot_at g b).vars s) q) (block_at g b).exit s refl e (quiet_right (block_at g b).ops (joining live (spot_at g b).vars s) q))
+          subst (Quiet g b) (sym l)
+          (by_exit b (spot_at g b).vars (quiet_left (block_at g b).ops (joining live (spot_at g b).vars s)
+          q) (block_at g b).exit s refl e
+          (quiet_right (block_at g b).ops (joining live (spot_at g b).vars s) q))
 
   -- a quiet path of the joined graph is one of the given graph
   pub quiet_before : (b c : ℕ) → Quiet h b c → Quiet g b c

@@ -1,13 +1,18 @@
 -- No copy is live at the start of a block of the joined graph.
-use Rattle.std.proofs.Common.{ℕ, ◌+◌, ◌≡◌, ◌<◌, ◌⊎◌, Bool, true, false, if◌then◌else◌, List, [], ◌∷◌, ◌++◌, length, map, Option, Some, None, refl, sym, ap, ◌∙◌, subst, inl, inr, arith}
+use Rattle.std.proofs.Common.{ℕ, ◌+◌, ◌≡◌, ◌<◌, ◌⊎◌, Bool, true, false, if◌then◌else◌, List, [], ◌∷◌, ◌++◌}
+use Rattle.std.proofs.Common.{length, map, Option, Some, None, refl, sym, ap, ◌∙◌, subst, inl, inr, arith}
 use Rattle.std.proofs.lemmas.Bool.{cases_eq}
 use Rattle.std.specs.List.{AllByRecursion, filter}
-use Rattle.cfg_core.specs.Graph.{Term, Number, Var, Cell, Flip, Not, Neg, Binary, Op, Assign, Store, Print, Read, Give, Take, Choose, Tick, TickBy, Exit, Goto, Branch, Call, Return, Send, Stop, Block, Graph, Spot, spots, spot_at, block_at}
+use Rattle.cfg_core.specs.Graph.{Term, Number, Var, Cell, Flip, Not, Neg, Binary, Op, Assign, Store, Print}
+use Rattle.cfg_core.specs.Graph.{Read, Give, Take, Choose, Tick, TickBy, Exit, Goto, Branch, Call, Return}
+use Rattle.cfg_core.specs.Graph.{Send, Stop, Block, Graph, Spot, spots, spot_at, block_at}
 use Rattle.cfg_core.specs.Rules.{TermIn, OpIn, ExitIn, IsGraph}
 use Rattle.live_vars.specs.Live.{Mentions, Carries, ReadsFirst, Live, reads, passes}
 use Rattle.live_vars.specs.Marks.{has}
 use Rattle.phi_conv.specs.Short.{Short, short}
-use Rattle.phi_conv.specs.Joined.{first_base, second_base, turns_of, is_among, copied, added, renamed, arm, written, written_by, is_still, keep_test, test_if, test_of, choice, choices, joining, joined_if, joined}
+use Rattle.phi_conv.specs.Joined.{first_base, second_base, turns_of, is_among, copied, added, renamed, arm}
+use Rattle.phi_conv.specs.Joined.{written, written_by, is_still, keep_test, test_if, test_of, choice, choices}
+use Rattle.phi_conv.specs.Joined.{joining, joined_if, joined}
 use Rattle.phi_conv.specs.Keeps.{NoCopyLive}
 use Rattle.phi_conv.proofs.Picked.{added_other, written_low}
 use Rattle.phi_conv.proofs.Placing.{joined_spot, spots_count, spot_is, block_is}
@@ -19,7 +24,8 @@ use Rattle.ws_words.specs.Items.{In}
 use Rattle.live_vars.proofs.Below.{low, op_low, reads_below, carries_stays}
 
 module _ (g : Graph) (v : ℕ) where
-  after : (ops more : List Op) (exit : Exit) (x : ℕ) → AllByRecursion (OpIn (length g.arrays) v) ops → ReadsFirst (ops ++ more) exit x → (x < v) ⊎ ReadsFirst more exit x
+  after : (ops more : List Op) (exit : Exit) (x : ℕ) → AllByRecursion (OpIn (length g.arrays) v) ops
+      → ReadsFirst (ops ++ more) exit x → (x < v) ⊎ ReadsFirst more exit x
   after [] more exit x i h = inr h
   after (op ∷ ops) more exit x i (inl r) = inl (op_low g v op x i.0 r)
   after (op ∷ ops) more exit x i (inr n) = after ops more exit x i.1 n.1
@@ -36,7 +42,8 @@ module _ (g : Graph) (v : ℕ) where
         by_test true h q = absurd (n y h q)
         by_test false h q = omega (arith, q, lt)
 
-    renamed_low : (done : List ℕ) (t : Term) (x : ℕ) → NotCopy done x → TermIn (length g.arrays) v t → Mentions (renamed base done t) x → x < v
+    renamed_low : (done : List ℕ) (t : Term) (x : ℕ) → NotCopy done x → TermIn (length g.arrays) v t
+        → Mentions (renamed base done t) x → x < v
     renamed_low done (Number k) x n i m = absurd m
     renamed_low done (Var y) x n i m = copied_low done y x n i m
     renamed_low done (Cell a t) x n i m = renamed_low done t x n i.1 m
@@ -52,10 +59,13 @@ module _ (g : Graph) (v : ℕ) where
       | inr other ↦ n z (sym (added_other done y z other) ∙ among) e
     ]
 
-    arm_after : (done : List ℕ) (ops more : List Op) (exit : Exit) (x : ℕ) → NotCopy done x → AllByRecursion (OpIn (length g.arrays) v) ops → ReadsFirst (arm base done ops ++ more) exit x → (x < v) ⊎ (NotCopy (written done ops) x × ReadsFirst more exit x)
+    arm_after : (done : List ℕ) (ops more : List Op) (exit : Exit) (x : ℕ) → NotCopy done x
+        → AllByRecursion (OpIn (length g.arrays) v) ops → ReadsFirst (arm base done ops ++ more) exit x
+        → (x < v) ⊎ (NotCopy (written done ops) x × ReadsFirst more exit x)
     arm_after done [] more exit x n i h = inr (n, h)
     arm_after done (Assign y t ∷ ops) more exit x n i (inl m) = inl (renamed_low done t x n i.0.1 m)
-    arm_after done (Assign y t ∷ ops) more exit x n i (inr h) = arm_after (added done y) ops more exit x (one_more done y x n h.0) i.1 h.1
+    arm_after done (Assign y t ∷ ops) more exit x n i (inr h) = arm_after (added done y) ops more exit x
+        (one_more done y x n h.0) i.1 h.1
     arm_after done (Store a t u ∷ ops) more exit x n i h = arm_after done ops more exit x n i.1 h
     arm_after done (Print t ∷ ops) more exit x n i h = arm_after done ops more exit x n i.1 h
     arm_after done (Read y ∷ ops) more exit x n i h = arm_after done ops more exit x n i.1 h
@@ -66,7 +76,9 @@ module _ (g : Graph) (v : ℕ) where
     arm_after done (TickBy t k m ∷ ops) more exit x n i h = arm_after done ops more exit x n i.1 h
 
   -- what stands for a short branch
-  module _ (live : List (List ℕ)) (s : Short) (test : TermIn (length g.arrays) v s.test) (first : AllByRecursion (OpIn (length g.arrays) v) s.first) (second : AllByRecursion (OpIn (length g.arrays) v) s.second) (j x : ℕ) where
+  module _ (live : List (List ℕ)) (s : Short) (test : TermIn (length g.arrays) v s.test)
+      (first : AllByRecursion (OpIn (length g.arrays) v) s.first)
+      (second : AllByRecursion (OpIn (length g.arrays) v) s.second) (j x : ℕ) where
     abbrev still : Bool
     still = is_still (written_by s) s.test
 
@@ -74,23 +86,30 @@ module _ (g : Graph) (v : ℕ) where
     held_low true n m = low g v s.test x test m
     held_low false n m = absurd (n refl m)
 
-    kept_after : (c : Bool) (more : List Op) → ReadsFirst (keep_test c v s.test ++ more) (Goto j) x → (x < v) ⊎ ((c ≡ false → x ≡ v → ⊥) × ReadsFirst more (Goto j) x)
+    kept_after : (c : Bool) (more : List Op) → ReadsFirst (keep_test c v s.test ++ more) (Goto j) x
+        → (x < v) ⊎ ((c ≡ false → x ≡ v → ⊥) × ReadsFirst more (Goto j) x)
     kept_after true more h = inr ((λ e. absurd (cc)), h)
     kept_after false more (inl m) = inl (low g v s.test x test m)
     kept_after false more (inr n) = inr ((λ e. n.0), n.1)
 
-    choices_low : (xs : List ℕ) → ((y : ℕ) → In y xs → y < v) → NotCopy (first_base v) (written [] s.first) x → NotCopy (second_base v) (written [] s.second) x → (still ≡ false → x ≡ v → ⊥) → ReadsFirst (map (choice v s) xs) (Goto j) x → x < v
+    choices_low : (xs : List ℕ) → ((y : ℕ) → In y xs → y < v) → NotCopy (first_base v) (written [] s.first) x
+        → NotCopy (second_base v) (written [] s.second) x → (still ≡ false → x ≡ v → ⊥)
+        → ReadsFirst (map (choice v s) xs) (Goto j) x → x < v
     choices_low [] few n m k h = absurd h
     choices_low (y ∷ xs) few n m k (inl (inl r)) = held_low still k r
-    choices_low (y ∷ xs) few n m k (inl (inr (inl r))) = copied_low (first_base v) (written [] s.first) y x n (few y (inl refl)) r
-    choices_low (y ∷ xs) few n m k (inl (inr (inr r))) = copied_low (second_base v) (written [] s.second) y x m (few y (inl refl)) r
+    choices_low (y ∷ xs) few n m k (inl (inr (inl r))) = copied_low (first_base v) (written [] s.first) y x n
+        (few y (inl refl)) r
+    choices_low (y ∷ xs) few n m k (inl (inr (inr r))) = copied_low (second_base v) (written [] s.second) y x
+        m (few y (inl refl)) r
     choices_low (y ∷ xs) few n m k (inr h) = choices_low xs (λ z i. few z (inr i)) n m k h.1
 
     abbrev chosen : List ℕ
     chosen = filter (has live s.join) (written_by s)
 
     chosen_low : (y : ℕ) → In y chosen → y < v
-    chosen_low y i = written_low g v (written [] s.first) s.second second (written_low g v [] s.first first (λ z no. absurd no)) y (filter_in (has live s.join) (written_by s) y i).0
+    chosen_low y i = written_low g v (written [] s.first) s.second second
+        (written_low g v [] s.first first (λ z no. absurd no)) y
+        (filter_in (has live s.join) (written_by s) y i).0
 
     none_copied : (base : ℕ) → NotCopy base [] x
     none_copied base y among e = absurd (cc)
@@ -99,19 +118,24 @@ module _ (g : Graph) (v : ℕ) where
     others = arm (second_base v) [] s.second ++ choices live v s
 
     pub joining_low : ReadsFirst (joining live v s) (Goto j) x → x < v
-    joining_low h = elim (kept_after still (TickBy (test_of v s) (turns_of s.first) (turns_of s.second) ∷ (arm (first_base v) [] s.first ++ others)) h) [
-      | inl lt ↦ lt
-      | inr p ↦ elim p.1 [
-        | inl m ↦ held_low still p.0 m
-        | inr q ↦ elim (arm_after (first_base v) [] s.first others (Goto j) x (none_copied (first_base v)) first q.1) [
+    joining_low h =
+        elim (kept_after still (TickBy (test_of v s) (turns_of s.first) (turns_of s.second)
+        ∷ (arm (first_base v) [] s.first ++ others)) h) [
           | inl lt ↦ lt
-          | inr a ↦ elim (arm_after (second_base v) [] s.second (choices live v s) (Goto j) x (none_copied (second_base v)) second a.1) [
-            | inl lt ↦ lt
-            | inr b ↦ choices_low chosen chosen_low a.0 b.0 p.0 b.1
+          | inr p ↦ elim p.1 [
+            | inl m ↦ held_low still p.0 m
+            | inr q ↦ elim (arm_after (first_base v) [] s.first others (Goto j) x (none_copied (first_base v))
+                first q.1) [
+                  | inl lt ↦ lt
+                  | inr a ↦
+                      elim (arm_after (second_base v) [] s.second (choices live v s) (Goto j) x
+                      (none_copied (second_base v)) second a.1) [
+                        | inl lt ↦ lt
+                        | inr b ↦ choices_low chosen chosen_low a.0 b.0 p.0 b.1
+                      ]
+                ]
           ]
         ]
-      ]
-    ]
 
 module _ (g : Graph) (live : List (List ℕ)) (rules : IsGraph g) where
   abbrev h : Graph
@@ -121,41 +145,54 @@ module _ (g : Graph) (live : List (List ℕ)) (rules : IsGraph g) where
   V b = (spot_at g b).vars
 
   block_low : (b x : ℕ) → b < length (spots g) → ReadsFirst (block_at h b).ops (block_at h b).exit x → x < V b
-  block_low b x lt r = by_short (short g (block_at g b).exit) refl (subst (λ (y : Block). ReadsFirst y.ops y.exit x) (block_is g live b) r)
+  block_low b x lt r = by_short (short g (block_at g b).exit) refl
+      (subst (λ (y : Block). ReadsFirst y.ops y.exit x) (block_is g live b) r)
     where
-      by_exit : (y : Exit) (s : Short) → (block_at g b).exit ≡ y → short g y ≡ Some s → ReadsFirst (joining live (V b) s) (Goto s.join) x → x < V b
+      by_exit : (y : Exit) (s : Short) → (block_at g b).exit ≡ y → short g y ≡ Some s
+          → ReadsFirst (joining live (V b) s) (Goto s.join) x → x < V b
       by_exit (Branch t c d) s e f q =
           let i = subst (λ (y : Exit). ExitIn g (spot_at g b).home (V b) y) e (numbers_at g rules b).exit in
-          joining_low g (V b) live s (test_in g rules b lt t c d s i f) (first_in g rules b lt t c d s i f) (second_in g rules b lt t c d s i f) s.join x q
+          joining_low g (V b) live s (test_in g rules b lt t c d s i f) (first_in g rules b lt t c d s i f)
+          (second_in g rules b lt t c d s i f) s.join x q
       by_exit (Goto c) s e f q = absurd (cc)
       by_exit (Call n c ts back) s e f q = absurd (cc)
       by_exit (Return t) s e f q = absurd (cc)
       by_exit (Send t ts ls) s e f q = absurd (cc)
       by_exit Stop s e f q = absurd (cc)
 
-      by_short : (found : Option Short) → short g (block_at g b).exit ≡ found → ReadsFirst (joined_if live (V b) (block_at g b) found).ops (joined_if live (V b) (block_at g b) found).exit x → x < V b
-      by_short None e q = reads_below g (spot_at g b).home (V b) (block_at g b).ops (block_at g b).exit x (numbers_at g rules b).ops (numbers_at g rules b).exit q
-      by_short (Some s) e q = elim (after g (V b) (block_at g b).ops (joining live (V b) s) (Goto s.join) x (numbers_at g rules b).ops q) [
-        | inl low_enough ↦ low_enough
-        | inr p ↦ by_exit (block_at g b).exit s refl e p
-      ]
+      by_short : (found : Option Short) → short g (block_at g b).exit ≡ found
+          → ReadsFirst (joined_if live (V b) (block_at g b) found).ops
+          (joined_if live (V b) (block_at g b) found).exit x → x < V b
+      by_short None e q = reads_below g (spot_at g b).home (V b) (block_at g b).ops (block_at g b).exit x
+          (numbers_at g rules b).ops (numbers_at g rules b).exit q
+      by_short (Some s) e q =
+          elim (after g (V b) (block_at g b).ops (joining live (V b) s) (Goto s.join) x
+          (numbers_at g rules b).ops q) [
+            | inl low_enough ↦ low_enough
+            | inr p ↦ by_exit (block_at g b).exit s refl e p
+          ]
 
   R : IsGraph h
   R = keeps_rules g live rules
 
-  on_edge : (b c : ℕ) → b < length (spots g) → Carries (block_at h b).exit c → (c < length (spots g)) × (V c ≡ V b)
+  on_edge : (b c : ℕ) → b < length (spots g) → Carries (block_at h b).exit c
+      → (c < length (spots g)) × (V c ≡ V b)
   on_edge b c lt k =
-      let i = carries_stays h (spot_at h b).home (spot_at h b).vars (block_at h b).exit c (numbers_at h R b).exit k in
+      let i = carries_stays h (spot_at h b).home (spot_at h b).vars (block_at h b).exit c
+      (numbers_at h R b).exit k in
       let lc : c < length (spots g) = subst (λ n. c < n) (spots_count g live) i.0 in
       let lb : b < length (spots h) = subst (λ n. b < n) (sym (spots_count g live)) lt in
       let same : (spot_at h c).vars ≡ (spot_at h b).vars = same_vars h R b c lb i.0 i.1 in
-      let vb : (spot_at h b).vars ≡ (joined_spot g live (spot_at g b)).vars = ap (λ (s : Spot). s.vars) (spot_is g live b lt) in
-      let vc : (spot_at h c).vars ≡ (joined_spot g live (spot_at g c)).vars = ap (λ (s : Spot). s.vars) (spot_is g live c lc) in
+      let vb : (spot_at h b).vars ≡ (joined_spot g live (spot_at g b)).vars =
+      ap (λ (s : Spot). s.vars) (spot_is g live b lt) in
+      let vc : (spot_at h c).vars ≡ (joined_spot g live (spot_at g c)).vars =
+      ap (λ (s : Spot). s.vars) (spot_is g live c lc) in
       (lc, omega (arith, same, vb, vc))
 
   dead : (b x : ℕ) → b < length (spots g) → Live h b x → x < V b
   dead b x lt (reads _ _ r) = block_low b x lt r
-  dead b x lt (passes _ c _ nw ne k l) = let e = on_edge b c lt k in let i = dead c x e.0 l in omega (arith, i, e.1)
+  dead b x lt (passes _ c _ nw ne k l) = let e = on_edge b c lt k in let i = dead c x e.0 l in
+      omega (arith, i, e.1)
 
   -- what is live is a variable of the given graph's procedure
   pub no_copy_live : NoCopyLive g h

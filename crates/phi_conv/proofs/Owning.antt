@@ -16,23 +16,29 @@ module _ (g : Graph) (live : List (List ℕ)) where
   h = joined g live
 
   -- a branch of the joined graph is one of the given graph
-  old_branch : (a : ℕ) (t : Term) (b c : ℕ) → (block_at h a).exit ≡ Branch t b c → (block_at g a).exit ≡ Branch t b c
+  old_branch : (a : ℕ) (t : Term) (b c : ℕ) → (block_at h a).exit ≡ Branch t b c
+      → (block_at g a).exit ≡ Branch t b c
   old_branch a t b c e = elim ((short_joined g live).others a) [
     | inl same ↦ ap (λ (x : Block). x.exit) (sym same) ∙ e
     | inr new ↦ absurd (no_both (block_at h a).exit t b c new.short.join e new.goes)
   ]
 
-  module _ (a : ℕ) (t : Term) (b c d : ℕ) (branch : (block_at g a).exit ≡ Branch t b c) (only : OnlyFrom g a d) where
-    by_way : (other m n : ℕ) (u : Term) (s : Short) → (block_at g other).exit ≡ Branch u m n → d ≡ s.join → Way g m s.join s.first → other ≡ a
-    by_way other m n u s e same (direct f empty) = only other (subst (λ (x : Exit). Leads x d) (sym e) (inl (same ∙ sym f)))
+  module _ (a : ℕ) (t : Term) (b c d : ℕ) (branch : (block_at g a).exit ≡ Branch t b c)
+      (only : OnlyFrom g a d) where
+    by_way : (other m n : ℕ) (u : Term) (s : Short) → (block_at g other).exit ≡ Branch u m n → d ≡ s.join
+        → Way g m s.join s.first → other ≡ a
+    by_way other m n u s e same (direct f empty) =
+        only other (subst (λ (x : Exit). Leads x d) (sym e) (inl (same ∙ sym f)))
     by_way other m n u s e same (through held leave light) =
         let at : m ≡ a = only m (subst (λ (x : Exit). Leads x d) (sym leave) same) in
-        absurd (no_both (block_at g a).exit t b c s.join branch (subst (λ i. (block_at g i).exit ≡ Goto s.join) at leave))
+        absurd (no_both (block_at g a).exit t b c s.join branch
+        (subst (λ i. (block_at g i).exit ≡ Goto s.join) at leave))
 
     still_only : OnlyFrom h a d
     still_only other edge = elim ((short_joined g live).others other) [
       | inl same ↦ only other (subst (λ (x : Block). Leads x.exit d) same edge)
-      | inr new ↦ by_way other new.first new.second new.test new.short new.branch (subst (λ (x : Exit). Leads x d) new.goes edge) new.is.first
+      | inr new ↦ by_way other new.first new.second new.test new.short new.branch
+          (subst (λ (x : Exit). Leads x d) new.goes edge) new.is.first
     ]
 
   -- they are so in the joined graph
@@ -40,6 +46,10 @@ module _ (g : Graph) (live : List (List ℕ)) where
   arms_alone alone = record {
     apart = λ a t b c e.
         let old = old_branch a t b c e in let own = alone.apart a t b c old in
-        record { differ = own.differ; first = still_only a t b c b old own.first; second = still_only a t b c c old own.second };
+        record {
+          differ = own.differ;
+          first = still_only a t b c b old own.first;
+          second = still_only a t b c c old own.second;
+        };
     ahead = λ a t b c e. alone.ahead a t b c (old_branch a t b c e);
   }

@@ -1,5 +1,6 @@
 -- Numbers of a list: those that were added, and those that pass a test.
-use Rattle.std.proofs.Common.{ℕ, ◌≡◌, ◌<◌, ◌==◌, ◌||◌, Bool, true, false, if◌then◌else◌, List, [], ◌∷◌, ◌++◌, length, refl, sym, ap, ◌∙◌, inl, inr, arith}
+use Rattle.std.proofs.Common.{ℕ, ◌≡◌, ◌<◌, ◌==◌, ◌||◌, Bool, true, false, if◌then◌else◌, List, [], ◌∷◌, ◌++◌}
+use Rattle.std.proofs.Common.{length, refl, sym, ap, ◌∙◌, inl, inr, arith}
 use Rattle.std.specs.List.{AllByRecursion}
 use Rattle.std.proofs.lemmas.Bool.{cases_eq}
 use Rattle.std.proofs.lemmas.Bool.Decides.{nat_tests}
@@ -19,7 +20,8 @@ not_self n m ne = by_test (n == m) refl
     by_test false e = e
 
 -- a number that isn't there where it isn't in a longer list
-pub less_among : (xs ys : List ℕ) (x : ℕ) → (is_among xs x ≡ true → is_among ys x ≡ true) → is_among ys x ≡ false → is_among xs x ≡ false
+pub less_among : (xs ys : List ℕ) (x : ℕ) → (is_among xs x ≡ true → is_among ys x ≡ true)
+    → is_among ys x ≡ false → is_among xs x ≡ false
 less_among xs ys x f e = elim (true_or_false (is_among xs x)) [ inl t ↦ absurd (no_both (f t) e) | inr d ↦ d ]
 
 -- a number that the test finds is there
@@ -70,7 +72,8 @@ added_stays done x y e = elim (cases_eq y x) [
 ]
 
 -- what was written stays written
-pub written_stays : (done : List ℕ) (ops : List Op) (y : ℕ) → is_among done y ≡ true → is_among (written done ops) y ≡ true
+pub written_stays : (done : List ℕ) (ops : List Op) (y : ℕ) → is_among done y ≡ true
+    → is_among (written done ops) y ≡ true
 written_stays done [] y e = e
 written_stays done (Assign x t ∷ ops) y e = written_stays (added done x) ops y (added_stays done x y e)
 written_stays done (Store a t u ∷ ops) y e = written_stays done ops y e
@@ -82,16 +85,20 @@ written_stays done (Choose x t a b ∷ ops) y e = written_stays done ops y e
 written_stays done (Tick n ∷ ops) y e = written_stays done ops y e
 written_stays done (TickBy t n m ∷ ops) y e = written_stays done ops y e
 
-added_more : (done more : List ℕ) (x y : ℕ) → (is_among done y ≡ true → is_among more y ≡ true) → is_among (added done x) y ≡ true → is_among (added more x) y ≡ true
+added_more : (done more : List ℕ) (x y : ℕ) → (is_among done y ≡ true → is_among more y ≡ true)
+    → is_among (added done x) y ≡ true → is_among (added more x) y ≡ true
 added_more done more x y f e = elim (cases_eq y x) [
   | inl same ↦ ap (is_among (added more x)) same ∙ added_here more x
   | inr ne ↦ added_other more x y ne ∙ f (sym (added_other done x y ne) ∙ e)
 ]
 
 -- what an arm writes is among what was written before and by the arm
-pub written_more : (done more : List ℕ) (ops : List Op) (y : ℕ) → (is_among done y ≡ true → is_among more y ≡ true) → is_among (written done ops) y ≡ true → is_among (written more ops) y ≡ true
+pub written_more : (done more : List ℕ) (ops : List Op) (y : ℕ)
+    → (is_among done y ≡ true → is_among more y ≡ true) → is_among (written done ops) y ≡ true
+    → is_among (written more ops) y ≡ true
 written_more done more [] y f e = f e
-written_more done more (Assign x t ∷ ops) y f e = written_more (added done x) (added more x) ops y (added_more done more x y f) e
+written_more done more (Assign x t ∷ ops) y f e = written_more (added done x) (added more x) ops y
+    (added_more done more x y f) e
 written_more done more (Store a t u ∷ ops) y f e = written_more done more ops y f e
 written_more done more (Print t ∷ ops) y f e = written_more done more ops y f e
 written_more done more (Read x ∷ ops) y f e = written_more done more ops y f e
@@ -102,7 +109,8 @@ written_more done more (Tick n ∷ ops) y f e = written_more done more ops y f e
 written_more done more (TickBy t n m ∷ ops) y f e = written_more done more ops y f e
 
 module _ (g : Graph) (v : ℕ) where
-  added_low : (done : List ℕ) (x : ℕ) → x < v → ((y : ℕ) → In y done → y < v) → (y : ℕ) → In y (added done x) → y < v
+  added_low : (done : List ℕ) (x : ℕ) → x < v → ((y : ℕ) → In y done → y < v) → (y : ℕ) → In y (added done x)
+      → y < v
   added_low done x lt f y = by_test (is_among done x)
     where
       by_test : (b : Bool) → In y (if b then done else done ++ x ∷ []) → y < v
@@ -113,9 +121,11 @@ module _ (g : Graph) (v : ℕ) where
       ]
 
   -- the variables that operations write exist
-  pub written_low : (done : List ℕ) (ops : List Op) → AllByRecursion (OpIn (length g.arrays) v) ops → ((y : ℕ) → In y done → y < v) → (y : ℕ) → In y (written done ops) → y < v
+  pub written_low : (done : List ℕ) (ops : List Op) → AllByRecursion (OpIn (length g.arrays) v) ops
+      → ((y : ℕ) → In y done → y < v) → (y : ℕ) → In y (written done ops) → y < v
   written_low done [] h f y i = f y i
-  written_low done (Assign x t ∷ ops) h f y i = written_low (added done x) ops h.1 (added_low done x h.0.0 f) y i
+  written_low done (Assign x t ∷ ops) h f y i = written_low (added done x) ops h.1 (added_low done x h.0.0 f)
+      y i
   written_low done (Store a t u ∷ ops) h f y i = written_low done ops h.1 f y i
   written_low done (Print t ∷ ops) h f y i = written_low done ops h.1 f y i
   written_low done (Read x ∷ ops) h f y i = written_low done ops h.1 f y i

@@ -1,12 +1,18 @@
 -- How large what stands for a short branch is.
-use Rattle.std.proofs.Common.{ℕ, suc, ◌+◌, ◌*◌, ◌≡◌, ◌≤◌, ◌⊎◌, Bool, true, false, if◌then◌else◌, List, [], ◌∷◌, ◌++◌, length, map, Option, Some, None, refl, sym, ap, ◌∙◌, subst, inl, inr, arith, length-append}
+use Rattle.std.proofs.Common.{ℕ, suc, ◌+◌, ◌*◌, ◌≡◌, ◌≤◌, ◌⊎◌, Bool, true, false, if◌then◌else◌, List, []}
+use Rattle.std.proofs.Common.{◌∷◌, ◌++◌, length, map, Option, Some, None, refl, sym, ap, ◌∙◌, subst, inl, inr}
+use Rattle.std.proofs.Common.{arith, length-append}
 use Rattle.std.specs.List.{filter, sum_by}
 use Rattle.std.proofs.lemmas.List.Sums.{sum_by-cons, sum_by-append}
-use Rattle.cfg_core.specs.Graph.{Term, Number, Var, Cell, Flip, Not, Neg, Binary, Op, Assign, Store, Print, Read, Give, Take, Choose, Tick, TickBy, Exit, Goto, Branch, Call, Return, Send, Stop, Block, Graph, spot_at, block_at}
+use Rattle.cfg_core.specs.Graph.{Term, Number, Var, Cell, Flip, Not, Neg, Binary, Op, Assign, Store, Print}
+use Rattle.cfg_core.specs.Graph.{Read, Give, Take, Choose, Tick, TickBy, Exit, Goto, Branch, Call, Return}
+use Rattle.cfg_core.specs.Graph.{Send, Stop, Block, Graph, spot_at, block_at}
 use Rattle.cfg_core.specs.Weights.{term_nodes, op_nodes, exit_nodes, block_nodes}
 use Rattle.live_vars.specs.Marks.{has}
 use Rattle.phi_conv.specs.Short.{Short, all_nodes, most_nodes, short}
-use Rattle.phi_conv.specs.Joined.{first_base, second_base, turns_of, is_among, added, renamed, arm, written, written_by, is_still, keep_test, test_if, test_of, choice, choices, joining, joined_if, joined}
+use Rattle.phi_conv.specs.Joined.{first_base, second_base, turns_of, is_among, added, renamed, arm, written}
+use Rattle.phi_conv.specs.Joined.{written_by, is_still, keep_test, test_if, test_of, choice, choices, joining}
+use Rattle.phi_conv.specs.Joined.{joined_if, joined}
 use Rattle.phi_conv.specs.Keeps.{most_more_ops, most_more_nodes, JoinedAt, ShortJoined, SizesKept}
 use Rattle.phi_conv.proofs.Counting.{some_nodes}
 use Rattle.phi_conv.proofs.Ways.{ways, found}
@@ -22,11 +28,14 @@ renamed_nodes base done (Cell a t) = ap suc (renamed_nodes base done t)
 renamed_nodes base done (Flip t) = ap suc (renamed_nodes base done t)
 renamed_nodes base done (Not t) = ap suc (renamed_nodes base done t)
 renamed_nodes base done (Neg t) = ap suc (renamed_nodes base done t)
-renamed_nodes base done (Binary op a b) = let x = renamed_nodes base done a in let y = renamed_nodes base done b in omega (arith, x, y)
+renamed_nodes base done (Binary op a b) = let x = renamed_nodes base done a in
+    let y = renamed_nodes base done b in omega (arith, x, y)
 
 arm_size : (base : ℕ) (done : List ℕ) (ops : List Op) → sum_by op_nodes (arm base done ops) ≡ all_nodes ops
 arm_size base done [] = refl
-arm_size base done (Assign x t ∷ ops) = let a = renamed_nodes base done t in let b = arm_size base (added done x) ops in let c = sum_by-cons op_nodes (Assign (base + x) (renamed base done t)) (arm base (added done x) ops) in omega (arith, a, b, c)
+arm_size base done (Assign x t ∷ ops) = let a = renamed_nodes base done t in
+    let b = arm_size base (added done x) ops in let c = sum_by-cons op_nodes
+    (Assign (base + x) (renamed base done t)) (arm base (added done x) ops) in omega (arith, a, b, c)
 arm_size base done (Store a t u ∷ ops) = let b = arm_size base done ops in omega (arith, b)
 arm_size base done (Print t ∷ ops) = let b = arm_size base done ops in omega (arith, b)
 arm_size base done (Read x ∷ ops) = let b = arm_size base done ops in omega (arith, b)
@@ -38,7 +47,8 @@ arm_size base done (TickBy t n m ∷ ops) = let b = arm_size base done ops in om
 
 arm_count : (base : ℕ) (done : List ℕ) (ops : List Op) → length (arm base done ops) ≤ all_nodes ops
 arm_count base done [] = omega arith
-arm_count base done (Assign x t ∷ ops) = let a = some_nodes t in let b = arm_count base (added done x) ops in omega (arith, a, b)
+arm_count base done (Assign x t ∷ ops) = let a = some_nodes t in let b = arm_count base (added done x) ops in
+    omega (arith, a, b)
 arm_count base done (Store a t u ∷ ops) = let b = arm_count base done ops in omega (arith, b)
 arm_count base done (Print t ∷ ops) = let b = arm_count base done ops in omega (arith, b)
 arm_count base done (Read x ∷ ops) = let b = arm_count base done ops in omega (arith, b)
@@ -59,7 +69,8 @@ added_count done x = by_test (is_among done x)
 
 pub written_count : (done : List ℕ) (ops : List Op) → length (written done ops) ≤ length done + all_nodes ops
 written_count done [] = omega arith
-written_count done (Assign x t ∷ ops) = let a = some_nodes t in let c = added_count done x in let b = written_count (added done x) ops in omega (arith, a, b, c)
+written_count done (Assign x t ∷ ops) = let a = some_nodes t in let c = added_count done x in
+    let b = written_count (added done x) ops in omega (arith, a, b, c)
 written_count done (Store a t u ∷ ops) = let b = written_count done ops in omega (arith, b)
 written_count done (Print t ∷ ops) = let b = written_count done ops in omega (arith, b)
 written_count done (Read x ∷ ops) = let b = written_count done ops in omega (arith, b)
@@ -73,7 +84,8 @@ written_count done (TickBy t n m ∷ ops) = let b = written_count done ops in om
 pub sum_both : (f : Op → ℕ) (xs ys : List Op) → sum_by f (xs ++ ys) ≡ sum_by f xs + sum_by f ys
 sum_both f xs ys = sum_by-append f xs ys
 
-held_nodes : (c : Bool) (v : ℕ) (either : List ℕ) (t : Term) → is_still either t ≡ c → term_nodes (test_if c v t) ≡ 1
+held_nodes : (c : Bool) (v : ℕ) (either : List ℕ) (t : Term) → is_still either t ≡ c
+    → term_nodes (test_if c v t) ≡ 1
 held_nodes true v either (Number n) e = refl
 held_nodes true v either (Var x) e = refl
 held_nodes true v either (Cell a t) e = absurd (cc)
@@ -91,7 +103,8 @@ keep_size : (c : Bool) (v : ℕ) (t : Term) → sum_by op_nodes (keep_test c v t
 keep_size true v t = omega arith
 keep_size false v t = omega arith
 
--- what stands for a short branch: the variables that are chosen, the operations behind its test, and its turns
+-- what stands for a short branch: the variables that are chosen, the operations behind its test, and its
+-- turns
 module _ (live : List (List ℕ)) (v : ℕ) (s : Short) where
   abbrev pub chosen : List ℕ
   chosen = filter (has live s.join) (written_by s)
@@ -102,13 +115,15 @@ module _ (live : List (List ℕ)) (v : ℕ) (s : Short) where
   abbrev pub turns : Op
   turns = TickBy (test_of v s) (turns_of s.first) (turns_of s.second)
 
-module _ (live : List (List ℕ)) (v : ℕ) (s : Short) (few : all_nodes s.first + all_nodes s.second ≤ most_nodes) where
+module _ (live : List (List ℕ)) (v : ℕ) (s : Short) (few : all_nodes s.first + all_nodes s.second
+    ≤ most_nodes) where
   test_nodes : term_nodes (test_of v s) ≡ 1
   test_nodes = held_nodes (is_still (written_by s) s.test) v (written_by s) s.test refl
 
   choices_size : (xs : List ℕ) → sum_by op_nodes (map (choice v s) xs) ≡ 3 * length xs
   choices_size [] = refl
-  choices_size (x ∷ xs) = let a = test_nodes in let r = choices_size xs in let c = sum_by-cons op_nodes (choice v s x) (map (choice v s) xs) in omega (arith, a, r, c)
+  choices_size (x ∷ xs) = let a = test_nodes in let r = choices_size xs in
+      let c = sum_by-cons op_nodes (choice v s x) (map (choice v s) xs) in omega (arith, a, r, c)
 
   pub chosen_count : length (chosen live v s) ≤ most_nodes
   chosen_count =
@@ -125,8 +140,10 @@ module _ (live : List (List ℕ)) (v : ℕ) (s : Short) (few : all_nodes s.first
       let c = chosen_count in
       let d = map_count (choice v s) (chosen live v s) in
       let e = keep_count (is_still (written_by s) s.test) v s.test in
-      let f = length-append (keep_test (is_still (written_by s) s.test) v s.test) (turns live v s ∷ arms live v s) in
-      let i = length-append (arm (first_base v) [] s.first) (arm (second_base v) [] s.second ++ choices live v s) in
+      let f = length-append (keep_test (is_still (written_by s) s.test) v s.test)
+      (turns live v s ∷ arms live v s) in
+      let i = length-append (arm (first_base v) [] s.first) (arm (second_base v) [] s.second ++ choices live v
+      s) in
       let j = length-append (arm (second_base v) [] s.second) (choices live v s) in
       omega (arith, a, b, c, d, e, f, i, j, few)
 
@@ -138,8 +155,10 @@ module _ (live : List (List ℕ)) (v : ℕ) (s : Short) (few : all_nodes s.first
       let c = chosen_count in
       let d = choices_size (chosen live v s) in
       let e = keep_size (is_still (written_by s) s.test) v s.test in
-      let f = sum_both op_nodes (keep_test (is_still (written_by s) s.test) v s.test) (turns live v s ∷ arms live v s) in
-      let i = sum_both op_nodes (arm (first_base v) [] s.first) (arm (second_base v) [] s.second ++ choices live v s) in
+      let f = sum_both op_nodes (keep_test (is_still (written_by s) s.test) v s.test)
+      (turns live v s ∷ arms live v s) in
+      let i = sum_both op_nodes (arm (first_base v) [] s.first)
+      (arm (second_base v) [] s.second ++ choices live v s) in
       let j = sum_both op_nodes (arm (second_base v) [] s.second) (choices live v s) in
       let k = test_nodes in
       let l = sum_by-cons op_nodes (turns live v s) (arms live v s) in
@@ -158,10 +177,14 @@ module _ (g : Graph) (live : List (List ℕ)) where
     short = s;
     branch = e;
     is = ways g t c d s f;
-    goes = ap (λ (x : Block). x.exit) (block_is g live b) ∙ ap (λ (r : Option Short). (joined_if live (spot_at g b).vars (block_at g b) r).exit) (ap (short g) e ∙ f);
+    goes = ap (λ (x : Block). x.exit) (block_is g live b)
+        ∙ ap (λ (r : Option Short). (joined_if live (spot_at g b).vars (block_at g b) r).exit)
+        (ap (short g) e ∙ f);
     sets = live;
     vars = (spot_at g b).vars;
-    ops = ap (λ (x : Block). x.ops) (block_is g live b) ∙ ap (λ (r : Option Short). (joined_if live (spot_at g b).vars (block_at g b) r).ops) (ap (short g) e ∙ f);
+    ops = ap (λ (x : Block). x.ops) (block_is g live b)
+        ∙ ap (λ (r : Option Short). (joined_if live (spot_at g b).vars (block_at g b) r).ops)
+        (ap (short g) e ∙ f);
   }
   is_joined b (Goto c) s e f = absurd (cc)
   is_joined b (Call r c ts back) s e f = absurd (cc)
@@ -176,11 +199,13 @@ module _ (g : Graph) (live : List (List ℕ)) where
     others = λ b. by_short b (short g (block_at g b).exit) refl;
   }
     where
-      by_short : (b : ℕ) (r : Option Short) → short g (block_at g b).exit ≡ r → (block_at h b ≡ block_at g b) ⊎ JoinedAt g h b
+      by_short : (b : ℕ) (r : Option Short) → short g (block_at g b).exit ≡ r → (block_at h b ≡ block_at g b)
+          ⊎ JoinedAt g h b
       by_short b None e = inl (block_is g live b ∙ ap (joined_if live (spot_at g b).vars (block_at g b)) e)
       by_short b (Some s) e = inr (is_joined b (block_at g b).exit s refl e)
 
-  exit_has : (x : Exit) (s : Short) → short g x ≡ Some s → (exit_nodes x ≡ term_nodes s.test) × (all_nodes s.first + all_nodes s.second ≤ most_nodes)
+  exit_has : (x : Exit) (s : Short) → short g x ≡ Some s → (exit_nodes x ≡ term_nodes s.test)
+      × (all_nodes s.first + all_nodes s.second ≤ most_nodes)
   exit_has (Branch t c d) s e = let w = ways g t c d s e in (ap term_nodes (sym w.test), w.few)
   exit_has (Goto c) s e = absurd (cc)
   exit_has (Call r c ts back) s e = absurd (cc)
@@ -189,15 +214,19 @@ module _ (g : Graph) (live : List (List ℕ)) where
   exit_has Stop s e = absurd (cc)
 
   -- how many operations stand for a short branch
-  pub joining_few : (b v : ℕ) (s : Short) → short g (block_at g b).exit ≡ Some s → length (joining live v s) ≤ most_more_ops
+  pub joining_few : (b v : ℕ) (s : Short) → short g (block_at g b).exit ≡ Some s
+      → length (joining live v s) ≤ most_more_ops
   joining_few b v s e = joining_count live v s (exit_has (block_at g b).exit s e).1
 
-  ops_kept : (b : ℕ) (v : ℕ) (r : Option Short) → short g (block_at g b).exit ≡ r → length (joined_if live v (block_at g b) r).ops ≤ length (block_at g b).ops + most_more_ops
+  ops_kept : (b : ℕ) (v : ℕ) (r : Option Short) → short g (block_at g b).exit ≡ r
+      → length (joined_if live v (block_at g b) r).ops ≤ length (block_at g b).ops + most_more_ops
   ops_kept b v None e = omega arith
-  ops_kept b v (Some s) e = let a = joining_count live v s (exit_has (block_at g b).exit s e).1 in omega (arith, a, length-append (block_at g b).ops (joining live v s))
+  ops_kept b v (Some s) e = let a = joining_count live v s (exit_has (block_at g b).exit s e).1 in
+      omega (arith, a, length-append (block_at g b).ops (joining live v s))
 
   -- how many nodes a block has more
-  pub nodes_kept : (b : ℕ) (v : ℕ) (r : Option Short) → short g (block_at g b).exit ≡ r → block_nodes (joined_if live v (block_at g b) r) ≤ block_nodes (block_at g b) + most_more_nodes
+  pub nodes_kept : (b : ℕ) (v : ℕ) (r : Option Short) → short g (block_at g b).exit ≡ r
+      → block_nodes (joined_if live v (block_at g b) r) ≤ block_nodes (block_at g b) + most_more_nodes
   nodes_kept b v None e = omega arith
   nodes_kept b v (Some s) e =
       let x = exit_has (block_at g b).exit s e in
@@ -209,6 +238,8 @@ module _ (g : Graph) (live : List (List ℕ)) where
   pub sizes_kept : SizesKept g h
   sizes_kept = record {
     count = spots_count g live;
-    ops = λ b. subst (λ (x : Block). length x.ops ≤ length (block_at g b).ops + most_more_ops) (sym (block_is g live b)) (ops_kept b (spot_at g b).vars (short g (block_at g b).exit) refl);
-    nodes = λ b. subst (λ (x : Block). block_nodes x ≤ block_nodes (block_at g b) + most_more_nodes) (sym (block_is g live b)) (nodes_kept b (spot_at g b).vars (short g (block_at g b).exit) refl);
+    ops = λ b. subst (λ (x : Block). length x.ops ≤ length (block_at g b).ops + most_more_ops)
+        (sym (block_is g live b)) (ops_kept b (spot_at g b).vars (short g (block_at g b).exit) refl);
+    nodes = λ b. subst (λ (x : Block). block_nodes x ≤ block_nodes (block_at g b) + most_more_nodes)
+        (sym (block_is g live b)) (nodes_kept b (spot_at g b).vars (short g (block_at g b).exit) refl);
   }

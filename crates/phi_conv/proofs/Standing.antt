@@ -1,9 +1,13 @@
--- Two walks beside one another: at the same block, with states that agree on what is live, and frames that do so where they go on.
-use Rattle.std.proofs.Common.{ℕ, zero, suc, ◌+◌, ◌-◌, ◌≡◌, ◌<◌, Bool, true, false, if◌then◌else◌, List, [], ◌∷◌, length, get_or, set, Option, Some, None, refl, sym, ap, ◌∙◌, subst, inl, inr, arith}
+-- Two walks beside one another: at the same block, with states that agree on what is live, and frames that do
+-- so where they go on.
+use Rattle.std.proofs.Common.{ℕ, zero, suc, ◌+◌, ◌-◌, ◌≡◌, ◌<◌, Bool, true, false, if◌then◌else◌, List, []}
+use Rattle.std.proofs.Common.{◌∷◌, length, get_or, set, Option, Some, None, refl, sym, ap, ◌∙◌, subst, inl}
+use Rattle.std.proofs.Common.{inr, arith}
 use Rattle.std.proofs.lemmas.Bool.{cases_eq, cases_lt}
 use Rattle.std.proofs.lemmas.List.{get_or-set_same, get_or-set_other, length-set}
 use Rattle.ws_words.specs.Outside.{Outside, ProcState}
-use Rattle.cfg_core.specs.Graph.{Block, GraphProc, Graph, Spot, spots_in, spots_from, spots, no_spot, no_proc, spot_at}
+use Rattle.cfg_core.specs.Graph.{Block, GraphProc, Graph, Spot, spots_in, spots_from, spots, no_spot, no_proc}
+use Rattle.cfg_core.specs.Graph.{spot_at}
 use Rattle.cfg_core.specs.Rules.{StaysIn, TargetIn, IsGraph}
 use Rattle.cfg_core.specs.Walk.{Frame, Config, At, Over, Going, with_result, returned}
 use Rattle.live_vars.specs.Live.{Live}
@@ -20,7 +24,8 @@ record HomeIs (f : ℕ) (ps : List GraphProc) (s : Spot) : Type 0 where
   pub there : place < length ps
   pub vars : s.vars ≡ (or_else (nth ps place) no_proc).vars
 
-in_blocks : (home vars : ℕ) (xs : List Block) (i : ℕ) (s : Spot) → nth (spots_in home vars xs) i ≡ Some s → (s.home ≡ home) × (s.vars ≡ vars)
+in_blocks : (home vars : ℕ) (xs : List Block) (i : ℕ) (s : Spot) → nth (spots_in home vars xs) i ≡ Some s
+    → (s.home ≡ home) × (s.vars ≡ vars)
 in_blocks home vars [] i s e = absurd (cc)
 in_blocks home vars (x ∷ xs) zero s e = (cc, cc)
 in_blocks home vars (x ∷ xs) (suc i) s e = in_blocks home vars xs i s e
@@ -29,13 +34,21 @@ home_is : (f : ℕ) (ps : List GraphProc) (i : ℕ) (s : Spot) → nth (spots_fr
 home_is f [] i s e = absurd (cc)
 home_is f (p ∷ ps) i s e = elim (cases_lt i (length (spots_in f p.vars p.blocks))) [
   | inl lt ↦
-      let r = in_blocks f p.vars p.blocks i s (sym (nth_append_left (spots_in f p.vars p.blocks) (spots_from (suc f) ps) i lt) ∙ e) in
+      let r = in_blocks f p.vars p.blocks i s
+      (sym (nth_append_left (spots_in f p.vars p.blocks) (spots_from (suc f) ps) i lt) ∙ e) in
       record { place = 0; home = omega (arith, r.0); there = omega arith; vars = r.1 }
   | inr ge ↦
       let n = length (spots_in f p.vars p.blocks) in
       let k = i - n in
-      let r = home_is (suc f) ps k s (sym (nth_right (spots_in f p.vars p.blocks) (spots_from (suc f) ps) n k i refl (omega (arith, ge))) ∙ e) in
-      record { place = suc r.place; home = omega (arith, r.home); there = omega (arith, r.there); vars = r.vars }
+      let r = home_is (suc f) ps k s
+      (sym (nth_right (spots_in f p.vars p.blocks) (spots_from (suc f) ps) n k i refl (omega (arith, ge)))
+      ∙ e) in
+      record {
+        place = suc r.place;
+        home = omega (arith, r.home);
+        there = omega (arith, r.there);
+        vars = r.vars;
+      }
 ]
 
 -- the variable that takes a result
@@ -49,7 +62,8 @@ module _ (g : Graph) (rules : IsGraph g) where
   vars_at b = (spot_at g b).vars
 
   -- blocks of one procedure have as many variables
-  pub same_vars : (b c : ℕ) → b < length (spots g) → c < length (spots g) → (spot_at g c).home ≡ (spot_at g b).home → vars_at c ≡ vars_at b
+  pub same_vars : (b c : ℕ) → b < length (spots g) → c < length (spots g)
+      → (spot_at g c).home ≡ (spot_at g b).home → vars_at c ≡ vars_at b
   unfolding spot_at
   same_vars b c lb lc e =
       let hb = home_is 0 g.procs b (spot_at g b) (nth_or (spots g) b no_spot lb) in
@@ -75,28 +89,48 @@ module _ (g : Graph) (rules : IsGraph g) where
 
   -- the same block, frames and turns left, and states that agree on what is live; or the same answer
   abbrev pub Along : Config → Config → Type 0
-  Along (At b s fs k) (At c r es j) = (b ≡ c) × (k ≡ j) × (b < length (spots g)) × States (vars_at b) (Live g b) s r × Stack fs es
+  Along (At b s fs k) (At c r es j) = (b ≡ c) × (k ≡ j) × (b < length (spots g))
+      × States (vars_at b) (Live g b) s r × Stack fs es
   Along (Over o k) (Over p j) = (k ≡ j) × (o ≡ p)
   Along (Going o) (Going p) = o ≡ p
   Along _ _ = ⊥
 
   -- on to a block of the same procedure
-  pub goes_to : (b c : ℕ) → b < length (spots g) → StaysIn g (spot_at g b).home c → (s r : ProcState) (fs es : List Frame) (k : ℕ) → States (vars_at b) (Live g c) s r → Stack fs es → Along (At c s fs k) (At c r es k)
-  goes_to b c lb stays s r fs es k st stack = (refl, refl, stays.0, subst (λ n. States n (Live g c) s r) (sym (same_vars b c lb stays.0 stays.1)) st, stack)
+  pub goes_to : (b c : ℕ) → b < length (spots g) → StaysIn g (spot_at g b).home c
+      → (s r : ProcState) (fs es : List Frame) (k : ℕ) → States (vars_at b) (Live g c) s r → Stack fs es
+      → Along (At c s fs k) (At c r es k)
+  goes_to b c lb stays s r fs es k st stack = (
+    refl,
+    refl,
+    stays.0,
+    subst (λ n. States n (Live g c) s r) (sym (same_vars b c lb stays.0 stays.1)) st,
+    stack,
+  )
 
   -- the same test leads to configurations that go along
-  pub if_along : (x y : Bool) (c c' d d' : Config) → x ≡ y → Along c c' → Along d d' → Along (if x then c else d) (if y then c' else d')
+  pub if_along : (x y : Bool) (c c' d d' : Config) → x ≡ y → Along c c' → Along d d'
+      → Along (if x then c else d) (if y then c' else d')
   if_along true true c c' d d' e h i = h
   if_along false false c c' d d' e h i = i
   if_along true false c c' d d' e h i = absurd (cc)
   if_along false true c c' d d' e h i = absurd (cc)
 
   -- the variable that takes the result has it, and the others what they had
-  result_states : (v : ℕ) (P : ℕ → Type 0) (x : Option ℕ) (w u : ℕ) (vs ws : List ℕ) (o p : Outside) → w ≡ u → TargetIn v x → Agree v (λ y. (ResultIs x y → ⊥) × P y) vs ws → length vs ≡ v → length ws ≡ more_vars v → o ≡ p → States v P (record { vars = with_result x w vs; out = o }) (record { vars = with_result x u ws; out = p })
-  result_states v P None w u vs ws o p e i h lv lw eo = record { vars = λ y lt q. h y lt ((λ z. z), q); long = lv; longer = lw; out = eo }
+  result_states : (v : ℕ) (P : ℕ → Type 0) (x : Option ℕ) (w u : ℕ) (vs ws : List ℕ) (o p : Outside) → w ≡ u
+      → TargetIn v x → Agree v (λ y. (ResultIs x y → ⊥) × P y) vs ws → length vs ≡ v → length ws ≡ more_vars v
+      → o ≡ p → States v P (record { vars = with_result x w vs; out = o })
+      (record { vars = with_result x u ws; out = p })
+  result_states v P None w u vs ws o p e i h lv lw eo = record {
+    vars = λ y lt q. h y lt ((λ z. z), q);
+    long = lv;
+    longer = lw;
+    out = eo;
+  }
   result_states v P (Some x) w u vs ws o p e i h lv lw eo = record {
     vars = λ y lt q. elim (cases_eq y x) [
-      | inl same ↦ subst (λ n. get_or (set vs x w) n 0 ≡ get_or (set ws x u) n 0) (sym same) (get_or-set_same vs x w 0 (omega (arith, i, lv)) ∙ e ∙ sym (get_or-set_same ws x u 0 (omega (arith, i, lw))))
+      | inl same ↦ subst (λ n. get_or (set vs x w) n 0 ≡ get_or (set ws x u) n 0) (sym same)
+          (get_or-set_same vs x w 0 (omega (arith, i, lv)) ∙ e
+          ∙ sym (get_or-set_same ws x u 0 (omega (arith, i, lw))))
       | inr ne ↦ get_or-set_other vs x y w 0 ne ∙ h y lt (ne, q) ∙ sym (get_or-set_other ws x y u 0 ne)
     ];
     long = length-set vs x w ∙ lv;
@@ -105,15 +139,19 @@ module _ (g : Graph) (rules : IsGraph g) where
   }
 
   -- a return into the frames leads to configurations that go along
-  pub returns : (w u : ℕ) (o p : Outside) (fs es : List Frame) (k : ℕ) → w ≡ u → o ≡ p → Stack fs es → Along (returned w o fs k) (returned u p es k)
+  pub returns : (w u : ℕ) (o p : Outside) (fs es : List Frame) (k : ℕ) → w ≡ u → o ≡ p → Stack fs es
+      → Along (returned w o fs k) (returned u p es k)
   returns w u o p [] [] k e eo stack = (refl, eo)
   returns w u o p (f ∷ fs) (q ∷ es) k e eo stack =
       let m = stack.0 in (
         m.back,
         refl,
         m.there,
-        subst (λ (x : Option ℕ). States (vars_at f.back) (Live g f.back) (record { vars = with_result f.result w f.vars; out = o }) (record { vars = with_result x u q.vars; out = p })) m.result
-            (result_states (vars_at f.back) (Live g f.back) f.result w u f.vars q.vars o p e m.inside m.vars m.long m.longer eo),
+        subst (λ (x : Option ℕ). States (vars_at f.back) (Live g f.back)
+            (record { vars = with_result f.result w f.vars; out = o })
+            (record { vars = with_result x u q.vars; out = p })) m.result
+            (result_states (vars_at f.back) (Live g f.back) f.result w u f.vars q.vars o p e m.inside m.vars
+            m.long m.longer eo),
         stack.1,
       )
   returns w u o p [] (q ∷ es) k e eo stack = absurd stack

@@ -1,8 +1,10 @@
 -- The short branches that are found are those that the relation has.
-use Rattle.std.proofs.Common.{ℕ, suc, ◌≡◌, ◌+◌, ◌<◌, ◌≤◌, ◌∙◌, ◌==◌, ◌&&◌, Bool, true, false, if◌then◌else◌, List, [], Option, Some, None, refl, sym, ap, subst, arith}
+use Rattle.std.proofs.Common.{ℕ, suc, ◌≡◌, ◌+◌, ◌<◌, ◌≤◌, ◌∙◌, ◌==◌, ◌&&◌, Bool, true, false, if◌then◌else◌}
+use Rattle.std.proofs.Common.{List, [], Option, Some, None, refl, sym, ap, subst, arith}
 use Rattle.std.proofs.lemmas.Bool.Decides.{nat_tests}
 use Rattle.cfg_core.specs.Graph.{Term, Op, Exit, Goto, Branch, Call, Return, Send, Stop, Graph, block_at}
-use Rattle.phi_conv.specs.Short.{Short, all_light, all_nodes, most_nodes, goes_to, is_arm, goal, are_few, is_lone_arm, are_two_arms, two_arms, short_to}
+use Rattle.phi_conv.specs.Short.{Short, all_light, all_nodes, most_nodes, goes_to, is_arm, goal, are_few}
+use Rattle.phi_conv.specs.Short.{is_lone_arm, are_two_arms, two_arms, short_to}
 use Rattle.phi_conv.specs.IsShort.{Way, direct, through, IsShort}
 use Rattle.ws_words.proofs.Bools.{and_left as left_true, and_right as right_true, no_both}
 use Rattle.ws_words.proofs.Numbers.{is_self}
@@ -16,7 +18,10 @@ goes (Send t ts ls) d e = absurd (cc)
 goes Stop d e = absurd (cc)
 
 by_arm : (g : Graph) (b j : ℕ) → is_arm (block_at g b) j ≡ true → Way g b j (block_at g b).ops
-by_arm g b j e = through refl (goes (block_at g b).exit j (left_true (goes_to (block_at g b).exit j) (all_light (block_at g b).ops) e)) (right_true (goes_to (block_at g b).exit j) (all_light (block_at g b).ops) e)
+by_arm g b j e =
+    through refl
+    (goes (block_at g b).exit j (left_true (goes_to (block_at g b).exit j) (all_light (block_at g b).ops) e))
+    (right_true (goes_to (block_at g b).exit j) (all_light (block_at g b).ops) e)
 
 few_are : (n : ℕ) → are_few n ≡ true → n ≤ most_nodes
 few_are n e = let lt : n < suc most_nodes = grind (arith, nat_tests) in omega (arith, lt)
@@ -29,17 +34,22 @@ are_few_too n le = by_test (are_few n) refl
     by_test false e = absurd (let ge : suc most_nodes ≤ n = grind (arith, nat_tests) in omega (arith, ge, le))
 
 -- each arm that goes on to j passes the test
-arm_is : (g : Graph) (b j : ℕ) → (block_at g b).exit ≡ Goto j → all_light (block_at g b).ops ≡ true → is_arm (block_at g b) j ≡ true
-arm_is g b j e light = ap (λ (x : Exit). goes_to x j && all_light (block_at g b).ops) e ∙ ap (λ t. t && all_light (block_at g b).ops) (is_self j) ∙ light
+arm_is : (g : Graph) (b j : ℕ) → (block_at g b).exit ≡ Goto j → all_light (block_at g b).ops ≡ true
+    → is_arm (block_at g b) j ≡ true
+arm_is g b j e light = ap (λ (x : Exit). goes_to x j && all_light (block_at g b).ops) e
+    ∙ ap (λ t. t && all_light (block_at g b).ops) (is_self j) ∙ light
 
 some_same : (a b : Short) → Some a ≡ Some b → a ≡ b
 some_same a b e = cc
 
 module _ (g : Graph) (t : Term) (c d : ℕ) (s : Short) where
   at_second : (j : ℕ) → are_two_arms (block_at g c) (block_at g d) j ≡ true → is_arm (block_at g d) j ≡ true
-  at_second j h = left_true (is_arm (block_at g d) j) (are_few (all_nodes (block_at g c).ops + all_nodes (block_at g d).ops)) (right_true (is_arm (block_at g c) j) _ h)
+  at_second j h = left_true (is_arm (block_at g d) j)
+      (are_few (all_nodes (block_at g c).ops + all_nodes (block_at g d).ops))
+      (right_true (is_arm (block_at g c) j) _ h)
 
-  at_few : (j : ℕ) → are_two_arms (block_at g c) (block_at g d) j ≡ true → all_nodes (block_at g c).ops + all_nodes (block_at g d).ops ≤ most_nodes
+  at_few : (j : ℕ) → are_two_arms (block_at g c) (block_at g d) j ≡ true
+      → all_nodes (block_at g c).ops + all_nodes (block_at g d).ops ≤ most_nodes
   at_few j h = few_are _ (right_true (is_arm (block_at g d) j) _ (right_true (is_arm (block_at g c) j) _ h))
 
   two : (x : Option ℕ) → two_arms g t c d x ≡ Some s → IsShort g t c d s
@@ -49,7 +59,8 @@ module _ (g : Graph) (t : Term) (c d : ℕ) (s : Short) where
       both : Short
       both = record { test = t; first = (block_at g c).ops; second = (block_at g d).ops; join = j }
 
-      by_test : (b : Bool) → are_two_arms (block_at g c) (block_at g d) j ≡ b → (if b then Some both else None) ≡ Some s → IsShort g t c d s
+      by_test : (b : Bool) → are_two_arms (block_at g c) (block_at g d) j ≡ b
+          → (if b then Some both else None) ≡ Some s → IsShort g t c d s
       by_test true h e = subst (IsShort g t c d) (some_same both s e) (record {
         test = refl;
         first = by_arm g c j (left_true (is_arm (block_at g c) j) _ h);
@@ -71,16 +82,41 @@ module _ (g : Graph) (t : Term) (c d : ℕ) (s : Short) where
       other : Short
       other = record { test = t; first = []; second = (block_at g d).ops; join = c }
 
-      last : (b : Bool) → is_lone_arm (block_at g d) c ≡ b → (if b then Some other else two_arms g t c d (goal (block_at g c).exit)) ≡ Some s → IsShort g t c d s
-      last true h e = subst (IsShort g t c d) (some_same other s e) (record { test = refl; first = direct refl refl; second = by_arm g d c (left_true (is_arm (block_at g d) c) (are_few (all_nodes (block_at g d).ops)) h); few = let n = few_are (all_nodes (block_at g d).ops) (right_true (is_arm (block_at g d) c) _ h) in omega (arith, n) })
+      last : (b : Bool) → is_lone_arm (block_at g d) c ≡ b
+          → (if b then Some other else two_arms g t c d (goal (block_at g c).exit)) ≡ Some s
+          → IsShort g t c d s
+      last true h e = subst (IsShort g t c d) (some_same other s e)
+          (record {
+            test = refl;
+            first = direct refl refl;
+            second = by_arm g d c
+                (left_true (is_arm (block_at g d) c) (are_few (all_nodes (block_at g d).ops))
+                h);
+            few = let n = few_are (all_nodes (block_at g d).ops)
+                (right_true (is_arm (block_at g d) c) _ h) in omega (arith, n);
+          })
       last false h e = two (goal (block_at g c).exit) e
 
-      next : (b : Bool) → is_lone_arm (block_at g c) d ≡ b → (if b then Some one else if is_lone_arm (block_at g d) c then Some other else two_arms g t c d (goal (block_at g c).exit)) ≡ Some s → IsShort g t c d s
-      next true h e = subst (IsShort g t c d) (some_same one s e) (record { test = refl; first = by_arm g c d (left_true (is_arm (block_at g c) d) (are_few (all_nodes (block_at g c).ops)) h); second = direct refl refl; few = let n = few_are (all_nodes (block_at g c).ops) (right_true (is_arm (block_at g c) d) _ h) in omega (arith, n) })
+      next : (b : Bool) → is_lone_arm (block_at g c) d ≡ b
+          → (if b then Some one else if is_lone_arm (block_at g d) c then Some other
+          else two_arms g t c d (goal (block_at g c).exit)) ≡ Some s → IsShort g t c d s
+      next true h e = subst (IsShort g t c d) (some_same one s e)
+          (record {
+            test = refl;
+            first = by_arm g c d (left_true (is_arm (block_at g c) d) (are_few (all_nodes (block_at g c).ops))
+                h);
+            second = direct refl refl;
+            few = let n = few_are (all_nodes (block_at g c).ops)
+                (right_true (is_arm (block_at g c) d) _ h) in omega (arith, n);
+          })
       next false h e = last (is_lone_arm (block_at g d) c) refl e
 
-      at_once : (b : Bool) → (c == d) ≡ b → (if b then Some none else if is_lone_arm (block_at g c) d then Some one else if is_lone_arm (block_at g d) c then Some other else two_arms g t c d (goal (block_at g c).exit)) ≡ Some s → IsShort g t c d s
-      at_once true h e = let same : c ≡ d = grind (arith, nat_tests) in subst (IsShort g t c d) (some_same none s e) (record { test = refl; first = direct same refl; second = direct refl refl; few = omega arith })
+      at_once : (b : Bool) → (c == d) ≡ b → (if b then Some none else if is_lone_arm (block_at g c) d
+          then Some one else if is_lone_arm (block_at g d) c then Some other
+          else two_arms g t c d (goal (block_at g c).exit)) ≡ Some s → IsShort g t c d s
+      at_once true h e = let same : c ≡ d = grind (arith, nat_tests) in
+          subst (IsShort g t c d) (some_same none s e)
+          (record { test = refl; first = direct same refl; second = direct refl refl; few = omega arith })
       at_once false h e = next (is_lone_arm (block_at g c) d) refl e
 
   -- a branch that the relation has is found
@@ -99,35 +135,57 @@ module _ (g : Graph) (t : Term) (c d : ℕ) (s : Short) where
       both : ℕ → Short
       both j = record { test = t; first = (block_at g c).ops; second = (block_at g d).ops; join = j }
 
-      lone : (b j : ℕ) (ops : List Op) → ops ≡ (block_at g b).ops → (block_at g b).exit ≡ Goto j → all_light ops ≡ true → all_nodes ops ≤ most_nodes → is_lone_arm (block_at g b) j ≡ true
+      lone : (b j : ℕ) (ops : List Op) → ops ≡ (block_at g b).ops → (block_at g b).exit ≡ Goto j
+          → all_light ops ≡ true → all_nodes ops ≤ most_nodes → is_lone_arm (block_at g b) j ≡ true
       lone b j ops same exit light few =
-          ap (λ x. x && are_few (all_nodes (block_at g b).ops)) (arm_is g b j exit (subst (λ (o : List Op). all_light o ≡ true) same light))
-          ∙ are_few_too (all_nodes (block_at g b).ops) (subst (λ (o : List Op). all_nodes o ≤ most_nodes) same few)
+          ap (λ x. x && are_few (all_nodes (block_at g b).ops))
+          (arm_is g b j exit (subst (λ (o : List Op). all_light o ≡ true) same light))
+          ∙ are_few_too (all_nodes (block_at g b).ops) (subst (λ (o : List Op). all_nodes o ≤ most_nodes) same
+          few)
 
       -- neither way is direct
-      last : (c ≡ d → ⊥) → is_lone_arm (block_at g c) d ≡ false → is_lone_arm (block_at g d) c ≡ false → Way g c s.join s.first → Way g d s.join s.second → (r : Short) × (two_arms g t c d (goal (block_at g c).exit) ≡ Some r)
+      last : (c ≡ d → ⊥) → is_lone_arm (block_at g c) d ≡ false → is_lone_arm (block_at g d) c ≡ false
+          → Way g c s.join s.first → Way g d s.join s.second → (r : Short)
+          × (two_arms g t c d (goal (block_at g c).exit) ≡ Some r)
       last ne no_first no_second (direct e empty) (direct f blank) = absurd (ne (e ∙ sym f))
       last ne no_first no_second (direct e empty) (through same exit light) =
-          absurd (no_both (lone d c s.second same (subst (λ n. (block_at g d).exit ≡ Goto n) (sym e) exit) light (let n = i.few in omega (arith, n))) no_second)
+          absurd (no_both (lone d c s.second same (subst (λ n. (block_at g d).exit ≡ Goto n) (sym e) exit)
+          light (let n = i.few in omega (arith, n))) no_second)
       last ne no_first no_second (through same exit light) (direct f blank) =
-          absurd (no_both (lone c d s.first same (subst (λ n. (block_at g c).exit ≡ Goto n) (sym f) exit) light (let n = i.few in omega (arith, n))) no_first)
+          absurd (no_both (lone c d s.first same (subst (λ n. (block_at g c).exit ≡ Goto n) (sym f) exit)
+          light (let n = i.few in omega (arith, n))) no_first)
       last ne no_first no_second (through same exit light) (through alike leave bright) = (
         both s.join,
-        ap (λ (x : Exit). two_arms g t c d (goal x)) exit ∙ ap (λ (x : Bool). if x then Some (both s.join) else None) (
-            ap (λ x. x && (is_arm (block_at g d) s.join && are_few (all_nodes (block_at g c).ops + all_nodes (block_at g d).ops))) (arm_is g c s.join exit (subst (λ (o : List Op). all_light o ≡ true) same light))
-            ∙ ap (λ x. x && are_few (all_nodes (block_at g c).ops + all_nodes (block_at g d).ops)) (arm_is g d s.join leave (subst (λ (o : List Op). all_light o ≡ true) alike bright))
-            ∙ are_few_too _ (subst (λ (o : List Op). all_nodes o + all_nodes (block_at g d).ops ≤ most_nodes) same (subst (λ (o : List Op). all_nodes s.first + all_nodes o ≤ most_nodes) alike i.few))
+        ap (λ (x : Exit). two_arms g t c d (goal x)) exit ∙ ap (λ (x : Bool). if x then Some (both s.join)
+            else None) (
+            ap (λ x. x
+            && (is_arm (block_at g d) s.join && are_few
+            (all_nodes (block_at g c).ops + all_nodes (block_at g d).ops)))
+            (arm_is g c s.join exit (subst (λ (o : List Op). all_light o ≡ true) same light))
+            ∙ ap (λ x. x && are_few (all_nodes (block_at g c).ops + all_nodes (block_at g d).ops))
+            (arm_is g d s.join leave (subst (λ (o : List Op). all_light o ≡ true) alike bright))
+            ∙ are_few_too _ (subst (λ (o : List Op). all_nodes o + all_nodes (block_at g d).ops ≤ most_nodes)
+            same (subst (λ (o : List Op). all_nodes s.first + all_nodes o ≤ most_nodes) alike i.few))
             ),
       )
 
-      at_second : (b : Bool) → (c ≡ d → ⊥) → is_lone_arm (block_at g c) d ≡ false → is_lone_arm (block_at g d) c ≡ b → (r : Short) × ((if b then Some other else two_arms g t c d (goal (block_at g c).exit)) ≡ Some r)
+      at_second : (b : Bool) → (c ≡ d → ⊥) → is_lone_arm (block_at g c) d ≡ false
+          → is_lone_arm (block_at g d) c ≡ b
+          → (r : Short) × ((if b then Some other else two_arms g t c d (goal (block_at g c).exit)) ≡ Some r)
       at_second true ne no_first e = (other, refl)
       at_second false ne no_first e = last ne no_first e i.first i.second
 
-      at_first : (b : Bool) → (c ≡ d → ⊥) → is_lone_arm (block_at g c) d ≡ b → (r : Short) × ((if b then Some one else if is_lone_arm (block_at g d) c then Some other else two_arms g t c d (goal (block_at g c).exit)) ≡ Some r)
+      at_first : (b : Bool) → (c ≡ d → ⊥) → is_lone_arm (block_at g c) d ≡ b
+          → (r : Short)
+          × ((if b then Some one else if is_lone_arm (block_at g d) c then Some other
+          else two_arms g t c d (goal (block_at g c).exit)) ≡ Some r)
       at_first true ne e = (one, refl)
       at_first false ne e = at_second (is_lone_arm (block_at g d) c) ne e refl
 
-      at_once : (b : Bool) → (c == d) ≡ b → (r : Short) × ((if b then Some none else if is_lone_arm (block_at g c) d then Some one else if is_lone_arm (block_at g d) c then Some other else two_arms g t c d (goal (block_at g c).exit)) ≡ Some r)
+      at_once : (b : Bool) → (c == d) ≡ b
+          → (r : Short)
+          × ((if b then Some none else if is_lone_arm (block_at g c) d then Some one
+          else if is_lone_arm (block_at g d) c then Some other else two_arms g t c d
+          (goal (block_at g c).exit)) ≡ Some r)
       at_once true e = (none, refl)
       at_once false e = at_first (is_lone_arm (block_at g c) d) (λ q. grind (arith, nat_tests)) refl

@@ -1,5 +1,7 @@
 -- Items one after another.
-use Rattle.std.proofs.Common.{◌≡◌, ℕ, zero, suc, ◌+◌, ◌<◌, List, [], ◌∷◌, ◌++◌, Option, ◌≤◌, length, take, map, slice_index_or, refl, sym, ap, ◌∙◌, subst, append_assoc, length-append, ◌-◌, arith}
+use Rattle.std.proofs.Common.{◌≡◌, ℕ, zero, suc, ◌+◌, ◌<◌, List, [], ◌∷◌, ◌++◌, Option, ◌≤◌, length, take}
+use Rattle.std.proofs.Common.{map, slice_index_or, refl, sym, ap, ◌∙◌, subst, append_assoc, length-append}
+use Rattle.std.proofs.Common.{◌-◌, arith}
 use Rattle.std.specs.List.{AllByRecursion}
 use Rattle.std.proofs.lemmas.List.{append-nil}
 use Rattle.src_ast.specs.declared.lexeme.Place.{Place}
@@ -21,10 +23,13 @@ use Rattle.seq_run.specs.declared.tree.Proc.{Proc as CodeProc}
 use Rattle.src_ast.specs.Printed.{name_texts}
 
 -- the first items, and one more
-pub taken_more : {X : Type 0} (xs : List X) (i : ℕ) (x : X) → i < length xs → x ≡ slice_index_or xs i x → take (i + 1) xs ≡ take i xs ++ x ∷ []
-taken_more {X} xs i x lt is = ap (λ (n : ℕ). take n xs) (let z : i + 1 ≡ suc i = omega arith in z) ∙ at xs i lt is
+pub taken_more : {X : Type 0} (xs : List X) (i : ℕ) (x : X) → i < length xs → x ≡ slice_index_or xs i x
+    → take (i + 1) xs ≡ take i xs ++ x ∷ []
+taken_more {X} xs i x lt is = ap (λ (n : ℕ). take n xs) (let z : i + 1 ≡ suc i = omega arith in z)
+    ∙ at xs i lt is
   where
-    at : (xs : List X) (i : ℕ) → i < length xs → x ≡ slice_index_or xs i x → take (suc i) xs ≡ take i xs ++ x ∷ []
+    at : (xs : List X) (i : ℕ) → i < length xs → x ≡ slice_index_or xs i x
+        → take (suc i) xs ≡ take i xs ++ x ∷ []
     at [] i lt is = absurd (omega arith)
     at (y ∷ xs) zero lt is = ap (λ (z : X). z ∷ []) (sym is)
     at (y ∷ xs) (suc i) lt is = ap (λ (zs : List X). y ∷ zs) (at xs i (omega arith) is)
@@ -34,7 +39,8 @@ map_append f [] ys = refl
 map_append f (x ∷ xs) ys = ap (λ (ps : List Part). f x ∷ ps) (map_append f xs ys)
 
 -- the parts up to the next item
-pub parts_more : (xs : List Item) (i : ℕ) (x : Item) → i < length xs → x ≡ slice_index_or xs i x → ast.parts (take (i + 1) xs) ≡ ast.parts (take i xs) ++ ast.part x ∷ []
+pub parts_more : (xs : List Item) (i : ℕ) (x : Item) → i < length xs → x ≡ slice_index_or xs i x
+    → ast.parts (take (i + 1) xs) ≡ ast.parts (take i xs) ++ ast.part x ∷ []
 parts_more xs i x lt is = ap ast.parts (taken_more xs i x lt is) ∙ map_append ast.part (take i xs) (x ∷ [])
 
 -- the arrays of parts, one list after another
@@ -75,17 +81,26 @@ view_procs_append : (xs ys : List CodeProc) → view.procs (xs ++ ys) ≡ view.p
 view_procs_append [] ys = refl
 view_procs_append (x ∷ xs) ys = ap (λ (ps : List resolved.Proc). view.proc x ∷ ps) (view_procs_append xs ys)
 
-resolving_append : (arrays names : List Name) (xs ys : List Procedure) → resolving.procs arrays names (xs ++ ys) ≡ resolving.procs arrays names xs ++ resolving.procs arrays names ys
+resolving_append : (arrays names : List Name) (xs ys : List Procedure)
+    → resolving.procs arrays names (xs ++ ys) ≡ resolving.procs arrays names xs ++ resolving.procs arrays
+    names ys
 resolving_append arrays names [] ys = refl
-resolving_append arrays names (p ∷ xs) ys = ap (λ (ps : List resolved.Proc). resolving.proc (record { names = p.params ++ p.vars; arrays = arrays; procs = names }) p ∷ ps) (resolving_append arrays names xs ys)
+resolving_append arrays names (p ∷ xs) ys =
+    ap (λ (ps : List resolved.Proc).
+    resolving.proc (record { names = p.params ++ p.vars; arrays = arrays; procs = names }) p ∷ ps)
+    (resolving_append arrays names xs ys)
 
 -- one name more
 pub one_further : (first i next now : ℕ) → next ≡ first + i → now ≡ next + 1 → now ≡ first + (i + 1)
 one_further first i next now e d = omega (arith, e, d)
 
 -- tables of names
-pub declared_more : (first : ℕ) (names list : List Name) (i : ℕ) (x : Name) (table : NameNumbers) → i < length list → x ≡ slice_index_or list i x → IsTable first ((names ++ take i list) ++ x ∷ []) table → IsTable first (names ++ take (i + 1) list) table
-declared_more first names list i x table lt is h = subst (λ (ns : List Name). IsTable first ns table) (append_assoc names (take i list) (x ∷ []) ∙ ap (λ (ns : List Name). names ++ ns) (sym (taken_more list i x lt is))) h
+pub declared_more : (first : ℕ) (names list : List Name) (i : ℕ) (x : Name) (table : NameNumbers)
+    → i < length list → x ≡ slice_index_or list i x → IsTable first ((names ++ take i list) ++ x ∷ []) table
+    → IsTable first (names ++ take (i + 1) list) table
+declared_more first names list i x table lt is h = subst (λ (ns : List Name). IsTable first ns table)
+    (append_assoc names (take i list) (x ∷ []) ∙ ap (λ (ns : List Name). names ++ ns)
+    (sym (taken_more list i x lt is))) h
 
 length_take : {X : Type 0} (xs : List X) (i : ℕ) → length (take i xs) ≤ i
 length_take [] zero = omega arith
@@ -117,11 +132,14 @@ few_procs xs i = let h = at (take i xs) in let l = length_take xs i in omega (ar
     at (items.Proc x ps vs body ending ∷ ys) = let h = at ys in omega (arith, h)
 
 -- each procedure among items has few enough variables
-pub few_at : (xs : List Item) (i : ℕ) (x : Item) (p : Procedure) → AllByRecursion FewVars (procs_of (ast.parts xs)) → i < length xs → x ≡ slice_index_or xs i x → ast.part x ≡ Proc p → FewVars p
+pub few_at : (xs : List Item) (i : ℕ) (x : Item) (p : Procedure)
+    → AllByRecursion FewVars (procs_of (ast.parts xs)) → i < length xs → x ≡ slice_index_or xs i x
+    → ast.part x ≡ Proc p → FewVars p
 few_at [] i x p h lt is e = absurd (omega arith)
 few_at (y ∷ ys) zero x p h lt is e =
     let q : List Procedure = procs_of (ast.part y ∷ ast.parts ys) in
-    let d : q ≡ p ∷ procs_of (ast.parts ys) = ap (λ (z : Part). procs_of (z ∷ ast.parts ys)) (ap ast.part (sym is) ∙ e) in
+    let d : q ≡ p ∷ procs_of (ast.parts ys) = ap (λ (z : Part). procs_of (z ∷ ast.parts ys))
+    (ap ast.part (sym is) ∙ e) in
     (subst (λ (ps : List Procedure). AllByRecursion FewVars ps) d h).0
 few_at (items.Array z n at ∷ ys) (suc i) x p h lt is e = few_at ys i x p h (omega arith) is e
 few_at (items.Proc z ps vs body ending ∷ ys) (suc i) x p h lt is e = few_at ys i x p h.1 (omega arith) is e
@@ -134,67 +152,119 @@ take_whole (x ∷ xs) zero le = absurd (omega arith)
 take_whole (x ∷ xs) (suc i) le = ap (λ ys. x ∷ ys) (take_whole xs i (omega arith))
 
 module _ (xs : List Item) (i : ℕ) (x : Item) (lt : i < length xs) (is : x ≡ slice_index_or xs i x) where
-  more : {X : Type 0} (f : List Part → List X) → ((ps qs : List Part) → f (ps ++ qs) ≡ f ps ++ f qs) → (f (ast.parts (take (i + 1) xs)) ≡ f (ast.parts (take i xs)) ++ f (ast.part x ∷ []))
+  more : {X : Type 0} (f : List Part → List X) → ((ps qs : List Part) → f (ps ++ qs) ≡ f ps ++ f qs)
+      → (f (ast.parts (take (i + 1) xs)) ≡ f (ast.parts (take i xs)) ++ f (ast.part x ∷ []))
   more f h = ap f (parts_more xs i x lt is) ∙ h (ast.parts (take i xs)) (ast.part x ∷ [])
 
-  proc_names_more : names_of (procs_of (ast.parts (take (i + 1) xs))) ≡ names_of (procs_of (ast.parts (take i xs))) ++ names_of (procs_of (ast.part x ∷ []))
-  proc_names_more = more (λ ps. names_of (procs_of ps)) (λ ps qs. ap names_of (procs_append ps qs) ∙ names_append (procs_of ps) (procs_of qs))
+  proc_names_more : names_of (procs_of (ast.parts (take (i + 1) xs))) ≡ names_of
+      (procs_of (ast.parts (take i xs))) ++ names_of (procs_of (ast.part x ∷ []))
+  proc_names_more = more (λ ps. names_of (procs_of ps)) (λ ps qs. ap names_of (procs_append ps qs)
+      ∙ names_append (procs_of ps) (procs_of qs))
 
   -- an array more
   module _ (name : Name) (n : ℕ) (at : Place) (isa : x ≡ items.Array name n at) where
     -- an array is one more name of arrays
-    pub array_more : (table : NameNumbers) → IsTable 1 (arrays_of (ast.parts (take i xs)) ++ name ∷ []) table → IsTable 1 (arrays_of (ast.parts (take (i + 1) xs))) table
-    array_more table h = subst (λ (ns : List Name). IsTable 1 ns table) (sym (more arrays_of arrays_append ∙ ap (λ (y : Item). arrays_of (ast.parts (take i xs)) ++ arrays_of (ast.part y ∷ [])) isa)) h
+    pub array_more : (table : NameNumbers) → IsTable 1 (arrays_of (ast.parts (take i xs)) ++ name ∷ []) table
+        → IsTable 1 (arrays_of (ast.parts (take (i + 1) xs))) table
+    array_more table h = subst (λ (ns : List Name). IsTable 1 ns table)
+        (sym (more arrays_of arrays_append
+        ∙ ap (λ (y : Item). arrays_of (ast.parts (take i xs)) ++ arrays_of (ast.part y ∷ [])) isa)) h
 
     -- and none of procedures
-    pub array_no_proc : (table : NameNumbers) → IsTable 0 (names_of (procs_of (ast.parts (take i xs)))) table → IsTable 0 (names_of (procs_of (ast.parts (take (i + 1) xs)))) table
-    array_no_proc table h = subst (λ (ns : List Name). IsTable 0 ns table) (sym (proc_names_more ∙ ap (λ (y : Item). names_of (procs_of (ast.parts (take i xs))) ++ names_of (procs_of (ast.part y ∷ []))) isa ∙ append-nil (names_of (procs_of (ast.parts (take i xs)))))) h
+    pub array_no_proc : (table : NameNumbers) → IsTable 0 (names_of (procs_of (ast.parts (take i xs)))) table
+        → IsTable 0 (names_of (procs_of (ast.parts (take (i + 1) xs)))) table
+    array_no_proc table h = subst (λ (ns : List Name). IsTable 0 ns table)
+        (sym (proc_names_more ∙ ap (λ (y : Item). names_of (procs_of (ast.parts (take i xs))) ++ names_of
+        (procs_of (ast.part y ∷ []))) isa ∙ append-nil (names_of (procs_of (ast.parts (take i xs)))))) h
 
     -- its name
-    pub shape_name : (list now : List ArrayShape) (s : ArrayShape) → view.names list ≡ name_texts (arrays_of (ast.parts (take i xs))) → now ≡ list ++ s ∷ [] → s.name ≡ name.text → view.names now ≡ name_texts (arrays_of (ast.parts (take (i + 1) xs)))
+    pub shape_name : (list now : List ArrayShape) (s : ArrayShape)
+        → view.names list ≡ name_texts (arrays_of (ast.parts (take i xs))) → now ≡ list ++ s ∷ []
+        → s.name ≡ name.text → view.names now ≡ name_texts (arrays_of (ast.parts (take (i + 1) xs)))
     shape_name list now s so en es =
-        ap view.names en ∙ view_names_append list (s ∷ []) ∙ ap (λ (ts : List (List ℕ)). ts ++ s.name ∷ []) so ∙ ap (λ (t : List ℕ). name_texts (arrays_of (ast.parts (take i xs))) ++ t ∷ []) es
-        ∙ sym (more (λ ps. name_texts (arrays_of ps)) (λ ps qs. ap name_texts (arrays_append ps qs) ∙ texts_append (arrays_of ps) (arrays_of qs)) ∙ ap (λ (y : Item). name_texts (arrays_of (ast.parts (take i xs))) ++ name_texts (arrays_of (ast.part y ∷ []))) isa)
+        ap view.names en ∙ view_names_append list (s ∷ []) ∙ ap (λ (ts : List (List ℕ)). ts ++ s.name ∷ []) so
+        ∙ ap (λ (t : List ℕ). name_texts (arrays_of (ast.parts (take i xs))) ++ t ∷ []) es
+        ∙ sym (more (λ ps. name_texts (arrays_of ps)) (λ ps qs. ap name_texts (arrays_append ps qs)
+        ∙ texts_append (arrays_of ps) (arrays_of qs))
+        ∙ ap (λ (y : Item). name_texts (arrays_of (ast.parts (take i xs))) ++ name_texts
+        (arrays_of (ast.part y ∷ []))) isa)
 
     -- its length
-    pub shape_length : (list now : List ArrayShape) (s : ArrayShape) → view.lengths list ≡ lengths_of (ast.parts (take i xs)) → now ≡ list ++ s ∷ [] → s.length ≡ n → view.lengths now ≡ lengths_of (ast.parts (take (i + 1) xs))
+    pub shape_length : (list now : List ArrayShape) (s : ArrayShape)
+        → view.lengths list ≡ lengths_of (ast.parts (take i xs)) → now ≡ list ++ s ∷ [] → s.length ≡ n
+        → view.lengths now ≡ lengths_of (ast.parts (take (i + 1) xs))
     shape_length list now s so en es =
-        ap view.lengths en ∙ view_lengths_append list (s ∷ []) ∙ ap (λ (ts : List ℕ). ts ++ s.length ∷ []) so ∙ ap (λ (t : ℕ). lengths_of (ast.parts (take i xs)) ++ t ∷ []) es
-        ∙ sym (more lengths_of lengths_append ∙ ap (λ (y : Item). lengths_of (ast.parts (take i xs)) ++ lengths_of (ast.part y ∷ [])) isa)
+        ap view.lengths en ∙ view_lengths_append list (s ∷ []) ∙ ap (λ (ts : List ℕ). ts ++ s.length ∷ []) so
+        ∙ ap (λ (t : ℕ). lengths_of (ast.parts (take i xs)) ++ t ∷ []) es
+        ∙ sym (more lengths_of lengths_append
+        ∙ ap (λ (y : Item). lengths_of (ast.parts (take i xs)) ++ lengths_of (ast.part y ∷ [])) isa)
 
     -- it leaves the procedures as they are
-    pub array_procs_same : (arrays names : List Name) → resolving.procs arrays names (procs_of (ast.parts (take (i + 1) xs))) ≡ resolving.procs arrays names (procs_of (ast.parts (take i xs)))
+    pub array_procs_same : (arrays names : List Name) → resolving.procs arrays names
+        (procs_of (ast.parts (take (i + 1) xs))) ≡ resolving.procs arrays names
+        (procs_of (ast.parts (take i xs)))
     array_procs_same arrays names =
-        more (λ ps. resolving.procs arrays names (procs_of ps)) (λ ps qs. ap (resolving.procs arrays names) (procs_append ps qs) ∙ resolving_append arrays names (procs_of ps) (procs_of qs))
-        ∙ ap (λ (y : Item). resolving.procs arrays names (procs_of (ast.parts (take i xs))) ++ resolving.procs arrays names (procs_of (ast.part y ∷ []))) isa
+        more (λ ps. resolving.procs arrays names (procs_of ps))
+        (λ ps qs. ap (resolving.procs arrays names) (procs_append ps qs)
+        ∙ resolving_append arrays names (procs_of ps) (procs_of qs))
+        ∙ ap (λ (y : Item). resolving.procs arrays names (procs_of (ast.parts (take i xs))) ++ resolving.procs
+        arrays names (procs_of (ast.part y ∷ []))) isa
         ∙ append-nil (resolving.procs arrays names (procs_of (ast.parts (take i xs))))
 
   -- a procedure more
   module _ (p : Procedure) (isp : ast.part x ≡ Proc p) where
     -- a procedure is one more name of procedures
-    pub proc_more : (table : NameNumbers) → IsTable 0 (names_of (procs_of (ast.parts (take i xs))) ++ p.name ∷ []) table → IsTable 0 (names_of (procs_of (ast.parts (take (i + 1) xs)))) table
-    proc_more table h = subst (λ (ns : List Name). IsTable 0 ns table) (sym (proc_names_more ∙ ap (λ (y : Part). names_of (procs_of (ast.parts (take i xs))) ++ names_of (procs_of (y ∷ []))) isp)) h
+    pub proc_more : (table : NameNumbers)
+        → IsTable 0 (names_of (procs_of (ast.parts (take i xs))) ++ p.name ∷ []) table
+        → IsTable 0 (names_of (procs_of (ast.parts (take (i + 1) xs)))) table
+    proc_more table h = subst (λ (ns : List Name). IsTable 0 ns table)
+        (sym (proc_names_more ∙ ap (λ (y : Part). names_of (procs_of (ast.parts (take i xs))) ++ names_of
+        (procs_of (y ∷ []))) isp)) h
 
     -- and none of arrays
-    pub proc_no_array : (table : NameNumbers) → IsTable 1 (arrays_of (ast.parts (take i xs))) table → IsTable 1 (arrays_of (ast.parts (take (i + 1) xs))) table
-    proc_no_array table h = subst (λ (ns : List Name). IsTable 1 ns table) (sym (more arrays_of arrays_append ∙ ap (λ (y : Part). arrays_of (ast.parts (take i xs)) ++ arrays_of (y ∷ [])) isp ∙ append-nil (arrays_of (ast.parts (take i xs))))) h
+    pub proc_no_array : (table : NameNumbers) → IsTable 1 (arrays_of (ast.parts (take i xs))) table
+        → IsTable 1 (arrays_of (ast.parts (take (i + 1) xs))) table
+    proc_no_array table h = subst (λ (ns : List Name). IsTable 1 ns table)
+        (sym (more arrays_of arrays_append
+        ∙ ap (λ (y : Part). arrays_of (ast.parts (take i xs)) ++ arrays_of (y ∷ [])) isp
+        ∙ append-nil (arrays_of (ast.parts (take i xs))))) h
 
     -- it leaves the names of arrays
-    pub proc_no_name : name_texts (arrays_of (ast.parts (take (i + 1) xs))) ≡ name_texts (arrays_of (ast.parts (take i xs)))
-    proc_no_name = ap name_texts (more arrays_of arrays_append ∙ ap (λ (y : Part). arrays_of (ast.parts (take i xs)) ++ arrays_of (y ∷ [])) isp ∙ append-nil (arrays_of (ast.parts (take i xs))))
+    pub proc_no_name : name_texts (arrays_of (ast.parts (take (i + 1) xs))) ≡ name_texts
+        (arrays_of (ast.parts (take i xs)))
+    proc_no_name =
+        ap name_texts (more arrays_of arrays_append
+        ∙ ap (λ (y : Part). arrays_of (ast.parts (take i xs)) ++ arrays_of (y ∷ [])) isp
+        ∙ append-nil (arrays_of (ast.parts (take i xs))))
 
     -- and their lengths
     pub proc_no_length : lengths_of (ast.parts (take (i + 1) xs)) ≡ lengths_of (ast.parts (take i xs))
-    proc_no_length = more lengths_of lengths_append ∙ ap (λ (y : Part). lengths_of (ast.parts (take i xs)) ++ lengths_of (y ∷ [])) isp ∙ append-nil (lengths_of (ast.parts (take i xs)))
+    proc_no_length = more lengths_of lengths_append
+        ∙ ap (λ (y : Part). lengths_of (ast.parts (take i xs)) ++ lengths_of (y ∷ [])) isp
+        ∙ append-nil (lengths_of (ast.parts (take i xs)))
 
     -- one procedure more
-    pub procs_more : (arrays names : List Name) (list now : List CodeProc) (q : CodeProc) → view.procs list ≡ resolving.procs arrays names (procs_of (ast.parts (take i xs))) → now ≡ list ++ q ∷ [] → view.proc q ≡ resolving.proc (record { names = p.params ++ p.vars; arrays = arrays; procs = names }) p → view.procs now ≡ resolving.procs arrays names (procs_of (ast.parts (take (i + 1) xs)))
+    pub procs_more : (arrays names : List Name) (list now : List CodeProc) (q : CodeProc)
+        → view.procs list ≡ resolving.procs arrays names (procs_of (ast.parts (take i xs)))
+        → now ≡ list ++ q ∷ []
+        → view.proc q ≡ resolving.proc (record { names = p.params ++ p.vars; arrays = arrays; procs = names })
+        p → view.procs now ≡ resolving.procs arrays names (procs_of (ast.parts (take (i + 1) xs)))
     procs_more arrays names list now q so en eq =
-        ap view.procs en ∙ view_procs_append list (q ∷ []) ∙ ap (λ (ts : List resolved.Proc). ts ++ view.proc q ∷ []) so ∙ ap (λ (t : resolved.Proc). resolving.procs arrays names (procs_of (ast.parts (take i xs))) ++ t ∷ []) eq
-        ∙ sym (more (λ ps. resolving.procs arrays names (procs_of ps)) (λ ps qs. ap (resolving.procs arrays names) (procs_append ps qs) ∙ resolving_append arrays names (procs_of ps) (procs_of qs)) ∙ ap (λ (y : Part). resolving.procs arrays names (procs_of (ast.parts (take i xs))) ++ resolving.procs arrays names (procs_of (y ∷ []))) isp)
+        ap view.procs en ∙ view_procs_append list (q ∷ [])
+        ∙ ap (λ (ts : List resolved.Proc). ts ++ view.proc q ∷ []) so
+        ∙ ap (λ (t : resolved.Proc). resolving.procs arrays names (procs_of (ast.parts (take i xs))) ++ t
+        ∷ []) eq
+        ∙ sym (more (λ ps. resolving.procs arrays names (procs_of ps))
+        (λ ps qs. ap (resolving.procs arrays names) (procs_append ps qs)
+        ∙ resolving_append arrays names (procs_of ps) (procs_of qs))
+        ∙ ap (λ (y : Part). resolving.procs arrays names (procs_of (ast.parts (take i xs)))
+        ++ resolving.procs arrays names (procs_of (y ∷ []))) isp)
 
 -- a procedure by its parts
-pub same_proc : (params locals n m : ℕ) (body steps : resolved.Steps) (result term : Option plain.Term) → params ≡ n → locals ≡ m → body ≡ steps → result ≡ term → ◌≡◌ {A = resolved.Proc} (record { params = params; locals = locals; body = body; result = result }) (record { params = n; locals = m; body = steps; result = term })
+pub same_proc : (params locals n m : ℕ) (body steps : resolved.Steps) (result term : Option plain.Term)
+    → params ≡ n → locals ≡ m → body ≡ steps → result ≡ term
+    → ◌≡◌ {A = resolved.Proc} (record { params = params; locals = locals; body = body; result = result })
+    (record { params = n; locals = m; body = steps; result = term })
 same_proc params locals n m body steps result term a b c d = cc
 
 -- how many parameters there are
@@ -206,15 +276,28 @@ pub front_at_most : (xs ys : List Name) (n m : ℕ) → n ≡ 0 + length xs → 
 front_at_most xs ys n m e d = let l = length-append xs ys in omega (arith, e, d, l)
 
 -- the rest are no parameters
-pub count_back : (xs ys : List Name) (n m : ℕ) → n ≡ 0 + length xs → m ≡ 0 + length (xs ++ ys) → m - n ≡ length ys
+pub count_back : (xs ys : List Name) (n m : ℕ) → n ≡ 0 + length xs → m ≡ 0 + length (xs ++ ys)
+    → m - n ≡ length ys
 count_back xs ys n m e d = let l = length-append xs ys in omega (arith, e, d, l)
 
 abbrev procedure : Name → List Name → List Name → List Stmt → Option Last → Procedure
-procedure name params vars body ending = record { name = name; params = params; vars = vars; body = ast.statements body; ending = ending }
+procedure name params vars body ending = record {
+  name = name;
+  params = params;
+  vars = vars;
+  body = ast.statements body;
+  ending = ending;
+}
 
 -- a procedure, whatever names its parts go by
-pub moved : (arrays procs : List Name) (name : Name) (ending : Option Last) (q : resolved.Proc) (a b c d : List Name) (s t : List Stmt) → a ≡ b → c ≡ d → s ≡ t → q ≡ resolving.proc (scope_of arrays procs (procedure name a c s ending)) (procedure name a c s ending) → q ≡ resolving.proc (scope_of arrays procs (procedure name b d t ending)) (procedure name b d t ending)
+pub moved : (arrays procs : List Name) (name : Name) (ending : Option Last) (q : resolved.Proc)
+    (a b c d : List Name) (s t : List Stmt) → a ≡ b → c ≡ d → s ≡ t
+    → q ≡ resolving.proc (scope_of arrays procs (procedure name a c s ending)) (procedure name a c s ending)
+    → q ≡ resolving.proc (scope_of arrays procs (procedure name b d t ending)) (procedure name b d t ending)
 moved arrays procs name ending q a b c d s t ab cd st h =
-    h ∙ ap (λ (x : List Name). resolving.proc (scope_of arrays procs (procedure name x c s ending)) (procedure name x c s ending)) ab
-    ∙ ap (λ (x : List Name). resolving.proc (scope_of arrays procs (procedure name b x s ending)) (procedure name b x s ending)) cd
-    ∙ ap (λ (x : List Stmt). resolving.proc (scope_of arrays procs (procedure name b d x ending)) (procedure name b d x ending)) st
+    h ∙ ap (λ (x : List Name). resolving.proc (scope_of arrays procs (procedure name x c s ending))
+    (procedure name x c s ending)) ab
+    ∙ ap (λ (x : List Name). resolving.proc (scope_of arrays procs (procedure name b x s ending))
+    (procedure name b x s ending)) cd
+    ∙ ap (λ (x : List Stmt). resolving.proc (scope_of arrays procs (procedure name b d x ending))
+    (procedure name b d x ending)) st

@@ -1,10 +1,14 @@
 -- Where the rules of a program are kept, each number of the tree with numbers names something.
-use Rattle.std.proofs.Common.{◌≡◌, ℕ, zero, suc, ◌+◌, ◌-◌, ◌<◌, ◌≤◌, inl, inr, Bool, true, false, ◌||◌, List, [], ◌∷◌, ◌++◌, length, refl, sym, ap, ◌∙◌, subst, append_assoc, length-append, arith}
+use Rattle.std.proofs.Common.{◌≡◌, ℕ, zero, suc, ◌+◌, ◌-◌, ◌<◌, ◌≤◌, inl, inr, Bool, true, false, ◌||◌, List}
+use Rattle.std.proofs.Common.{[], ◌∷◌, ◌++◌, length, refl, sym, ap, ◌∙◌, subst, append_assoc, length-append}
+use Rattle.std.proofs.Common.{arith}
 use Rattle.std.specs.List.{AllByRecursion}
 use Rattle.src_ast.specs.declared.lexeme.Place.{Place}
 use Rattle.src_ast.specs.declared.lexeme.Name.{Name}
 use Rattle.src_ast.specs.Syntax.{Part, Array, Proc, Procedure}
-use Rattle.src_ast.specs.Rules.{Declared, variable, array, procedure, declared_by, variables, has_sort, is_main, has_main, procs_in, statements_in, size_of_all, parameter_rules, part_rules, rules_after, IsAccepted}
+use Rattle.src_ast.specs.Rules.{Declared, variable, array, procedure, declared_by, variables, has_sort}
+use Rattle.src_ast.specs.Rules.{is_main, has_main, procs_in, statements_in, size_of_all, parameter_rules}
+use Rattle.src_ast.specs.Rules.{part_rules, rules_after, IsAccepted}
 use Rattle.src_ast.specs.Meaning.{Scope, scope_of, arrays_of, lengths_of, procs_of, names_of, nth_procedure}
 use Rattle.seq_run.specs.Resolved.{nth_proc}
 use Rattle.seq_run.specs.Resolved as resolved
@@ -13,8 +17,11 @@ use Rattle.seq_run.specs.InRange.{ProcIn, ProgramIn, steps_in}
 use Rattle.seq_run.proofs.Declares.{procs_append}
 use Rattle.seq_run.proofs.Places.{length_procs}
 use Rattle.seq_run.proofs.Whole.{some_proc, accepted_has_proc, list_all_end}
-use Rattle.seq_run.proofs.Visible.{in_front_or_after, variable_place, no_variable, only_variables, array_place, procedure_place, proc_place, array_stays, proc_stays, nth_stays, Known, known_none, known_array, known_procedure}
-use Rattle.seq_run.proofs.InBodies.{Kept, kept_front, kept_after, Seen, all_in, result_in, body_size, body_few, ending_few}
+use Rattle.seq_run.proofs.Visible.{in_front_or_after, variable_place, no_variable, only_variables}
+use Rattle.seq_run.proofs.Visible.{array_place, procedure_place, proc_place, array_stays, proc_stays}
+use Rattle.seq_run.proofs.Visible.{nth_stays, Known, known_none, known_array, known_procedure}
+use Rattle.seq_run.proofs.InBodies.{Kept, kept_front, kept_after, Seen, all_in, result_in, body_size}
+use Rattle.seq_run.proofs.InBodies.{body_few, ending_few}
 use Rattle.seq_run.proofs.PartRules.{proc_kept, array_kept, params_few, vars_few, no_params}
 use Rattle.ws_words.proofs.Bools.{or_true, no_both}
 use Rattle.src_check.proofs.Parts.{statements_in-append as statements_append}
@@ -25,7 +32,8 @@ lengths_more [] qs = omega arith
 lengths_more (Array x n at ∷ ps) qs = let h = lengths_more ps qs in omega (arith, h)
 lengths_more (Proc p ∷ ps) qs = lengths_more ps qs
 
-params_at : (arrays names : List Name) (ps : List Procedure) (k : ℕ) → (nth_proc (resolving.procs arrays names ps) k).params ≡ length (nth_procedure ps k).params
+params_at : (arrays names : List Name) (ps : List Procedure) (k : ℕ)
+    → (nth_proc (resolving.procs arrays names ps) k).params ≡ length (nth_procedure ps k).params
 params_at arrays names [] k = refl
 params_at arrays names (p ∷ ps) zero = refl
 params_at arrays names (p ∷ ps) (suc k) = params_at arrays names ps k
@@ -42,24 +50,31 @@ InRangeAt whole home q = ProcIn (length (lengths_of whole)) (resolving.program w
 
 -- a procedure after others is in range, whatever comes after it
 module _ (before rest : List Part) (p : Procedure) (known : Known before) where
-  declared_array : (text : List ℕ) → has_sort (visible_in before p) text array ≡ true → has_sort (declared_by before) text array ≡ true
-  declared_array text h = elim (in_front_or_after (variables (p.params ++ p.vars)) (declared_by before) text array h) [
-    | inl i ↦ absurd (no_both i (only_variables (p.params ++ p.vars) text array refl))
-    | inr i ↦ i
-  ]
+  declared_array : (text : List ℕ) → has_sort (visible_in before p) text array ≡ true
+      → has_sort (declared_by before) text array ≡ true
+  declared_array text h = elim (in_front_or_after (variables (p.params ++ p.vars)) (declared_by before) text
+      array h) [
+        | inl i ↦ absurd (no_both i (only_variables (p.params ++ p.vars) text array refl))
+        | inr i ↦ i
+      ]
 
-  declared_procedure : (text : List ℕ) (n : ℕ) → has_sort (visible_in before p) text (procedure n) ≡ true → has_sort (declared_by before) text (procedure n) ≡ true
-  declared_procedure text n h = elim (in_front_or_after (variables (p.params ++ p.vars)) (declared_by before) text (procedure n) h) [
-    | inl i ↦ absurd (no_both i (only_variables (p.params ++ p.vars) text (procedure n) refl))
-    | inr i ↦ i
-  ]
+  declared_procedure : (text : List ℕ) (n : ℕ) → has_sort (visible_in before p) text (procedure n) ≡ true
+      → has_sort (declared_by before) text (procedure n) ≡ true
+  declared_procedure text n h =
+      elim (in_front_or_after (variables (p.params ++ p.vars)) (declared_by before) text (procedure n) h) [
+        | inl i ↦ absurd (no_both i (only_variables (p.params ++ p.vars) text (procedure n) refl))
+        | inr i ↦ i
+      ]
 
-  seen : Seen (scope_in (before ++ rest) p) (visible_in before p) (length (lengths_of (before ++ rest))) (resolving.program (before ++ rest)).procs (length (procs_of before)) (length p.params + length p.vars)
+  seen : Seen (scope_in (before ++ rest) p) (visible_in before p) (length (lengths_of (before ++ rest)))
+      (resolving.program (before ++ rest)).procs (length (procs_of before)) (length p.params + length p.vars)
   seen = record {
-    var_seen = λ text h. elim (in_front_or_after (variables (p.params ++ p.vars)) (declared_by before) text variable h) [
-      | inl i ↦ let lt = variable_place (p.params ++ p.vars) text i in let l = length-append p.params p.vars in omega (arith, lt, l)
-      | inr i ↦ absurd (no_both i (no_variable before text))
-    ];
+    var_seen = λ text h. elim (in_front_or_after (variables (p.params ++ p.vars)) (declared_by before) text
+        variable h) [
+          | inl i ↦ let lt = variable_place (p.params ++ p.vars) text i in let l =
+              length-append p.params p.vars in omega (arith, lt, l)
+          | inr i ↦ absurd (no_both i (no_variable before text))
+        ];
     array_seen = λ text h.
         let lt = array_place before text (declared_array text h) in
         let e = array_stays before rest text lt in
@@ -80,61 +95,86 @@ module _ (before rest : List Part) (p : Procedure) (known : Known before) where
         ∙ known text n i);
   }
 
-  proc_in : Kept (part_rules before (Proc p)) → InRangeAt (before ++ rest) (length (procs_of before)) (resolving.proc (scope_in (before ++ rest) p) p)
+  proc_in : Kept (part_rules before (Proc p)) → InRangeAt (before ++ rest) (length (procs_of before))
+      (resolving.proc (scope_in (before ++ rest) p) p)
   proc_in h =
       let kept = proc_kept before p h in
       let whole = before ++ rest in
       let few = params_few (is_main p) (declared_by before) 0 p.params (omega arith) kept.params in
-      let few_vars = vars_few (variables p.params ++ declared_by before) (length p.params) p.vars (omega (arith, few)) kept.vars in
+      let few_vars = vars_few (variables p.params ++ declared_by before) (length p.params) p.vars
+      (omega (arith, few)) kept.vars in
       record {
-        body = all_in (scope_in whole p) (visible_in before p) (length (lengths_of whole)) (resolving.program whole).procs (length (procs_of before)) (length p.params + length p.vars) seen (statements_in before) p.body kept.body;
-        result = result_in (scope_in whole p) (visible_in before p) (length (lengths_of whole)) (resolving.program whole).procs (length (procs_of before)) (length p.params + length p.vars) seen (statements_in before + size_of_all p.body) p.ending kept.ending;
+        body = all_in (scope_in whole p) (visible_in before p) (length (lengths_of whole))
+            (resolving.program whole).procs (length (procs_of before)) (length p.params + length p.vars) seen
+            (statements_in before) p.body kept.body;
+        result = result_in (scope_in whole p) (visible_in before p) (length (lengths_of whole))
+            (resolving.program whole).procs (length (procs_of before)) (length p.params + length p.vars) seen
+            (statements_in before + size_of_all p.body) p.ending kept.ending;
         few_params = omega (arith, few);
         few_vars = few_vars;
       }
 
 -- counts with one more part
 module _ (before : List Part) where
-  length_array : (x : Name) (n : ℕ) (at : Place) → length (procs_of (before ++ Array x n at ∷ [])) ≡ length (procs_of before)
-  length_array x n at = let e = ap (λ (ps : List Procedure). length ps) (procs_append before (Array x n at ∷ [])) in let l = length-append (procs_of before) [] in omega (arith, e, l)
+  length_array : (x : Name) (n : ℕ) (at : Place) → length (procs_of (before ++ Array x n at ∷ []))
+      ≡ length (procs_of before)
+  length_array x n at = let e = ap (λ (ps : List Procedure). length ps)
+      (procs_append before (Array x n at ∷ [])) in let l = length-append (procs_of before) [] in
+      omega (arith, e, l)
 
-  length_procedure : (p : Procedure) → length (procs_of (before ++ Proc p ∷ [])) ≡ suc (length (procs_of before))
-  length_procedure p = let e = ap (λ (ps : List Procedure). length ps) (procs_append before (Proc p ∷ [])) in let l = length-append (procs_of before) (p ∷ []) in omega (arith, e, l)
+  length_procedure : (p : Procedure) → length (procs_of (before ++ Proc p ∷ []))
+      ≡ suc (length (procs_of before))
+  length_procedure p = let e = ap (λ (ps : List Procedure). length ps) (procs_append before (Proc p ∷ [])) in
+      let l = length-append (procs_of before) (p ∷ []) in omega (arith, e, l)
 
 procs_in_is : (ps : List Part) → procs_in ps ≡ length (procs_of ps)
 procs_in_is [] = refl
 procs_in_is (Array x n at ∷ ps) = procs_in_is ps
 procs_in_is (Proc p ∷ ps) = ap suc (procs_in_is ps)
 
-moved : (before : List Part) (part : Part) (parts whole : List Part) → before ++ part ∷ parts ≡ whole → (before ++ part ∷ []) ++ parts ≡ whole
+moved : (before : List Part) (part : Part) (parts whole : List Part) → before ++ part ∷ parts ≡ whole
+    → (before ++ part ∷ []) ++ parts ≡ whole
 moved before part parts whole e = append_assoc before (part ∷ []) parts ∙ e
 
-all_procs_in : (whole before parts : List Part) → before ++ parts ≡ whole → Known before → Kept (rules_after before parts)
-    → (k : ℕ) → k < length (procs_of parts) → InRangeAt whole (length (procs_of before) + k) (nth_proc (resolving.procs (arrays_of whole) (names_of (procs_of whole)) (procs_of parts)) k)
+all_procs_in : (whole before parts : List Part) → before ++ parts ≡ whole → Known before
+    → Kept (rules_after before parts)
+    → (k : ℕ) → k < length (procs_of parts) → InRangeAt whole (length (procs_of before) + k)
+    (nth_proc (resolving.procs (arrays_of whole) (names_of (procs_of whole)) (procs_of parts)) k)
 all_procs_in whole before [] e known h k lt = absurd (omega arith)
 all_procs_in whole before (Array x n at ∷ parts) e known h k lt =
     let next = before ++ Array x n at ∷ [] in
-    let i = all_procs_in whole next parts (moved before (Array x n at) parts whole e) (known_array before known x n at) (kept_after (part_rules before (Array x n at)) (rules_after next parts) h) k lt in
-    subst (λ (m : ℕ). InRangeAt whole (m + k) (nth_proc (resolving.procs (arrays_of whole) (names_of (procs_of whole)) (procs_of parts)) k)) (length_array before x n at) i
+    let i = all_procs_in whole next parts (moved before (Array x n at) parts whole e)
+    (known_array before known x n at) (kept_after (part_rules before (Array x n at))
+    (rules_after next parts) h) k lt in
+    subst (λ (m : ℕ). InRangeAt whole (m + k)
+    (nth_proc (resolving.procs (arrays_of whole) (names_of (procs_of whole)) (procs_of parts)) k))
+    (length_array before x n at) i
 all_procs_in whole before (Proc p ∷ parts) e known h zero lt =
-    let here = proc_in before (Proc p ∷ parts) p known (kept_front (part_rules before (Proc p)) (rules_after (before ++ Proc p ∷ []) parts) h) in
+    let here = proc_in before (Proc p ∷ parts) p known
+    (kept_front (part_rules before (Proc p)) (rules_after (before ++ Proc p ∷ []) parts) h) in
     let z : length (procs_of before) ≡ length (procs_of before) + 0 = omega arith in
     subst (λ (m : ℕ). InRangeAt whole m (resolving.proc (scope_in whole p) p)) z
-    (subst (λ (w : List Part). InRangeAt w (length (procs_of before)) (resolving.proc (scope_in w p) p)) e here)
+    (subst (λ (w : List Part). InRangeAt w (length (procs_of before)) (resolving.proc (scope_in w p) p)) e
+    here)
 all_procs_in whole before (Proc p ∷ parts) e known h (suc k) lt =
     let next = before ++ Proc p ∷ [] in
     let kept = proc_kept before p (kept_front (part_rules before (Proc p)) (rules_after next parts) h) in
-    let i = all_procs_in whole next parts (moved before (Proc p) parts whole e) (known_procedure before known p kept.new) (kept_after (part_rules before (Proc p)) (rules_after next parts) h) k (omega (arith, lt)) in
+    let i = all_procs_in whole next parts (moved before (Proc p) parts whole e)
+    (known_procedure before known p kept.new) (kept_after (part_rules before (Proc p))
+    (rules_after next parts) h) k (omega (arith, lt)) in
     let l = length_procedure before p in
     let z : length (procs_of next) + k ≡ length (procs_of before) + suc k = omega (arith, l) in
-    subst (λ (m : ℕ). InRangeAt whole m (nth_proc (resolving.procs (arrays_of whole) (names_of (procs_of whole)) (procs_of parts)) k)) z i
+    subst (λ (m : ℕ). InRangeAt whole m
+    (nth_proc (resolving.procs (arrays_of whole) (names_of (procs_of whole)) (procs_of parts)) k)) z i
 
-procs_few : (before parts : List Part) → length (procs_of before) ≤ 64 → Kept (rules_after before parts) → length (procs_of before) + length (procs_of parts) ≤ 64
+procs_few : (before parts : List Part) → length (procs_of before) ≤ 64 → Kept (rules_after before parts)
+    → length (procs_of before) + length (procs_of parts) ≤ 64
 procs_few before [] le h = omega (arith, le)
 procs_few before (Array x n at ∷ parts) le h =
     let next = before ++ Array x n at ∷ [] in
     let l = length_array before x n at in
-    let i = procs_few next parts (omega (arith, l, le)) (kept_after (part_rules before (Array x n at)) (rules_after next parts) h) in
+    let i = procs_few next parts (omega (arith, l, le)) (kept_after (part_rules before (Array x n at))
+    (rules_after next parts) h) in
     omega (arith, i, l)
 procs_few before (Proc p ∷ parts) le h =
     let next = before ++ Proc p ∷ [] in
@@ -142,28 +182,34 @@ procs_few before (Proc p ∷ parts) le h =
     let kept = proc_kept before p (kept_front (part_rules before (Proc p)) (rules_after next parts) h) in
     let room = kept.room in
     let c = procs_in_is before in
-    let i = procs_few next parts (omega (arith, l, room, c)) (kept_after (part_rules before (Proc p)) (rules_after next parts) h) in
+    let i = procs_few next parts (omega (arith, l, room, c))
+    (kept_after (part_rules before (Proc p)) (rules_after next parts) h) in
     omega (arith, i, l)
 
 module _ (arrays names : List Name) where
-  steps_few : (before parts : List Part) → statements_in before ≤ 2048 → Kept (rules_after before parts) → statements_in before + steps_in (resolving.procs arrays names (procs_of parts)) ≤ 2048
+  steps_few : (before parts : List Part) → statements_in before ≤ 2048 → Kept (rules_after before parts)
+      → statements_in before + steps_in (resolving.procs arrays names (procs_of parts)) ≤ 2048
   steps_few before [] le h = omega (arith, le)
   steps_few before (Array x n at ∷ parts) le h =
       let next = before ++ Array x n at ∷ [] in
       let l = statements_append before (Array x n at ∷ []) in
-      let i = steps_few next parts (omega (arith, l, le)) (kept_after (part_rules before (Array x n at)) (rules_after next parts) h) in
+      let i = steps_few next parts (omega (arith, l, le)) (kept_after (part_rules before (Array x n at))
+      (rules_after next parts) h) in
       omega (arith, i, l)
   steps_few before (Proc p ∷ parts) le h =
       let next = before ++ Proc p ∷ [] in
       let l = statements_append before (Proc p ∷ []) in
       let kept = proc_kept before p (kept_front (part_rules before (Proc p)) (rules_after next parts) h) in
       let few = body_few (visible_in before p) (statements_in before) p.body le kept.body in
-      let fewer = ending_few (visible_in before p) (statements_in before + size_of_all p.body) p.ending few kept.ending in
+      let fewer = ending_few (visible_in before p) (statements_in before + size_of_all p.body) p.ending few
+      kept.ending in
       let s = body_size (scope_of arrays names p) p.body in
-      let i = steps_few next parts (omega (arith, l, fewer)) (kept_after (part_rules before (Proc p)) (rules_after next parts) h) in
+      let i = steps_few next parts (omega (arith, l, fewer))
+      (kept_after (part_rules before (Proc p)) (rules_after next parts) h) in
       omega (arith, i, l, s)
 
-lengths_in : (before parts : List Part) → Kept (rules_after before parts) → AllByRecursion (λ n. n ≤ 65536) (lengths_of parts)
+lengths_in : (before parts : List Part) → Kept (rules_after before parts)
+    → AllByRecursion (λ n. n ≤ 65536) (lengths_of parts)
 lengths_in before [] h = tt
 lengths_in before (Array x n at ∷ parts) h =
     let next = before ++ Array x n at ∷ [] in (
@@ -171,7 +217,8 @@ lengths_in before (Array x n at ∷ parts) h =
       lengths_in next parts (kept_after (part_rules before (Array x n at)) (rules_after next parts) h),
     )
 lengths_in before (Proc p ∷ parts) h =
-    let next = before ++ Proc p ∷ [] in lengths_in next parts (kept_after (part_rules before (Proc p)) (rules_after next parts) h)
+    let next = before ++ Proc p ∷ [] in
+    lengths_in next parts (kept_after (part_rules before (Proc p)) (rules_after next parts) h)
 
 length_texts : (parts : List Part) → length (name_texts (arrays_of parts)) ≡ length (lengths_of parts)
 length_texts [] = refl
@@ -183,7 +230,8 @@ main_front [] qs h = absurd (cc)
 main_front (Array x n at ∷ ps) qs h = main_front ps qs h
 main_front (Proc p ∷ ps) qs h = by_flag (is_main p) h (main_front ps qs)
   where
-    by_flag : (b : Bool) → (b || has_main ps) ≡ true → (has_main ps ≡ true → has_main (ps ++ qs) ≡ true) → (b || has_main (ps ++ qs)) ≡ true
+    by_flag : (b : Bool) → (b || has_main ps) ≡ true → (has_main ps ≡ true → has_main (ps ++ qs) ≡ true)
+        → (b || has_main (ps ++ qs)) ≡ true
     by_flag true h f = refl
     by_flag false h f = f h
 
@@ -193,40 +241,51 @@ main_last (Array x n at ∷ ps) p h = main_last ps p h
 main_last (Proc q ∷ ps) p h = ap (λ (b : Bool). is_main q || b) (main_last ps p h) ∙ or_true (is_main q)
 
 -- no procedure stands after `main`
-none_after : (before parts : List Part) → has_main before ≡ true → Kept (rules_after before parts) → length (procs_of parts) ≡ 0
+none_after : (before parts : List Part) → has_main before ≡ true → Kept (rules_after before parts)
+    → length (procs_of parts) ≡ 0
 none_after before [] m h = refl
 none_after before (Array x n at ∷ parts) m h =
-    let next = before ++ Array x n at ∷ [] in none_after next parts (main_front before (Array x n at ∷ []) m) (kept_after (part_rules before (Array x n at)) (rules_after next parts) h)
+    let next = before ++ Array x n at ∷ [] in none_after next parts (main_front before (Array x n at ∷ []) m)
+    (kept_after (part_rules before (Array x n at)) (rules_after next parts) h)
 none_after before (Proc p ∷ parts) m h =
-    absurd (no_both m (proc_kept before p (kept_front (part_rules before (Proc p)) (rules_after (before ++ Proc p ∷ []) parts) h)).first)
+    absurd (no_both m
+    (proc_kept before p
+    (kept_front (part_rules before (Proc p)) (rules_after (before ++ Proc p ∷ []) parts) h)).first)
 
-main_in : (before parts : List Part) → Kept (rules_after before parts) → has_main parts ≡ true → length (nth_procedure (procs_of parts) (length (procs_of parts) - 1)).params ≡ 0
+main_in : (before parts : List Part) → Kept (rules_after before parts) → has_main parts ≡ true
+    → length (nth_procedure (procs_of parts) (length (procs_of parts) - 1)).params ≡ 0
 main_in before [] h m = absurd (cc)
 main_in before (Array x n at ∷ parts) h m =
-    let next = before ++ Array x n at ∷ [] in main_in next parts (kept_after (part_rules before (Array x n at)) (rules_after next parts) h) m
+    let next = before ++ Array x n at ∷ [] in
+    main_in next parts (kept_after (part_rules before (Array x n at)) (rules_after next parts) h) m
 main_in before (Proc p ∷ parts) h m =
     let next = before ++ Proc p ∷ [] in
     let following = kept_after (part_rules before (Proc p)) (rules_after next parts) h in
-    by_flag (is_main p) refl m (proc_kept before p (kept_front (part_rules before (Proc p)) (rules_after next parts) h)).params
+    by_flag (is_main p) refl m
+    (proc_kept before p (kept_front (part_rules before (Proc p)) (rules_after next parts) h)).params
     (λ f. none_after next parts (main_last before p f) following)
     (main_in next parts following)
   where
-    by_flag : (b : Bool) → is_main p ≡ b → (b || has_main parts) ≡ true → Kept (parameter_rules (is_main p) (declared_by before) 0 p.params)
+    by_flag : (b : Bool) → is_main p ≡ b → (b || has_main parts) ≡ true
+        → Kept (parameter_rules (is_main p) (declared_by before) 0 p.params)
         → (is_main p ≡ true → length (procs_of parts) ≡ 0)
-        → (has_main parts ≡ true → length (nth_procedure (procs_of parts) (length (procs_of parts) - 1)).params ≡ 0)
+        → (has_main parts ≡ true
+        → length (nth_procedure (procs_of parts) (length (procs_of parts) - 1)).params ≡ 0)
         → length (nth_procedure (p ∷ procs_of parts) (suc (length (procs_of parts)) - 1)).params ≡ 0
     by_flag true e m h none later =
         let l = none e in
         let z : suc (length (procs_of parts)) - 1 ≡ 0 = omega (arith, l) in
         ap (λ (k : ℕ). length (nth_procedure (p ∷ procs_of parts) k).params) z
-        ∙ no_params (declared_by before) p.params (subst (λ (b : Bool). Kept (parameter_rules b (declared_by before) 0 p.params)) e h)
+        ∙ no_params (declared_by before) p.params
+        (subst (λ (b : Bool). Kept (parameter_rules b (declared_by before) 0 p.params)) e h)
     by_flag false e m h none later =
         let some = some_proc parts m in
         let z : suc (length (procs_of parts)) - 1 ≡ suc (length (procs_of parts) - 1) = omega (arith, some) in
         ap (λ (k : ℕ). length (nth_procedure (p ∷ procs_of parts) k).params) z ∙ later m
 
 -- an accepted program is in range
-pub accepted_in : (parts : List Part) (finish : Place) → IsAccepted parts finish → ProgramIn (resolving.program parts)
+pub accepted_in : (parts : List Part) (finish : Place) → IsAccepted parts finish
+    → ProgramIn (resolving.program parts)
 accepted_in parts finish a =
     let h : Kept (rules_after [] parts) = kept_front (rules_after [] parts) _ a in
     let arrays = arrays_of parts in let names = names_of (procs_of parts) in
@@ -237,13 +296,15 @@ accepted_in parts finish a =
     record {
       some_proc = omega (arith, l, some);
       few_procs = omega (arith, l, few);
-      main = params_at arrays names (procs_of parts) (length (resolving.procs arrays names (procs_of parts)) - 1)
+      main = params_at arrays names (procs_of parts) (length (resolving.procs arrays names (procs_of parts))
+          - 1)
           ∙ ap (λ (k : ℕ). length (nth_procedure (procs_of parts) (k - 1)).params) l
           ∙ main_in [] parts h (list_all_end (rules_after [] parts) _ a);
       names = length_texts parts;
       lengths = lengths_in [] parts h;
       procs = λ k lt.
           let z : 0 + k ≡ k = omega arith in
-          subst (λ (m : ℕ). InRangeAt parts m (nth_proc (resolving.procs arrays names (procs_of parts)) k)) z (all_procs_in parts [] parts refl known_none h k (omega (arith, lt, l)));
+          subst (λ (m : ℕ). InRangeAt parts m (nth_proc (resolving.procs arrays names (procs_of parts)) k)) z
+          (all_procs_in parts [] parts refl known_none h k (omega (arith, lt, l)));
       few_steps = omega (arith, steps);
     }

@@ -20,7 +20,8 @@ reads_the_same all h =
       ls = placed start (parts all);
       finish = after start (printed_form all);
       again = r.0;
-      lex = subst (λ text. Lex text (placed start (parts all)) (after start text)) (printed_is all) (lexed (parts all) (parts_spelt all n));
+      lex = subst (λ text. Lex text (placed start (parts all)) (after start text)) (printed_is all)
+          (lexed (parts all) (parts_spelt all n));
       kept = keeps start (parts_kept all h);
       tree = r.1;
       same = r.2;

@@ -1,13 +1,21 @@
 -- What does not see the places of a program: how it is written and how it is printed.
-use Rattle.std.proofs.Common.{◌≡◌, ℕ, suc, ◌+◌, ◌≤◌, List, [], ◌∷◌, ◌++◌, Option, Some, None, codes, decimal, refl, sym, ap, ◌∙◌, subst}
+use Rattle.std.proofs.Common.{◌≡◌, ℕ, suc, ◌+◌, ◌≤◌, List, [], ◌∷◌, ◌++◌, Option, Some, None, codes, decimal}
+use Rattle.std.proofs.Common.{refl, sym, ap, ◌∙◌, subst}
 use Rattle.src_ast.specs.declared.lexeme.Name.{Name}
 use Rattle.src_ast.specs.LanguageLimits.{most_braces}
 use Rattle.src_ast.specs.Lexemes.{spelling}
 use Rattle.src_ast.specs.Grammar.{level_of, mark_of, sign_mark}
-use Rattle.src_ast.specs.Printed.{round, is_looser, is_no_tighter, is_binary, expression_text, separated_text, argument_texts, name_texts, call_text, line, else_lines, statement_lines, body_lines, variable_lines, ending_lines, part_lines, printed_form}
-use Rattle.src_ast.specs.Same.{bare, bare_names, bare_expression, bare_expressions, bare_statement, bare_statements, bare_ending, bare_part, bare_parts, Same}
-use Rattle.src_ast.specs.Syntax.{Expression, Number, Variable, Cell, Signed, Binary, Statement, Assign, Store, Print, Read, Give, Take, Call, If, While, Statements, Nothing, Then, Last, Procedure, Part, Array, Proc}
-use Rattle.src_ast.specs.Written.{IsWrittenName, AreWrittenNames, IsWrittenNumber, IsWrittenExpression, AreWrittenExpressions, rounded, width, list_width, names_width, FitsRow, IsWrittenStatement, AreWrittenStatements, IsWrittenEnding}
+use Rattle.src_ast.specs.Printed.{round, is_looser, is_no_tighter, is_binary, expression_text, separated_text}
+use Rattle.src_ast.specs.Printed.{argument_texts, name_texts, call_text, line, else_lines, statement_lines}
+use Rattle.src_ast.specs.Printed.{body_lines, variable_lines, ending_lines, part_lines, printed_form}
+use Rattle.src_ast.specs.Same.{bare, bare_names, bare_expression, bare_expressions, bare_statement}
+use Rattle.src_ast.specs.Same.{bare_statements, bare_ending, bare_part, bare_parts, Same}
+use Rattle.src_ast.specs.Syntax.{Expression, Number, Variable, Cell, Signed, Binary, Statement, Assign, Store}
+use Rattle.src_ast.specs.Syntax.{Print, Read, Give, Take, Call, If, While, Statements, Nothing, Then, Last}
+use Rattle.src_ast.specs.Syntax.{Procedure, Part, Array, Proc}
+use Rattle.src_ast.specs.Written.{IsWrittenName, AreWrittenNames, IsWrittenNumber, IsWrittenExpression}
+use Rattle.src_ast.specs.Written.{AreWrittenExpressions, rounded, width, list_width, names_width, FitsRow}
+use Rattle.src_ast.specs.Written.{IsWrittenStatement, AreWrittenStatements, IsWrittenEnding}
 use Rattle.src_ast.proofs.Nearly.{AreNearlyWritten}
 
 binary_bare : (e : Expression) → is_binary (bare_expression e) ≡ is_binary e
@@ -37,7 +45,8 @@ width_bare (Variable x) = refl
 width_bare (Cell a e) = ap (λ n. n + 3) (width_bare e)
 width_bare (Signed s e) = λ i. rounded (binary_bare e i) (width_bare e i) + 1
 width_bare (Binary op a b) =
-    λ i. rounded (looser_bare a (level_of op) i) (width_bare a i) + 1 + rounded (tighter_bare b (level_of op) i) (width_bare b i)
+    λ i. rounded (looser_bare a (level_of op) i) (width_bare a i) + 1 + rounded
+    (tighter_bare b (level_of op) i) (width_bare b i)
 
 list_width_bare : (es : List Expression) → list_width (bare_expressions es) ≡ list_width es
 list_width_bare [] = refl
@@ -61,28 +70,38 @@ expression_written (Cell a e) = ap (λ T. IsWrittenName a.text × T) (expression
 expression_written (Signed s e) = expression_written e
 expression_written (Binary op a b) = λ i. expression_written a i × expression_written b i
 
-expressions_written : (es : List Expression) → AreWrittenExpressions (bare_expressions es) ≡ AreWrittenExpressions es
+expressions_written : (es : List Expression) → AreWrittenExpressions (bare_expressions es)
+    ≡ AreWrittenExpressions es
 expressions_written [] = refl
 expressions_written (e ∷ es) = λ i. expression_written e i × expressions_written es i
 
 mutual
-  statement_written : (n : ℕ) (s : Statement) → IsWrittenStatement n (bare_statement s) ≡ IsWrittenStatement n s
-  statement_written n (Assign at x e) = λ i. IsWrittenName x.text × expression_written e i × FitsRow (width_bare e i + 2)
+  statement_written : (n : ℕ) (s : Statement) → IsWrittenStatement n (bare_statement s) ≡ IsWrittenStatement n
+      s
+  statement_written n (Assign at x e) = λ i. IsWrittenName x.text × expression_written e i
+      × FitsRow (width_bare e i + 2)
   statement_written n (Store at a j e) =
-      λ i. IsWrittenName a.text × expression_written j i × expression_written e i × FitsRow (width_bare j i + width_bare e i + 4)
+      λ i. IsWrittenName a.text × expression_written j i × expression_written e i
+      × FitsRow (width_bare j i + width_bare e i + 4)
   statement_written n (Print at e) = λ i. expression_written e i × FitsRow (width_bare e i + 1)
   statement_written n (Read at x) = refl
   statement_written n (Give at port p x) = refl
-  statement_written n (Take at port p e) = λ i. IsWrittenNumber port × expression_written e i × FitsRow (width_bare e i + 3)
-  statement_written n (Call at None f es) = λ i. IsWrittenName f.text × expressions_written es i × FitsRow (list_width_bare es i + 3)
+  statement_written n (Take at port p e) = λ i. IsWrittenNumber port × expression_written e i
+      × FitsRow (width_bare e i + 3)
+  statement_written n (Call at None f es) = λ i. IsWrittenName f.text × expressions_written es i
+      × FitsRow (list_width_bare es i + 3)
   statement_written n (Call at (Some x) f es) =
-      λ i. IsWrittenName x.text × IsWrittenName f.text × expressions_written es i × FitsRow (list_width_bare es i + 5)
+      λ i. IsWrittenName x.text × IsWrittenName f.text × expressions_written es i
+      × FitsRow (list_width_bare es i + 5)
   statement_written n (If at e a b) =
-      λ i. expression_written e i × FitsRow (width_bare e i + 3) × (suc n ≤ most_braces) × body_written (suc n) a i × body_written (suc n) b i
+      λ i. expression_written e i × FitsRow (width_bare e i + 3) × (suc n ≤ most_braces)
+      × body_written (suc n) a i × body_written (suc n) b i
   statement_written n (While at e body) =
-      λ i. expression_written e i × FitsRow (width_bare e i + 3) × (suc n ≤ most_braces) × body_written (suc n) body i
+      λ i. expression_written e i × FitsRow (width_bare e i + 3) × (suc n ≤ most_braces)
+      × body_written (suc n) body i
 
-  body_written : (n : ℕ) (b : Statements) → AreWrittenStatements n (bare_statements b) ≡ AreWrittenStatements n b
+  body_written : (n : ℕ) (b : Statements) → AreWrittenStatements n (bare_statements b) ≡ AreWrittenStatements
+      n b
   body_written n Nothing = refl
   body_written n (Then s rest) = λ i. statement_written n s i × body_written n rest i
 
@@ -95,7 +114,13 @@ cast e h = subst (λ (T : Type 0). T) e h
 
 bare_procedure : (p : Procedure) → Procedure
 bare_procedure p =
-    record { name = bare p.name; params = bare_names p.params; vars = bare_names p.vars; body = bare_statements p.body; ending = bare_ending p.ending }
+    record {
+      name = bare p.name;
+      params = bare_names p.params;
+      vars = bare_names p.vars;
+      body = bare_statements p.body;
+      ending = bare_ending p.ending;
+    }
 
 without_places : (all : List Part) → AreNearlyWritten all → AreNearlyWritten (bare_parts all)
 without_places [] h = tt
@@ -137,7 +162,8 @@ text_bare (Variable x) = refl
 text_bare (Cell a e) = ap (λ t. a.text ++ codes "[" ++ t ++ codes "]") (text_bare e)
 text_bare (Signed s e) = λ i. spelling (sign_mark s) ++ round (binary_bare e i) (text_bare e i)
 text_bare (Binary op a b) =
-    λ i. round (looser_bare a (level_of op) i) (text_bare a i) ++ codes " " ++ spelling (mark_of op) ++ codes " "
+    λ i. round (looser_bare a (level_of op) i) (text_bare a i) ++ codes " " ++ spelling (mark_of op) ++ codes
+    " "
     ++ round (tighter_bare b (level_of op) i) (text_bare b i)
 
 argument_texts_bare : (es : List Expression) → argument_texts (bare_expressions es) ≡ argument_texts es
@@ -151,25 +177,32 @@ name_texts_bare (x ∷ xs) = ap (λ ts. x.text ∷ ts) (name_texts_bare xs)
 call_bare : (f : Name) (es : List Expression) → call_text (bare f) (bare_expressions es) ≡ call_text f es
 call_bare f es = ap (λ ts. f.text ++ codes "(" ++ separated_text ts ++ codes ")") (argument_texts_bare es)
 
-else_bare : (n : ℕ) (b : Statements) (text : List ℕ) → else_lines n (bare_statements b) text ≡ else_lines n b text
+else_bare : (n : ℕ) (b : Statements) (text : List ℕ) → else_lines n (bare_statements b) text ≡ else_lines n b
+    text
 else_bare n Nothing text = refl
 else_bare n (Then s rest) text = refl
 
 mutual
   statement_bare : (n : ℕ) (s : Statement) → statement_lines n (bare_statement s) ≡ statement_lines n s
   statement_bare n (Assign at x e) = ap (λ t. line n (x.text ++ codes " = " ++ t ++ codes ";")) (text_bare e)
-  statement_bare n (Store at a j e) = λ i. line n (a.text ++ codes "[" ++ text_bare j i ++ codes "] = " ++ text_bare e i ++ codes ";")
+  statement_bare n (Store at a j e) =
+      λ i. line n (a.text ++ codes "[" ++ text_bare j i ++ codes "] = " ++ text_bare e i ++ codes ";")
   statement_bare n (Print at e) = ap (λ t. line n (codes "print " ++ t ++ codes ";")) (text_bare e)
   statement_bare n (Read at x) = refl
   statement_bare n (Give at port p x) = refl
-  statement_bare n (Take at port p e) = ap (λ t. line n (codes "take " ++ decimal port ++ codes ", " ++ t ++ codes ";")) (text_bare e)
+  statement_bare n (Take at port p e) =
+      ap (λ t. line n (codes "take " ++ decimal port ++ codes ", " ++ t ++ codes ";")) (text_bare e)
   statement_bare n (Call at None f es) = ap (λ t. line n (t ++ codes ";")) (call_bare f es)
-  statement_bare n (Call at (Some x) f es) = ap (λ t. line n (x.text ++ codes " = " ++ t ++ codes ";")) (call_bare f es)
+  statement_bare n (Call at (Some x) f es) = ap (λ t. line n (x.text ++ codes " = " ++ t ++ codes ";"))
+      (call_bare f es)
   statement_bare n (If at e a b) =
-      (λ i. line n (codes "if (" ++ text_bare e i ++ codes ") {") ++ body_bare (suc n) a i ++ else_lines n (bare_statements b) (body_bare (suc n) b i))
-      ∙ ap (λ t. line n (codes "if (" ++ expression_text e ++ codes ") {") ++ body_lines (suc n) a ++ t) (else_bare n b (body_lines (suc n) b))
+      (λ i. line n (codes "if (" ++ text_bare e i ++ codes ") {") ++ body_bare (suc n) a i ++ else_lines n
+      (bare_statements b) (body_bare (suc n) b i))
+      ∙ ap (λ t. line n (codes "if (" ++ expression_text e ++ codes ") {") ++ body_lines (suc n) a ++ t)
+      (else_bare n b (body_lines (suc n) b))
   statement_bare n (While at e body) =
-      λ i. line n (codes "while (" ++ text_bare e i ++ codes ") {") ++ body_bare (suc n) body i ++ line n (codes "}")
+      λ i. line n (codes "while (" ++ text_bare e i ++ codes ") {") ++ body_bare (suc n) body i ++ line n
+      (codes "}")
 
   body_bare : (n : ℕ) (b : Statements) → body_lines n (bare_statements b) ≡ body_lines n b
   body_bare n Nothing = refl
@@ -177,7 +210,8 @@ mutual
 
 variables_bare : (xs : List Name) → variable_lines (bare_names xs) ≡ variable_lines xs
 variables_bare [] = refl
-variables_bare (x ∷ xs) = ap (λ ts. line 1 (codes "var " ++ separated_text ts ++ codes ";")) (name_texts_bare (x ∷ xs))
+variables_bare (x ∷ xs) = ap (λ ts. line 1 (codes "var " ++ separated_text ts ++ codes ";"))
+    (name_texts_bare (x ∷ xs))
 
 ending_bare : (e : Option Last) → ending_lines (bare_ending e) ≡ ending_lines e
 ending_bare None = refl
@@ -186,7 +220,8 @@ ending_bare (Some last) = ap (λ t. line 1 (codes "return " ++ t ++ codes ";")) 
 part_bare : (p : Part) → part_lines (bare_part p) ≡ part_lines p
 part_bare (Array x n at) = refl
 part_bare (Proc p) =
-    λ i. line 0 (codes "proc " ++ p.name.text ++ codes "(" ++ separated_text (name_texts_bare p.params i) ++ codes ") {")
+    λ i. line 0 (codes "proc " ++ p.name.text ++ codes "(" ++ separated_text (name_texts_bare p.params i)
+    ++ codes ") {")
     ++ variables_bare p.vars i ++ body_bare 1 p.body i ++ ending_bare p.ending i ++ line 0 (codes "}")
 
 printed_bare : (all : List Part) → printed_form (bare_parts all) ≡ printed_form all

@@ -1,5 +1,6 @@
 -- What the lexemes of a printed form say of its rows.
-use Rattle.std.proofs.Common.{◌≡◌, ℕ, suc, ◌+◌, List, [], ◌∷◌, ◌++◌, codes, refl, sym, ap, ◌∙◌, subst, arith, append_assoc}
+use Rattle.std.proofs.Common.{◌≡◌, ℕ, suc, ◌+◌, List, [], ◌∷◌, ◌++◌, codes, refl, sym, ap, ◌∙◌, subst, arith}
+use Rattle.std.proofs.Common.{append_assoc}
 use Rattle.src_ast.specs.declared.lexeme.Name.{Name}
 use Rattle.src_ast.specs.declared.lexeme.Place.{Place}
 use Rattle.src_ast.specs.declared.lexeme.Lexeme.{Lexeme}
@@ -24,12 +25,14 @@ use Rattle.src_ast.proofs.Readable.{some_names_plain, names_fit}
 use Rattle.src_ast.proofs.Fits.{tree_nearly}
 
 -- what keeps the limits keeps them from any lexeme on
-later : (xs ys : List Lexeme) (braces row : ℕ) → KeepLimits braces row (xs ++ ys) → (b : ℕ) × (r : ℕ) × KeepLimits b r ys
+later : (xs ys : List Lexeme) (braces row : ℕ) → KeepLimits braces row (xs ++ ys)
+    → (b : ℕ) × (r : ℕ) × KeepLimits b r ys
 later [] ys braces row k = (braces, row, k)
 later (x ∷ xs) ys braces row k = later xs ys (open_past braces x.shape) (row_past row x.shape) k.3
 
 -- a brace begins a row
-after_brace : (xs : List Lexeme) (l : Lexeme) (ys : List Lexeme) (braces row : ℕ) → Is LBrace l → KeepLimits braces row (xs ++ l ∷ ys) → (b : ℕ) × KeepLimits b 0 ys
+after_brace : (xs : List Lexeme) (l : Lexeme) (ys : List Lexeme) (braces row : ℕ) → Is LBrace l
+    → KeepLimits braces row (xs ++ l ∷ ys) → (b : ℕ) × KeepLimits b 0 ys
 after_brace xs l ys braces row e k =
     let h = later xs (l ∷ ys) braces row k in
     let o = open_limits h.0 h.1 l ys e h.2 in (suc h.0, o.1)
@@ -42,8 +45,10 @@ variables_row (x ∷ xs) g at qs braces k =
     let r = some_names_read x xs g.0 g.1 (past_space (after l.place (codes "var"))) (finish qs) in
     let semi = here r.following (Mark Semi) in
     let row : AllPlain (l ∷ r.ls) = plain (plain_word l (codes "var") refl) (some_names_plain r.spelled) in
-    let w = line_limits semi (placed (past_line (past_mark semi.place Semi)) qs) braces row refl (subst (KeepLimits braces 0) (ap (λ t. l ∷ t) r.is) k) in
-    let same : names_width (x ∷ xs) ≡ names_width r.again = sym (names_width_bare (x ∷ xs)) ∙ ap names_width r.same ∙ names_width_bare r.again in
+    let w = line_limits semi (placed (past_line (past_mark semi.place Semi)) qs) braces row refl
+    (subst (KeepLimits braces 0) (ap (λ t. l ∷ t) r.is) k) in
+    let same : names_width (x ∷ xs) ≡ names_width r.again = sym (names_width_bare (x ∷ xs))
+    ∙ ap names_width r.same ∙ names_width_bare r.again in
     let few = names_fit (some r.ls r.again r.spelled) in
     let short = w.0 in omega (arith, few, short, same)
 
@@ -55,17 +60,22 @@ procedure_row a h at qs braces row k =
     let first = here (after m.place a.name.text) (Mark LParen) in
     let bodies = p.body 1 a.body (p.ending a.ending (p.closing 0 qs)) in
     let variables = p.variables a.vars bodies in
-    let ps = names_read a.params h.params (past_mark first.place LParen) (lexeme (Mark RParen) ∷ gap space ∷ lexeme (Mark LBrace) ∷ gap newline ∷ variables) in
+    let ps = names_read a.params h.params (past_mark first.place LParen)
+    (lexeme (Mark RParen) ∷ gap space ∷ lexeme (Mark LBrace) ∷ gap newline ∷ variables) in
     let last = here ps.following (Mark RParen) in
     let open' = here (past_space (past_mark last.place RParen)) (Mark LBrace) in
     let inside = past_line (past_mark open'.place LBrace) in
-    let all : placed at (p.part (Proc a) qs) ≡ (l ∷ m ∷ first ∷ (ps.ls ++ last ∷ [])) ++ open' ∷ placed inside variables =
-    ap (λ t. l ∷ m ∷ first ∷ t) (ps.is ∙ sym (append_assoc ps.ls (last ∷ []) (open' ∷ placed inside variables))) in
-    let k' = after_brace (l ∷ m ∷ first ∷ (ps.ls ++ last ∷ [])) open' (placed inside variables) braces row refl (subst (KeepLimits braces row) all k) in
+    let all : placed at (p.part (Proc a) qs) ≡ (l ∷ m ∷ first ∷ (ps.ls ++ last ∷ [])) ++ open' ∷ placed inside
+    variables =
+    ap (λ t. l ∷ m ∷ first ∷ t)
+    (ps.is ∙ sym (append_assoc ps.ls (last ∷ []) (open' ∷ placed inside variables))) in
+    let k' = after_brace (l ∷ m ∷ first ∷ (ps.ls ++ last ∷ [])) open' (placed inside variables) braces row
+    refl (subst (KeepLimits braces row) all k) in
     variables_row a.vars h.vars inside bodies k'.0 k'.1
 
 -- where the lexemes of the printed form keep the limits, the variables of each procedure fit a row
-rows : (all : List Part) → AreNearlyWritten all → (at : Place) (braces row : ℕ) → KeepLimits braces row (placed at (p.parts all)) → HaveRows all
+rows : (all : List Part) → AreNearlyWritten all → (at : Place) (braces row : ℕ)
+    → KeepLimits braces row (placed at (p.parts all)) → HaveRows all
 rows [] h at braces row k = tt
 rows (Array x n s ∷ all) h at braces row k =
     let r = part_reads (Array x n s) h.0 at (p.parts all) in
@@ -82,7 +92,8 @@ nearly_lexemes all h =
     record {
       ls = placed start (p.parts all);
       finish = after start (printed_form all);
-      lex = subst (λ text. Lex text (placed start (p.parts all)) (after start text)) (printed_is all) (lexed (p.parts all) (parts_spelt all h));
+      lex = subst (λ text. Lex text (placed start (p.parts all)) (after start text)) (printed_is all)
+          (lexed (p.parts all) (parts_spelt all h));
       written = λ k. whole all h (rows all h start 0 0 k);
     }
 

@@ -1,5 +1,6 @@
 -- The printed form keeps the limits.
-use Rattle.std.proofs.Common.{◌≡◌, ℕ, suc, ◌+◌, ◌≤◌, Bool, true, false, length, List, [], ◌∷◌, Option, Some, None, codes, refl, sym, ◌∙◌, subst, arith, add-one}
+use Rattle.std.proofs.Common.{◌≡◌, ℕ, suc, ◌+◌, ◌≤◌, Bool, true, false, length, List, [], ◌∷◌, Option, Some}
+use Rattle.std.proofs.Common.{None, codes, refl, sym, ◌∙◌, subst, arith, add-one}
 use Rattle.ws_words.specs.declared.alu.Alu.{Alu}
 use Rattle.ws_words.specs.declared.alu.Alu.TheVariants.{Or}
 use Rattle.src_ast.specs.declared.lexeme.Name.{Name}
@@ -7,15 +8,22 @@ use Rattle.src_ast.specs.declared.lexeme.Shape.TheVariants.{Word, Mark}
 use Rattle.src_ast.specs.declared.lexeme.Shape.TheVariants as shape
 use Rattle.src_ast.specs.declared.lexeme.Mark.{Mark as AnyMark}
 use Rattle.src_ast.specs.declared.lexeme.Mark.TheVariants as mark
-use Rattle.src_ast.specs.declared.lexeme.Mark.TheVariants.{LParen, RParen, LBrace, RBrace, LSquare, RSquare, Comma, Semi}
+use Rattle.src_ast.specs.declared.lexeme.Mark.TheVariants.{LParen, RParen, LBrace, RBrace, LSquare, RSquare}
+use Rattle.src_ast.specs.declared.lexeme.Mark.TheVariants.{Comma, Semi}
 use Rattle.src_ast.specs.declared.tree.Unary.{Unary}
 use Rattle.src_ast.specs.declared.tree.Unary.TheVariants.{Flip}
 use Rattle.src_ast.specs.Grammar.{level_of, mark_of, sign_mark}
-use Rattle.src_ast.specs.Syntax.{Expression, Number, Variable, Cell, Signed, Binary, Statement, Assign, Store, Print, Read, Give, Take, Call, If, While, Statements, Nothing, Then, Last, Part, Array, Proc}
+use Rattle.src_ast.specs.Syntax.{Expression, Number, Variable, Cell, Signed, Binary, Statement, Assign, Store}
+use Rattle.src_ast.specs.Syntax.{Print, Read, Give, Take, Call, If, While, Statements, Nothing, Then, Last}
+use Rattle.src_ast.specs.Syntax.{Part, Array, Proc}
 use Rattle.src_ast.specs.Printed.{is_looser, is_no_tighter, is_binary, indent}
-use Rattle.src_ast.specs.Written.{IsWrittenName, AreWrittenNames, IsWrittenExpression, AreWrittenExpressions, rounded, width, list_width, names_width, IsWrittenStatement, AreWrittenStatements, IsWrittenEnding, IsWrittenPart, IsWritten}
+use Rattle.src_ast.specs.Written.{IsWrittenName, AreWrittenNames, IsWrittenExpression, AreWrittenExpressions}
+use Rattle.src_ast.specs.Written.{rounded, width, list_width, names_width, IsWrittenStatement}
+use Rattle.src_ast.specs.Written.{AreWrittenStatements, IsWrittenEnding, IsWrittenPart, IsWritten}
 use Rattle.src_ast.proofs.Pieces.{Piece, gap, lexeme, Keep, over, after_gap, following}
-use Rattle.src_ast.proofs.Printing.{space, newline, wrapped, expression, arguments, names, finish, call, closing, test, second_arm, statement, body, variables, ending, part, parts}
+use Rattle.src_ast.proofs.Printing.{space, newline, wrapped, expression, arguments, names, finish, call}
+use Rattle.src_ast.proofs.Printing.{closing, test, second_arm, statement, body, variables, ending, part}
+use Rattle.src_ast.proofs.Printing.{parts}
 
 -- marks in the middle of a row
 abbrev pub is_inner : AnyMark → Bool
@@ -35,7 +43,8 @@ sign_inner Flip = refl
 sign_inner s = refl
 
 -- one more lexeme in a row
-inner : (m : AnyMark) (braces row next : ℕ) (ps : List Piece) → is_inner m ≡ true → braces ≤ 32 → row + 1 ≡ next → next ≤ 256
+inner : (m : AnyMark) (braces row next : ℕ) (ps : List Piece) → is_inner m ≡ true → braces ≤ 32
+    → row + 1 ≡ next → next ≤ 256
     → Keep braces next ps → Keep braces row (lexeme (Mark m) ∷ ps)
 inner Semi braces row next ps h d e w k = cc
 inner LBrace braces row next ps h d e w k = cc
@@ -43,24 +52,31 @@ inner RBrace braces row next ps h d e w k = cc
 inner m braces row next ps h d e w k =
     following (Mark m) tt d (omega arith) (subst (λ n. Keep braces n ps) (sym e ∙ add-one row) k)
 
-word_in : (w : List ℕ) (braces row next : ℕ) (ps : List Piece) → length w ≤ 64 → braces ≤ 32 → row + 1 ≡ next → next ≤ 256
+word_in : (w : List ℕ) (braces row next : ℕ) (ps : List Piece) → length w ≤ 64 → braces ≤ 32 → row + 1 ≡ next
+    → next ≤ 256
     → Keep braces next ps → Keep braces row (lexeme (Word w) ∷ ps)
-word_in w braces row next ps h d e l k = following (Word w) h d (omega arith) (subst (λ n. Keep braces n ps) (sym e ∙ add-one row) k)
+word_in w braces row next ps h d e l k = following (Word w) h d (omega arith)
+    (subst (λ n. Keep braces n ps) (sym e ∙ add-one row) k)
 
 number_in : (v : ℕ) (braces row next : ℕ) (ps : List Piece) → braces ≤ 32 → row + 1 ≡ next → next ≤ 256
     → Keep braces next ps → Keep braces row (lexeme (shape.Number v) ∷ ps)
-number_in v braces row next ps d e l k = following (shape.Number v) tt d (omega arith) (subst (λ n. Keep braces n ps) (sym e ∙ add-one row) k)
+number_in v braces row next ps d e l k = following (shape.Number v) tt d (omega arith)
+    (subst (λ n. Keep braces n ps) (sym e ∙ add-one row) k)
 
 wrapped_kept : (braces : ℕ) (needed : Bool) (f : List Piece → List Piece) (n : ℕ) → braces ≤ 32
-    → ((row next : ℕ) (qs : List Piece) → row + n ≡ next → next ≤ 256 → Keep braces next qs → Keep braces row (f qs))
-    → (row next : ℕ) (ps : List Piece) → row + rounded needed n ≡ next → next ≤ 256 → Keep braces next ps → Keep braces row (wrapped needed f ps)
+    → ((row next : ℕ) (qs : List Piece) → row + n ≡ next → next ≤ 256 → Keep braces next qs
+    → Keep braces row (f qs))
+    → (row next : ℕ) (ps : List Piece) → row + rounded needed n ≡ next → next ≤ 256 → Keep braces next ps
+    → Keep braces row (wrapped needed f ps)
 wrapped_kept braces true f n d h row next ps e l k =
     inner LParen braces row (row + 1) _ refl d refl (omega arith)
-    (h (row + 1) (row + 1 + n) (lexeme (Mark RParen) ∷ ps) refl (omega arith) (inner RParen braces (row + 1 + n) next ps refl d (omega arith) l k))
+    (h (row + 1) (row + 1 + n) (lexeme (Mark RParen) ∷ ps) refl (omega arith)
+    (inner RParen braces (row + 1 + n) next ps refl d (omega arith) l k))
 wrapped_kept braces false f n d h row next ps e l k = h row next ps e l k
 
 expression_kept : (braces : ℕ) → braces ≤ 32 → (e : Expression) → IsWrittenExpression e
-    → (row next : ℕ) (ps : List Piece) → row + width e ≡ next → next ≤ 256 → Keep braces next ps → Keep braces row (expression e ps)
+    → (row next : ℕ) (ps : List Piece) → row + width e ≡ next → next ≤ 256 → Keep braces next ps
+    → Keep braces row (expression e ps)
 expression_kept braces d (Number n) g row next ps e l k = number_in n braces row next ps d e l k
 expression_kept braces d (Variable x) g row next ps e l k = word_in x.text braces row next ps g.short d e l k
 expression_kept braces d (Cell a i) g row next ps e l k =
@@ -70,16 +86,22 @@ expression_kept braces d (Cell a i) g row next ps e l k =
     (inner RSquare braces (row + 2 + width i) next ps refl d (omega arith) l k)))
 expression_kept braces d (Signed s a) g row next ps e l k =
     inner (sign_mark s) braces row (row + 1) _ (sign_inner s) d refl (omega arith)
-    (wrapped_kept braces (is_binary a) (expression a) (width a) d (expression_kept braces d a g) (row + 1) next ps (omega arith) l k)
+    (wrapped_kept braces (is_binary a) (expression a) (width a) d (expression_kept braces d a g) (row + 1)
+    next ps (omega arith) l k)
 expression_kept braces d (Binary op a b) g row next ps e l k =
     let left = rounded (is_looser a (level_of op)) (width a) in
-    wrapped_kept braces (is_looser a (level_of op)) (expression a) (width a) d (expression_kept braces d a g.0) row (row + left) _ refl (omega arith)
-    (after_gap space (inner (mark_of op) braces (row + left) (row + left + 1) _ (op_inner op) d refl (omega arith)
-    (after_gap space (wrapped_kept braces (is_no_tighter b (level_of op)) (expression b) (width b) d (expression_kept braces d b g.1) (row + left + 1) next ps (omega arith) l k))))
+    wrapped_kept braces (is_looser a (level_of op)) (expression a) (width a) d
+    (expression_kept braces d a g.0) row (row + left) _ refl (omega arith)
+    (after_gap space (inner (mark_of op) braces (row + left) (row + left + 1) _ (op_inner op) d refl
+    (omega arith)
+    (after_gap space (wrapped_kept braces (is_no_tighter b (level_of op)) (expression b) (width b) d
+    (expression_kept braces d b g.1) (row + left + 1) next ps (omega arith) l k))))
 
 arguments_kept : (braces : ℕ) → braces ≤ 32 → (es : List Expression) → AreWrittenExpressions es
-    → (row next : ℕ) (ps : List Piece) → row + list_width es ≡ next → next ≤ 256 → Keep braces next ps → Keep braces row (arguments es ps)
-arguments_kept braces d [] g row next ps e l k = let same : next ≡ row = omega arith in subst (λ n. Keep braces n ps) same k
+    → (row next : ℕ) (ps : List Piece) → row + list_width es ≡ next → next ≤ 256 → Keep braces next ps
+    → Keep braces row (arguments es ps)
+arguments_kept braces d [] g row next ps e l k = let same : next ≡ row = omega arith in
+    subst (λ n. Keep braces n ps) same k
 arguments_kept braces d (x ∷ []) g row next ps e l k = expression_kept braces d x g.0 row next ps e l k
 arguments_kept braces d (x ∷ y ∷ xs) g row next ps e l k =
     expression_kept braces d x g.0 row (row + width x) _ refl (omega arith)
@@ -87,44 +109,56 @@ arguments_kept braces d (x ∷ y ∷ xs) g row next ps e l k =
     (after_gap space (arguments_kept braces d (y ∷ xs) g.1 (row + width x + 1) next ps (omega arith) l k)))
 
 names_kept : (braces : ℕ) → braces ≤ 32 → (xs : List Name) → AreWrittenNames xs
-    → (row next : ℕ) (ps : List Piece) → row + names_width xs ≡ next → next ≤ 256 → Keep braces next ps → Keep braces row (names xs ps)
-names_kept braces d [] g row next ps e l k = let same : next ≡ row = omega arith in subst (λ n. Keep braces n ps) same k
+    → (row next : ℕ) (ps : List Piece) → row + names_width xs ≡ next → next ≤ 256 → Keep braces next ps
+    → Keep braces row (names xs ps)
+names_kept braces d [] g row next ps e l k = let same : next ≡ row = omega arith in
+    subst (λ n. Keep braces n ps) same k
 names_kept braces d (x ∷ []) g row next ps e l k = word_in x.text braces row next ps g.0.short d e l k
 names_kept braces d (x ∷ y ∷ xs) g row next ps e l k =
     word_in x.text braces row (row + 1) _ g.0.short d refl (omega arith)
     (inner Comma braces (row + 1) (row + 2) _ refl d (omega arith) (omega arith)
     (after_gap space (names_kept braces d (y ∷ xs) g.1 (row + 2) next ps (omega arith) l k)))
 
-finish_kept : (braces row : ℕ) (ps : List Piece) → braces ≤ 32 → Keep braces 0 ps → Keep braces row (finish ps)
+finish_kept : (braces row : ℕ) (ps : List Piece) → braces ≤ 32 → Keep braces 0 ps
+    → Keep braces row (finish ps)
 finish_kept braces row ps d k = following (Mark Semi) tt d (omega arith) (after_gap newline k)
 
 -- an expression at the end of a statement
-last_kept : (braces row : ℕ) (ps : List Piece) → braces ≤ 32 → (e : Expression) → IsWrittenExpression e → row + width e ≤ 256 → Keep braces 0 ps
+last_kept : (braces row : ℕ) (ps : List Piece) → braces ≤ 32 → (e : Expression) → IsWrittenExpression e
+    → row + width e ≤ 256 → Keep braces 0 ps
     → Keep braces row (expression e (finish ps))
-last_kept braces row ps d e g l k = expression_kept braces d e g row (row + width e) (finish ps) refl l (finish_kept braces _ ps d k)
+last_kept braces row ps d e g l k = expression_kept braces d e g row (row + width e) (finish ps) refl l
+    (finish_kept braces _ ps d k)
 
-call_kept : (braces row : ℕ) (ps : List Piece) → braces ≤ 32 → (f : Name) (es : List Expression) → IsWrittenName f.text → AreWrittenExpressions es → row + list_width es + 3 ≤ 256
+call_kept : (braces row : ℕ) (ps : List Piece) → braces ≤ 32 → (f : Name) (es : List Expression)
+    → IsWrittenName f.text → AreWrittenExpressions es → row + list_width es + 3 ≤ 256
     → Keep braces 0 ps → Keep braces row (call f es ps)
 call_kept braces row ps d f es h g l k =
     word_in f.text braces row (row + 1) _ h.short d refl (omega arith)
     (inner LParen braces (row + 1) (row + 2) _ refl d (omega arith) (omega arith)
     (arguments_kept braces d es g (row + 2) (row + 2 + list_width es) _ refl (omega arith)
-    (inner RParen braces (row + 2 + list_width es) (row + 3 + list_width es) _ refl d (omega arith) (omega arith) (finish_kept braces _ ps d k))))
+    (inner RParen braces (row + 2 + list_width es) (row + 3 + list_width es) _ refl d (omega arith)
+    (omega arith) (finish_kept braces _ ps d k))))
 
-opens : (braces row : ℕ) (ps : List Piece) → suc braces ≤ 32 → Keep (suc braces) 0 ps → Keep braces row (gap space ∷ lexeme (Mark LBrace) ∷ gap newline ∷ ps)
+opens : (braces row : ℕ) (ps : List Piece) → suc braces ≤ 32 → Keep (suc braces) 0 ps
+    → Keep braces row (gap space ∷ lexeme (Mark LBrace) ∷ gap newline ∷ ps)
 opens braces row ps d k = after_gap space (following (Mark LBrace) tt d (omega arith) (after_gap newline k))
 
-closing_kept : (n braces row : ℕ) (ps : List Piece) → braces ≤ 32 → Keep braces 0 ps → Keep (suc braces) row (closing n ps)
-closing_kept n braces row ps d k = after_gap (indent n) (following (Mark RBrace) tt d (omega arith) (after_gap newline k))
+closing_kept : (n braces row : ℕ) (ps : List Piece) → braces ≤ 32 → Keep braces 0 ps
+    → Keep (suc braces) row (closing n ps)
+closing_kept n braces row ps d k =
+    after_gap (indent n) (following (Mark RBrace) tt d (omega arith) (after_gap newline k))
 
-test_kept : (braces : ℕ) (ps : List Piece) → suc braces ≤ 32 → (word : List ℕ) (e : Expression) → length word ≤ 64 → IsWrittenExpression e → width e + 3 ≤ 256
+test_kept : (braces : ℕ) (ps : List Piece) → suc braces ≤ 32 → (word : List ℕ) (e : Expression)
+    → length word ≤ 64 → IsWrittenExpression e → width e + 3 ≤ 256
     → Keep (suc braces) 0 ps → Keep braces 0 (test word e ps)
 test_kept braces ps d word e w g l k =
     let d' : braces ≤ 32 = omega arith in
     word_in word braces 0 1 _ w d' refl (omega arith)
     (after_gap space (inner LParen braces 1 2 _ refl d' refl (omega arith)
     (expression_kept braces d' e g 2 (2 + width e) _ refl (omega arith)
-    (inner RParen braces (2 + width e) (3 + width e) _ refl d' (omega arith) (omega arith) (opens braces _ ps d k)))))
+    (inner RParen braces (2 + width e) (3 + width e) _ refl d' (omega arith) (omega arith)
+    (opens braces _ ps d k)))))
 
 second_arm_kept : (n braces : ℕ) (b : Statements) (f : List Piece → List Piece) → suc braces ≤ 32
     → ((qs : List Piece) → Keep (suc braces) 0 qs → Keep (suc braces) 0 (f qs))
@@ -137,35 +171,46 @@ second_arm_kept n braces (Then s rest) f d h ps k =
     (opens braces 1 _ d (h _ (closing_kept n braces 0 ps d' k))))))
 
 mutual
-  pub statement_kept : (n braces : ℕ) → braces ≤ 32 → (s : Statement) → IsWrittenStatement braces s → (ps : List Piece) → Keep braces 0 ps → Keep braces 0 (statement n s ps)
+  pub statement_kept : (n braces : ℕ) → braces ≤ 32 → (s : Statement) → IsWrittenStatement braces s
+      → (ps : List Piece) → Keep braces 0 ps → Keep braces 0 (statement n s ps)
   statement_kept n braces d (Assign at x e) h ps k =
       after_gap (indent n) (word_in x.text braces 0 1 _ h.0.short d refl (omega arith) (after_gap space
-      (inner mark.Assign braces 1 2 _ refl d refl (omega arith) (after_gap space (last_kept braces 2 ps d e h.1 (omega arith) k)))))
+      (inner mark.Assign braces 1 2 _ refl d refl (omega arith)
+      (after_gap space (last_kept braces 2 ps d e h.1 (omega arith) k)))))
   statement_kept n braces d (Store at a i e) h ps k =
       after_gap (indent n) (word_in a.text braces 0 1 _ h.0.short d refl (omega arith)
       (inner LSquare braces 1 2 _ refl d refl (omega arith)
       (expression_kept braces d i h.1 2 (2 + width i) _ refl (omega arith)
       (inner RSquare braces (2 + width i) (3 + width i) _ refl d (omega arith) (omega arith) (after_gap space
-      (inner mark.Assign braces (3 + width i) (4 + width i) _ refl d (omega arith) (omega arith) (after_gap space
+      (inner mark.Assign braces (3 + width i) (4 + width i) _ refl d (omega arith) (omega arith)
+      (after_gap space
       (last_kept braces (4 + width i) ps d e h.2 (omega arith) k))))))))
   statement_kept n braces d (Print at e) h ps k =
-      after_gap (indent n) (word_in (codes "print") braces 0 1 _ (omega arith) d refl (omega arith) (after_gap space
+      after_gap (indent n) (word_in (codes "print") braces 0 1 _ (omega arith) d refl (omega arith)
+      (after_gap space
       (last_kept braces 1 ps d e h.0 (omega arith) k)))
   statement_kept n braces d (Read at x) h ps k =
-      after_gap (indent n) (word_in (codes "read") braces 0 1 _ (omega arith) d refl (omega arith) (after_gap space
+      after_gap (indent n) (word_in (codes "read") braces 0 1 _ (omega arith) d refl (omega arith)
+      (after_gap space
       (word_in x.text braces 1 2 _ h.short d refl (omega arith) (finish_kept braces _ ps d k))))
   statement_kept n braces d (Give at port p x) h ps k =
-      after_gap (indent n) (word_in (codes "give") braces 0 1 _ (omega arith) d refl (omega arith) (after_gap space
-      (number_in port braces 1 2 _ d refl (omega arith) (inner Comma braces 2 3 _ refl d refl (omega arith) (after_gap space
+      after_gap (indent n) (word_in (codes "give") braces 0 1 _ (omega arith) d refl (omega arith)
+      (after_gap space
+      (number_in port braces 1 2 _ d refl (omega arith) (inner Comma braces 2 3 _ refl d refl (omega arith)
+      (after_gap space
       (word_in x.text braces 3 4 _ h.1.short d refl (omega arith) (finish_kept braces _ ps d k)))))))
   statement_kept n braces d (Take at port p e) h ps k =
-      after_gap (indent n) (word_in (codes "take") braces 0 1 _ (omega arith) d refl (omega arith) (after_gap space
-      (number_in port braces 1 2 _ d refl (omega arith) (inner Comma braces 2 3 _ refl d refl (omega arith) (after_gap space
+      after_gap (indent n) (word_in (codes "take") braces 0 1 _ (omega arith) d refl (omega arith)
+      (after_gap space
+      (number_in port braces 1 2 _ d refl (omega arith) (inner Comma braces 2 3 _ refl d refl (omega arith)
+      (after_gap space
       (last_kept braces 3 ps d e h.1 (omega arith) k))))))
-  statement_kept n braces d (Call at None f es) h ps k = after_gap (indent n) (call_kept braces 0 ps d f es h.0 h.1 (omega arith) k)
+  statement_kept n braces d (Call at None f es) h ps k = after_gap (indent n)
+      (call_kept braces 0 ps d f es h.0 h.1 (omega arith) k)
   statement_kept n braces d (Call at (Some x) f es) h ps k =
       after_gap (indent n) (word_in x.text braces 0 1 _ h.0.short d refl (omega arith) (after_gap space
-      (inner mark.Assign braces 1 2 _ refl d refl (omega arith) (after_gap space (call_kept braces 2 ps d f es h.1 h.2 (omega arith) k)))))
+      (inner mark.Assign braces 1 2 _ refl d refl (omega arith)
+      (after_gap space (call_kept braces 2 ps d f es h.1 h.2 (omega arith) k)))))
   statement_kept n braces d (If at e a b) h ps k =
       after_gap (indent n) (test_kept braces _ h.2 (codes "if") e (omega arith) h.0 h.1
       (body_kept (suc n) (suc braces) h.2 a h.3 _
@@ -174,20 +219,27 @@ mutual
       after_gap (indent n) (test_kept braces _ h.2 (codes "while") e (omega arith) h.0 h.1
       (body_kept (suc n) (suc braces) h.2 a h.3 _ (closing_kept n braces 0 ps d k)))
 
-  pub body_kept : (n braces : ℕ) → braces ≤ 32 → (b : Statements) → AreWrittenStatements braces b → (ps : List Piece) → Keep braces 0 ps → Keep braces 0 (body n b ps)
+  pub body_kept : (n braces : ℕ) → braces ≤ 32 → (b : Statements) → AreWrittenStatements braces b
+      → (ps : List Piece) → Keep braces 0 ps → Keep braces 0 (body n b ps)
   body_kept n braces d Nothing h ps k = k
-  body_kept n braces d (Then s rest) h ps k = statement_kept n braces d s h.0 _ (body_kept n braces d rest h.1 ps k)
+  body_kept n braces d (Then s rest) h ps k = statement_kept n braces d s h.0 _
+      (body_kept n braces d rest h.1 ps k)
 
-variables_kept : (braces : ℕ) → braces ≤ 32 → (xs : List Name) → AreWrittenNames xs → names_width xs + 1 ≤ 256 → (ps : List Piece) → Keep braces 0 ps → Keep braces 0 (variables xs ps)
+variables_kept : (braces : ℕ) → braces ≤ 32 → (xs : List Name) → AreWrittenNames xs → names_width xs + 1 ≤ 256
+    → (ps : List Piece) → Keep braces 0 ps → Keep braces 0 (variables xs ps)
 variables_kept braces d [] g l ps k = k
 variables_kept braces d (x ∷ xs) g l ps k =
-    after_gap (indent 1) (word_in (codes "var") braces 0 1 _ (omega arith) d refl (omega arith) (after_gap space
-    (names_kept braces d (x ∷ xs) g 1 (1 + names_width (x ∷ xs)) _ refl (omega arith) (finish_kept braces _ ps d k))))
+    after_gap (indent 1) (word_in (codes "var") braces 0 1 _ (omega arith) d refl (omega arith)
+    (after_gap space
+    (names_kept braces d (x ∷ xs) g 1 (1 + names_width (x ∷ xs)) _ refl (omega arith)
+    (finish_kept braces _ ps d k))))
 
-ending_kept : (braces : ℕ) → braces ≤ 32 → (e : Option Last) → IsWrittenEnding e → (ps : List Piece) → Keep braces 0 ps → Keep braces 0 (ending e ps)
+ending_kept : (braces : ℕ) → braces ≤ 32 → (e : Option Last) → IsWrittenEnding e → (ps : List Piece)
+    → Keep braces 0 ps → Keep braces 0 (ending e ps)
 ending_kept braces d None h ps k = k
 ending_kept braces d (Some last) h ps k =
-    after_gap (indent 1) (word_in (codes "return") braces 0 1 _ (omega arith) d refl (omega arith) (after_gap space
+    after_gap (indent 1) (word_in (codes "return") braces 0 1 _ (omega arith) d refl (omega arith)
+    (after_gap space
     (last_kept braces 1 ps d last.value h.0 (omega arith) k)))
 
 part_kept : (p : Part) → IsWrittenPart p → (ps : List Piece) → Keep 0 0 ps → Keep 0 0 (part p ps)
@@ -206,7 +258,8 @@ part_kept (Proc p) h ps k =
     (word_in p.name.text 0 1 2 _ h.name.short d refl (omega arith)
     (inner LParen 0 2 3 _ refl d refl (omega arith)
     (names_kept 0 d p.params h.params 3 (3 + names_width p.params) _ refl (omega (arith, row))
-    (inner RParen 0 (3 + names_width p.params) (4 + names_width p.params) _ refl d (omega arith) (omega (arith, row))
+    (inner RParen 0 (3 + names_width p.params) (4 + names_width p.params) _ refl d (omega arith)
+    (omega (arith, row))
     (opens 0 _ _ one
     (variables_kept 1 one p.vars h.vars h.vars_row _
     (body_kept 1 1 one p.body h.body _

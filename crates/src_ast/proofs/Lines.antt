@@ -1,10 +1,12 @@
 -- Texts with commas, and lines of a level.
-use Rattle.std.proofs.Common.{◌≡◌, ℕ, zero, suc, ◌+◌, ◌<◌, List, [], ◌∷◌, ◌++◌, length, get_or, drop, map, codes, refl, sym, ap, ◌∙◌, arith, append_assoc, append-nil, add-one}
+use Rattle.std.proofs.Common.{◌≡◌, ℕ, zero, suc, ◌+◌, ◌<◌, List, [], ◌∷◌, ◌++◌, length, get_or, drop, map}
+use Rattle.std.proofs.Common.{codes, refl, sym, ap, ◌∙◌, arith, append_assoc, append-nil, add-one}
 use Rattle.src_ast.specs.declared.lexeme.Name.{Name}
 use Rattle.src_ast.specs.declared.tree.Expr.{Expr}
 use Rattle.src_ast.specs.declared.tree.Stmt.{Stmt}
 use Rattle.src_ast.specs.View.{expression, statements}
-use Rattle.src_ast.specs.Printed.{separated_text, line, else_lines, argument_texts, name_texts, expression_text, indent}
+use Rattle.src_ast.specs.Printed.{separated_text, line, else_lines, argument_texts, name_texts}
+use Rattle.src_ast.specs.Printed.{expression_text, indent}
 use Rattle.src_ast.specs.Commas.{comma_text}
 
 -- the first item has no comma before it
@@ -13,13 +15,16 @@ separated_is t [] = sym (append-nil t)
 separated_is t (u ∷ ts) = ap (λ x. t ++ codes ", " ++ x) (separated_is u ts) ∙ simp append_assoc
 
 -- names with commas, from the first on
-pub names_from : (xs : List Name) (x : Name) → 0 < length xs → x ≡ get_or xs 0 x → separated_text (name_texts xs) ≡ x.text ++ comma_text (name_texts (drop 1 xs))
+pub names_from : (xs : List Name) (x : Name) → 0 < length xs → x ≡ get_or xs 0 x
+    → separated_text (name_texts xs) ≡ x.text ++ comma_text (name_texts (drop 1 xs))
 names_from [] x h e = absurd (omega arith)
-names_from (y ∷ ys) x h e = ap (λ z. separated_text (z.text ∷ name_texts ys)) (sym e) ∙ separated_is x.text (name_texts ys)
+names_from (y ∷ ys) x h e = ap (λ z. separated_text (z.text ∷ name_texts ys)) (sym e)
+    ∙ separated_is x.text (name_texts ys)
 
 -- arguments with commas, from the first on
 pub args_from : (xs : List Expr) (x : Expr) → 0 < length xs → x ≡ get_or xs 0 x
-    → separated_text (argument_texts (map expression xs)) ≡ expression_text (expression x) ++ comma_text (argument_texts (map expression (drop 1 xs)))
+    → separated_text (argument_texts (map expression xs)) ≡ expression_text (expression x) ++ comma_text
+    (argument_texts (map expression (drop 1 xs)))
 args_from [] x h e = absurd (omega arith)
 args_from (y ∷ ys) x h e =
     ap (λ z. separated_text (expression_text (expression z) ∷ argument_texts (map expression ys))) (sym e)
@@ -31,11 +36,13 @@ indent_more zero = refl
 indent_more (suc n) = rw add-one (ap (λ t. codes "  " ++ t) (rw add-one at (indent_more n)))
 
 -- an empty second arm is left out
-pub else_empty : (n : ℕ) (xs : List Stmt) (text : List ℕ) → length xs ≡ 0 → else_lines n (statements xs) text ≡ line n (codes "}")
+pub else_empty : (n : ℕ) (xs : List Stmt) (text : List ℕ) → length xs ≡ 0
+    → else_lines n (statements xs) text ≡ line n (codes "}")
 else_empty n [] text h = refl
 else_empty n (x ∷ xs) text h = absurd (omega arith)
 
 -- a second arm stands between its braces
-pub else_full : (n : ℕ) (xs : List Stmt) (text : List ℕ) → 0 < length xs → else_lines n (statements xs) text ≡ line n (codes "} else {") ++ text ++ line n (codes "}")
+pub else_full : (n : ℕ) (xs : List Stmt) (text : List ℕ) → 0 < length xs
+    → else_lines n (statements xs) text ≡ line n (codes "} else {") ++ text ++ line n (codes "}")
 else_full n [] text h = absurd (omega arith)
 else_full n (x ∷ xs) text h = refl

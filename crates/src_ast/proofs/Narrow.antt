@@ -1,17 +1,25 @@
--- A written program has narrow statements, and the procedures of an accepted one have few parameters and variables.
-use Rattle.std.proofs.Common.{◌≡◌, ℕ, suc, ◌+◌, ◌≤◌, nat_lt, ◌==◌, Bool, true, false, not, ◌&&◌, length, List, [], ◌∷◌, ◌++◌, Option, Some, None, sym, ◌∙◌, arith}
+-- A written program has narrow statements, and the procedures of an accepted one have few parameters and
+-- variables.
+use Rattle.std.proofs.Common.{◌≡◌, ℕ, suc, ◌+◌, ◌≤◌, nat_lt, ◌==◌, Bool, true, false, not, ◌&&◌, length, List}
+use Rattle.std.proofs.Common.{[], ◌∷◌, ◌++◌, Option, Some, None, sym, ◌∙◌, arith}
 use Rattle.std.specs.List.{list_all}
 use Rattle.std.proofs.lemmas.Bool.{and_parts, ltb-true}
 use Rattle.std.proofs.lemmas.List.Folds.{list_all-append}
 use Rattle.src_ast.specs.declared.lexeme.Name.{Name}
 use Rattle.src_ast.specs.declared.lexeme.Place.{Place}
 use Rattle.src_ast.specs.declared.fault.RefusalKind.TheVariants.{Main}
-use Rattle.src_ast.specs.Syntax.{Expression, Number, Variable, Cell, Signed, Binary, Statement, Assign, Store, Print, Read, Give, Take, Call, If, While, Statements, Nothing, Then, Last, Procedure, Part, Array, Proc}
+use Rattle.src_ast.specs.Syntax.{Expression, Number, Variable, Cell, Signed, Binary, Statement, Assign, Store}
+use Rattle.src_ast.specs.Syntax.{Print, Read, Give, Take, Call, If, While, Statements, Nothing, Then, Last}
+use Rattle.src_ast.specs.Syntax.{Procedure, Part, Array, Proc}
 use Rattle.src_ast.specs.Grammar.{level_of}
 use Rattle.src_ast.specs.Printed.{is_looser, is_no_tighter, is_binary}
-use Rattle.src_ast.specs.Written.{rounded, width, list_width, IsWrittenStatement, AreWrittenStatements, IsWrittenEnding, IsWritten}
-use Rattle.src_ast.specs.Bound.{nodes, nodes_of, most_nodes, most_nodes_of, ending_nodes, widest, most_variables}
-use Rattle.src_ast.specs.Rules.{Rule, Declared, variable, variables, is_visible, declared_by, has_main, is_main, procs_in, statements_in, size_of_all, parameter_rules, variable_rules, body_rules, ending_rules, part_rules, rules_after, IsAccepted}
+use Rattle.src_ast.specs.Written.{rounded, width, list_width, IsWrittenStatement, AreWrittenStatements}
+use Rattle.src_ast.specs.Written.{IsWrittenEnding, IsWritten}
+use Rattle.src_ast.specs.Bound.{nodes, nodes_of, most_nodes, most_nodes_of, ending_nodes, widest}
+use Rattle.src_ast.specs.Bound.{most_variables}
+use Rattle.src_ast.specs.Rules.{Rule, Declared, variable, variables, is_visible, declared_by, has_main}
+use Rattle.src_ast.specs.Rules.{is_main, procs_in, statements_in, size_of_all, parameter_rules}
+use Rattle.src_ast.specs.Rules.{variable_rules, body_rules, ending_rules, part_rules, rules_after, IsAccepted}
 
 -- parentheses only add
 rounded_least : (needed : Bool) (n : ℕ) → n ≤ rounded needed n
@@ -25,7 +33,13 @@ nodes_width (Variable x) = omega arith
 nodes_width (Cell a e) = omega (arith, nodes_width e)
 nodes_width (Signed s e) = omega (arith, nodes_width e, rounded_least (is_binary e) (width e))
 nodes_width (Binary op a b) =
-    omega (arith, nodes_width a, nodes_width b, rounded_least (is_looser a (level_of op)) (width a), rounded_least (is_no_tighter b (level_of op)) (width b))
+    omega (
+      arith,
+      nodes_width a,
+      nodes_width b,
+      rounded_least (is_looser a (level_of op)) (width a),
+      rounded_least (is_no_tighter b (level_of op)) (width b),
+    )
 
 nodes_list_width : (es : List Expression) → nodes_of es ≤ list_width es
 nodes_list_width [] = omega arith
@@ -42,7 +56,13 @@ mutual
   fit_narrow braces (Take at n p e) h = omega (arith, h.2, nodes_width e)
   fit_narrow braces (Call at None f es) h = omega (arith, h.2, nodes_list_width es)
   fit_narrow braces (Call at (Some x) f es) h = omega (arith, h.3, nodes_list_width es)
-  fit_narrow braces (If at e a b) h = omega (arith, h.1, nodes_width e, all_narrow (suc braces) a h.3, all_narrow (suc braces) b h.4)
+  fit_narrow braces (If at e a b) h = omega (
+    arith,
+    h.1,
+    nodes_width e,
+    all_narrow (suc braces) a h.3,
+    all_narrow (suc braces) b h.4,
+  )
   fit_narrow braces (While at e body) h = omega (arith, h.1, nodes_width e, all_narrow (suc braces) body h.3)
 
   all_narrow : (braces : ℕ) (b : Statements) → AreWrittenStatements braces b → most_nodes_of b ≤ 255
@@ -57,10 +77,16 @@ ending_narrow (Some last) h = omega (arith, h.1, nodes_width last.value)
 pub written_narrow : (all : List Part) → IsWritten all → widest all ≤ 255
 written_narrow [] h = omega arith
 written_narrow (Array x n at ∷ all) h = written_narrow all h.1
-written_narrow (Proc p ∷ all) h = omega (arith, all_narrow 1 p.body h.0.body, ending_narrow p.ending h.0.ending, written_narrow all h.1)
+written_narrow (Proc p ∷ all) h = omega (
+  arith,
+  all_narrow 1 p.body h.0.body,
+  ending_narrow p.ending h.0.ending,
+  written_narrow all h.1,
+)
 
 -- a parameter after 8 others is refused
-few_params : (main : Bool) (visible : List Declared) (k : ℕ) (xs : List Name) → k ≤ 8 → list_all (λ r. r.kept) (parameter_rules main visible k xs) ≡ true
+few_params : (main : Bool) (visible : List Declared) (k : ℕ) (xs : List Name) → k ≤ 8
+    → list_all (λ r. r.kept) (parameter_rules main visible k xs) ≡ true
     → k + length xs ≤ 8
 few_params main visible k [] h e = omega (arith, h)
 few_params main visible k (x ∷ xs) h e =
@@ -68,18 +94,28 @@ few_params main visible k (x ∷ xs) h e =
     let second = and_parts (not (is_visible visible x.text)) _ first.1 in
     let third = and_parts (nat_lt k 8) _ second.1 in
     let below = ltb-true k 8 third.0 in
-    omega (arith, few_params main (record { text = x.text; sort = variable } ∷ visible) (suc k) xs (omega (arith, below)) third.1)
+    omega (
+      arith,
+      few_params main (record { text = x.text; sort = variable } ∷ visible) (suc k) xs
+          (omega (arith, below)) third.1,
+    )
 
 -- a variable after 32 parameters and variables is refused
-few_vars : (visible : List Declared) (k : ℕ) (xs : List Name) → k ≤ 32 → list_all (λ r. r.kept) (variable_rules visible k xs) ≡ true → k + length xs ≤ 32
+few_vars : (visible : List Declared) (k : ℕ) (xs : List Name) → k ≤ 32
+    → list_all (λ r. r.kept) (variable_rules visible k xs) ≡ true → k + length xs ≤ 32
 few_vars visible k [] h e = omega (arith, h)
 few_vars visible k (x ∷ xs) h e =
     let first = and_parts (not (is_visible visible x.text)) _ e in
     let second = and_parts (nat_lt k 32) _ first.1 in
     let below = ltb-true k 32 second.0 in
-    omega (arith, few_vars (record { text = x.text; sort = variable } ∷ visible) (suc k) xs (omega (arith, below)) second.1)
+    omega (
+      arith,
+      few_vars (record { text = x.text; sort = variable } ∷ visible) (suc k) xs
+          (omega (arith, below)) second.1,
+    )
 
-procedure_few : (before : List Part) (p : Procedure) → list_all (λ r. r.kept) (part_rules before (Proc p)) ≡ true → length p.params + length p.vars ≤ 32
+procedure_few : (before : List Part) (p : Procedure) → list_all (λ r. r.kept) (part_rules before (Proc p))
+    ≡ true → length p.params + length p.vars ≤ 32
 procedure_few before p e =
     let kept : Rule → Bool = λ r. r.kept in
     let params = parameter_rules (is_main p) (declared_by before) 0 p.params in
@@ -90,23 +126,28 @@ procedure_few before p e =
     let a = (and_parts (not (has_main before)) _ e).1 in
     let b = (and_parts (not (is_visible (declared_by before) p.name.text)) _ a).1 in
     let c = (and_parts (nat_lt (procs_in before) 64) (list_all kept (params ++ (vs ++ following))) b).1 in
-    let d = and_parts (list_all kept params) (list_all kept (vs ++ following)) (sym (list_all-append kept params (vs ++ following)) ∙ c) in
+    let d = and_parts (list_all kept params) (list_all kept (vs ++ following))
+    (sym (list_all-append kept params (vs ++ following)) ∙ c) in
     let few = few_params (is_main p) (declared_by before) 0 p.params (omega arith) d.0 in
-    let both = and_parts (list_all kept vs) (list_all kept following) (sym (list_all-append kept vs following) ∙ d.1) in
+    let both = and_parts (list_all kept vs) (list_all kept following) (sym (list_all-append kept vs following)
+    ∙ d.1) in
     few_vars (variables p.params ++ declared_by before) (length p.params) p.vars (omega (arith, few)) both.0
 
-few_from : (before all : List Part) → list_all (λ r. r.kept) (rules_after before all) ≡ true → most_variables all ≤ 32
+few_from : (before all : List Part) → list_all (λ r. r.kept) (rules_after before all) ≡ true
+    → most_variables all ≤ 32
 few_from before [] e = omega arith
 few_from before (Array x n at ∷ all) e =
     let kept : Rule → Bool = λ r. r.kept in
     let here = part_rules before (Array x n at) in
     let following = rules_after (before ++ Array x n at ∷ []) all in
-    few_from (before ++ Array x n at ∷ []) all (and_parts (list_all kept here) (list_all kept following) (sym (list_all-append kept here following) ∙ e)).1
+    few_from (before ++ Array x n at ∷ []) all (and_parts (list_all kept here) (list_all kept following)
+    (sym (list_all-append kept here following) ∙ e)).1
 few_from before (Proc p ∷ all) e =
     let kept : Rule → Bool = λ r. r.kept in
     let here = part_rules before (Proc p) in
     let following = rules_after (before ++ Proc p ∷ []) all in
-    let both = and_parts (list_all kept here) (list_all kept following) (sym (list_all-append kept here following) ∙ e) in
+    let both = and_parts (list_all kept here) (list_all kept following)
+    (sym (list_all-append kept here following) ∙ e) in
     omega (arith, procedure_few before p both.0, few_from (before ++ Proc p ∷ []) all both.1)
 
 -- the procedures of an accepted program have few variables
@@ -115,4 +156,5 @@ accepted_few all finish e =
     let kept : Rule → Bool = λ r. r.kept in
     let front = rules_after [] all in
     let last : List Rule = record { place = finish; kind = Main; kept = has_main all } ∷ [] in
-    few_from [] all (and_parts (list_all kept front) (list_all kept last) (sym (list_all-append kept front last) ∙ e)).0
+    few_from [] all (and_parts (list_all kept front) (list_all kept last)
+    (sym (list_all-append kept front last) ∙ e)).0

@@ -1,7 +1,8 @@
 -- Programs that are written, but for the rows of variables.
 use Rattle.std.proofs.Common.{◌+◌, List, [], ◌∷◌}
 use Rattle.src_ast.specs.Syntax.{Procedure, Part, Array, Proc}
-use Rattle.src_ast.specs.Written.{IsWrittenName, AreWrittenNames, IsWrittenNumber, names_width, FitsRow, AreWrittenStatements, IsWrittenEnding, IsWrittenProcedure, IsWritten}
+use Rattle.src_ast.specs.Written.{IsWrittenName, AreWrittenNames, IsWrittenNumber, names_width, FitsRow}
+use Rattle.src_ast.specs.Written.{AreWrittenStatements, IsWrittenEnding, IsWrittenProcedure, IsWritten}
 
 -- a procedure is written, but for the row of its variables
 pub record IsNearlyProcedure (p : Procedure) : Type 0 where
@@ -30,7 +31,14 @@ HaveRows (Proc p ∷ parts) = FitsRow (names_width p.vars + 1) × HaveRows parts
 
 nearly_procedure : (p : Procedure) → IsWrittenProcedure p → IsNearlyProcedure p
 nearly_procedure p h =
-    record { name = h.name; params = h.params; params_row = h.params_row; vars = h.vars; body = h.body; ending = h.ending }
+    record {
+      name = h.name;
+      params = h.params;
+      params_row = h.params_row;
+      vars = h.vars;
+      body = h.body;
+      ending = h.ending;
+    }
 
 -- what is written is nearly written
 pub nearly : (all : List Part) → IsWritten all → AreNearlyWritten all
@@ -38,9 +46,18 @@ nearly [] h = tt
 nearly (Array x n at ∷ all) h = (h.0, nearly all h.1)
 nearly (Proc p ∷ all) h = (nearly_procedure p h.0, nearly all h.1)
 
-whole_procedure : (p : Procedure) → IsNearlyProcedure p → FitsRow (names_width p.vars + 1) → IsWrittenProcedure p
+whole_procedure : (p : Procedure) → IsNearlyProcedure p → FitsRow (names_width p.vars + 1)
+    → IsWrittenProcedure p
 whole_procedure p h row =
-    record { name = h.name; params = h.params; params_row = h.params_row; vars = h.vars; vars_row = row; body = h.body; ending = h.ending }
+    record {
+      name = h.name;
+      params = h.params;
+      params_row = h.params_row;
+      vars = h.vars;
+      vars_row = row;
+      body = h.body;
+      ending = h.ending;
+    }
 
 -- what is nearly written and has rows is written
 pub whole : (all : List Part) → AreNearlyWritten all → HaveRows all → IsWritten all

@@ -1,16 +1,22 @@
 -- Expressions that are read from lexemes are good, and their printed form has no more lexemes.
-use Rattle.std.proofs.Common.{◌≡◌, ℕ, ◌+◌, ◌^◌, ◌<◌, ◌≤◌, Bool, true, false, length, List, [], ◌∷◌, refl, sym, ap, subst, arith, length-append}
+use Rattle.std.proofs.Common.{◌≡◌, ℕ, ◌+◌, ◌^◌, ◌<◌, ◌≤◌, Bool, true, false, length, List, [], ◌∷◌, refl, sym}
+use Rattle.std.proofs.Common.{ap, subst, arith, length-append}
 use Rattle.std.proofs.lemmas.Bool.{le-ltb}
 use Rattle.src_ast.specs.declared.lexeme.Name.{Name}
 use Rattle.src_ast.specs.declared.lexeme.Lexeme.{Lexeme}
 use Rattle.src_ast.specs.declared.lexeme.Shape.TheVariants as shape
 use Rattle.src_ast.specs.declared.lexeme.Mark.TheVariants.{LParen, RParen, LSquare, RSquare, Comma}
-use Rattle.src_ast.specs.Grammar.{level_of, mark_of, sign_mark, IsName, Spelled, number, variable, cell, round, signed, binary, Separated, one, more, Listed, none, some, SpelledName, name}
+use Rattle.src_ast.specs.Grammar.{level_of, mark_of, sign_mark, IsName, Spelled, number, variable, cell}
+use Rattle.src_ast.specs.Grammar.{round, signed, binary, Separated, one, more, Listed, none, some}
+use Rattle.src_ast.specs.Grammar.{SpelledName, name}
 use Rattle.src_ast.specs.Syntax.{Expression}
 use Rattle.src_ast.specs.Printed.{is_looser, is_no_tighter}
-use Rattle.src_ast.specs.Written.{IsWrittenName, AreWrittenNames, IsWrittenExpression, AreWrittenExpressions, rounded, width, list_width, names_width}
+use Rattle.src_ast.specs.Written.{IsWrittenName, AreWrittenNames, IsWrittenExpression, AreWrittenExpressions}
+use Rattle.src_ast.specs.Written.{rounded, width, list_width, names_width}
 use Rattle.src_ast.proofs.Kept.{op_inner, sign_inner}
-use Rattle.src_ast.proofs.RowLimits.{IsSound, AllSound, sound_here, sound_after, sound_front, sound_back, AllPlain, no_plain, plain, plain_append, plain_word, plain_number, plain_mark}
+use Rattle.src_ast.proofs.RowLimits.{IsSound, AllSound, sound_here, sound_after, sound_front, sound_back}
+use Rattle.src_ast.proofs.RowLimits.{AllPlain, no_plain, plain, plain_append, plain_word, plain_number}
+use Rattle.src_ast.proofs.RowLimits.{plain_mark}
 use Rattle.src_ast.proofs.Regrown.{loose_next, loose_eight}
 
 -- a name that is read is written
@@ -22,19 +28,25 @@ pub number_good : {n : ℕ} (l : Lexeme) → l.shape ≡ shape.Number n → IsSo
 number_good l e h = subst IsSound e h
 
 -- so is an expression
-pub expression_good : {n : ℕ} {ls : List Lexeme} {e : Expression} → Spelled n ls e → AllSound ls → IsWrittenExpression e
+pub expression_good : {n : ℕ} {ls : List Lexeme} {e : Expression} → Spelled n ls e → AllSound ls
+    → IsWrittenExpression e
 expression_good (number l v is) h = number_good l is (sound_here h)
 expression_good (variable l x is) h = name_good is (sound_here h)
 expression_good (cell l first last ls a e eq is o s c) h =
-    let hs = subst AllSound eq h in
-    (name_good is (sound_here hs), expression_good s (sound_front ls (last ∷ []) (sound_after (sound_after hs))))
+    let hs = subst AllSound eq h in (
+      name_good is (sound_here hs),
+      expression_good s (sound_front ls (last ∷ []) (sound_after (sound_after hs))),
+    )
 expression_good (round first last ls eq o s c) h =
     let hs = subst AllSound eq h in
     expression_good s (sound_front ls (last ∷ []) (sound_after hs))
 expression_good (signed l ls s e d is sp) h = expression_good sp (sound_after h)
 expression_good (binary l ls rs op a b d eq is sa sb) h =
-    let hs = subst AllSound eq h in
-    (expression_good sa (sound_front ls (l ∷ rs) hs), expression_good sb (sound_after (sound_back ls (l ∷ rs) hs)))
+    let hs = subst AllSound eq h in (
+      expression_good sa (sound_front ls (l ∷ rs) hs),
+      expression_good sb
+          (sound_after (sound_back ls (l ∷ rs) hs)),
+    )
 
 -- the lexemes of an expression stand in a row
 pub expression_plain : {n : ℕ} {ls : List Lexeme} {e : Expression} → Spelled n ls e → AllPlain ls
@@ -42,12 +54,18 @@ expression_plain (number l v is) = plain (plain_number l v is) no_plain
 expression_plain (variable l x is) = plain (plain_word l x.text is.word) no_plain
 expression_plain (cell l first last ls a e eq is o s c) =
     subst AllPlain (sym eq)
-    (plain (plain_word l a.text is.word) (plain (plain_mark first LSquare refl o) (plain_append (expression_plain s) (plain (plain_mark last RSquare refl c) no_plain))))
+    (plain (plain_word l a.text is.word) (plain (plain_mark first LSquare refl o)
+    (plain_append (expression_plain s) (plain (plain_mark last RSquare refl c) no_plain))))
 expression_plain (round first last ls eq o s c) =
-    subst AllPlain (sym eq) (plain (plain_mark first LParen refl o) (plain_append (expression_plain s) (plain (plain_mark last RParen refl c) no_plain)))
-expression_plain (signed l ls s e d is sp) = plain (plain_mark l (sign_mark s) (sign_inner s) is) (expression_plain sp)
+    subst AllPlain (sym eq)
+    (plain (plain_mark first LParen refl o)
+    (plain_append (expression_plain s) (plain (plain_mark last RParen refl c) no_plain)))
+expression_plain (signed l ls s e d is sp) = plain (plain_mark l (sign_mark s) (sign_inner s) is)
+    (expression_plain sp)
 expression_plain (binary l ls rs op a b d eq is sa sb) =
-    subst AllPlain (sym eq) (plain_append (expression_plain sa) (plain (plain_mark l (mark_of op) (op_inner op) is) (expression_plain sb)))
+    subst AllPlain (sym eq)
+    (plain_append (expression_plain sa) (plain (plain_mark l (mark_of op) (op_inner op) is)
+    (expression_plain sb)))
 
 rounded_least : (b : Bool) (n : ℕ) → n ≤ rounded b n
 rounded_least true n = omega arith
@@ -57,34 +75,59 @@ rounded_most : (b : Bool) (n : ℕ) → rounded b n ≤ n + 2
 rounded_most true n = omega arith
 rounded_most false n = omega arith
 
-pub expression_width : {n : ℕ} {ls : List Lexeme} {e : Expression} → Spelled n ls e → rounded (is_looser e n) (width e) ≤ length ls
+pub expression_width : {n : ℕ} {ls : List Lexeme} {e : Expression} → Spelled n ls e
+    → rounded (is_looser e n) (width e) ≤ length ls
 expression_width (number l v is) = omega arith
 expression_width (variable l x is) = omega arith
 expression_width (cell l first last ls a e eq is o s c) =
-    omega (arith, expression_width s, rounded_least (is_looser e 0) (width e), ap length eq, length-append ls (last ∷ []))
+    omega (
+      arith,
+      expression_width s,
+      rounded_least (is_looser e 0) (width e),
+      ap length eq,
+      length-append ls (last ∷ []),
+    )
 expression_width (round {n = n} {e = e} first last ls eq o s c) =
-    omega (arith, expression_width s, rounded_least (is_looser e 0) (width e), rounded_most (is_looser e n) (width e), ap length eq, length-append ls (last ∷ []))
+    omega (
+      arith,
+      expression_width s,
+      rounded_least (is_looser e 0) (width e),
+      rounded_most (is_looser e n) (width e),
+      ap length eq,
+      length-append ls (last ∷ []),
+    )
 expression_width (signed {n = n} l ls s e d is sp) =
     let w = subst (λ b. rounded b (width e) ≤ length ls) (loose_eight e) (expression_width sp) in
     omega (arith, w)
 expression_width (binary {n = n} {ks = ks} l ls rs op a b d eq is sa sb) =
-    let right = subst (λ c. rounded c (width b) ≤ length rs) (loose_next b (level_of op)) (expression_width sb) in
-    let all = rounded (is_looser a (level_of op)) (width a) + 1 + rounded (is_no_tighter b (level_of op)) (width b) in
+    let right = subst (λ c. rounded c (width b) ≤ length rs) (loose_next b (level_of op))
+    (expression_width sb) in
+    let all = rounded (is_looser a (level_of op)) (width a) + 1 + rounded (is_no_tighter b (level_of op))
+    (width b) in
     let free = le-ltb (level_of op) n d in
-    let w : all ≤ length ks = omega (arith, expression_width sa, right, ap length eq, length-append ls (l ∷ rs)) in
+    let w : all ≤ length ks = omega (
+      arith,
+      expression_width sa,
+      right,
+      ap length eq,
+      length-append ls (l ∷ rs),
+    ) in
     subst (λ c. rounded c all ≤ length ks) (sym free) w
 
 -- the printed form of an expression has no more lexemes than it was read from
 pub width_least : {ls : List Lexeme} {e : Expression} → Spelled 0 ls e → width e ≤ length ls
 width_least {ls} {e} s = omega (arith, expression_width s, rounded_least (is_looser e 0) (width e))
 
-pub separated_plain : {A : Type 0} {L : List Lexeme → A → Type 0} {ks : List Lexeme} {xs : List A} → ((ls : List Lexeme) (a : A) → L ls a → AllPlain ls)
+pub separated_plain : {A : Type 0} {L : List Lexeme → A → Type 0} {ks : List Lexeme} {xs : List A}
+    → ((ls : List Lexeme) (a : A) → L ls a → AllPlain ls)
     → Separated L ks xs → AllPlain ks
 separated_plain h (one ls a s) = h ls a s
 separated_plain h (more comma ls rs a xs eq s c more') =
-    subst AllPlain (sym eq) (plain_append (h ls a s) (plain (plain_mark comma Comma refl c) (separated_plain h more')))
+    subst AllPlain (sym eq)
+    (plain_append (h ls a s) (plain (plain_mark comma Comma refl c) (separated_plain h more')))
 
-pub listed_plain : {A : Type 0} {L : List Lexeme → A → Type 0} {ks : List Lexeme} {xs : List A} → ((ls : List Lexeme) (a : A) → L ls a → AllPlain ls)
+pub listed_plain : {A : Type 0} {L : List Lexeme → A → Type 0} {ks : List Lexeme} {xs : List A}
+    → ((ls : List Lexeme) (a : A) → L ls a → AllPlain ls)
     → Listed L ks xs → AllPlain ks
 listed_plain h none = no_plain
 listed_plain h (some ls xs s) = separated_plain h s
@@ -93,25 +136,33 @@ listed_plain h (some ls xs s) = separated_plain h s
 pub arguments_plain : {ks : List Lexeme} {es : List Expression} → Listed (Spelled 0) ks es → AllPlain ks
 arguments_plain s = listed_plain (λ ls e h. expression_plain h) s
 
-some_arguments_good : {ks : List Lexeme} {es : List Expression} → Separated (Spelled 0) ks es → AllSound ks → AreWrittenExpressions es
+some_arguments_good : {ks : List Lexeme} {es : List Expression} → Separated (Spelled 0) ks es → AllSound ks
+    → AreWrittenExpressions es
 some_arguments_good (one ls e s) h = (expression_good s h, tt)
 some_arguments_good (more comma ls rs e es eq s c more') h =
-    let hs = subst AllSound eq h in
-    (expression_good s (sound_front ls (comma ∷ rs) hs), some_arguments_good more' (sound_after (sound_back ls (comma ∷ rs) hs)))
+    let hs = subst AllSound eq h in (
+      expression_good s (sound_front ls (comma ∷ rs) hs),
+      some_arguments_good more'
+          (sound_after (sound_back ls (comma ∷ rs) hs)),
+    )
 
 -- arguments that are read are written
-pub arguments_good : {ks : List Lexeme} {es : List Expression} → Listed (Spelled 0) ks es → AllSound ks → AreWrittenExpressions es
+pub arguments_good : {ks : List Lexeme} {es : List Expression} → Listed (Spelled 0) ks es → AllSound ks
+    → AreWrittenExpressions es
 arguments_good none h = tt
 arguments_good (some ls es s) h = some_arguments_good s h
 
-some_arguments_width : {ks : List Lexeme} {es : List Expression} → Separated (Spelled 0) ks es → list_width es ≤ length ks
+some_arguments_width : {ks : List Lexeme} {es : List Expression} → Separated (Spelled 0) ks es
+    → list_width es ≤ length ks
 some_arguments_width (one ls e s) = width_least s
 some_arguments_width (more comma ls rs e (f ∷ es) eq s c more') =
     omega (arith, width_least s, some_arguments_width more', ap length eq, length-append ls (comma ∷ rs))
-some_arguments_width (more comma ls rs e [] eq s c more') = omega (arith, width_least s, ap length eq, length-append ls (comma ∷ rs))
+some_arguments_width (more comma ls rs e [] eq s c more') =
+    omega (arith, width_least s, ap length eq, length-append ls (comma ∷ rs))
 
 -- the printed form of arguments has no more lexemes
-pub arguments_width : {ks : List Lexeme} {es : List Expression} → Listed (Spelled 0) ks es → list_width es ≤ length ks
+pub arguments_width : {ks : List Lexeme} {es : List Expression} → Listed (Spelled 0) ks es
+    → list_width es ≤ length ks
 arguments_width none = omega arith
 arguments_width (some ls es s) = some_arguments_width s
 
@@ -130,25 +181,35 @@ spelled_name_good : {ls : List Lexeme} {x : Name} → SpelledName ls x → AllSo
 spelled_name_good (name l x is) h = name_good is (sound_here h)
 
 -- names that are read are written
-pub some_names_good : {ks : List Lexeme} {xs : List Name} → Separated SpelledName ks xs → AllSound ks → AreWrittenNames xs
+pub some_names_good : {ks : List Lexeme} {xs : List Name} → Separated SpelledName ks xs → AllSound ks
+    → AreWrittenNames xs
 some_names_good (one ls x s) h = (spelled_name_good s h, tt)
 some_names_good (more comma ls rs x xs eq s c more') h =
-    let hs = subst AllSound eq h in
-    (spelled_name_good s (sound_front ls (comma ∷ rs) hs), some_names_good more' (sound_after (sound_back ls (comma ∷ rs) hs)))
+    let hs = subst AllSound eq h in (
+      spelled_name_good s (sound_front ls (comma ∷ rs) hs),
+      some_names_good more' (sound_after (sound_back ls (comma ∷ rs) hs)),
+    )
 
 -- so are no names
-pub names_good : {ks : List Lexeme} {xs : List Name} → Listed SpelledName ks xs → AllSound ks → AreWrittenNames xs
+pub names_good : {ks : List Lexeme} {xs : List Name} → Listed SpelledName ks xs → AllSound ks
+    → AreWrittenNames xs
 names_good none h = tt
 names_good (some ls xs s) h = some_names_good s h
 
 name_width : {ls : List Lexeme} {x : Name} → SpelledName ls x → length ls ≡ 1
 name_width (name l x is) = refl
 
-some_names_width : {ks : List Lexeme} {xs : List Name} → Separated SpelledName ks xs → names_width xs ≤ length ks
+some_names_width : {ks : List Lexeme} {xs : List Name} → Separated SpelledName ks xs
+    → names_width xs ≤ length ks
 some_names_width (one ls x s) = omega (arith, name_width s)
 some_names_width (more comma ls rs x (y ∷ xs) eq s c more') =
     omega (arith, name_width s, some_names_width more', ap length eq, length-append ls (comma ∷ rs))
-some_names_width (more comma ls rs x [] eq s c more') = omega (arith, name_width s, ap length eq, length-append ls (comma ∷ rs))
+some_names_width (more comma ls rs x [] eq s c more') = omega (
+  arith,
+  name_width s,
+  ap length eq,
+  length-append ls (comma ∷ rs),
+)
 
 -- the printed form of names has no more lexemes
 pub names_fit : {ks : List Lexeme} {xs : List Name} → Listed SpelledName ks xs → names_width xs ≤ length ks

@@ -1,12 +1,14 @@
 -- What lexemes that keep the limits say of a row of them.
-use Rattle.std.proofs.Common.{◌≡◌, ℕ, suc, ◌+◌, ◌^◌, ◌<◌, ◌≤◌, Bool, true, IsTrue, length, List, [], ◌∷◌, ◌++◌, refl, sym, ap, ◌∙◌, subst, arith, add-zero}
+use Rattle.std.proofs.Common.{◌≡◌, ℕ, suc, ◌+◌, ◌^◌, ◌<◌, ◌≤◌, Bool, true, IsTrue, length, List, [], ◌∷◌}
+use Rattle.std.proofs.Common.{◌++◌, refl, sym, ap, ◌∙◌, subst, arith, add-zero}
 use Rattle.src_ast.specs.declared.lexeme.Place.{Place}
 use Rattle.src_ast.specs.declared.lexeme.Lexeme.{Lexeme}
 use Rattle.src_ast.specs.declared.lexeme.Shape.{Shape}
 use Rattle.src_ast.specs.declared.lexeme.Shape.TheVariants.{Word, Number, Mark}
 use Rattle.src_ast.specs.declared.lexeme.Mark.{Mark as AnyMark}
 use Rattle.src_ast.specs.declared.lexeme.Mark.TheVariants.{LBrace, RBrace, Semi}
-use Rattle.src_ast.specs.Lexemes.{Spells, word, number, mark, LexesTo, stop, next, IsShort, open_past, row_past, KeepLimits}
+use Rattle.src_ast.specs.Lexemes.{Spells, word, number, mark, LexesTo, stop, next, IsShort, open_past}
+use Rattle.src_ast.specs.Lexemes.{row_past, KeepLimits}
 use Rattle.src_ast.specs.Grammar.{Is, IsNumber}
 use Rattle.src_ast.proofs.Kept.{is_inner}
 use Rattle.ws_words.specs.Letters.{is_word}
@@ -46,7 +48,8 @@ spells_sound (number n h k e l) short = l
 spells_sound (mark m e l) short = tt
 
 -- lexemes of a text within the limits are such
-pub leads_sound : {at place : Place} {text rest : List ℕ} {ls : List Lexeme} (braces row : ℕ) → LexesTo at text ls place rest → KeepLimits braces row ls → AllSound ls
+pub leads_sound : {at place : Place} {text rest : List ℕ} {ls : List Lexeme} (braces row : ℕ)
+    → LexesTo at text ls place rest → KeepLimits braces row ls → AllSound ls
 leads_sound braces row (stop gap e g p) k = no_sound
 leads_sound braces row (next l gap bytes following e g p s more) k =
     sound (spells_sound s k.0) (leads_sound (open_past braces l.shape) (row_past row l.shape) more k.3)
@@ -105,35 +108,46 @@ pub record Within (braces row : ℕ) (rest : List Lexeme) : Type 0 where
   pub short : row ≤ 256
   pub kept : KeepLimits braces row rest
 
-row_from : {ls : List Lexeme} (rest : List Lexeme) (braces row : ℕ) → AllPlain ls → row ≤ 256 → KeepLimits braces row (ls ++ rest) → Within braces (row + length ls) rest
-row_from rest braces row no_plain d k = subst (λ r. Within braces r rest) (sym (add-zero row)) (record { short = d; kept = k })
+row_from : {ls : List Lexeme} (rest : List Lexeme) (braces row : ℕ) → AllPlain ls → row ≤ 256
+    → KeepLimits braces row (ls ++ rest) → Within braces (row + length ls) rest
+row_from rest braces row no_plain d k = subst (λ r. Within braces r rest) (sym (add-zero row))
+    (record { short = d; kept = k })
 row_from rest braces row (plain {l = l} {ls = ls} h hs) d k =
     let here = subst (λ r. r ≤ 256) (plain_row row l.shape h) k.2 in
-    let moved = subst (λ b. KeepLimits b (row_past row l.shape) (ls ++ rest)) (plain_open braces l.shape h) k.3 in
+    let moved = subst (λ b. KeepLimits b (row_past row l.shape) (ls ++ rest)) (plain_open braces l.shape h)
+    k.3 in
     let more = subst (λ r. KeepLimits braces r (ls ++ rest)) (plain_row row l.shape h) moved in
     let same : suc row + length ls ≡ row + length (l ∷ ls) = omega arith in
     subst (λ r. Within braces r rest) same (row_from rest braces (suc row) hs here more)
 
 -- a row within the limits is short
-pub row_limits : {ls : List Lexeme} (rest : List Lexeme) (braces : ℕ) → AllPlain ls → KeepLimits braces 0 (ls ++ rest) → Within braces (length ls) rest
+pub row_limits : {ls : List Lexeme} (rest : List Lexeme) (braces : ℕ) → AllPlain ls
+    → KeepLimits braces 0 (ls ++ rest) → Within braces (length ls) rest
 row_limits {ls = ls} rest braces h k =
     let same : 0 + length ls ≡ length ls = omega arith in
     subst (λ r. Within braces r rest) same (row_from rest braces 0 h (omega arith) k)
 
-pub semi_limits : (braces row : ℕ) (l : Lexeme) (rest : List Lexeme) → Is Semi l → KeepLimits braces row (l ∷ rest) → KeepLimits braces 0 rest
+pub semi_limits : (braces row : ℕ) (l : Lexeme) (rest : List Lexeme) → Is Semi l
+    → KeepLimits braces row (l ∷ rest) → KeepLimits braces 0 rest
 semi_limits braces row l rest e k = subst (λ s. KeepLimits (open_past braces s) (row_past row s) rest) e k.3
 
 -- the limits after an open brace
-pub open_limits : (braces row : ℕ) (l : Lexeme) (rest : List Lexeme) → Is LBrace l → KeepLimits braces row (l ∷ rest) → (suc braces ≤ 32) × KeepLimits (suc braces) 0 rest
-open_limits braces row l rest e k =
-    (subst (λ s. open_past braces s ≤ 32) e k.1, subst (λ s. KeepLimits (open_past braces s) (row_past row s) rest) e k.3)
+pub open_limits : (braces row : ℕ) (l : Lexeme) (rest : List Lexeme) → Is LBrace l
+    → KeepLimits braces row (l ∷ rest) → (suc braces ≤ 32) × KeepLimits (suc braces) 0 rest
+open_limits braces row l rest e k = (
+  subst (λ s. open_past braces s ≤ 32) e k.1,
+  subst (λ s. KeepLimits (open_past braces s) (row_past row s) rest) e k.3,
+)
 
 -- the limits after a closing brace
-pub close_limits : (braces row : ℕ) (l : Lexeme) (rest : List Lexeme) → Is RBrace l → KeepLimits (suc braces) row (l ∷ rest) → KeepLimits braces 0 rest
-close_limits braces row l rest e k = subst (λ s. KeepLimits (open_past (suc braces) s) (row_past row s) rest) e k.3
+pub close_limits : (braces row : ℕ) (l : Lexeme) (rest : List Lexeme) → Is RBrace l
+    → KeepLimits (suc braces) row (l ∷ rest) → KeepLimits braces 0 rest
+close_limits braces row l rest e k = subst (λ s. KeepLimits (open_past (suc braces) s) (row_past row s) rest)
+    e k.3
 
 -- a row that a semicolon ends
-pub line_limits : {ls : List Lexeme} (semi : Lexeme) (rest : List Lexeme) (braces : ℕ) → AllPlain ls → Is Semi semi → KeepLimits braces 0 (ls ++ semi ∷ rest)
+pub line_limits : {ls : List Lexeme} (semi : Lexeme) (rest : List Lexeme) (braces : ℕ) → AllPlain ls
+    → Is Semi semi → KeepLimits braces 0 (ls ++ semi ∷ rest)
     → (length ls ≤ 256) × KeepLimits braces 0 rest
 line_limits {ls = ls} semi rest braces h e k =
     let w = row_limits (semi ∷ rest) braces h k in

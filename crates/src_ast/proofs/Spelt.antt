@@ -1,29 +1,38 @@
 -- Each lexeme of the printed form is spelled as far as it goes.
-use Rattle.std.proofs.Common.{ℕ, zero, suc, Bool, true, false, IsTrue, List, [], ◌∷◌, Option, Some, None, codes, refl}
+use Rattle.std.proofs.Common.{ℕ, zero, suc, Bool, true, false, IsTrue, List, [], ◌∷◌, Option, Some, None}
+use Rattle.std.proofs.Common.{codes, refl}
 use Rattle.std.specs.List.{list_all}
 use Rattle.src_ast.specs.declared.lexeme.Name.{Name}
 use Rattle.src_ast.specs.declared.lexeme.Shape.TheVariants.{Mark}
 use Rattle.src_ast.specs.declared.lexeme.Mark.TheVariants as mark
-use Rattle.src_ast.specs.declared.lexeme.Mark.TheVariants.{LParen, RParen, LBrace, RBrace, LSquare, RSquare, Comma, Semi}
+use Rattle.src_ast.specs.declared.lexeme.Mark.TheVariants.{LParen, RParen, LBrace, RBrace, LSquare, RSquare}
+use Rattle.src_ast.specs.declared.lexeme.Mark.TheVariants.{Comma, Semi}
 use Rattle.src_ast.specs.declared.tree.Unary.TheVariants.{Flip, Not, Neg}
 use Rattle.src_ast.specs.Lexemes.{is_blank}
 use Rattle.src_ast.specs.Grammar.{level_of, mark_of, sign_mark}
-use Rattle.src_ast.specs.Syntax.{Expression, Number, Variable, Cell, Signed, Binary, Statement, Assign, Store, Print, Read, Give, Take, Call, If, While, Statements, Nothing, Then, Last, Part, Array, Proc}
+use Rattle.src_ast.specs.Syntax.{Expression, Number, Variable, Cell, Signed, Binary, Statement, Assign, Store}
+use Rattle.src_ast.specs.Syntax.{Print, Read, Give, Take, Call, If, While, Statements, Nothing, Then, Last}
+use Rattle.src_ast.specs.Syntax.{Part, Array, Proc}
 use Rattle.src_ast.specs.Printed.{is_looser, is_no_tighter, is_binary, indent}
-use Rattle.src_ast.specs.Written.{IsWrittenName, AreWrittenNames, IsWrittenExpression, AreWrittenExpressions, IsWrittenStatement, AreWrittenStatements, IsWrittenEnding}
+use Rattle.src_ast.specs.Written.{IsWrittenName, AreWrittenNames, IsWrittenExpression, AreWrittenExpressions}
+use Rattle.src_ast.specs.Written.{IsWrittenStatement, AreWrittenStatements, IsWrittenEnding}
 use Rattle.src_ast.proofs.Nearly.{IsNearlyPart, AreNearlyWritten}
 use Rattle.src_ast.proofs.Pieces.{Piece, lexeme, text_of, AreSpelled}
-use Rattle.src_ast.proofs.Spelling.{is_second, Breaks, spells_mark, spells_word, spells_number, word_starts, decimal_starts}
-use Rattle.src_ast.proofs.Printing.{wrapped, expression, arguments, names, finish, call, closing, test, second_arm, statement, body, variables, ending, part, parts}
+use Rattle.src_ast.proofs.Spelling.{is_second, Breaks, spells_mark, spells_word, spells_number, word_starts}
+use Rattle.src_ast.proofs.Spelling.{decimal_starts}
+use Rattle.src_ast.proofs.Printing.{wrapped, expression, arguments, names, finish, call, closing, test}
+use Rattle.src_ast.proofs.Printing.{second_arm, statement, body, variables, ending, part, parts}
 use Rattle.ws_words.specs.Letters.{is_word, starts_without}
 
 -- no mark goes on into an expression
-starts_wrapped : (needed : Bool) (f : List Piece → List Piece) (ps : List Piece) → IsTrue (starts_without is_second (text_of (f ps)))
+starts_wrapped : (needed : Bool) (f : List Piece → List Piece) (ps : List Piece)
+    → IsTrue (starts_without is_second (text_of (f ps)))
     → IsTrue (starts_without is_second (text_of (wrapped needed f ps)))
 starts_wrapped true f ps h = refl
 starts_wrapped false f ps h = h
 
-starts : (e : Expression) → IsWrittenExpression e → (ps : List Piece) → IsTrue (starts_without is_second (text_of (expression e ps)))
+starts : (e : Expression) → IsWrittenExpression e → (ps : List Piece)
+    → IsTrue (starts_without is_second (text_of (expression e ps)))
 starts (Number n) h ps = decimal_starts n (text_of ps) h
 starts (Variable x) h ps = word_starts x.text (text_of ps) h.word
 starts (Cell a e) h ps = word_starts a.text _ h.0.word
@@ -36,18 +45,23 @@ wrapped_spelt : (needed : Bool) (f : List Piece → List Piece)
     → ((qs : List Piece) → IsTrue (starts_without is_second (text_of (f qs))))
     → ((qs : List Piece) → Breaks (text_of qs) → AreSpelled qs → AreSpelled (f qs))
     → (ps : List Piece) → Breaks (text_of ps) → AreSpelled ps → AreSpelled (wrapped needed f ps)
-wrapped_spelt true f s h ps b k =
-    (spells_mark LParen _ (s _), h (lexeme (Mark RParen) ∷ ps) (record { word = refl; mark = refl }) (spells_mark RParen _ b.mark, k))
+wrapped_spelt true f s h ps b k = (
+  spells_mark LParen _ (s _),
+  h (lexeme (Mark RParen) ∷ ps) (record { word = refl; mark = refl })
+      (spells_mark RParen _ b.mark, k),
+)
 wrapped_spelt false f s h ps b k = h ps b k
 
-expression_spelt : (e : Expression) → IsWrittenExpression e → (ps : List Piece) → Breaks (text_of ps) → AreSpelled ps → AreSpelled (expression e ps)
+expression_spelt : (e : Expression) → IsWrittenExpression e → (ps : List Piece) → Breaks (text_of ps)
+    → AreSpelled ps → AreSpelled (expression e ps)
 expression_spelt (Number n) h ps b k = (spells_number n _ h b.word, k)
 expression_spelt (Variable x) h ps b k = (spells_word x.text _ h.word b.word, k)
 expression_spelt (Cell a e) h ps b k = (
   spells_word a.text _ h.0.word refl,
   (
     spells_mark LSquare _ (starts e h.1 _),
-    expression_spelt e h.1 (lexeme (Mark RSquare) ∷ ps) (record { word = refl; mark = refl }) (spells_mark RSquare _ b.mark, k),
+    expression_spelt e h.1 (lexeme (Mark RSquare) ∷ ps) (record { word = refl; mark = refl })
+        (spells_mark RSquare _ b.mark, k),
   ),
 )
 expression_spelt (Signed s e) h ps b k = (
@@ -55,29 +69,51 @@ expression_spelt (Signed s e) h ps b k = (
   wrapped_spelt (is_binary e) (expression e) (starts e h) (expression_spelt e h) ps b k,
 )
 expression_spelt (Binary op a b) h ps br k =
-    wrapped_spelt (is_looser a (level_of op)) (expression a) (starts a h.0) (expression_spelt a h.0) _ (record { word = refl; mark = refl })
-    (refl, (spells_mark (mark_of op) _ refl, (refl, wrapped_spelt (is_no_tighter b (level_of op)) (expression b) (starts b h.1) (expression_spelt b h.1) ps br k)))
+    wrapped_spelt (is_looser a (level_of op)) (expression a) (starts a h.0) (expression_spelt a h.0) _
+    (record { word = refl; mark = refl }) (
+      refl,
+      (
+        spells_mark (mark_of op) _ refl,
+        (
+          refl,
+          wrapped_spelt (is_no_tighter b (level_of op)) (expression b) (starts b h.1)
+              (expression_spelt b h.1) ps br k,
+        ),
+      ),
+    )
 
 finish_spelt : (ps : List Piece) → AreSpelled ps → AreSpelled (finish ps)
 finish_spelt ps k = (spells_mark Semi _ refl, (refl, k))
 
-arguments_spelt : (es : List Expression) → AreWrittenExpressions es → (ps : List Piece) → Breaks (text_of ps) → AreSpelled ps → AreSpelled (arguments es ps)
+arguments_spelt : (es : List Expression) → AreWrittenExpressions es → (ps : List Piece) → Breaks (text_of ps)
+    → AreSpelled ps → AreSpelled (arguments es ps)
 arguments_spelt [] h ps b k = k
 arguments_spelt (e ∷ []) h ps b k = expression_spelt e h.0 ps b k
 arguments_spelt (e ∷ f ∷ es) h ps b k =
-    expression_spelt e h.0 _ (record { word = refl; mark = refl }) (spells_mark Comma _ refl, (refl, arguments_spelt (f ∷ es) h.1 ps b k))
+    expression_spelt e h.0 _ (record { word = refl; mark = refl }) (
+      spells_mark Comma _ refl,
+      (refl, arguments_spelt (f ∷ es) h.1 ps b k),
+    )
 
-arguments_start : (es : List Expression) → AreWrittenExpressions es → (ps : List Piece) → IsTrue (starts_without is_second (text_of ps)) → IsTrue (starts_without is_second (text_of (arguments es ps)))
+arguments_start : (es : List Expression) → AreWrittenExpressions es → (ps : List Piece)
+    → IsTrue (starts_without is_second (text_of ps))
+    → IsTrue (starts_without is_second (text_of (arguments es ps)))
 arguments_start [] h ps b = b
 arguments_start (e ∷ []) h ps b = starts e h.0 ps
 arguments_start (e ∷ f ∷ es) h ps b = starts e h.0 _
 
-names_spelt : (xs : List Name) → AreWrittenNames xs → (ps : List Piece) → Breaks (text_of ps) → AreSpelled ps → AreSpelled (names xs ps)
+names_spelt : (xs : List Name) → AreWrittenNames xs → (ps : List Piece) → Breaks (text_of ps) → AreSpelled ps
+    → AreSpelled (names xs ps)
 names_spelt [] h ps b k = k
 names_spelt (x ∷ []) h ps b k = (spells_word x.text _ h.0.word b.word, k)
-names_spelt (x ∷ y ∷ xs) h ps b k = (spells_word x.text _ h.0.word refl, (spells_mark Comma _ refl, (refl, names_spelt (y ∷ xs) h.1 ps b k)))
+names_spelt (x ∷ y ∷ xs) h ps b k = (
+  spells_word x.text _ h.0.word refl,
+  (spells_mark Comma _ refl, (refl, names_spelt (y ∷ xs) h.1 ps b k)),
+)
 
-names_start : (xs : List Name) → AreWrittenNames xs → (ps : List Piece) → IsTrue (starts_without is_second (text_of ps)) → IsTrue (starts_without is_second (text_of (names xs ps)))
+names_start : (xs : List Name) → AreWrittenNames xs → (ps : List Piece)
+    → IsTrue (starts_without is_second (text_of ps))
+    → IsTrue (starts_without is_second (text_of (names xs ps)))
 names_start [] h ps b = b
 names_start (x ∷ []) h ps b = word_starts x.text (text_of ps) h.0.word
 names_start (x ∷ y ∷ xs) h ps b = word_starts x.text _ h.0.word
@@ -86,12 +122,16 @@ indent_blank : (n : ℕ) → IsTrue (list_all is_blank (indent n))
 indent_blank zero = refl
 indent_blank (suc n) = indent_blank n
 
-call_spelt : (f : Name) (es : List Expression) → IsWrittenName f.text → AreWrittenExpressions es → (ps : List Piece) → AreSpelled ps → AreSpelled (call f es ps)
+call_spelt : (f : Name) (es : List Expression) → IsWrittenName f.text → AreWrittenExpressions es
+    → (ps : List Piece) → AreSpelled ps → AreSpelled (call f es ps)
 call_spelt f es h g ps k = (
   spells_word f.text _ h.word refl,
   (
     spells_mark LParen _ (arguments_start es g _ refl),
-    arguments_spelt es g _ (record { word = refl; mark = refl }) (spells_mark RParen _ refl, finish_spelt ps k),
+    arguments_spelt es g _ (record { word = refl; mark = refl }) (
+      spells_mark RParen _ refl,
+      finish_spelt ps k,
+    ),
   ),
 )
 
@@ -99,45 +139,77 @@ closing_spelt : (n : ℕ) (ps : List Piece) → AreSpelled ps → AreSpelled (cl
 closing_spelt n ps k = (indent_blank n, (spells_mark RBrace _ refl, (refl, k)))
 
 -- an expression at the end of a statement
-last_spelt : (e : Expression) → IsWrittenExpression e → (ps : List Piece) → AreSpelled ps → AreSpelled (expression e (finish ps))
-last_spelt e h ps k = expression_spelt e h (finish ps) (record { word = refl; mark = refl }) (finish_spelt ps k)
+last_spelt : (e : Expression) → IsWrittenExpression e → (ps : List Piece) → AreSpelled ps
+    → AreSpelled (expression e (finish ps))
+last_spelt e h ps k = expression_spelt e h (finish ps) (record { word = refl; mark = refl })
+    (finish_spelt ps k)
 
-test_spelt : (word : List ℕ) (e : Expression) → IsTrue (is_word word) → IsWrittenExpression e → (ps : List Piece) → AreSpelled ps → AreSpelled (test word e ps)
+test_spelt : (word : List ℕ) (e : Expression) → IsTrue (is_word word) → IsWrittenExpression e
+    → (ps : List Piece) → AreSpelled ps → AreSpelled (test word e ps)
 test_spelt word e w h ps k = (
   spells_word word _ w refl,
   (
     refl,
     (
       spells_mark LParen _ (starts e h _),
-      expression_spelt e h _ (record { word = refl; mark = refl }) (spells_mark RParen _ refl, (refl, (spells_mark LBrace _ refl, (refl, k)))),
+      expression_spelt e h _ (record { word = refl; mark = refl }) (
+        spells_mark RParen _ refl,
+        (refl, (spells_mark LBrace _ refl, (refl, k))),
+      ),
     ),
   ),
 )
 
-second_arm_spelt : (n : ℕ) (b : Statements) (f : List Piece → List Piece) → ((qs : List Piece) → AreSpelled qs → AreSpelled (f qs))
+second_arm_spelt : (n : ℕ) (b : Statements) (f : List Piece → List Piece)
+    → ((qs : List Piece) → AreSpelled qs → AreSpelled (f qs))
     → (ps : List Piece) → AreSpelled ps → AreSpelled (second_arm n b f ps)
 second_arm_spelt n Nothing f h ps k = closing_spelt n ps k
-second_arm_spelt n (Then s rest) f h ps k =
-    (indent_blank n, (spells_mark RBrace _ refl, (refl, (spells_word (codes "else") _ refl refl, (refl, (spells_mark LBrace _ refl, (refl, h (closing n ps) (closing_spelt n ps k))))))))
+second_arm_spelt n (Then s rest) f h ps k = (
+  indent_blank n,
+  (
+    spells_mark RBrace _ refl,
+    (
+      refl,
+      (
+        spells_word (codes "else") _ refl refl,
+        (refl, (spells_mark LBrace _ refl, (refl, h (closing n ps) (closing_spelt n ps k)))),
+      ),
+    ),
+  ),
+)
 
 mutual
-  pub statement_spelt : (n braces : ℕ) (s : Statement) → IsWrittenStatement braces s → (ps : List Piece) → AreSpelled ps → AreSpelled (statement n s ps)
-  statement_spelt n braces (Assign at x e) h ps k =
-      (indent_blank n, (spells_word x.text _ h.0.word refl, (refl, (spells_mark mark.Assign _ refl, (refl, last_spelt e h.1 ps k)))))
+  pub statement_spelt : (n braces : ℕ) (s : Statement) → IsWrittenStatement braces s → (ps : List Piece)
+      → AreSpelled ps → AreSpelled (statement n s ps)
+  statement_spelt n braces (Assign at x e) h ps k = (
+    indent_blank n,
+    (
+      spells_word x.text _ h.0.word refl,
+      (refl, (spells_mark mark.Assign _ refl, (refl, last_spelt e h.1 ps k))),
+    ),
+  )
   statement_spelt n braces (Store at a i e) h ps k = (
     indent_blank n,
     (
       spells_word a.text _ h.0.word refl,
       (
         spells_mark LSquare _ (starts i h.1 _),
-        expression_spelt i h.1 _ (record { word = refl; mark = refl })
-            (spells_mark RSquare _ refl, (refl, (spells_mark mark.Assign _ refl, (refl, last_spelt e h.2 ps k)))),
+        expression_spelt i h.1 _ (record { word = refl; mark = refl }) (
+          spells_mark RSquare _ refl,
+          (refl, (spells_mark mark.Assign _ refl, (refl, last_spelt e h.2 ps k))),
+        ),
       ),
     ),
   )
-  statement_spelt n braces (Print at e) h ps k = (indent_blank n, (spells_word (codes "print") _ refl refl, (refl, last_spelt e h.0 ps k)))
-  statement_spelt n braces (Read at x) h ps k =
-      (indent_blank n, (spells_word (codes "read") _ refl refl, (refl, (spells_word x.text _ h.word refl, finish_spelt ps k))))
+  statement_spelt n braces (Print at e) h ps k =
+      (indent_blank n, (spells_word (codes "print") _ refl refl, (refl, last_spelt e h.0 ps k)))
+  statement_spelt n braces (Read at x) h ps k = (
+    indent_blank n,
+    (
+      spells_word (codes "read") _ refl refl,
+      (refl, (spells_word x.text _ h.word refl, finish_spelt ps k)),
+    ),
+  )
   statement_spelt n braces (Give at port p x) h ps k = (
     indent_blank n,
     (
@@ -157,31 +229,54 @@ mutual
       ),
     ),
   )
-  statement_spelt n braces (Take at port p e) h ps k =
-      (indent_blank n, (spells_word (codes "take") _ refl refl, (refl, (spells_number port _ h.0 refl, (spells_mark Comma _ refl, (refl, last_spelt e h.1 ps k))))))
+  statement_spelt n braces (Take at port p e) h ps k = (
+    indent_blank n,
+    (
+      spells_word (codes "take") _ refl refl,
+      (refl, (spells_number port _ h.0 refl, (spells_mark Comma _ refl, (refl, last_spelt e h.1 ps k)))),
+    ),
+  )
   statement_spelt n braces (Call at None f es) h ps k = (indent_blank n, call_spelt f es h.0 h.1 ps k)
-  statement_spelt n braces (Call at (Some x) f es) h ps k =
-      (indent_blank n, (spells_word x.text _ h.0.word refl, (refl, (spells_mark mark.Assign _ refl, (refl, call_spelt f es h.1 h.2 ps k)))))
+  statement_spelt n braces (Call at (Some x) f es) h ps k = (
+    indent_blank n,
+    (
+      spells_word x.text _ h.0.word refl,
+      (refl, (spells_mark mark.Assign _ refl, (refl, call_spelt f es h.1 h.2 ps k))),
+    ),
+  )
   statement_spelt n braces (If at e a b) h ps k = (
     indent_blank n,
     test_spelt (codes "if") e refl h.0 _ (body_spelt (suc n) _ a h.3 _
         (second_arm_spelt n b (body (suc n) b) (body_spelt (suc n) _ b h.4) ps k)),
   )
-  statement_spelt n braces (While at e a) h ps k =
-      (indent_blank n, test_spelt (codes "while") e refl h.0 _ (body_spelt (suc n) _ a h.3 _ (closing_spelt n ps k)))
+  statement_spelt n braces (While at e a) h ps k = (
+    indent_blank n,
+    test_spelt (codes "while") e refl h.0 _
+        (body_spelt (suc n) _ a h.3 _ (closing_spelt n ps k)),
+  )
 
-  pub body_spelt : (n braces : ℕ) (b : Statements) → AreWrittenStatements braces b → (ps : List Piece) → AreSpelled ps → AreSpelled (body n b ps)
+  pub body_spelt : (n braces : ℕ) (b : Statements) → AreWrittenStatements braces b → (ps : List Piece)
+      → AreSpelled ps → AreSpelled (body n b ps)
   body_spelt n braces Nothing h ps k = k
-  body_spelt n braces (Then s rest) h ps k = statement_spelt n braces s h.0 _ (body_spelt n braces rest h.1 ps k)
+  body_spelt n braces (Then s rest) h ps k = statement_spelt n braces s h.0 _
+      (body_spelt n braces rest h.1 ps k)
 
-variables_spelt : (xs : List Name) → AreWrittenNames xs → (ps : List Piece) → AreSpelled ps → AreSpelled (variables xs ps)
+variables_spelt : (xs : List Name) → AreWrittenNames xs → (ps : List Piece) → AreSpelled ps
+    → AreSpelled (variables xs ps)
 variables_spelt [] h ps k = k
-variables_spelt (x ∷ xs) h ps k =
-    (refl, (spells_word (codes "var") _ refl refl, (refl, names_spelt (x ∷ xs) h _ (record { word = refl; mark = refl }) (finish_spelt ps k))))
+variables_spelt (x ∷ xs) h ps k = (
+  refl,
+  (
+    spells_word (codes "var") _ refl refl,
+    (refl, names_spelt (x ∷ xs) h _ (record { word = refl; mark = refl }) (finish_spelt ps k)),
+  ),
+)
 
-ending_spelt : (e : Option Last) → IsWrittenEnding e → (ps : List Piece) → AreSpelled ps → AreSpelled (ending e ps)
+ending_spelt : (e : Option Last) → IsWrittenEnding e → (ps : List Piece) → AreSpelled ps
+    → AreSpelled (ending e ps)
 ending_spelt None h ps k = k
-ending_spelt (Some last) h ps k = (refl, (spells_word (codes "return") _ refl refl, (refl, last_spelt last.value h.0 ps k)))
+ending_spelt (Some last) h ps k =
+    (refl, (spells_word (codes "return") _ refl refl, (refl, last_spelt last.value h.0 ps k)))
 
 part_spelt : (p : Part) → IsNearlyPart p → (ps : List Piece) → AreSpelled ps → AreSpelled (part p ps)
 part_spelt (Array x n at) h ps k = (
@@ -213,7 +308,9 @@ part_spelt (Proc p) h ps k = (
               spells_mark LBrace _ refl,
               (
                 refl,
-                variables_spelt p.vars h.vars _ (body_spelt 1 1 p.body h.body _ (ending_spelt p.ending h.ending _ (closing_spelt 0 ps k))),
+                variables_spelt p.vars h.vars _
+                    (body_spelt 1 1 p.body h.body _
+                    (ending_spelt p.ending h.ending _ (closing_spelt 0 ps k))),
               ),
             ),
           ),

@@ -1,5 +1,6 @@
 -- The first broken rule of rules in a row, and at the use of a name.
-use Rattle.std.proofs.Common.{◌≡◌, List, [], ◌∷◌, ◌++◌, Option, Some, None, Bool, true, false, ◌&&◌, nat_eq, if◌then◌else◌, Result, Ok, Err, refl, sym, ap, subst, ◌∙◌}
+use Rattle.std.proofs.Common.{◌≡◌, List, [], ◌∷◌, ◌++◌, Option, Some, None, Bool, true, false, ◌&&◌, nat_eq}
+use Rattle.std.proofs.Common.{if◌then◌else◌, Result, Ok, Err, refl, sym, ap, subst, ◌∙◌}
 use Rattle.std.specs.List.{list_any}
 use Rattle.std.specs.Result.{IsErrAnd}
 use Rattle.std.proofs.lemmas.Result.{err_from_is_err_and}
@@ -29,19 +30,23 @@ pub after_kept : (xs ys : List Rule) → first_broken xs ≡ None → first_brok
 unfolding first_broken
 after_kept [] ys h = refl
 after_kept (r ∷ xs) ys h =
-    elim r.kept as (λ b. (if b then first_broken xs else Some (fault r)) ≡ None → (if b then first_broken (xs ++ ys) else Some (fault r)) ≡ first_broken ys)
+    elim r.kept as (λ b. (if b then first_broken xs else Some (fault r)) ≡ None
+    → (if b then first_broken (xs ++ ys) else Some (fault r)) ≡ first_broken ys)
     [ true ↦ (λ e. after_kept xs ys e) | false ↦ (λ e. cc) ] h
 
 -- a broken rule stays the first, whatever comes after it
-pub before_broken : (xs ys : List Rule) (f : Refusal) → first_broken xs ≡ Some f → first_broken (xs ++ ys) ≡ Some f
+pub before_broken : (xs ys : List Rule) (f : Refusal) → first_broken xs ≡ Some f
+    → first_broken (xs ++ ys) ≡ Some f
 unfolding first_broken
 before_broken [] ys f h = cc
 before_broken (r ∷ xs) ys f h =
-    elim r.kept as (λ b. (if b then first_broken xs else Some (fault r)) ≡ Some f → (if b then first_broken (xs ++ ys) else Some (fault r)) ≡ Some f)
+    elim r.kept as (λ b. (if b then first_broken xs else Some (fault r)) ≡ Some f
+    → (if b then first_broken (xs ++ ys) else Some (fault r)) ≡ Some f)
     [ true ↦ (λ e. before_broken xs ys f e) | false ↦ (λ e. e) ] h
 
 -- what the checker answers on the rest is the answer for all
-pub answers_after : {X : Type 0} (xs ys : List Rule) (r : Result X Refusal) → first_broken xs ≡ None → Keeps ys r → Keeps (xs ++ ys) r
+pub answers_after : {X : Type 0} (xs ys : List Rule) (r : Result X Refusal) → first_broken xs ≡ None
+    → Keeps ys r → Keeps (xs ++ ys) r
 answers_after xs ys (Ok x) h k = after_kept xs ys h ∙ k
 answers_after xs ys (Err f) h k = after_kept xs ys h ∙ k
 
@@ -54,32 +59,42 @@ and_true : (b : Bool) → (b && true) ≡ b
 and_true true = refl
 and_true false = refl
 
-any_and_true : (text : List _) (visible : List Declared) → list_any (λ d. pointwise nat_eq d.text text && true) visible ≡ is_visible visible text
+any_and_true : (text : List _) (visible : List Declared)
+    → list_any (λ d. pointwise nat_eq d.text text && true) visible ≡ is_visible visible text
 any_and_true text visible = simp and_true
 
 -- a name is visible where something is found
-pub visible_where_found : {find : _} {visible : List Declared} (text : List _) → StandsFor find visible → is_visible visible text ≡ passes (λ _. true) (find text)
+pub visible_where_found : {find : _} {visible : List Declared} (text : List _) → StandsFor find visible
+    → is_visible visible text ≡ passes (λ _. true) (find text)
 visible_where_found {find} {visible} text st = sym (any_and_true text visible) ∙ st.agrees text (λ _. true)
 
-module _ {find : List _ → Option Sort} {visible : List Declared} (x : Name) (wanted : Sort) (stands : StandsFor find visible) where
+module _ {find : List _ → Option Sort} {visible : List Declared} (x : Name) (wanted : Sort)
+    (stands : StandsFor find visible) where
   -- a name that is not found is unknown
-  pub use_where_none : find x.text ≡ None → first_broken (use_rules visible x wanted) ≡ Some (record { kind = Unknown; place = x.place })
+  pub use_where_none : find x.text ≡ None → first_broken (use_rules visible x wanted)
+      ≡ Some (record { kind = Unknown; place = x.place })
   unfolding first_broken
   use_where_none e =
-      let v : is_visible visible x.text ≡ false = visible_where_found x.text stands ∙ ap (passes (λ _. true)) e in
+      let v : is_visible visible x.text ≡ false = visible_where_found x.text stands
+      ∙ ap (passes (λ _. true)) e in
       rw v refl
 
   -- the rules on a name that is found
-  pub use_where_some : (s : Sort) (kind count : Bool) → find x.text ≡ Some s → kind ≡ same_kind s wanted → count ≡ same_sort s wanted
-      → use_rules visible x wanted ≡ rule x.place Unknown true ∷ rule x.place Kind kind ∷ rule x.place Count count ∷ []
+  pub use_where_some : (s : Sort) (kind count : Bool) → find x.text ≡ Some s → kind ≡ same_kind s wanted
+      → count ≡ same_sort s wanted
+      → use_rules visible x wanted ≡ rule x.place Unknown true ∷ rule x.place Kind kind ∷ rule x.place Count
+      count ∷ []
   use_where_some s kind count e k n =
       let v = visible_where_found x.text stands ∙ ap (passes (λ _. true)) e in
-      let is_kind = stands.agrees x.text (λ t. same_kind t wanted) ∙ ap (passes (λ t. same_kind t wanted)) e ∙ sym k in
-      let is_count = stands.agrees x.text (λ t. same_sort t wanted) ∙ ap (passes (λ t. same_sort t wanted)) e ∙ sym n in
+      let is_kind = stands.agrees x.text (λ t. same_kind t wanted) ∙ ap (passes (λ t. same_kind t wanted)) e
+      ∙ sym k in
+      let is_count = stands.agrees x.text (λ t. same_sort t wanted) ∙ ap (passes (λ t. same_sort t wanted)) e
+      ∙ sym n in
       λ i. rule x.place Unknown (v i) ∷ rule x.place Kind (is_kind i) ∷ rule x.place Count (is_count i) ∷ []
 
 -- a checker that ends at a broken rule answers with it
-pub leaves : {Y : Type 0} (rules : List Rule) (r : Result Y Refusal) (f : Refusal) → IsErrAnd r (λ g. g ≡ f) → first_broken rules ≡ Some f → Keeps rules r
+pub leaves : {Y : Type 0} (rules : List Rule) (r : Result Y Refusal) (f : Refusal) → IsErrAnd r (λ g. g ≡ f)
+    → first_broken rules ≡ Some f → Keeps rules r
 leaves rules r f is h = let p = err_from_is_err_and r is in rw (p.1, p.2) h
 
 -- the same answer for the same rules
@@ -87,11 +102,13 @@ pub keeps_as : {X : Type 0} (xs ys : List Rule) (r : Result X Refusal) → xs �
 keeps_as xs ys r e h = subst (λ zs. Keeps zs r) (sym e) h
 
 -- the same where memory may run out
-pub leaves_in_memory : {Y : Type 0} (rules : List Rule) (r : Result Y Stop) (f : Refusal) → IsErrAnd r (λ s. s ≡ Broken f) → first_broken rules ≡ Some f → KeepsInMemory rules r
+pub leaves_in_memory : {Y : Type 0} (rules : List Rule) (r : Result Y Stop) (f : Refusal)
+    → IsErrAnd r (λ s. s ≡ Broken f) → first_broken rules ≡ Some f → KeepsInMemory rules r
 leaves_in_memory rules r f is h = let p = err_from_is_err_and r is in rw (p.1, p.2) h
 
 -- a stop at some rules is passed on
-pub passes_on : {Y : Type 0} (rules : List Rule) (r : Result Y Stop) (s : Stop) → IsErrAnd r (λ t. t ≡ s) → StopsAt rules s → KeepsInMemory rules r
+pub passes_on : {Y : Type 0} (rules : List Rule) (r : Result Y Stop) (s : Stop) → IsErrAnd r (λ t. t ≡ s)
+    → StopsAt rules s → KeepsInMemory rules r
 passes_on rules r s is h = let p = err_from_is_err_and r is in rw (p.1, p.2) h
 
 -- a stop after rules that are kept

@@ -1,5 +1,6 @@
 -- What the first broken rule says of all the rules.
-use Rattle.std.proofs.Common.{◌≡◌, List, [], ◌∷◌, ◌++◌, Option, Some, None, true, false, ◌&&◌, if◌then◌else◌, IsTrue, refl, sym, ap, ◌∙◌}
+use Rattle.std.proofs.Common.{◌≡◌, List, [], ◌∷◌, ◌++◌, Option, Some, None, true, false, ◌&&◌, if◌then◌else◌}
+use Rattle.std.proofs.Common.{IsTrue, refl, sym, ap, ◌∙◌}
 use Rattle.std.specs.List.{list_all}
 use Rattle.std.proofs.lemmas.Bool.{and_parts}
 use Rattle.src_ast.specs.declared.lexeme.Place.{Place}
@@ -17,7 +18,8 @@ pub kept_where_none : (rs : List Rule) → first_broken rs ≡ None → IsTrue (
 unfolding first_broken
 kept_where_none [] h = refl
 kept_where_none (r ∷ rs) h =
-    elim r.kept as (λ b. (if b then first_broken rs else Some (fault r)) ≡ None → IsTrue (b && list_all (λ s. s.kept) rs))
+    elim r.kept as (λ b. (if b then first_broken rs else Some (fault r)) ≡ None
+    → IsTrue (b && list_all (λ s. s.kept) rs))
     [ true ↦ (λ e. kept_where_none rs e) | false ↦ (λ e. cc) ] h
 
 -- where all are kept, none is broken
@@ -25,7 +27,8 @@ pub none_where_kept : (rs : List Rule) → IsTrue (list_all (λ r. r.kept) rs) �
 unfolding first_broken
 none_where_kept [] h = refl
 none_where_kept (r ∷ rs) h =
-    elim r.kept as (λ b. IsTrue (b && list_all (λ s. s.kept) rs) → (if b then first_broken rs else Some (fault r)) ≡ None)
+    elim r.kept as (λ b. IsTrue (b && list_all (λ s. s.kept) rs)
+    → (if b then first_broken rs else Some (fault r)) ≡ None)
     [ true ↦ (λ e. none_where_kept rs e) | false ↦ (λ e. cc) ] h
 
 here : (r : Rule) (rs : List Rule) (f : Refusal) → r.kept ≡ false → fault r ≡ f → IsFirstBroken (r ∷ rs) f
@@ -36,7 +39,8 @@ here r rs f k e = record {
   kept = refl;
 }
 
-further : (r : Rule) (rs : List Rule) (f : Refusal) → r.kept ≡ true → IsFirstBroken rs f → IsFirstBroken (r ∷ rs) f
+further : (r : Rule) (rs : List Rule) (f : Refusal) → r.kept ≡ true → IsFirstBroken rs f
+    → IsFirstBroken (r ∷ rs) f
 further r rs f k b = record {
   before = r ∷ b.before;
   following = b.following;
@@ -52,10 +56,15 @@ pub first_where_some : (rs : List Rule) (f : Refusal) → first_broken rs ≡ So
 unfolding first_broken
 first_where_some [] f h = cc
 first_where_some (r ∷ rs) f h =
-    elim r.kept as (λ b. r.kept ≡ b → (if b then first_broken rs else Some (fault r)) ≡ Some f → IsFirstBroken (r ∷ rs) f)
-    [ true ↦ (λ k e. further r rs f k (first_where_some rs f e)) | false ↦ (λ k e. here r rs f k (same_fault (fault r) f e)) ] refl h
+    elim r.kept as (λ b. r.kept ≡ b → (if b then first_broken rs else Some (fault r)) ≡ Some f
+    → IsFirstBroken (r ∷ rs) f) [
+      | true ↦ (λ k e. further r rs f k (first_where_some rs f e))
+      | false ↦
+          (λ k e. here r rs f k (same_fault (fault r) f e))
+    ] refl h
 
-past_kept : (before following : List Rule) (r : Rule) → IsTrue (list_all (λ s. s.kept) before) → r.kept ≡ false → first_broken (before ++ r ∷ following) ≡ Some (fault r)
+past_kept : (before following : List Rule) (r : Rule) → IsTrue (list_all (λ s. s.kept) before)
+    → r.kept ≡ false → first_broken (before ++ r ∷ following) ≡ Some (fault r)
 unfolding first_broken
 past_kept [] following r h k = rw k refl
 past_kept (s ∷ before) following r h k =
@@ -63,14 +72,17 @@ past_kept (s ∷ before) following r h k =
     rw parts.0 (past_kept before following r parts.1 k)
 
 some_where_first : (rs : List Rule) (f : Refusal) → IsFirstBroken rs f → first_broken rs ≡ Some f
-some_where_first rs f b = ap first_broken b.is ∙ past_kept b.before b.following (record { place = f.place; kind = f.kind; kept = false }) b.kept refl
+some_where_first rs f b = ap first_broken b.is ∙ past_kept b.before b.following
+    (record { place = f.place; kind = f.kind; kept = false }) b.kept refl
 
 -- the answer to the rules of a program, by the first that isn't kept
-answer_is : (parts : List Part) (finish : Place) (answer : Option Refusal) → IsRuleAnswer parts finish answer → first_broken (rules_of parts finish) ≡ answer
+answer_is : (parts : List Part) (finish : Place) (answer : Option Refusal) → IsRuleAnswer parts finish answer
+    → first_broken (rules_of parts finish) ≡ answer
 answer_is parts finish None h = none_where_kept (rules_of parts finish) h
 answer_is parts finish (Some f) h = some_where_first (rules_of parts finish) f h
 
-is_answer : (parts : List Part) (finish : Place) (answer : Option Refusal) → first_broken (rules_of parts finish) ≡ answer → IsRuleAnswer parts finish answer
+is_answer : (parts : List Part) (finish : Place) (answer : Option Refusal)
+    → first_broken (rules_of parts finish) ≡ answer → IsRuleAnswer parts finish answer
 is_answer parts finish None h = kept_where_none (rules_of parts finish) h
 is_answer parts finish (Some f) h = first_where_some (rules_of parts finish) f h
 

@@ -1,12 +1,15 @@
 -- The rules of an array or a procedure, as tested; and what is known after one more of them.
-use Rattle.std.proofs.Common.{◌≡◌, ℕ, ◌+◌, List, [], ◌∷◌, ◌++◌, Bool, true, false, not, ◌||◌, nat_lt, nat_le, nat_eq, Option, Some, if◌then◌else◌, length, refl, sym, ap, subst, ◌∙◌, arith}
+use Rattle.std.proofs.Common.{◌≡◌, ℕ, ◌+◌, List, [], ◌∷◌, ◌++◌, Bool, true, false, not, ◌||◌, nat_lt, nat_le}
+use Rattle.std.proofs.Common.{nat_eq, Option, Some, if◌then◌else◌, length, refl, sym, ap, subst, ◌∙◌, arith}
 use lib.Pointwise.{pointwise}
 use Rattle.src_ast.specs.declared.lexeme.Place.{Place}
 use Rattle.src_ast.specs.declared.lexeme.Name.{Name}
 use Rattle.src_ast.specs.declared.fault.RefusalKind.TheVariants.{Main, Twice, Limit}
 use Rattle.src_ast.specs.declared.fault.Quantity.TheVariants.{Arrays, Length, CellSum, Procs}
 use Rattle.src_ast.specs.Syntax.{Part, Array, Proc, Procedure}
-use Rattle.src_ast.specs.Rules.{array, procedure, variables, is_visible, declared_by, arrays_in, procs_in, cells_in, statements_in, has_main, is_main, size_of_all, size_of_ending, part_rules, parameter_rules, variable_rules, body_rules, ending_rules, rule}
+use Rattle.src_ast.specs.Rules.{array, procedure, variables, is_visible, declared_by, arrays_in, procs_in}
+use Rattle.src_ast.specs.Rules.{cells_in, statements_in, has_main, is_main, size_of_all, size_of_ending}
+use Rattle.src_ast.specs.Rules.{part_rules, parameter_rules, variable_rules, body_rules, ending_rules, rule}
 use Rattle.src_check.specs.Names.{found, passes, StandsFor}
 use Rattle.src_check.specs.After.{IsAfter}
 use Rattle.src_check.specs.declared.checker.Checker.{Checker}
@@ -14,13 +17,20 @@ use Rattle.src_check.proofs.Stands.{stands_with, stands_moved}
 use Rattle.ws_words.proofs.Bools.{or_false}
 
 -- the rules of an array by what the checker knows
-pub array_rules_as : (before : List Part) (x : Name) (n : ℕ) (at : Place) (known : Bool) (checker : Checker) → known ≡ is_visible (declared_by before) x.text → IsAfter checker before
-    → part_rules before (Array x n at) ≡ rule x.place Twice (not known) ∷ rule x.place (Limit Arrays) (nat_lt checker.arrays 64) ∷ rule at (Limit Length) (nat_le n 65536) ∷ rule at (Limit CellSum) (nat_le (checker.cells + n) 1048576) ∷ []
+pub array_rules_as : (before : List Part) (x : Name) (n : ℕ) (at : Place) (known : Bool) (checker : Checker)
+    → known ≡ is_visible (declared_by before) x.text → IsAfter checker before
+    → part_rules before (Array x n at) ≡ rule x.place Twice (not known) ∷ rule x.place (Limit Arrays)
+    (nat_lt checker.arrays 64) ∷ rule at (Limit Length) (nat_le n 65536) ∷ rule at (Limit CellSum)
+    (nat_le (checker.cells + n) 1048576) ∷ []
 array_rules_as before x n at known checker is_known b =
-    λ i. rule x.place Twice (not (sym is_known i)) ∷ rule x.place (Limit Arrays) (nat_lt (sym b.arrays i) 64) ∷ rule at (Limit Length) (nat_le n 65536) ∷ rule at (Limit CellSum) (nat_le (sym b.cells i + n) 1048576) ∷ []
+    λ i. rule x.place Twice (not (sym is_known i)) ∷ rule x.place (Limit Arrays) (nat_lt (sym b.arrays i) 64)
+    ∷ rule at (Limit Length) (nat_le n 65536) ∷ rule at (Limit CellSum)
+    (nat_le (sym b.cells i + n) 1048576) ∷ []
 
 -- the rules of a procedure by what the checker knows
-pub procedure_rules_as : (before : List Part) (p : Procedure) (known : Bool) (checker : Checker) (main : Bool) (count : ℕ) → known ≡ is_visible (declared_by before) p.name.text → main ≡ is_main p → IsAfter checker before
+pub procedure_rules_as : (before : List Part) (p : Procedure) (known : Bool) (checker : Checker) (main : Bool)
+    (count : ℕ) → known ≡ is_visible (declared_by before) p.name.text → main ≡ is_main p
+    → IsAfter checker before
     → count ≡ checker.statements + size_of_all p.body
     → part_rules before (Proc p)
     ≡ (rule p.name.place Main (not checker.has_main) ∷ [])
@@ -42,8 +52,10 @@ procedure_rules_as before p known checker main count is_known at_main b at_count
 
 pub declared_by-append : (ps qs : List Part) → declared_by (ps ++ qs) ≡ declared_by ps ++ declared_by qs
 declared_by-append [] qs = refl
-declared_by-append (Array x n at ∷ ps) qs = ap (λ l. record { text = x.text; sort = array } ∷ l) (declared_by-append ps qs)
-declared_by-append (Proc p ∷ ps) qs = ap (λ l. record { text = p.name.text; sort = procedure (length p.params) } ∷ l) (declared_by-append ps qs)
+declared_by-append (Array x n at ∷ ps) qs = ap (λ l. record { text = x.text; sort = array } ∷ l)
+    (declared_by-append ps qs)
+declared_by-append (Proc p ∷ ps) qs =
+    ap (λ l. record { text = p.name.text; sort = procedure (length p.params) } ∷ l) (declared_by-append ps qs)
 
 pub arrays_in-append : (ps qs : List Part) → arrays_in (ps ++ qs) ≡ arrays_in ps + arrays_in qs
 arrays_in-append [] qs = omega arith
@@ -60,7 +72,8 @@ cells_in-append [] qs = omega arith
 cells_in-append (Array x n at ∷ ps) qs = let h = cells_in-append ps qs in omega arith
 cells_in-append (Proc p ∷ ps) qs = cells_in-append ps qs
 
-pub statements_in-append : (ps qs : List Part) → statements_in (ps ++ qs) ≡ statements_in ps + statements_in qs
+pub statements_in-append : (ps qs : List Part) → statements_in (ps ++ qs) ≡ statements_in ps + statements_in
+    qs
 statements_in-append [] qs = omega arith
 statements_in-append (Array x n at ∷ ps) qs = statements_in-append ps qs
 statements_in-append (Proc p ∷ ps) qs = let h = statements_in-append ps qs in omega arith
@@ -72,39 +85,53 @@ or_assoc false b c = refl
 has_main-append : (ps qs : List Part) → has_main (ps ++ qs) ≡ (has_main ps || has_main qs)
 has_main-append [] qs = refl
 has_main-append (Array x n at ∷ ps) qs = has_main-append ps qs
-has_main-append (Proc p ∷ ps) qs = ap (λ b. is_main p || b) (has_main-append ps qs) ∙ or_assoc (is_main p) (has_main ps) (has_main qs)
+has_main-append (Proc p ∷ ps) qs = ap (λ b. is_main p || b) (has_main-append ps qs)
+    ∙ or_assoc (is_main p) (has_main ps) (has_main qs)
 
-stands_after : {find : List ℕ → Option _} (before : List Part) (p : Part) → StandsFor find (declared_by (p ∷ []) ++ declared_by before) → StandsFor find (declared_by (before ++ p ∷ []))
-stands_after {find} before p st = subst (λ l. StandsFor find l) (sym (declared_by-append before (p ∷ []))) (stands_moved (declared_by (p ∷ [])) (declared_by before) st)
+stands_after : {find : List ℕ → Option _} (before : List Part) (p : Part)
+    → StandsFor find (declared_by (p ∷ []) ++ declared_by before)
+    → StandsFor find (declared_by (before ++ p ∷ []))
+stands_after {find} before p st = subst (λ l. StandsFor find l) (sym (declared_by-append before (p ∷ [])))
+    (stands_moved (declared_by (p ∷ [])) (declared_by before) st)
 
 module _ (old new : Checker) (before : List Part) (b : IsAfter old before) where
   -- what the checker knows after an array
-  pub after_array : (x : Name) (n : ℕ) (at : Place) → passes (λ _. true) (found old.names.outer x.text) ≡ false
-      → ((text : List ℕ) → found new.names.outer text ≡ (if pointwise nat_eq x.text text then Some array else found old.names.outer text))
-      → new.arrays ≡ old.arrays + 1 → new.procedures ≡ old.procedures → new.cells ≡ old.cells + n → new.statements ≡ old.statements → new.has_main ≡ old.has_main
+  pub after_array : (x : Name) (n : ℕ) (at : Place) → passes (λ _. true) (found old.names.outer x.text)
+      ≡ false
+      → ((text : List ℕ) → found new.names.outer text ≡ (if pointwise nat_eq x.text text then Some array
+      else found old.names.outer text))
+      → new.arrays ≡ old.arrays + 1 → new.procedures ≡ old.procedures → new.cells ≡ old.cells + n
+      → new.statements ≡ old.statements → new.has_main ≡ old.has_main
       → IsAfter new (before ++ Array x n at ∷ [])
   after_array x n at free puts arrays procedures cells statements main = record {
     names = stands_after before (Array x n at) (stands_with x.text array b.names free puts);
     arrays = arrays ∙ ap (λ m. m + 1) b.arrays ∙ sym (arrays_in-append before (Array x n at ∷ []));
     procedures = let h = procs_in-append before (Array x n at ∷ []) in let o = b.procedures in omega arith;
     cells = let h = cells_in-append before (Array x n at ∷ []) in let o = b.cells in omega arith;
-    statements = let h = statements_in-append before (Array x n at ∷ []) in let o = b.statements in omega arith;
-    main = main ∙ b.main ∙ sym (or_false (has_main before)) ∙ sym (has_main-append before (Array x n at ∷ []));
+    statements = let h = statements_in-append before (Array x n at ∷ []) in let o = b.statements in
+        omega arith;
+    main = main ∙ b.main ∙ sym (or_false (has_main before))
+        ∙ sym (has_main-append before (Array x n at ∷ []));
   }
 
   -- what the checker knows after a procedure
-  pub after_procedure : (p : Procedure) (count : ℕ) → passes (λ _. true) (found old.names.outer p.name.text) ≡ false → old.has_main ≡ false
-      → ((text : List ℕ) → found new.names.outer text ≡ (if pointwise nat_eq p.name.text text then Some (procedure (length p.params)) else found old.names.outer text))
+  pub after_procedure : (p : Procedure) (count : ℕ) → passes (λ _. true) (found old.names.outer p.name.text)
+      ≡ false → old.has_main ≡ false
+      → ((text : List ℕ) → found new.names.outer text ≡ (if pointwise nat_eq p.name.text text
+      then Some (procedure (length p.params)) else found old.names.outer text))
       → new.arrays ≡ old.arrays → new.procedures ≡ old.procedures + 1 → new.cells ≡ old.cells
-      → count ≡ old.statements + size_of_all p.body → new.statements ≡ count + size_of_ending p.ending → new.has_main ≡ is_main p
+      → count ≡ old.statements + size_of_all p.body → new.statements ≡ count + size_of_ending p.ending
+      → new.has_main ≡ is_main p
       → IsAfter new (before ++ Proc p ∷ [])
   after_procedure p count free no_main puts arrays procedures cells counted statements main = record {
-    names = stands_after before (Proc p) (stands_with p.name.text (procedure (length p.params)) b.names free puts);
+    names = stands_after before (Proc p) (stands_with p.name.text (procedure (length p.params)) b.names free
+        puts);
     arrays = let h = arrays_in-append before (Proc p ∷ []) in let o = b.arrays in omega arith;
     procedures = let h = procs_in-append before (Proc p ∷ []) in let o = b.procedures in omega arith;
     cells = let h = cells_in-append before (Proc p ∷ []) in let o = b.cells in omega arith;
     statements = let h = statements_in-append before (Proc p ∷ []) in let o = b.statements in omega arith;
     main =
         main ∙ sym (or_false (is_main p))
-        ∙ sym (has_main-append before (Proc p ∷ []) ∙ ap (λ a. a || (is_main p || false)) (sym b.main ∙ no_main));
+        ∙ sym (has_main-append before (Proc p ∷ []) ∙ ap (λ a. a || (is_main p || false))
+        (sym b.main ∙ no_main));
   }

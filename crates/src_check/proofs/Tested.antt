@@ -5,13 +5,18 @@ use Rattle.src_ast.specs.declared.fault.RefusalKind.TheVariants.{Main, Twice, Li
 use Rattle.src_ast.specs.declared.fault.Quantity.TheVariants.{Params, Vars}
 use Rattle.src_ast.specs.Rules.{Declared, is_visible, parameter_rules, variable_rules, rule}
 
-module _ (visible : List Declared) (k : ℕ) (x : Name) (known : Bool) (is_known : known ≡ is_visible visible x.text) where
+module _ (visible : List Declared) (k : ℕ) (x : Name) (known : Bool)
+    (is_known : known ≡ is_visible visible x.text) where
   -- the rules of a parameter, as tested
   pub parameter_rules_as : (main barred : Bool) → barred ≡ (main && (k == 0))
-      → parameter_rules main visible k (x ∷ []) ≡ rule x.place Main (not barred) ∷ rule x.place Twice (not known) ∷ rule x.place (Limit Params) (nat_lt k 8) ∷ []
+      → parameter_rules main visible k (x ∷ []) ≡ rule x.place Main (not barred) ∷ rule x.place Twice
+      (not known) ∷ rule x.place (Limit Params) (nat_lt k 8) ∷ []
   parameter_rules_as main barred is_barred =
-      λ i. rule x.place Main (not (sym is_barred i)) ∷ rule x.place Twice (not (sym is_known i)) ∷ rule x.place (Limit Params) (nat_lt k 8) ∷ []
+      λ i. rule x.place Main (not (sym is_barred i)) ∷ rule x.place Twice (not (sym is_known i)) ∷ rule
+      x.place (Limit Params) (nat_lt k 8) ∷ []
 
   -- the rules of a variable, as tested
-  pub variable_rules_as : variable_rules visible k (x ∷ []) ≡ rule x.place Twice (not known) ∷ rule x.place (Limit Vars) (nat_lt k 32) ∷ []
-  variable_rules_as = λ i. rule x.place Twice (not (sym is_known i)) ∷ rule x.place (Limit Vars) (nat_lt k 32) ∷ []
+  pub variable_rules_as : variable_rules visible k (x ∷ []) ≡ rule x.place Twice (not known) ∷ rule x.place
+      (Limit Vars) (nat_lt k 32) ∷ []
+  variable_rules_as = λ i. rule x.place Twice (not (sym is_known i)) ∷ rule x.place (Limit Vars) (nat_lt k 32)
+      ∷ []

@@ -8,10 +8,12 @@ use Rattle.src_ast.specs.declared.fault.Refusal.{Refusal}
 use Rattle.src_ast.specs.declared.fault.RefusalKind.{RefusalKind}
 use Rattle.src_ast.specs.declared.fault.TextFault.{TextFault}
 use Rattle.src_ast.specs.declared.fault.TextFault.TheVariants.{Refused, NoMemory}
-use Rattle.src_ast.specs.Lexemes.{start, Spells, Lex, IsShort, KeepLimits, open_past, row_past, open_after, row_after}
+use Rattle.src_ast.specs.Lexemes.{start, Spells, Lex, IsShort, KeepLimits, open_past, row_past, open_after}
+use Rattle.src_ast.specs.Lexemes.{row_after}
 use Rattle.src_ast.specs.LexFaults.{Wrong, LexFault, IsLexFault, AnswersLexemes}
 use Rattle.src_lex.proofs.Compared.{Compared, compare}
-use Rattle.src_lex.proofs.Denied.{end_denies, end_ends_gap, end_right, wrong_ends_gap, wrong_denies, one_wrong}
+use Rattle.src_lex.proofs.Denied.{end_denies, end_ends_gap, end_right, wrong_ends_gap, wrong_denies}
+use Rattle.src_lex.proofs.Denied.{one_wrong}
 
 -- the limits, at a lexeme in a list that keeps them
 pub record KeptAt (open' row : ℕ) (l : Lexeme) : Type 0 where
@@ -19,7 +21,8 @@ pub record KeptAt (open' row : ℕ) (l : Lexeme) : Type 0 where
   pub depth : open_past open' l.shape ≤ 32
   pub row_kept : row_past row l.shape ≤ 256
 
-kept_at : (o w : ℕ) (ls : List Lexeme) (l : Lexeme) (more : List Lexeme) → KeepLimits o w (ls ++ (l ∷ more)) → KeptAt (open_after o ls) (row_after w ls) l
+kept_at : (o w : ℕ) (ls : List Lexeme) (l : Lexeme) (more : List Lexeme) → KeepLimits o w (ls ++ (l ∷ more))
+    → KeptAt (open_after o ls) (row_after w ls) l
 kept_at o w [] l more k = record { short = k.0; depth = k.1; row_kept = k.2 }
 kept_at o w (m ∷ ls) l more k = kept_at (open_past o m.shape) (row_past w m.shape) ls l more k.3
 
@@ -28,30 +31,40 @@ depth_kept o w [] h k = h
 depth_kept o w (m ∷ ls) h k = depth_kept (open_past o m.shape) (row_past w m.shape) ls k.1 k.3
 
 -- a fault does not stand where another list within the limits goes on
-no_fault_inside : (ls ms : List Lexeme) (l : Lexeme) (more : List Lexeme) (r bytes following : List ℕ) (k : RefusalKind) → KeepLimits 0 0 ms → ms ≡ ls ++ (l ∷ more)
-    → Wrong (open_after 0 ls) (row_after 0 ls) r k → r ≡ bytes ++ following → Spells l.shape bytes following → ⊥
+no_fault_inside : (ls ms : List Lexeme) (l : Lexeme) (more : List Lexeme) (r bytes following : List ℕ)
+    (k : RefusalKind) → KeepLimits 0 0 ms → ms ≡ ls ++ (l ∷ more)
+    → Wrong (open_after 0 ls) (row_after 0 ls) r k → r ≡ bytes ++ following → Spells l.shape bytes following
+    → ⊥
 no_fault_inside ls ms l more r bytes following k kept e w t s =
     let at = kept_at 0 0 ls l more (rw e at kept) in
-    wrong_denies (open_after 0 ls) (row_after 0 ls) r k l.shape bytes following w t s at.short at.depth at.row_kept
+    wrong_denies (open_after 0 ls) (row_after 0 ls) r k l.shape bytes following w t s at.short at.depth
+    at.row_kept
 
 -- a text has one list of lexemes at most
-pub one_lexing_of : (text : List ℕ) (a b : List Lexeme) (p q : Place) → Lex text a p → Lex text b q → (a ≡ b) × (p ≡ q)
+pub one_lexing_of : (text : List ℕ) (a b : List Lexeme) (p q : Place) → Lex text a p → Lex text b q
+    → (a ≡ b) × (p ≡ q)
 one_lexing_of text a b p q x y =
     let finish : p ≡ q = x.finish_is ∙ sym y.finish_is in
-    let c = compare start text a x.place x.rest b y.place y.rest x.leads y.leads (end_ends_gap x.rest x.over) (end_ends_gap y.rest y.over) in
+    let c = compare start text a x.place x.rest b y.place y.rest x.leads y.leads (end_ends_gap x.rest x.over)
+    (end_ends_gap y.rest y.over) in
     elim c [
       | Compared.same e f g ↦ (e, finish)
-      | Compared.ahead l more bytes following e f s ↦ absurd (end_denies l.shape y.rest bytes following y.over f s)
-      | Compared.short l more bytes following e f s ↦ absurd (end_denies l.shape x.rest bytes following x.over f s)
+      | Compared.ahead l more bytes following e f s ↦
+          absurd (end_denies l.shape y.rest bytes following y.over f s)
+      | Compared.short l more bytes following e f s ↦
+          absurd (end_denies l.shape x.rest bytes following x.over f s)
     ]
 
 -- a text whose lexemes keep the limits has no fault
-pub no_fault_of : (text : List ℕ) (ls : List Lexeme) (p : Place) (r : Refusal) → Lex text ls p → KeepLimits 0 0 ls → LexFault text r → ⊥
+pub no_fault_of : (text : List ℕ) (ls : List Lexeme) (p : Place) (r : Refusal) → Lex text ls p
+    → KeepLimits 0 0 ls → LexFault text r → ⊥
 no_fault_of text ls p r x kept y =
-    let c = compare start text ls x.place x.rest y.ls r.place y.rest x.leads y.leads (end_ends_gap x.rest x.over) (wrong_ends_gap _ _ y.rest r.kind y.wrong) in
+    let c = compare start text ls x.place x.rest y.ls r.place y.rest x.leads y.leads
+    (end_ends_gap x.rest x.over) (wrong_ends_gap _ _ y.rest r.kind y.wrong) in
     elim c [
       | Compared.same e f g ↦ end_right _ _ y.rest r.kind (rw (← g) x.over) y.wrong
-      | Compared.ahead l more bytes following e f s ↦ no_fault_inside y.ls ls l more y.rest bytes following r.kind kept e y.wrong f s
+      | Compared.ahead l more bytes following e f s ↦ no_fault_inside y.ls ls l more y.rest bytes following
+          r.kind kept e y.wrong f s
       | Compared.short l more bytes following e f s ↦ end_denies l.shape x.rest bytes following x.over f s
     ]
 
@@ -61,17 +74,22 @@ same_refusal a b e p = λ i. record { kind = e i; place = p i }
 -- a text has one first fault at most
 pub one_fault_of : (text : List ℕ) (a b : Refusal) → LexFault text a → LexFault text b → a ≡ b
 one_fault_of text a b x y =
-    let c = compare start text x.ls a.place x.rest y.ls b.place y.rest x.leads y.leads (wrong_ends_gap _ _ x.rest a.kind x.wrong) (wrong_ends_gap _ _ y.rest b.kind y.wrong) in
+    let c = compare start text x.ls a.place x.rest y.ls b.place y.rest x.leads y.leads
+    (wrong_ends_gap _ _ x.rest a.kind x.wrong) (wrong_ends_gap _ _ y.rest b.kind y.wrong) in
     elim c [
       | Compared.same e f g ↦
           let there : Wrong (open_after 0 x.ls) (row_after 0 x.ls) x.rest b.kind = rw (e, g) y.wrong in
-          same_refusal a b (one_wrong (open_after 0 x.ls) (row_after 0 x.ls) x.rest a.kind b.kind (depth_kept 0 0 x.ls (omega arith) x.kept) x.wrong there) f
-      | Compared.ahead l more bytes following e f s ↦ absurd (no_fault_inside y.ls x.ls l more y.rest bytes following b.kind x.kept e y.wrong f s)
-      | Compared.short l more bytes following e f s ↦ absurd (no_fault_inside x.ls y.ls l more x.rest bytes following a.kind y.kept e x.wrong f s)
+          same_refusal a b (one_wrong (open_after 0 x.ls) (row_after 0 x.ls) x.rest a.kind b.kind
+          (depth_kept 0 0 x.ls (omega arith) x.kept) x.wrong there) f
+      | Compared.ahead l more bytes following e f s ↦
+          absurd (no_fault_inside y.ls x.ls l more y.rest bytes following b.kind x.kept e y.wrong f s)
+      | Compared.short l more bytes following e f s ↦
+          absurd (no_fault_inside x.ls y.ls l more x.rest bytes following a.kind y.kept e x.wrong f s)
     ]
 
 -- what is found or refused rightly is the one answer
-pub only_answer : (text : List ℕ) (r : Result lexemes.Lexemes TextFault) → IfOk r (λ l. Lex text l.items.items l.finish) → IfErr r (λ e. IsLexFault text e)
+pub only_answer : (text : List ℕ) (r : Result lexemes.Lexemes TextFault)
+    → IfOk r (λ l. Lex text l.items.items l.finish) → IfErr r (λ e. IsLexFault text e)
     → (ls : List Lexeme) (p : Place) → Lex text ls p → KeepLimits 0 0 ls → AnswersLexemes r ls p
 only_answer text (Ok l) found refused ls p x kept = one_lexing_of text l.items.items ls l.finish p found x
 only_answer text (Err NoMemory) found refused ls p x kept = tt

@@ -1,5 +1,6 @@
 -- A mark and its bytes.
-use Rattle.std.specs.Prelude.{◌≡◌, ℕ, ◌≤◌, ◌==◌, cond, nat_le, length, true, false, IsTrue, ◌&&◌, List, [], ◌∷◌, ◌++◌, Option, Some, None, refl}
+use Rattle.std.specs.Prelude.{◌≡◌, ℕ, ◌≤◌, ◌==◌, cond, nat_le, length, true, false, IsTrue, ◌&&◌, List, []}
+use Rattle.std.specs.Prelude.{◌∷◌, ◌++◌, Option, Some, None, refl}
 use Rattle.std.proofs.Common.{arith, sym, ap, ◌∙◌}
 use Rattle.std.proofs.lemmas.Bool.{eqb-true, both_ways, and_parts, leb-true}
 use Rattle.src_ast.specs.declared.lexeme.Mark.{Mark}
@@ -34,7 +35,9 @@ one_or_two : (xs : List ℕ) → IsTrue (nat_le 1 (length xs) && nat_le (length 
 one_or_two [] h = absurd (both_ways false refl h)
 one_or_two (x ∷ []) h = one x
 one_or_two (x ∷ y ∷ []) h = two x y
-one_or_two (x ∷ y ∷ z ∷ xs) h = let few = leb-true (length (x ∷ y ∷ z ∷ xs)) 2 ((and_parts (nat_le 1 (length (x ∷ y ∷ z ∷ xs))) (nat_le (length (x ∷ y ∷ z ∷ xs)) 2) h).1) in absurd (omega arith)
+one_or_two (x ∷ y ∷ z ∷ xs) h = let few = leb-true (length (x ∷ y ∷ z ∷ xs)) 2
+    ((and_parts (nat_le 1 (length (x ∷ y ∷ z ∷ xs))) (nat_le (length (x ∷ y ∷ z ∷ xs)) 2) h).1) in
+    absurd (omega arith)
 
 is_short : (m : Mark) → IsTrue (nat_le 1 (length (spelling m)) && nat_le (length (spelling m)) 2)
 is_short LParen = refl
@@ -53,14 +56,16 @@ none_sound bytes m e = cc
 some_sound : (bytes : List ℕ) (m : Mark) → spelling m ≡ bytes → Sound bytes (Some m)
 some_sound bytes m h n e = let same : m ≡ n = cc in rw (← same) h
 
-choice : (f : ℕ → List ℕ) (b k : ℕ) (yes_mark no_mark : Option Mark) → Sound (f k) yes_mark → Sound (f b) no_mark → Sound (f b) (cond (b == k) yes_mark no_mark)
+choice : (f : ℕ → List ℕ) (b k : ℕ) (yes_mark no_mark : Option Mark) → Sound (f k) yes_mark
+    → Sound (f b) no_mark → Sound (f b) (cond (b == k) yes_mark no_mark)
 choice f b k m o h g =
     (elim (b == k) as (λ t. (b == k) ≡ t → Sound (f b) (cond t m o)) [
       | true ↦ λ e. rw (eqb-true b k e) h
       | false ↦ λ e. g
     ]) refl
 
-one_choice : (b k : ℕ) (m : Mark) (o : Option Mark) → spelling m ≡ k ∷ [] → Sound (b ∷ []) o → Sound (b ∷ []) (cond (b == k) (Some m) o)
+one_choice : (b k : ℕ) (m : Mark) (o : Option Mark) → spelling m ≡ k ∷ [] → Sound (b ∷ []) o
+    → Sound (b ∷ []) (cond (b == k) (Some m) o)
 one_choice b k m o h g = choice (λ x. x ∷ []) b k (Some m) o (some_sound (k ∷ []) m h) g
 
 pub one_sound : (b : ℕ) → Sound (b ∷ []) (mark_of_one b)
@@ -72,19 +77,25 @@ one_sound b =
     one_choice b 94 _ _ refl (one_choice b 126 _ _ refl (one_choice b 33 _ _ refl (one_choice b 60 _ _ refl (
     one_choice b 62 _ _ refl (none_sound (b ∷ []))))))))))))))))))))))
 
-first_choice : (b c k : ℕ) (m : Mark) (o : Option Mark) → spelling m ≡ k ∷ c ∷ [] → Sound (b ∷ c ∷ []) o → Sound (b ∷ c ∷ []) (cond (b == k) (Some m) o)
+first_choice : (b c k : ℕ) (m : Mark) (o : Option Mark) → spelling m ≡ k ∷ c ∷ [] → Sound (b ∷ c ∷ []) o
+    → Sound (b ∷ c ∷ []) (cond (b == k) (Some m) o)
 first_choice b c k m o h g = choice (λ x. x ∷ c ∷ []) b k (Some m) o (some_sound (k ∷ c ∷ []) m h) g
 
 twice : (c k : ℕ) (m : Mark) → spelling m ≡ k ∷ k ∷ [] → Sound (k ∷ c ∷ []) (cond (c == k) (Some m) None)
-twice c k m h = choice (λ x. k ∷ x ∷ []) c k (Some m) None (some_sound (k ∷ k ∷ []) m h) (none_sound (k ∷ c ∷ []))
+twice c k m h = choice (λ x. k ∷ x ∷ []) c k (Some m) None (some_sound (k ∷ k ∷ []) m h)
+    (none_sound (k ∷ c ∷ []))
 
 pub two_sound : (b c : ℕ) → Sound (b ∷ c ∷ []) (mark_of_two b c)
 two_sound b c =
     choice (λ x. b ∷ x ∷ []) c 61 _ _ (
-    first_choice b 61 60 _ _ refl (first_choice b 61 62 _ _ refl (first_choice b 61 61 _ _ refl (first_choice b 61 33 _ _ refl (none_sound (b ∷ 61 ∷ []))))))
-    (choice (λ x. x ∷ c ∷ []) b 60 _ _ (twice c 60 _ refl) (choice (λ x. x ∷ c ∷ []) b 62 _ _ (twice c 62 _ refl) (none_sound (b ∷ c ∷ []))))
+    first_choice b 61 60 _ _ refl
+    (first_choice b 61 62 _ _ refl
+    (first_choice b 61 61 _ _ refl (first_choice b 61 33 _ _ refl (none_sound (b ∷ 61 ∷ []))))))
+    (choice (λ x. x ∷ c ∷ []) b 60 _ _ (twice c 60 _ refl)
+    (choice (λ x. x ∷ c ∷ []) b 62 _ _ (twice c 62 _ refl) (none_sound (b ∷ c ∷ []))))
 
-pub front_is : (m : Mark) (x y : ℕ) (more : List ℕ) → spelling m ≡ x ∷ y ∷ [] → mark_of_front (x ∷ y ∷ more) ≡ Some m
+pub front_is : (m : Mark) (x y : ℕ) (more : List ℕ) → spelling m ≡ x ∷ y ∷ []
+    → mark_of_front (x ∷ y ∷ more) ≡ Some m
 front_is m x y more e = ap mark_of (sym e) ∙ mark_of_spelling m
 
 most_two : (xs : List ℕ) → OneOrTwo xs → length xs ≤ 2
@@ -92,7 +103,8 @@ most_two xs (one x) = omega arith
 most_two xs (two x y) = omega arith
 
 -- where no mark of two bytes begins the text, one byte is the longest mark
-longest_one : (m : Mark) (xs : List ℕ) → OneOrTwo xs → spelling m ≡ xs → (text more : List ℕ) → mark_of_front text ≡ None → text ≡ xs ++ more → length xs ≤ 1
+longest_one : (m : Mark) (xs : List ℕ) → OneOrTwo xs → spelling m ≡ xs → (text more : List ℕ)
+    → mark_of_front text ≡ None → text ≡ xs ++ more → length xs ≤ 1
 longest_one m xs (one x) e text more h k = omega arith
 longest_one m xs (two x y) e text more h k =
     let bad : Option.Some m ≡ None = sym (front_is m x y more e) ∙ (ap mark_of_front (sym k) ∙ h) in cc
@@ -105,27 +117,35 @@ reads_two (b ∷ c ∷ more) m e =
     record {
       within = omega arith;
       some = omega arith;
-      spells = Spells.mark m (sym (two_sound b c m e)) (λ other following k. most_two (spelling other) (one_or_two_bytes other));
+      spells = Spells.mark m (sym (two_sound b c m e)) (λ other following k.
+          most_two (spelling other) (one_or_two_bytes other));
     }
 
 -- where the first two bytes are no mark, the mark of the first is the longest
-pub reads_one : (text : List ℕ) (b : ℕ) (rest : List ℕ) (m : Mark) → text ≡ b ∷ rest → mark_of_front text ≡ None → mark_of_one b ≡ Some m → Reads (shape.Mark m) 1 text
+pub reads_one : (text : List ℕ) (b : ℕ) (rest : List ℕ) (m : Mark) → text ≡ b ∷ rest
+    → mark_of_front text ≡ None → mark_of_one b ≡ Some m → Reads (shape.Mark m) 1 text
 reads_one text b rest m t h e =
     let made : Reads (shape.Mark m) 1 (b ∷ rest) = record {
       within = omega arith;
       some = omega arith;
-      spells = Spells.mark m (sym (one_sound b m e)) (λ other following k. longest_one other (spelling other) (one_or_two_bytes other) refl text following h (t ∙ k));
+      spells = Spells.mark m (sym (one_sound b m e)) (λ other following k. longest_one other (spelling other)
+          (one_or_two_bytes other) refl text following h (t ∙ k));
     } in rw t made
 
-no_mark_of : (m : Mark) (xs : List ℕ) → OneOrTwo xs → spelling m ≡ xs → (text : List ℕ) (b : ℕ) (rest more : List ℕ) → text ≡ b ∷ rest → mark_of_front text ≡ None → mark_of_one b ≡ None → text ≡ xs ++ more → ⊥
+no_mark_of : (m : Mark) (xs : List ℕ) → OneOrTwo xs → spelling m ≡ xs
+    → (text : List ℕ) (b : ℕ) (rest more : List ℕ) → text ≡ b ∷ rest → mark_of_front text ≡ None
+    → mark_of_one b ≡ None → text ≡ xs ++ more → ⊥
 no_mark_of m xs (one x) e text b rest more t h k q =
     let first : b ≡ x = cc in
-    let bad : Option.Some m ≡ None = sym (ap mark_of (sym e) ∙ mark_of_spelling m) ∙ (ap mark_of_one (sym first) ∙ k) in cc
+    let bad : Option.Some m ≡ None = sym (ap mark_of (sym e) ∙ mark_of_spelling m)
+    ∙ (ap mark_of_one (sym first) ∙ k) in cc
 no_mark_of m xs (two x y) e text b rest more t h k q =
     let bad : Option.Some m ≡ None = sym (front_is m x y more e) ∙ (ap mark_of_front (sym q) ∙ h) in cc
 
 -- where neither is one, no mark begins the text
-pub no_mark : (text : List ℕ) (b : ℕ) (rest : List ℕ) → text ≡ b ∷ rest → mark_of_front text ≡ None → mark_of_one b ≡ None → (m : Mark) (more : List ℕ) → text ≡ spelling m ++ more → ⊥
-no_mark text b rest t h k m more q = no_mark_of m (spelling m) (one_or_two_bytes m) refl text b rest more t h k q
+pub no_mark : (text : List ℕ) (b : ℕ) (rest : List ℕ) → text ≡ b ∷ rest → mark_of_front text ≡ None
+    → mark_of_one b ≡ None → (m : Mark) (more : List ℕ) → text ≡ spelling m ++ more → ⊥
+no_mark text b rest t h k m more q = no_mark_of m (spelling m) (one_or_two_bytes m) refl text b rest more t h
+    k q
 
 pub ruleset marks = (reads_two, reads_one, no_mark)

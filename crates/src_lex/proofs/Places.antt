@@ -7,7 +7,8 @@ use Rattle.src_ast.specs.Lexemes.{after, past}
 use Rattle.src_ast.proofs.Pieces.{after-append as after_append}
 
 -- one byte more
-pub after_more : (at : Place) (xs : List ℕ) (i : ℕ) (d : ℕ) → i < length xs → after at (take (i + 1) xs) ≡ past (after at (take i xs)) (get_or xs i d)
+pub after_more : (at : Place) (xs : List ℕ) (i : ℕ) (d : ℕ) → i < length xs
+    → after at (take (i + 1) xs) ≡ past (after at (take i xs)) (get_or xs i d)
 after_more at xs i d h = rw (take_more xs i d h) (after_append at (take i xs) (get_or xs i d ∷ []))
 
 pub record Kept (at : Place) (count : ℕ) (place : Place) : Type 0 where
@@ -17,7 +18,9 @@ pub record Kept (at : Place) (count : ℕ) (place : Place) : Type 0 where
 
 pub past_kept : (at : Place) (b : ℕ) → 0 < at.line → 0 < at.column → Kept at 1 (past at b)
 past_kept at b h k =
-    elim (b == 10) as (λ t. Kept at 1 (cond t (record { line = at.line + 1; column = 1 }) (record { line = at.line; column = at.column + 1 }))) [
+    elim (b == 10) as
+    (λ t. Kept at 1 (cond t (record { line = at.line + 1; column = 1 })
+    (record { line = at.line; column = at.column + 1 }))) [
       | true ↦ record { line = omega arith; column = omega arith; room = omega arith }
       | false ↦ record { line = omega arith; column = omega arith; room = omega arith }
     ]

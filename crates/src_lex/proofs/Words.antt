@@ -1,5 +1,6 @@
 -- Words and numbers as the longest runs of their bytes; bytes that begin nothing.
-use Rattle.std.specs.Prelude.{◌≡◌, ℕ, suc, ◌^◌, ◌≤◌, ◌<◌, ◌==◌, length, Bool, true, false, IsTrue, List, [], ◌∷◌, ◌++◌, refl}
+use Rattle.std.specs.Prelude.{◌≡◌, ℕ, suc, ◌^◌, ◌≤◌, ◌<◌, ◌==◌, length, Bool, true, false, IsTrue, List, []}
+use Rattle.std.specs.Prelude.{◌∷◌, ◌++◌, refl}
 use Rattle.std.specs.List.{list_all, prefix_len}
 use Rattle.std.proofs.Common.{take, drop, arith, sym, ap, ◌∙◌, get_or, append_assoc}
 use Rattle.std.proofs.lemmas.Bool.{or_parts, and_from, and_parts}
@@ -26,7 +27,8 @@ pub record RunAt (first inner : ℕ → Bool) (count : ℕ) (text : List ℕ) : 
   pub all : IsTrue (list_all inner (take count text))
   pub stops : IsTrue (starts_without inner (drop count text))
 
-pub run_at : (first inner : ℕ → Bool) (text : List ℕ) → ((b : ℕ) → first b ≡ true → inner b ≡ true) → 0 < length text → first (get_or text 0 0) ≡ true
+pub run_at : (first inner : ℕ → Bool) (text : List ℕ) → ((b : ℕ) → first b ≡ true → inner b ≡ true)
+    → 0 < length text → first (get_or text 0 0) ≡ true
     → RunAt first inner (prefix_len inner text) text
 run_at first inner [] up h k = absurd (omega arith)
 run_at first inner (b ∷ text) up h k =
@@ -40,56 +42,76 @@ run_at first inner (b ∷ text) up h k =
       stops = prefix_stops inner text;
     } in rw e made
 
-pub word_run : (text : List ℕ) → 0 < length text → is_letter (get_or text 0 0) ≡ true → RunAt is_letter is_word_byte (prefix_len is_word_byte text) text
+pub word_run : (text : List ℕ) → 0 < length text → is_letter (get_or text 0 0) ≡ true
+    → RunAt is_letter is_word_byte (prefix_len is_word_byte text) text
 word_run text h k = run_at is_letter is_word_byte text letter_byte h k
 
-pub number_run : (text : List ℕ) → 0 < length text → is_digit (get_or text 0 0) ≡ true → RunAt is_digit is_digit (prefix_len is_digit text) text
+pub number_run : (text : List ℕ) → 0 < length text → is_digit (get_or text 0 0) ≡ true
+    → RunAt is_digit is_digit (prefix_len is_digit text) text
 number_run text h k = run_at is_digit is_digit text (λ b e. e) h k
 
-taken_length : {first inner : ℕ → Bool} {n : ℕ} {text : List ℕ} → RunAt first inner n text → length (take n text) ≡ n
+taken_length : {first inner : ℕ → Bool} {n : ℕ} {text : List ℕ} → RunAt first inner n text
+    → length (take n text) ≡ n
 taken_length {n = n} {text = text} r = length-take-le n text r.within
 
-word_is : (xs : List ℕ) → 0 < length xs → is_letter (get_or xs 0 0) ≡ true → list_all is_word_byte xs ≡ true → is_word xs ≡ true
+word_is : (xs : List ℕ) → 0 < length xs → is_letter (get_or xs 0 0) ≡ true → list_all is_word_byte xs ≡ true
+    → is_word xs ≡ true
 word_is [] h k a = absurd (omega arith)
-word_is (b ∷ xs) h k a = and_from (is_letter b) (list_all is_word_byte xs) k ((and_parts (is_word_byte b) (list_all is_word_byte xs) a).1)
+word_is (b ∷ xs) h k a = and_from (is_letter b) (list_all is_word_byte xs) k
+    ((and_parts (is_word_byte b) (list_all is_word_byte xs) a).1)
 
 run_word : {n : ℕ} {text : List ℕ} → RunAt is_letter is_word_byte n text → is_word (take n text) ≡ true
-run_word {n = n} {text = text} r = word_is (take n text) (let e = taken_length r in let h = r.some in omega arith) r.begins r.all
+run_word {n = n} {text = text} r = word_is (take n text) (let e = taken_length r in let h = r.some in
+    omega arith) r.begins r.all
 
 run_number : {n : ℕ} {text : List ℕ} → RunAt is_digit is_digit n text → is_number (take n text) ≡ true
-run_number {n = n} {text = text} r = number_from (take n text) (let e = taken_length r in let h = r.some in omega arith) r.all
+run_number {n = n} {text = text} r = number_from (take n text) (let e = taken_length r in let h = r.some in
+    omega arith) r.all
 
 -- a run of at most so many bytes from a letter on is a word
-pub word_read : (text : List ℕ) (n : ℕ) (name : List ℕ) → 0 < length text → is_letter (get_or text 0 0) ≡ true → n ≡ prefix_len is_word_byte text → name ≡ take n text
+pub word_read : (text : List ℕ) (n : ℕ) (name : List ℕ) → 0 < length text → is_letter (get_or text 0 0) ≡ true
+    → n ≡ prefix_len is_word_byte text → name ≡ take n text
     → Reads (shape.Word name) n text
 word_read text n name h k e t =
     let made : RunAt is_letter is_word_byte n text = rw e (word_run text h k) in
     rw t (record { within = made.within; some = made.some; spells = Spells.word (run_word made) made.stops })
 
 -- a longer one is beyond the limit
-pub word_long : (text : List ℕ) (n : ℕ) → 0 < length text → is_letter (get_or text 0 0) ≡ true → n ≡ prefix_len is_word_byte text → 64 < n
+pub word_long : (text : List ℕ) (n : ℕ) → 0 < length text → is_letter (get_or text 0 0) ≡ true
+    → n ≡ prefix_len is_word_byte text → 64 < n
     → (open' row : ℕ) → Wrong open' row text (Limit NameBytes)
 word_long text n h k e l open' row =
     let made : RunAt is_letter is_word_byte n text = rw e (word_run text h k) in
-    Wrong.long (take n text) (drop n text) (sym (take-append-drop n text)) (run_word made) made.stops (let q = taken_length made in omega arith)
+    Wrong.long (take n text) (drop n text) (sym (take-append-drop n text)) (run_word made) made.stops
+    (let q = taken_length made in omega arith)
 
 -- a run of digits whose value is a word is a number
-pub number_read : (text : List ℕ) (n v : ℕ) → 0 < length text → is_digit (get_or text 0 0) ≡ true → n ≡ prefix_len is_digit text → value_of (take n text) ≡ v → v < 2 ^ 64
+pub number_read : (text : List ℕ) (n v : ℕ) → 0 < length text → is_digit (get_or text 0 0) ≡ true
+    → n ≡ prefix_len is_digit text → value_of (take n text) ≡ v → v < 2 ^ 64
     → Reads (shape.Number v) n text
 number_read text n v h k e t l =
     let made : RunAt is_digit is_digit n text = rw e (number_run text h k) in
-    record { within = made.within; some = made.some; spells = Spells.number v (run_number made) made.stops (sym t) l }
+    record {
+      within = made.within;
+      some = made.some;
+      spells = Spells.number v (run_number made) made.stops
+          (sym t) l;
+    }
 
 -- one of a greater value is wide
-pub number_wide : (text : List ℕ) (n : ℕ) → 0 < length text → is_digit (get_or text 0 0) ≡ true → n ≡ prefix_len is_digit text → (is_number (take n text) ≡ true → 2 ^ 64 ≤ value_of (take n text))
+pub number_wide : (text : List ℕ) (n : ℕ) → 0 < length text → is_digit (get_or text 0 0) ≡ true
+    → n ≡ prefix_len is_digit text → (is_number (take n text) ≡ true → 2 ^ 64 ≤ value_of (take n text))
     → (open' row : ℕ) → Wrong open' row text Wide
 number_wide text n h k e l open' row =
     let made : RunAt is_digit is_digit n text = rw e (number_run text h k) in
-    Wrong.wide (take n text) (drop n text) (sym (take-append-drop n text)) (run_number made) made.stops (l (run_number made))
+    Wrong.wide (take n text) (drop n text) (sym (take-append-drop n text)) (run_number made) made.stops
+    (l (run_number made))
 
 -- a byte that begins no gap, word, number or mark is wrong
-pub byte_wrong : (text : List ℕ) → 0 < length text → begins_gap (get_or text 0 0) ≡ false → is_letter (get_or text 0 0) ≡ false → is_digit (get_or text 0 0) ≡ false
-    → ((m : Mark) (more : List ℕ) → text ≡ spelling m ++ more → ⊥) → (open' row : ℕ) → Wrong open' row text Byte
+pub byte_wrong : (text : List ℕ) → 0 < length text → begins_gap (get_or text 0 0) ≡ false
+    → is_letter (get_or text 0 0) ≡ false → is_digit (get_or text 0 0) ≡ false
+    → ((m : Mark) (more : List ℕ) → text ≡ spelling m ++ more → ⊥) → (open' row : ℕ)
+    → Wrong open' row text Byte
 byte_wrong [] h g l d m open' row = absurd (omega arith)
 byte_wrong (b ∷ text) h g l d m open' row =
     let parts = or_parts (is_blank b) (b == 35) g in

@@ -6,35 +6,47 @@ use Rattle.src_ast.specs.declared.lexeme.Lexeme.{Lexeme}
 use Rattle.src_ast.specs.declared.lexeme.Shape.TheVariants as shape
 use Rattle.src_ast.specs.declared.lexeme.Mark.TheVariants as mark
 use Rattle.src_ast.specs.Syntax.{Last, Part, Proc, Statements}
-use Rattle.src_ast.specs.Grammar.{Is, IsName, IsWord, Separated, Listed, SpelledName, SpelledStatements, SpelledEnding, no_ending, ending, SpelledVars, no_vars, vars, SpelledItem, array, proc, Tree, no_items, items}
+use Rattle.src_ast.specs.Grammar.{Is, IsName, IsWord, Separated, Listed, SpelledName, SpelledStatements}
+use Rattle.src_ast.specs.Grammar.{SpelledEnding, no_ending, ending, SpelledVars, no_vars, vars, SpelledItem}
+use Rattle.src_ast.specs.Grammar.{array, proc, Tree, no_items, items}
 use Rattle.src_parse.specs.Reading.{Done, ◌|>◌, is_word, name_at}
 use Rattle.src_parse.specs.Statements.{value_at, starts, starts_at}
-use Rattle.src_parse.specs.Programs.{array_at, line_at, vars_by, vars_at, ending_at, inside_at, proc_at, item_at, items_by, program_at}
+use Rattle.src_parse.specs.Programs.{array_at, line_at, vars_by, vars_at, ending_at, inside_at, proc_at}
+use Rattle.src_parse.specs.Programs.{item_at, items_by, program_at}
 use Rattle.src_parse.proofs.Complete.{semi, expect_mark}
 use Rattle.src_parse.proofs.Names.{name_done, count_done}
 use Rattle.src_parse.proofs.Lists.{names, complete_separated, complete_enclosed}
 use Rattle.src_parse.proofs.CompleteStatements.{NoWord, complete_value, complete_statements, statements_other}
 use Rattle.src_parse.proofs.Programs.{vars_at_is, program_at_is}
 
-complete_line : (ls : List Lexeme) (xs : List Name) (last : Lexeme) (ts : List Lexeme) → Separated SpelledName ls xs → Is mark.Semi last → line_at (ls ++ (last ∷ ts)) ≡ Done xs ts
+complete_line : (ls : List Lexeme) (xs : List Name) (last : Lexeme) (ts : List Lexeme)
+    → Separated SpelledName ls xs → Is mark.Semi last → line_at (ls ++ (last ∷ ts)) ≡ Done xs ts
 unfolding line_at
-complete_line ls xs last ts s z = rw (complete_separated SpelledName name_at names mark.Semi semi refl ls xs last ts s z, expect_mark mark.Semi last ts z) refl
+complete_line ls xs last ts s z =
+    rw (
+      complete_separated SpelledName name_at names mark.Semi semi refl ls xs last ts s z,
+      expect_mark mark.Semi last ts z,
+    ) refl
 
 vars_stay : (ts : List Lexeme) → NoWord (codes "var") ts → vars_at ts ≡ Done [] ts
 unfolding vars_by
 vars_stay [] n = vars_at_is []
 vars_stay (l ∷ ts) n = vars_at_is (l ∷ ts) ∙ rw n refl
 
-vars_go : (l : Lexeme) (x r q : List Lexeme) (xs ys : List Name) → IsWord (codes "var") l → line_at x ≡ Done xs r → vars_at r ≡ Done ys q → vars_at (l ∷ x) ≡ Done (xs ++ ys) q
+vars_go : (l : Lexeme) (x r q : List Lexeme) (xs ys : List Name) → IsWord (codes "var") l
+    → line_at x ≡ Done xs r → vars_at r ≡ Done ys q → vars_at (l ∷ x) ≡ Done (xs ++ ys) q
 unfolding vars_by
 vars_go l x r q xs ys h e k = vars_at_is (l ∷ x) ∙ rw (h, e, k) refl
 
-complete_vars : (ks : List Lexeme) (zs : List Name) → SpelledVars ks zs → (ts : List Lexeme) → NoWord (codes "var") ts → vars_at (ks ++ ts) ≡ Done zs ts
+complete_vars : (ks : List Lexeme) (zs : List Name) → SpelledVars ks zs → (ts : List Lexeme)
+    → NoWord (codes "var") ts → vars_at (ks ++ ts) ≡ Done zs ts
 complete_vars ks zs no_vars ts n = vars_stay ts n
 complete_vars ks zs (vars l last ls rs xs ys eq both h s z k) ts n =
-    rw (eq, both, append_assoc) (vars_go l (ls ++ (last ∷ (rs ++ ts))) (rs ++ ts) ts xs ys h (complete_line ls xs last (rs ++ ts) s z) (complete_vars rs ys k ts n))
+    rw (eq, both, append_assoc) (vars_go l (ls ++ (last ∷ (rs ++ ts))) (rs ++ ts) ts xs ys h
+    (complete_line ls xs last (rs ++ ts) s z) (complete_vars rs ys k ts n))
 
-ending_return : (l : Lexeme) (x : List Lexeme) → IsWord (codes "return") l → ending_at (l ∷ x) ≡ value_at (λ e. Some (record { place = l.place; value = e })) x
+ending_return : (l : Lexeme) (x : List Lexeme) → IsWord (codes "return") l
+    → ending_at (l ∷ x) ≡ value_at (λ e. Some (record { place = l.place; value = e })) x
 unfolding ending_at
 ending_return l x h = rw h refl
 
@@ -42,33 +54,48 @@ ending_none : (l : Lexeme) (x : List Lexeme) → Is mark.RBrace l → ending_at 
 unfolding ending_at
 ending_none l x h = rw h refl
 
-complete_ending : (es : List Lexeme) (e : Option Last) → SpelledEnding es e → (close : Lexeme) (ts : List Lexeme) → Is mark.RBrace close → ending_at (es ++ (close ∷ ts)) ≡ Done e (close ∷ ts)
+complete_ending : (es : List Lexeme) (e : Option Last) → SpelledEnding es e
+    → (close : Lexeme) (ts : List Lexeme) → Is mark.RBrace close → ending_at (es ++ (close ∷ ts))
+    ≡ Done e (close ∷ ts)
 complete_ending es e no_ending close ts z = ending_none close ts z
 complete_ending es e (ending l last ls v eq a b c) close ts z =
-    rw (eq, append_assoc) (ending_return l (ls ++ (last ∷ close ∷ ts)) a ∙ complete_value (λ e. Some (record { place = l.place; value = e })) ls v last (close ∷ ts) b c)
+    rw (eq, append_assoc) (ending_return l (ls ++ (last ∷ close ∷ ts)) a
+    ∙ complete_value (λ e. Some (record { place = l.place; value = e })) ls v last (close ∷ ts) b c)
 
-ending_other : (v : List ℕ) → is_word v (shape.Word (codes "return")) ≡ false → (es : List Lexeme) (e : Option Last) → SpelledEnding es e → (close : Lexeme) (ts : List Lexeme) → Is mark.RBrace close → NoWord v (es ++ (close ∷ ts))
+ending_other : (v : List ℕ) → is_word v (shape.Word (codes "return")) ≡ false
+    → (es : List Lexeme) (e : Option Last) → SpelledEnding es e → (close : Lexeme) (ts : List Lexeme)
+    → Is mark.RBrace close → NoWord v (es ++ (close ∷ ts))
 ending_other v o es e no_ending close ts z = ap (is_word v) z
-ending_other v o es e (ending l last ls w eq a b c) close ts z = subst (λ x. NoWord v (x ++ (close ∷ ts))) (sym eq) (ap (is_word v) a ∙ o)
+ending_other v o es e (ending l last ls w eq a b c) close ts z = subst (λ x. NoWord v (x ++ (close ∷ ts)))
+    (sym eq) (ap (is_word v) a ∙ o)
 
-ending_starts : (es : List Lexeme) (e : Option Last) → SpelledEnding es e → (close : Lexeme) (ts : List Lexeme) → Is mark.RBrace close → starts_at (es ++ (close ∷ ts)) ≡ false
+ending_starts : (es : List Lexeme) (e : Option Last) → SpelledEnding es e
+    → (close : Lexeme) (ts : List Lexeme) → Is mark.RBrace close → starts_at (es ++ (close ∷ ts)) ≡ false
 ending_starts es e no_ending close ts z = ap starts z
-ending_starts es e (ending l last ls v eq a b c) close ts z = subst (λ x. starts_at (x ++ (close ∷ ts)) ≡ false) (sym eq) (ap starts a)
+ending_starts es e (ending l last ls v eq a b c) close ts z =
+    subst (λ x. starts_at (x ++ (close ∷ ts)) ≡ false) (sym eq) (ap starts a)
 
-inside_done : (x : Name) (ps : List Name) (us bs es : List Lexeme) (vs : List Name) (b : Statements) (e : Option Last) (close : Lexeme) (ts : List Lexeme)
+inside_done : (x : Name) (ps : List Name) (us bs es : List Lexeme) (vs : List Name) (b : Statements)
+    (e : Option Last) (close : Lexeme) (ts : List Lexeme)
     → SpelledVars us vs → SpelledStatements bs b → SpelledEnding es e → Is mark.RBrace close
-    → inside_at x ps (us ++ (bs ++ (es ++ (close ∷ ts)))) ≡ Done (Proc (record { name = x; params = ps; vars = vs; body = b; ending = e })) ts
+    → inside_at x ps (us ++ (bs ++ (es ++ (close ∷ ts)))) ≡ Done
+    (Proc (record { name = x; params = ps; vars = vs; body = b; ending = e })) ts
 unfolding inside_at
 inside_done x ps us bs es vs b e close ts hv hb he hc =
     rw (
-      complete_vars us vs hv (bs ++ (es ++ (close ∷ ts))) (statements_other (codes "var") refl bs b hb (es ++ (close ∷ ts)) (ending_other (codes "var") refl es e he close ts hc)),
-      complete_statements bs b hb (es ++ (close ∷ ts)) (ending_other (codes "else") refl es e he close ts hc) (ending_starts es e he close ts hc),
+      complete_vars us vs hv (bs ++ (es ++ (close ∷ ts)))
+          (statements_other (codes "var") refl bs b hb (es ++ (close ∷ ts))
+          (ending_other (codes "var") refl es e he close ts hc)),
+      complete_statements bs b hb (es ++ (close ∷ ts)) (ending_other (codes "else") refl es e he close ts hc)
+          (ending_starts es e he close ts hc),
       complete_ending es e he close ts hc,
       expect_mark mark.RBrace close ts hc,
     ) refl
 
-proc_done : (x : Name) (name first last op : Lexeme) (qs : List Lexeme) (ps : List Name) (inside : List Lexeme) (a : Part) (ts : List Lexeme)
-    → IsName x name → Is mark.LParen first → Listed SpelledName qs ps → Is mark.RParen last → Is mark.LBrace op → inside_at x ps inside ≡ Done a ts
+proc_done : (x : Name) (name first last op : Lexeme) (qs : List Lexeme) (ps : List Name)
+    (inside : List Lexeme) (a : Part) (ts : List Lexeme)
+    → IsName x name → Is mark.LParen first → Listed SpelledName qs ps → Is mark.RParen last
+    → Is mark.LBrace op → inside_at x ps inside ≡ Done a ts
     → proc_at (name ∷ first ∷ (qs ++ (last ∷ op ∷ inside))) ≡ Done a ts
 unfolding proc_at
 proc_done x name first last op qs ps inside a ts h f s z o k =
@@ -89,30 +116,44 @@ item_proc l x h = rw h refl
 
 -- a procedure's lexemes in front of others
 in_front : (qs us bs es ts : List Lexeme) (last op close : Lexeme)
-    → (qs ++ (last ∷ op ∷ (us ++ (bs ++ (es ++ close ∷ []))))) ++ ts ≡ qs ++ (last ∷ op ∷ (us ++ (bs ++ (es ++ (close ∷ ts)))))
+    → (qs ++ (last ∷ op ∷ (us ++ (bs ++ (es ++ close ∷ []))))) ++ ts ≡ qs
+    ++ (last ∷ op ∷ (us ++ (bs ++ (es ++ (close ∷ ts)))))
 in_front qs us bs es ts last op close =
     append_assoc qs (last ∷ op ∷ (us ++ (bs ++ (es ++ close ∷ [])))) ts
     ∙ ap (λ v. qs ++ (last ∷ op ∷ v)) (append_assoc us (bs ++ (es ++ close ∷ [])) ts)
     ∙ ap (λ v. qs ++ (last ∷ op ∷ (us ++ v))) (append_assoc bs (es ++ close ∷ []) ts)
     ∙ ap (λ v. qs ++ (last ∷ op ∷ (us ++ (bs ++ v)))) (append_assoc es (close ∷ []) ts)
 
-complete_item : (ks : List Lexeme) (a : Part) → SpelledItem ks a → (ts : List Lexeme) → item_at (ks ++ ts) ≡ Done a ts
+complete_item : (ks : List Lexeme) (a : Part) → SpelledItem ks a → (ts : List Lexeme)
+    → item_at (ks ++ ts) ≡ Done a ts
 unfolding array_at
 complete_item ks s (array l name first size last end x n eq a b c d f g) ts =
     rw eq (item_array l (name ∷ first ∷ size ∷ last ∷ end ∷ ts) a
-    ∙ rw (name_done x name (first ∷ size ∷ last ∷ end ∷ ts) b, expect_mark mark.LSquare first (size ∷ last ∷ end ∷ ts) c, count_done n size (last ∷ end ∷ ts) d, expect_mark mark.RSquare last (end ∷ ts) f, expect_mark mark.Semi end ts g) refl)
-complete_item ks s (proc l name first last op close qs us bs es x ps vs body e eq a b c d f g hv hb he hc) ts =
+    ∙ rw (
+      name_done x name (first ∷ size ∷ last ∷ end ∷ ts) b,
+      expect_mark mark.LSquare first
+          (size ∷ last ∷ end ∷ ts) c,
+      count_done n size (last ∷ end ∷ ts) d,
+      expect_mark mark.RSquare last (end ∷ ts) f,
+      expect_mark mark.Semi end ts g,
+    ) refl)
+complete_item ks s (proc l name first last op close qs us bs es x ps vs body e eq a b c d f g hv hb he hc)
+    ts =
     rw eq (ap (λ v. item_at (l ∷ name ∷ first ∷ v)) (in_front qs us bs es ts last op close)
     ∙ item_proc l (name ∷ first ∷ (qs ++ (last ∷ op ∷ (us ++ (bs ++ (es ++ (close ∷ ts))))))) a
-    ∙ proc_done x name first last op qs ps (us ++ (bs ++ (es ++ (close ∷ ts)))) s ts b c d f g (inside_done x ps us bs es vs body e close ts hv hb he hc))
+    ∙ proc_done x name first last op qs ps (us ++ (bs ++ (es ++ (close ∷ ts)))) s ts b c d f g
+    (inside_done x ps us bs es vs body e close ts hv hb he hc))
 
-items_go : (x r : List Lexeme) (a : Part) (all : List Part) → item_at x ≡ Done a r → program_at r ≡ Done all [] → program_at x ≡ Done (a ∷ all) []
+items_go : (x r : List Lexeme) (a : Part) (all : List Part) → item_at x ≡ Done a r
+    → program_at r ≡ Done all [] → program_at x ≡ Done (a ∷ all) []
 unfolding items_by item_at
 items_go [] r a all e k = cc
-items_go (l ∷ x) r a all e k = program_at_is (l ∷ x) ∙ ap (λ y. y |> λ a r. (program_at r |> λ all r. Done (a ∷ all) r)) e ∙ rw k refl
+items_go (l ∷ x) r a all e k = program_at_is (l ∷ x)
+    ∙ ap (λ y. y |> λ a r. (program_at r |> λ all r. Done (a ∷ all) r)) e ∙ rw k refl
 
 -- what is spelled as a program is read as it
 pub complete_program : (ks : List Lexeme) (all : List Part) → Tree ks all → program_at ks ≡ Done all []
 unfolding items_by
 complete_program ks all no_items = program_at_is []
-complete_program ks all (items ls rs a more eq h k) = rw eq (items_go (ls ++ rs) rs a more (complete_item ls a h rs) (complete_program rs more k))
+complete_program ks all (items ls rs a more eq h k) =
+    rw eq (items_go (ls ++ rs) rs a more (complete_item ls a h rs) (complete_program rs more k))

@@ -1,4 +1,5 @@
--- What makes a reader exact: it reads a phrase, or stops where a phrase has begun, and sees no more than the next lexeme.
+-- What makes a reader exact: it reads a phrase, or stops where a phrase has begun, and sees no more than the
+-- next lexeme.
 use Rattle.std.specs.Prelude.{◌≡◌, List, [], ◌∷◌, ◌++◌, Option, Some, None, refl}
 use Rattle.std.proofs.Common.{sym, ◌∙◌, ap, subst, append_assoc}
 use Rattle.src_ast.specs.declared.lexeme.Lexeme.{Lexeme}
@@ -10,13 +11,15 @@ head [] = None
 head (l ∷ ls) = Some l
 
 -- a phrase was read: a front of the lexemes, which is read so before any lexemes that begin alike
-pub record Good {A : Type 0} (L : List Lexeme → A → Type 0) (P : Reader A) (input : List Lexeme) (a : A) (rest : List Lexeme) : Type 0 where
+pub record Good {A : Type 0} (L : List Lexeme → A → Type 0) (P : Reader A) (input : List Lexeme) (a : A)
+    (rest : List Lexeme) : Type 0 where
   pub front : List Lexeme
   pub is : input ≡ front ++ rest
   pub spelled : L front a
   pub local : (c : List Lexeme) → head c ≡ head rest → P (front ++ c) ≡ Done a c
 
-pub record Bad {A : Type 0} (L : List Lexeme → A → Type 0) (P : Reader A) (input : List Lexeme) (rest : List Lexeme) : Type 0 where
+pub record Bad {A : Type 0} (L : List Lexeme → A → Type 0) (P : Reader A) (input : List Lexeme)
+    (rest : List Lexeme) : Type 0 where
   pub front : List Lexeme
   pub is : input ≡ front ++ rest
   pub more : List Lexeme
@@ -49,17 +52,34 @@ head-following [] c r e = e
 head-following (v ∷ vs) c r e = refl
 
 -- a reader that answers, or stops, without reading
-pub exact_done_end : {A : Type 0} (L : List Lexeme → A → Type 0) (P : Reader A) (a : A) → P [] ≡ Done a [] → L [] a → Exact L P []
+pub exact_done_end : {A : Type 0} (L : List Lexeme → A → Type 0) (P : Reader A) (a : A) → P [] ≡ Done a []
+    → L [] a → Exact L P []
 exact_done_end L P a e h =
-    subst (ExactAt L P []) (sym e) (record { front = []; is = refl; spelled = h; local = λ c s. subst (λ d. P d ≡ Done a d) (sym (head-nil c s)) e })
+    subst (ExactAt L P []) (sym e)
+    (record {
+      front = [];
+      is = refl;
+      spelled = h;
+      local = λ c s. subst (λ d. P d ≡ Done a d)
+          (sym (head-nil c s)) e;
+    })
 
 -- stuck at the end
-pub exact_stuck_end : {A : Type 0} (L : List Lexeme → A → Type 0) (P : Reader A) (more : List Lexeme) (a : A) → P [] ≡ Stuck [] → L more a → Exact L P []
+pub exact_stuck_end : {A : Type 0} (L : List Lexeme → A → Type 0) (P : Reader A) (more : List Lexeme) (a : A)
+    → P [] ≡ Stuck [] → L more a → Exact L P []
 exact_stuck_end L P more a e h =
-    subst (ExactAt L P []) (sym e) (record { front = []; is = refl; more = more; tree = a; spelled = h; local = λ c s. subst (λ d. P d ≡ Stuck d) (sym (head-nil c s)) e })
+    subst (ExactAt L P []) (sym e) (record {
+      front = [];
+      is = refl;
+      more = more;
+      tree = a;
+      spelled = h;
+      local = λ c s. subst (λ d. P d ≡ Stuck d) (sym (head-nil c s)) e;
+    })
 
 -- done before a lexeme
-pub exact_done : {A : Type 0} (L : List Lexeme → A → Type 0) (P : Reader A) (a : A) (l : Lexeme) (ls : List Lexeme)
+pub exact_done : {A : Type 0} (L : List Lexeme → A → Type 0) (P : Reader A) (a : A) (l : Lexeme)
+    (ls : List Lexeme)
     → ((x : List Lexeme) → P (l ∷ x) ≡ Done a (l ∷ x)) → L [] a → Exact L P (l ∷ ls)
 exact_done L P a l ls e h =
     subst (ExactAt L P (l ∷ ls)) (sym (e ls)) (record {
@@ -70,7 +90,8 @@ exact_done L P a l ls e h =
     })
 
 -- stuck at a lexeme
-pub exact_stuck : {A : Type 0} (L : List Lexeme → A → Type 0) (P : Reader A) (more : List Lexeme) (a : A) (l : Lexeme) (ls : List Lexeme)
+pub exact_stuck : {A : Type 0} (L : List Lexeme → A → Type 0) (P : Reader A) (more : List Lexeme) (a : A)
+    (l : Lexeme) (ls : List Lexeme)
     → ((x : List Lexeme) → P (l ∷ x) ≡ Stuck (l ∷ x)) → L more a → Exact L P (l ∷ ls)
 exact_stuck L P more a l ls e h =
     subst (ExactAt L P (l ∷ ls)) (sym (e ls)) (record {
@@ -89,10 +110,18 @@ exact_always L P a ls e h =
     subst (ExactAt L P ls) (sym (e ls)) (record { front = []; is = refl; spelled = h; local = λ c s. e c })
 
 -- a reader that stops always
-pub exact_never : {A : Type 0} (L : List Lexeme → A → Type 0) (P : Reader A) (more : List Lexeme) (a : A) (ls : List Lexeme)
+pub exact_never : {A : Type 0} (L : List Lexeme → A → Type 0) (P : Reader A) (more : List Lexeme) (a : A)
+    (ls : List Lexeme)
     → ((x : List Lexeme) → P x ≡ Stuck x) → L more a → Exact L P ls
 exact_never L P more a ls e h =
-    subst (ExactAt L P ls) (sym (e ls)) (record { front = []; is = refl; more = more; tree = a; spelled = h; local = λ c s. e c })
+    subst (ExactAt L P ls) (sym (e ls)) (record {
+      front = [];
+      is = refl;
+      more = more;
+      tree = a;
+      spelled = h;
+      local = λ c s. e c;
+    })
 
 -- one lexeme is read, and the rest goes by another reader
 shift_at : {A : Type 0} (L M : List Lexeme → A → Type 0) (P Q : Reader A) (l : Lexeme) (ls : List Lexeme)
@@ -114,13 +143,16 @@ shift_at L M P Q l ls e m (Stuck rest) h = record {
 }
 
 -- a reader that reads one lexeme more
-pub exact_shift : {A : Type 0} (L M : List Lexeme → A → Type 0) (P Q : Reader A) (l : Lexeme) (ls : List Lexeme)
+pub exact_shift : {A : Type 0} (L M : List Lexeme → A → Type 0) (P Q : Reader A) (l : Lexeme)
+    (ls : List Lexeme)
     → ((x : List Lexeme) → P (l ∷ x) ≡ Q x) → ((ws : List Lexeme) (a : A) → M ws a → L (l ∷ ws) a)
     → Exact M Q ls → Exact L P (l ∷ ls)
-exact_shift L M P Q l ls e m h = subst (ExactAt L P (l ∷ ls)) (sym (e ls)) (shift_at L M P Q l ls e m (Q ls) h)
+exact_shift L M P Q l ls e m h = subst (ExactAt L P (l ∷ ls)) (sym (e ls))
+    (shift_at L M P Q l ls e m (Q ls) h)
 
 -- one reader after another
-bind_after : {A B : Type 0} (L : List Lexeme → A → Type 0) (M : List Lexeme → B → Type 0) (N : List Lexeme → B → Type 0)
+bind_after : {A B : Type 0} (L : List Lexeme → A → Type 0) (M : List Lexeme → B → Type 0) (N : List Lexeme → B
+    → Type 0)
     (P : Reader A) (Q : A → Reader B) (input : List Lexeme) (a : A) (rest : List Lexeme)
     → Good L P input a rest
     → ((us vs : List Lexeme) (b : B) → L us a → M vs b → N (us ++ vs) b)
@@ -129,7 +161,9 @@ bind_after L M N P Q input a rest g join (Done b rest') h = record {
   front = g.front ++ h.front;
   is = g.is ∙ ap (λ r. g.front ++ r) h.is ∙ sym (append_assoc g.front h.front rest');
   spelled = join g.front h.front b g.spelled h.spelled;
-  local = λ c s. rw append_assoc (rw (g.local (h.front ++ c) (head-following h.front c rest' s ∙ ap head (sym h.is))) (h.local c s));
+  local = λ c s.
+      rw append_assoc (rw (g.local (h.front ++ c) (head-following h.front c rest' s ∙ ap head (sym h.is)))
+      (h.local c s));
 }
 bind_after L M N P Q input a rest g join (Stuck rest') h = record {
   front = g.front ++ h.front;
@@ -137,10 +171,13 @@ bind_after L M N P Q input a rest g join (Stuck rest') h = record {
   more = h.more;
   tree = h.tree;
   spelled = rw append_assoc (join g.front (h.front ++ h.more) h.tree g.spelled h.spelled);
-  local = λ c s. rw append_assoc (rw (g.local (h.front ++ c) (head-following h.front c rest' s ∙ ap head (sym h.is))) (h.local c s));
+  local = λ c s.
+      rw append_assoc (rw (g.local (h.front ++ c) (head-following h.front c rest' s ∙ ap head (sym h.is)))
+      (h.local c s));
 }
 
-bind_at : {A B : Type 0} (L : List Lexeme → A → Type 0) (M : A → List Lexeme → B → Type 0) (N : List Lexeme → B → Type 0)
+bind_at : {A B : Type 0} (L : List Lexeme → A → Type 0) (M : A → List Lexeme → B → Type 0)
+    (N : List Lexeme → B → Type 0)
     (P : Reader A) (Q : A → Reader B) (input : List Lexeme)
     → ((us vs : List Lexeme) (a : A) (b : B) → L us a → M a vs b → N (us ++ vs) b)
     → ((us : List Lexeme) (a : A) → L us a → (vs : List Lexeme) × (b : B) × N (us ++ vs) b)
@@ -161,7 +198,8 @@ bind_at L M N P Q input join fill (Stuck rest) e g q =
     }
 
 -- Where both are exact. A phrase of the first has something after it that makes a whole one.
-pub exact_bind : {A B : Type 0} (L : List Lexeme → A → Type 0) (M : A → List Lexeme → B → Type 0) (N : List Lexeme → B → Type 0)
+pub exact_bind : {A B : Type 0} (L : List Lexeme → A → Type 0) (M : A → List Lexeme → B → Type 0)
+    (N : List Lexeme → B → Type 0)
     (P : Reader A) (Q : A → Reader B) (input : List Lexeme)
     → ((us vs : List Lexeme) (a : A) (b : B) → L us a → M a vs b → N (us ++ vs) b)
     → ((us : List Lexeme) (a : A) → L us a → (vs : List Lexeme) × (b : B) × N (us ++ vs) b)

@@ -1,5 +1,6 @@
 -- The words of the language, and what a reader's test of them says.
-use Rattle.std.specs.Prelude.{◌≡◌, ℕ, List, [], ◌∷◌, Option, Some, None, Bool, true, false, ◌||◌, refl, nat_eq, if◌then◌else◌}
+use Rattle.std.specs.Prelude.{◌≡◌, ℕ, List, [], ◌∷◌, Option, Some, None, Bool, true, false, ◌||◌, refl}
+use Rattle.std.specs.Prelude.{nat_eq, if◌then◌else◌}
 use Rattle.std.proofs.Common.{sym, ◌∙◌, ap}
 use Rattle.std.specs.Cmp.Lexicographic.{same_text}
 use lib.Pointwise.{pointwise}
@@ -11,7 +12,8 @@ keyword_in-is : (ks : List Keyword) (w : List ℕ) (k : Keyword) → keyword_in 
 keyword_in-is [] w k e = cc
 keyword_in-is (j ∷ ks) w k e = go (keyword_in-is ks w k) (pointwise nat_eq w (spelling_of j)) refl
   where
-    go : (keyword_in ks w ≡ Some k → w ≡ spelling_of k) → (t : Bool) → pointwise nat_eq w (spelling_of j) ≡ t → w ≡ spelling_of k
+    go : (keyword_in ks w ≡ Some k → w ≡ spelling_of k) → (t : Bool) → pointwise nat_eq w (spelling_of j) ≡ t
+        → w ≡ spelling_of k
     go ih true q =
         let same : Some j ≡ Some k = sym (rw q refl) ∙ e in
         let one : j ≡ k = cc in
@@ -35,21 +37,25 @@ or_false : (b : Bool) → b ≡ (b || false)
 or_false true = refl
 or_false false = refl
 
-or_either : (b t : Bool) (k : Keyword) (o : Option Keyword) → ((b || t) || is_one o) ≡ (b || is_one (if t then Some k else o))
+or_either : (b t : Bool) (k : Keyword) (o : Option Keyword) → ((b || t) || is_one o)
+    ≡ (b || is_one (if t then Some k else o))
 or_either true t k o = refl
 or_either false true k o = refl
 or_either false false k o = refl
 
-reserved_from-is : (b : Bool) (ks : List Keyword) (w : List ℕ) → reserved_from b ks w ≡ (b || is_one (keyword_in ks w))
+reserved_from-is : (b : Bool) (ks : List Keyword) (w : List ℕ) → reserved_from b ks w
+    ≡ (b || is_one (keyword_in ks w))
 reserved_from-is b [] w = or_false b
 reserved_from-is b (k ∷ ks) w =
-    reserved_from-is (b || pointwise nat_eq w (spelling_of k)) ks w ∙ or_either b (pointwise nat_eq w (spelling_of k)) k (keyword_in ks w)
+    reserved_from-is (b || pointwise nat_eq w (spelling_of k)) ks w ∙ or_either b
+    (pointwise nat_eq w (spelling_of k)) k (keyword_in ks w)
 
 reserved_by : (w : List ℕ) → is_reserved w ≡ is_one (keyword_of w)
 reserved_by w = reserved_from-is false keywords w
 
 -- for the code
-pub reserved_is : (w : List ℕ) (b : Bool) (k : Option Keyword) → k ≡ keyword_of w → b ≡ is_one k → b ≡ is_reserved w
+pub reserved_is : (w : List ℕ) (b : Bool) (k : Option Keyword) → k ≡ keyword_of w → b ≡ is_one k
+    → b ≡ is_reserved w
 reserved_is w b k e q = q ∙ ap is_one e ∙ sym (reserved_by w)
 
 -- a word of the language is no name

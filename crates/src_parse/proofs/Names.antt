@@ -62,15 +62,22 @@ ready_name = record { phrase = letter ∷ []; tree = letter_name; spelled = it; 
     all (l ∷ ls) = go (name_in l.shape l) refl
       where
         go : (o : Option Name) → name_in l.shape l ≡ o → Exact OneName name_at (l ∷ ls)
-        go None e = exact_stuck OneName name_at (letter ∷ []) letter_name l ls (λ x. ap (λ o. name_by o l x) e) it
+        go None e = exact_stuck OneName name_at (letter ∷ []) letter_name l ls
+            (λ x. ap (λ o. name_by o l x) e) it
         go (Some y) e =
-            exact_shift OneName (λ ws a. (ws ≡ []) × (a ≡ y)) name_at (Done y) l ls (λ x. ap (λ o. name_by o l x) e)
-            (λ ws a k. record { lexeme = l; one = ap (λ w. l ∷ w) k.0; name = subst (λ a. IsName a l) (sym k.1) (name_in-is l.shape l y refl e) })
+            exact_shift OneName (λ ws a. (ws ≡ []) × (a ≡ y)) name_at (Done y) l ls
+            (λ x. ap (λ o. name_by o l x) e)
+            (λ ws a k. record {
+              lexeme = l;
+              one = ap (λ w. l ∷ w) k.0;
+              name = subst (λ a. IsName a l) (sym k.1) (name_in-is l.shape l y refl e);
+            })
             (exact_always (λ ws a. (ws ≡ []) × (a ≡ y)) (Done y) y ls (λ x. refl) (refl, refl))
 
 -- a name as the grammar has it
 pub ready_spelled_name : Ready SpelledName name_at
-ready_spelled_name = ready_as OneName SpelledName name_at (λ us x h. subst (λ us. SpelledName us x) (sym h.one) (name h.lexeme x h.name)) ready_name
+ready_spelled_name = ready_as OneName SpelledName name_at
+    (λ us x h. subst (λ us. SpelledName us x) (sym h.one) (name h.lexeme x h.name)) ready_name
 
 -- a name that is there is read
 pub name_done : (x : Name) (l : Lexeme) (ts : List Lexeme) → IsName x l → name_at (l ∷ ts) ≡ Done x ts
@@ -91,24 +98,42 @@ nought = lexeme_with (shape.Number 0)
 -- a number
 pub ready_count : Ready OneCount count_at
 unfolding count_at
-ready_count = record { phrase = nought ∷ []; tree = record { number = 0; place = nought.place }; spelled = it; exact = all }
+ready_count = record {
+  phrase = nought ∷ [];
+  tree = record { number = 0; place = nought.place };
+  spelled = it;
+  exact = all;
+}
   where
     it : OneCount (nought ∷ []) (record { number = 0; place = nought.place })
     it = record { lexeme = nought; one = refl; number = refl; place = refl }
 
     all : (x : List Lexeme) → Exact OneCount count_at x
-    all [] = exact_stuck_end OneCount count_at (nought ∷ []) (record { number = 0; place = nought.place }) refl it
+    all [] = exact_stuck_end OneCount count_at (nought ∷ []) (record { number = 0; place = nought.place })
+        refl it
     all (l ∷ ls) = go l.shape refl
       where
         go : (s : Shape) → l.shape ≡ s → Exact OneCount count_at (l ∷ ls)
         go (shape.Number n) e =
-            exact_shift OneCount (λ ws a. (ws ≡ []) × (a ≡ record { number = n; place = l.place })) count_at (Done (record { number = n; place = l.place })) l ls (λ x. ap (λ s. count_by s l x) e)
-            (λ ws a k. record { lexeme = l; one = ap (λ w. l ∷ w) k.0; number = e ∙ ap (λ c. shape.Number c.number) (sym k.1); place = ap (λ c. c.place) (sym k.1) })
-            (exact_always (λ ws a. (ws ≡ []) × (a ≡ record { number = n; place = l.place })) (Done (record { number = n; place = l.place })) (record { number = n; place = l.place }) ls (λ x. refl) (refl, refl))
-        go (shape.Word w) e = exact_stuck OneCount count_at (nought ∷ []) (record { number = 0; place = nought.place }) l ls (λ x. ap (λ s. count_by s l x) e) it
-        go (shape.Mark m) e = exact_stuck OneCount count_at (nought ∷ []) (record { number = 0; place = nought.place }) l ls (λ x. ap (λ s. count_by s l x) e) it
+            exact_shift OneCount (λ ws a. (ws ≡ []) × (a ≡ record { number = n; place = l.place })) count_at
+            (Done (record { number = n; place = l.place })) l ls (λ x. ap (λ s. count_by s l x) e)
+            (λ ws a k. record {
+              lexeme = l;
+              one = ap (λ w. l ∷ w) k.0;
+              number = e
+                  ∙ ap (λ c. shape.Number c.number) (sym k.1);
+              place = ap (λ c. c.place) (sym k.1);
+            })
+            (exact_always (λ ws a. (ws ≡ []) × (a ≡ record { number = n; place = l.place }))
+            (Done (record { number = n; place = l.place })) (record { number = n; place = l.place }) ls
+            (λ x. refl) (refl, refl))
+        go (shape.Word w) e = exact_stuck OneCount count_at (nought ∷ [])
+            (record { number = 0; place = nought.place }) l ls (λ x. ap (λ s. count_by s l x) e) it
+        go (shape.Mark m) e = exact_stuck OneCount count_at (nought ∷ [])
+            (record { number = 0; place = nought.place }) l ls (λ x. ap (λ s. count_by s l x) e) it
 
 -- a number that is there is read
-pub count_done : (n : ℕ) (l : Lexeme) (ts : List Lexeme) → IsNumber n l → count_at (l ∷ ts) ≡ Done (record { number = n; place = l.place }) ts
+pub count_done : (n : ℕ) (l : Lexeme) (ts : List Lexeme) → IsNumber n l
+    → count_at (l ∷ ts) ≡ Done (record { number = n; place = l.place }) ts
 unfolding count_at
 count_done n l ts h = ap (λ s. count_by s l ts) h

@@ -14,7 +14,10 @@ use Rattle.src_parse.specs.Reading.{Reader, Done, ◌|>◌, number_of, is_mark, 
 use Rattle.src_parse.proofs.Exact.{Exact, exact_stuck_end, exact_stuck, exact_shift, exact_always, exact_bind}
 
 abbrev marks : List Mark
-marks = mark.LParen ∷ mark.RParen ∷ mark.LBrace ∷ mark.RBrace ∷ mark.LSquare ∷ mark.RSquare ∷ mark.Comma ∷ mark.Semi ∷ mark.Assign ∷ mark.Plus ∷ mark.Minus ∷ mark.Star ∷ mark.Slash ∷ mark.Percent ∷ mark.Amp ∷ mark.Bar ∷ mark.Caret ∷ mark.Tilde ∷ mark.Bang ∷ mark.Less ∷ mark.More ∷ mark.LessEq ∷ mark.MoreEq ∷ mark.Same ∷ mark.Differs ∷ mark.ShiftLeft ∷ mark.ShiftRight ∷ []
+marks = mark.LParen ∷ mark.RParen ∷ mark.LBrace ∷ mark.RBrace ∷ mark.LSquare ∷ mark.RSquare ∷ mark.Comma
+    ∷ mark.Semi ∷ mark.Assign ∷ mark.Plus ∷ mark.Minus ∷ mark.Star ∷ mark.Slash ∷ mark.Percent ∷ mark.Amp
+    ∷ mark.Bar ∷ mark.Caret ∷ mark.Tilde ∷ mark.Bang ∷ mark.Less ∷ mark.More ∷ mark.LessEq ∷ mark.MoreEq
+    ∷ mark.Same ∷ mark.Differs ∷ mark.ShiftLeft ∷ mark.ShiftRight ∷ []
 
 back : (m : Mark) → get_or marks (number_of m) mark.LParen ≡ m
 back mark.LParen = refl
@@ -50,7 +53,8 @@ pub is_mark-true : (m : Mark) (s : Shape) → is_mark m s ≡ true → s ≡ sha
 is_mark-true m (shape.Word w) e = cc
 is_mark-true m (shape.Number n) e = cc
 is_mark-true m (shape.Mark k) e =
-    ap (λ x. shape.Mark x) (sym (back k) ∙ ap (λ n. get_or marks n mark.LParen) (eqb-true (number_of k) (number_of m) e) ∙ back m)
+    ap (λ x. shape.Mark x) (sym (back k) ∙ ap (λ n. get_or marks n mark.LParen)
+    (eqb-true (number_of k) (number_of m) e) ∙ back m)
 
 -- a mark passes its own test
 pub is_mark-same : (m : Mark) (s : Shape) → s ≡ shape.Mark m → is_mark m s ≡ true
@@ -108,7 +112,8 @@ pub record Alone (m : Mark) (ls : List Lexeme) (u : Unit {0}) : Type 0 where
 -- a mark
 pub exact_expect : (m : Mark) (ls : List Lexeme) → Exact (Alone m) (expect m) ls
 unfolding expect
-exact_expect m [] = exact_stuck_end (Alone m) (expect m) (lexeme_with (shape.Mark m) ∷ []) tt refl (record { lexeme = lexeme_with (shape.Mark m); one = refl; mark = refl })
+exact_expect m [] = exact_stuck_end (Alone m) (expect m) (lexeme_with (shape.Mark m) ∷ []) tt refl
+    (record { lexeme = lexeme_with (shape.Mark m); one = refl; mark = refl })
 exact_expect m (l ∷ ls) = go (is_mark m l.shape) refl
   where
     go : (b : Bool) → is_mark m l.shape ≡ b → Exact (Alone m) (expect m) (l ∷ ls)
@@ -116,21 +121,27 @@ exact_expect m (l ∷ ls) = go (is_mark m l.shape) refl
         exact_shift (Alone m) (λ ws a. ws ≡ []) (expect m) (λ x. Done tt x) l ls (λ x. rw e refl)
         (λ ws a h. record { lexeme = l; one = ap (λ w. l ∷ w) h; mark = is_mark-true m l.shape e })
         (exact_always (λ ws a. ws ≡ []) (λ x. Done tt x) tt ls (λ x. refl) refl)
-    go false e = exact_stuck (Alone m) (expect m) (lexeme_with (shape.Mark m) ∷ []) tt l ls (λ x. rw e refl) (record { lexeme = lexeme_with (shape.Mark m); one = refl; mark = refl })
+    go false e = exact_stuck (Alone m) (expect m) (lexeme_with (shape.Mark m) ∷ []) tt l ls (λ x. rw e refl)
+        (record { lexeme = lexeme_with (shape.Mark m); one = refl; mark = refl })
 
 -- A phrase with a mark after it, and what is made of it.
-pub exact_closed : {A B : Type 0} (m : Mark) (f : A → B) (L : List Lexeme → A → Type 0) (N : List Lexeme → B → Type 0) (P : Reader A) (input : List Lexeme)
+pub exact_closed : {A B : Type 0} (m : Mark) (f : A → B) (L : List Lexeme → A → Type 0) (N : List Lexeme → B
+    → Type 0) (P : Reader A) (input : List Lexeme)
     → ((us : List Lexeme) (a : A) (last : Lexeme) → L us a → Is m last → N (us ++ last ∷ []) (f a))
     → Exact L P input
     → Exact N (λ i. P i |> λ a rest. (expect m rest |> λ _ rest. Done (f a) rest)) input
 exact_closed {A} {B} m f L N P input join g =
-    let M : A → List Lexeme → B → Type 0 = λ a vs b. (last : Lexeme) × (vs ≡ last ∷ []) × Is m last × (b ≡ f a) in
+    let M : A → List Lexeme → B → Type 0 = λ a vs b. (last : Lexeme) × (vs ≡ last ∷ []) × Is m last
+    × (b ≡ f a) in
     exact_bind L M N P (λ a rest. (expect m rest |> λ _ rest. Done (f a) rest)) input
-    (λ us vs a b h k. subst (λ v. N (us ++ v) b) (sym k.1) (subst (N (us ++ k.0 ∷ [])) (sym k.3) (join us a k.0 h k.2)))
+    (λ us vs a b h k. subst (λ v. N (us ++ v) b) (sym k.1)
+    (subst (N (us ++ k.0 ∷ [])) (sym k.3) (join us a k.0 h k.2)))
     (λ us a h. (lexeme_with (shape.Mark m) ∷ [], f a, join us a (lexeme_with (shape.Mark m)) h refl))
     g
-    (λ a rest e. exact_bind (Alone m) (λ _ ws b. (ws ≡ []) × (b ≡ f a)) (M a) (expect m) (λ _ rest. Done (f a) rest) rest
+    (λ a rest e. exact_bind (Alone m) (λ _ ws b. (ws ≡ []) × (b ≡ f a)) (M a) (expect m)
+    (λ _ rest. Done (f a) rest) rest
     (λ us vs u b h k. (h.lexeme, ap (λ u. u ++ vs) h.one ∙ ap (λ v. h.lexeme ∷ v) k.0, h.mark, k.1))
     (λ us u h. ([], f a, (h.lexeme, ap (λ u. u ++ []) h.one, h.mark, refl)))
     (exact_expect m rest)
-    (λ _ r _. exact_always (λ ws b. (ws ≡ []) × (b ≡ f a)) (λ r. Done (f a) r) (f a) r (λ x. refl) (refl, refl)))
+    (λ _ r _. exact_always (λ ws b. (ws ≡ []) × (b ≡ f a)) (λ r. Done (f a) r) (f a) r (λ x. refl)
+    (refl, refl)))

@@ -1,5 +1,6 @@
 -- Ports as they are handed in, and those that have failed since.
-use Rattle.std.proofs.Common.{ℕ, zero, suc, ◌-◌, ◌≡◌, ◌≤◌, List, [], ◌∷◌, Option, Some, None, slice_index_or, refl, sym, ◌∙◌, subst, inl, inr, arith}
+use Rattle.std.proofs.Common.{ℕ, zero, suc, ◌-◌, ◌≡◌, ◌≤◌, List, [], ◌∷◌, Option, Some, None, slice_index_or}
+use Rattle.std.proofs.Common.{refl, sym, ◌∙◌, subst, inl, inr, arith}
 use Rattle.ws_io.specs.Streams.{Rose}
 use Rattle.ws_words.specs.Outside.{Outside, row}
 use Rattle.ws_isa.specs.declared.instr.Op.{Op}
@@ -8,7 +9,9 @@ use Rattle.ws_isa.specs.Image.{Image}
 use Rattle.port_set.specs.Ports.{Told}
 use Rattle.port_set.specs.Slots.{port_at}
 use Rattle.df_core.specs.Began.{Began}
-use Rattle.store_buf.specs.Outdoors.{Holding, HoldsOut, SlotIs, PortIn, RoseAt, RoseSince, BeganSo, AllBegan, TellsLeft, AllTell, began_at, began_of, left_at, lefts_of, words_or_none, failures, failed_before, port_of}
+use Rattle.store_buf.specs.Outdoors.{Holding, HoldsOut, SlotIs, PortIn, RoseAt, RoseSince, BeganSo, AllBegan}
+use Rattle.store_buf.specs.Outdoors.{TellsLeft, AllTell, began_at, began_of, left_at, lefts_of, words_or_none}
+use Rattle.store_buf.specs.Outdoors.{failures, failed_before, port_of}
 use Rattle.store_buf.specs.Contents.{Content, FailedSo, PortWaits}
 
 -- a port begins as it was handed in

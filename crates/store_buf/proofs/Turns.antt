@@ -18,24 +18,38 @@ use Rattle.store_buf.specs.Stores.{buffer_of, IssueLeads, StaysSo, AllLead, Sile
 use Rattle.df_core.proofs.SlotLists.{is_sent_append_cases as sent_either}
 use Rattle.store_buf.proofs.Failing.{rose_from}
 
-pub issues_on : (image : Image) (a b c : Buffer) (xs ys : List Token) → Issues image a xs b → Issues image b ys c → Issues image a (xs ++ ys) c
+pub issues_on : (image : Image) (a b c : Buffer) (xs ys : List Token) → Issues image a xs b
+    → Issues image b ys c → Issues image a (xs ++ ys) c
 issues_on image a b c xs ys stays more = more
-issues_on image a b c xs ys (goes {c = d} {some = some} {rest = rest} w i e on) more = subst (λ (ts : List Token). Issues image a ts c) (sym (append_assoc some rest ys)) (goes w i e (issues_on image d b c rest ys on more))
+issues_on image a b c xs ys (goes {c = d} {some = some} {rest = rest} w i e on) more =
+    subst (λ (ts : List Token). Issues image a ts c) (sym (append_assoc some rest ys))
+    (goes w i e (issues_on image d b c rest ys on more))
 issues_on image a b c xs ys (stops {c = d} w i e on) more = stops w i e (issues_on image d b c xs ys on more)
 
 -- one issue, or a stop
-one_issue : (image : Image) (b c : Buffer) (w i : ℕ) (ts : List Token) → Issued image b w i ts c ⊎ (Stopped image b w i c × (ts ≡ [])) → Issues image b ts c
-one_issue image b c w i ts (inl e) = subst (λ (us : List Token). Issues image b us c) (append-nil ts) (goes w i e stays)
-one_issue image b c w i ts (inr e) = subst (λ (us : List Token). Issues image b us c) (sym e.1) (stops w i e.0 stays)
+one_issue : (image : Image) (b c : Buffer) (w i : ℕ) (ts : List Token) → Issued image b w i ts c
+    ⊎ (Stopped image b w i c × (ts ≡ [])) → Issues image b ts c
+one_issue image b c w i ts (inl e) = subst (λ (us : List Token). Issues image b us c) (append-nil ts)
+    (goes w i e stays)
+one_issue image b c w i ts (inr e) = subst (λ (us : List Token). Issues image b us c) (sym e.1)
+    (stops w i e.0 stays)
 
-right_both : (image : Image) (world : World) (xs ys : List Token) → RightTokens image world xs → RightTokens image world ys → RightTokens image world (xs ++ ys)
-right_both image world xs ys a b w i p v e = elim (sent_either xs ys w i p v e) [ inl h ↦ a w i p v h | inr h ↦ b w i p v h ]
+right_both : (image : Image) (world : World) (xs ys : List Token) → RightTokens image world xs
+    → RightTokens image world ys → RightTokens image world (xs ++ ys)
+right_both image world xs ys a b w i p v e = elim (sent_either xs ys w i p v e)
+    [ inl h ↦ a w i p v h | inr h ↦ b w i p v h ]
 
 module _ {P : Type 0} where
   pub none_yet : (image : Image) (s : Store P) (ts : List Token) → AllLead image s s ts ts
-  none_yet image s ts = ([], sym (append-nil ts), λ world began m formed sound stands. record { memory = m; issues = stays; right = λ w i p v e. absurd e; fault = λ f. f; stands = stands })
+  none_yet image s ts = (
+    [],
+    sym (append-nil ts),
+    λ world began m formed sound stands.
+        record { memory = m; issues = stays; right = λ w i p v e. absurd e; fault = λ f. f; stands = stands },
+  )
 
-  pub one_more : (image : Image) (a b c : Store P) (t0 t1 t2 : List Token) → AllLead image a b t0 t1 → IssueLeads image b c t1 t2 → AllLead image a c t0 t2
+  pub one_more : (image : Image) (a b c : Store P) (t0 t1 t2 : List Token) → AllLead image a b t0 t1
+      → IssueLeads image b c t1 t2 → AllLead image a c t0 t2
   one_more image a b c t0 t1 t2 all one = (
     all.0 ++ one.0,
     one.1 ∙ ap (λ (ts : List Token). ts ++ one.0) all.1 ∙ append_assoc t0 all.0 one.0,
@@ -44,14 +58,18 @@ module _ {P : Type 0} where
         let q = one.2 world began r.memory formed sound r.stands in
         record {
           memory = q.memory;
-          issues = issues_on image (buffer_of image a m) (buffer_of image b r.memory) (buffer_of image c q.memory) all.0 one.0 r.issues (one_issue image (buffer_of image b r.memory) (buffer_of image c q.memory) q.wave q.instr one.0 q.event);
+          issues = issues_on image (buffer_of image a m) (buffer_of image b r.memory)
+              (buffer_of image c q.memory) all.0 one.0 r.issues
+              (one_issue image (buffer_of image b r.memory) (buffer_of image c q.memory) q.wave q.instr one.0
+              q.event);
           right = right_both image world all.0 one.0 r.right q.right;
           fault = λ f. q.fault;
           stands = q.stands;
         },
   )
 
-  pub still : (image : Image) (a b c : Store P) (t0 t1 : List Token) → AllLead image a b t0 t1 → StaysSo image b c → c.order ≡ b.order → c.fault ≡ b.fault → AllLead image a c t0 t1
+  pub still : (image : Image) (a b c : Store P) (t0 t1 : List Token) → AllLead image a b t0 t1
+      → StaysSo image b c → c.order ≡ b.order → c.fault ≡ b.fault → AllLead image a c t0 t1
   still image a b c t0 t1 all so order fault = (
     all.0,
     all.1,
@@ -59,8 +77,11 @@ module _ {P : Type 0} where
         let r = all.2 world began m formed sound stands in
         record {
           memory = r.memory;
-          issues = subst (λ (x : Order). Issues image (buffer_of image a m) all.0 (part image x.kept.items (chain_of x.chain) (has c.fault) r.memory)) (sym order)
-              (subst (λ (f : Option ℕ). Issues image (buffer_of image a m) all.0 (part image b.order.kept.items (chain_of b.order.chain) (has f) r.memory)) (sym fault) r.issues);
+          issues = subst (λ (x : Order). Issues image (buffer_of image a m) all.0
+              (part image x.kept.items (chain_of x.chain) (has c.fault) r.memory)) (sym order)
+              (subst (λ (f : Option ℕ). Issues image (buffer_of image a m) all.0
+              (part image b.order.kept.items (chain_of b.order.chain) (has f) r.memory)) (sym fault)
+              r.issues);
           right = r.right;
           fault = λ f. subst (FaultIs image world) (sym fault) (r.fault f);
           stands = so world began r.memory r.stands;
@@ -68,17 +89,26 @@ module _ {P : Type 0} where
   )
 
   -- it doesn't matter where the requests that wait are found
-  pub sought : (image : Image) (a b : Store P) (near : WavePlaces) (t0 t1 : List Token) → AllLead image a b t0 t1 → AllLead image a (record b { order = record b.order { near = near } }) t0 t1
+  pub sought : (image : Image) (a b : Store P) (near : WavePlaces) (t0 t1 : List Token)
+      → AllLead image a b t0 t1 → AllLead image a (record b { order = record b.order { near = near } }) t0 t1
   sought image a b near t0 t1 all = (
     all.0,
     all.1,
     λ world began m formed sound stands.
         let r = all.2 world began m formed sound stands in
-        record { memory = r.memory; issues = r.issues; right = r.right; fault = r.fault; stands = record { going = r.stands.going; right = r.stands.right; outside = r.stands.outside } },
+        record {
+          memory = r.memory;
+          issues = r.issues;
+          right = r.right;
+          fault = r.fault;
+          stands = record { going = r.stands.going; right = r.stands.right; outside = r.stands.outside };
+        },
   )
 
   -- what is kept in mind of ports doesn't matter
-  pub in_mind : (image : Image) (a b : Store P) (f g : Option ℕ) (s t : Bool) (t0 t1 : List Token) → AllLead image a b t0 t1 → AllLead image (record a { failed = f; starved = s }) (record b { failed = g; starved = t }) t0 t1
+  pub in_mind : (image : Image) (a b : Store P) (f g : Option ℕ) (s t : Bool) (t0 t1 : List Token)
+      → AllLead image a b t0 t1 → AllLead image (record a { failed = f; starved = s })
+      (record b { failed = g; starved = t }) t0 t1
   in_mind image a b f g s t t0 t1 all = (
     all.0,
     all.1,
@@ -88,6 +118,7 @@ module _ {P : Type 0} where
   )
 
   -- a count that rose at last has risen since before
-  pub silent_from : (image : Image) (a b c : Store P) (why : Silent) → FaultsGrow a.outer.ports b.outer.ports → SilentSo image b c why → SilentSo image a c why
+  pub silent_from : (image : Image) (a b c : Store P) (why : Silent) → FaultsGrow a.outer.ports b.outer.ports
+      → SilentSo image b c why → SilentSo image a c why
   silent_from image a b c (Failed p) grow s = (s.0, rose_from _ _ _ (grow p) s.1)
   silent_from image a b c (NoMemory p) grow s = s

@@ -1,10 +1,13 @@
 -- What the events that a core made come to.
-use Rattle.std.proofs.Common.{◌≡◌, ℕ, ◌+◌, ◌<◌, ◌≤◌, ◌⊎◌, Bool, true, false, cond, List, [], ◌∷◌, ◌++◌, length, map, Option, Some, None, is_some, MatchOption, refl, sym, ap, ◌∙◌, subst, inl, inr, append-nil, arith}
+use Rattle.std.proofs.Common.{◌≡◌, ℕ, ◌+◌, ◌<◌, ◌≤◌, ◌⊎◌, Bool, true, false, cond, List, [], ◌∷◌, ◌++◌}
+use Rattle.std.proofs.Common.{length, map, Option, Some, None, is_some, MatchOption, refl, sym, ap, ◌∙◌}
+use Rattle.std.proofs.Common.{subst, inl, inr, append-nil, arith}
 use Rattle.std.proofs.lemmas.Bool.{true≢false}
 use Rattle.ws_words.specs.Outside.{World}
 use Rattle.ws_isa.specs.Image.{Image, is_memory, ports}
 use Rattle.ws_isa.specs.Walk.{walk, CostAtMost}
-use Rattle.df_core.specs.Core.{State, Event, Match, Issue, Run, Step, Enabled, Rest, is_full, arrived, asks, tells, matched, core_opening}
+use Rattle.df_core.specs.Core.{State, Event, Match, Issue, Run, Step, Enabled, Rest, is_full, arrived, asks}
+use Rattle.df_core.specs.Core.{tells, matched, core_opening}
 use Rattle.df_core.specs.Ends.{WholeRun, AtFault}
 use Rattle.df_core.specs.declared.engine.Core.{Core}
 use Rattle.df_core.specs.declared.engine.Event.{Event as Made}
@@ -19,19 +22,23 @@ use Rattle.df_core.proofs.Quietly.{issue_quiet}
 
 -- an event fires one instance at most, and an issue none
 fired_by : (image : Image) (s : State) (w i p v : ℕ) (a b : Bool) →
-    length (cond a (cond b (asks image w i (arrived s w i p v)) (tells image w i (arrived s w i p v))) (arrived s w i p v)).fired ≤ length s.fired + 1
+    length (cond a (cond b (asks image w i (arrived s w i p v)) (tells image w i (arrived s w i p v)))
+    (arrived s w i p v)).fired ≤ length s.fired + 1
 fired_by image s w i p v true true = omega arith
 fired_by image s w i p v true false = omega arith
 fired_by image s w i p v false b = omega arith
 
-match_more : (image : Image) (s : State) (w i p v : ℕ) → length (matched image s w i p v).fired ≤ length s.fired + 1
+match_more : (image : Image) (s : State) (w i p v : ℕ) → length (matched image s w i p v).fired
+    ≤ length s.fired + 1
 unfolding matched
-match_more image s w i p v = fired_by image s w i p v (is_full (arrived s w i p v).held w i (ports image i)) (is_memory image i)
+match_more image s w i p v = fired_by image s w i p v (is_full (arrived s w i p v).held w i (ports image i))
+    (is_memory image i)
 
 step_more : (image : Image) (s t : State) (e : Event) → Step image s e t → length t.fired ≤ length s.fired + 1
 step_more image s t (Match w i p) st =
     let e = ap length st.becomes.fired in
-    let l : length (matched image s w i p st.value).fired ≤ length s.fired + 1 = match_more image s w i p st.value in
+    let l : length (matched image s w i p st.value).fired ≤ length s.fired + 1 =
+    match_more image s w i p st.value in
     omega arith
 step_more image s t (Issue w i) st = let e = ap length (issue_quiet image s w i t st) in omega arith
 
@@ -63,22 +70,27 @@ next_quiet core budget fired (Some e) l count m = λ image world s at. (
 pub none_led : (core : Core) (budget : ℕ) → MakesEvents budget [] core core
 none_led core budget image world s at le = record { state = s; run = λ es u r. r; at = at; within = le }
 
-one_more : (events : List Made) (e : Made) (es : List Event) → map event_of events ++ event_of e ∷ es ≡ map event_of (events ++ e ∷ []) ++ es
+one_more : (events : List Made) (e : Made) (es : List Event) → map event_of events ++ event_of e ∷ es
+    ≡ map event_of (events ++ e ∷ []) ++ es
 one_more [] e es = refl
 one_more (x ∷ events) e es = ap (λ (xs : List Event). event_of x ∷ xs) (one_more events e es)
 
-pub one_led : (events : List Made) (e : Made) (budget : ℕ) (old core new : Core) → MakesEvents budget events old core → MayComeNext budget (event_of e) core → Makes (event_of e) core new → MakesEvents budget (events ++ e ∷ []) old new
+pub one_led : (events : List Made) (e : Made) (budget : ℕ) (old core new : Core)
+    → MakesEvents budget events old core → MayComeNext budget (event_of e) core → Makes (event_of e) core new
+    → MakesEvents budget (events ++ e ∷ []) old new
 one_led events e budget old core new leads next makes image world s at le =
     let a = leads image world s at le in
     let m = makes image world a.state a.at in
     record {
       state = m.0;
-      run = λ es u r. subst (λ (xs : List Event). Run image s xs u) (one_more events e es) (a.run (event_of e ∷ es) u (m.0, m.1, r));
+      run = λ es u r. subst (λ (xs : List Event). Run image s xs u) (one_more events e es)
+          (a.run (event_of e ∷ es) u (m.0, m.1, r));
       at = m.2;
       within = (next image world a.state a.at).1 a.within m.0 m.1;
     }
 
-pub next_enabled : (event : Event) (budget : ℕ) (core : Core) → MayComeNext budget event core → IsEnabled event core
+pub next_enabled : (event : Event) (budget : ℕ) (core : Core) → MayComeNext budget event core
+    → IsEnabled event core
 next_enabled event budget core next image world s at = (next image world s at).0
 
 -- what the law of the core says of a state that the events lead to
@@ -90,9 +102,14 @@ pub record Facts (image : Image) (world : World) (s : State) : Type 0 where
 
 module _ (image : Image) (world : World) (budget : ℕ) (s : State) (facts : Facts image world s) where
   whole : Rest image s → s.stopped ≡ false → WholeRun image world s
-  whole rest going = elim (facts.ends rest) [ inl w ↦ w | inr a ↦ absurd (true≢false (sym a.stopped ∙ going)) ]
+  whole rest going = elim (facts.ends rest) [
+    | inl w ↦ w
+    | inr a ↦
+        absurd (true≢false (sym a.stopped ∙ going))
+  ]
 
-  dear_by : (e : Event) → Enabled image s e → ((d : Event) → Enabled image s d → IsQuiet image s d → ⊥) → length s.fired ≡ budget → CostAtMost image world budget → ⊥
+  dear_by : (e : Event) → Enabled image s e → ((d : Event) → Enabled image s d → IsQuiet image s d → ⊥)
+      → length s.fired ≡ budget → CostAtMost image world budget → ⊥
   dear_by (Match w i p) on fires count cost =
       let r = facts.way w i p on.0 on.1 in
       let l : length s.fired < length (walk image world r.0) = r.1 in
@@ -103,7 +120,8 @@ module _ (image : Image) (world : World) (budget : ℕ) (s : State) (facts : Fac
   dear : OutOfBudget image budget s → CostAtMost image world budget → ⊥
   dear p = dear_by p.event p.enabled p.fires p.count
 
-  module _ (events : List Made) (run : Run image (core_opening image world) (map event_of events) s) (within : length s.fired ≤ budget) where
+  module _ (events : List Made) (run : Run image (core_opening image world) (map event_of events) s)
+      (within : length s.fired ≤ budget) where
     pub traces_so : (how : TraceEnd) → EndIs image budget how s → Traces image world budget events how
     traces_so end.Rest e =
         let w = whole e.0 e.1 in
@@ -112,7 +130,14 @@ module _ (image : Image) (world : World) (budget : ℕ) (s : State) (facts : Fac
           run = run;
           within = within;
           ended = e;
-          rests = (λ f. (w.within, λ t. (let a : length (walk image world t) ≤ length s.fired = facts.all w t in omega arith)), λ f. refl);
+          rests = (
+            λ f. (
+              w.within,
+              λ t. (let a : length (walk image world t) ≤ length s.fired = facts.all w t in
+                  omega arith),
+            ),
+            λ f. refl,
+          );
           faults = λ t f c. absurd (no_fault image world w.within t f);
           only = λ f. absurd cc;
         }
@@ -141,11 +166,14 @@ pub opened : (image : Image) (world : World) (budget : ℕ) → length (core_ope
 unfolding core_opening
 opened image world budget = omega arith
 
-pub led_run : (image : Image) (world : World) (s : State) (budget : ℕ) (events : List Made) (core : Core) (a : Led image world s budget events core) → Run image s (map event_of events) a.state
+pub led_run : (image : Image) (world : World) (s : State) (budget : ℕ) (events : List Made) (core : Core)
+    (a : Led image world s budget events core) → Run image s (map event_of events) a.state
 led_run image world s budget events core a =
-    subst (λ (xs : List Event). Run image s xs a.state) (append-nil (map event_of events)) (a.run [] a.state (same_refl a.state))
+    subst (λ (xs : List Event). Run image s xs a.state) (append-nil (map event_of events))
+    (a.run [] a.state (same_refl a.state))
 
 -- nothing was picked
-pub none_picked : (o : Option Made) (b : Bool) (core : Core) → b ≡ is_some o → b ≡ false → MatchOption o (IsAtRest core) (λ e. IsEnabled (event_of e) core) → IsAtRest core
+pub none_picked : (o : Option Made) (b : Bool) (core : Core) → b ≡ is_some o → b ≡ false
+    → MatchOption o (IsAtRest core) (λ e. IsEnabled (event_of e) core) → IsAtRest core
 none_picked None b core e f m = m
 none_picked (Some x) b core e f m = absurd (true≢false (sym e ∙ f))

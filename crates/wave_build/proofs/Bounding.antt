@@ -26,18 +26,24 @@ sum_more f (x ∷ xs) =
     let i = sum_more f xs in
     let a = sum_by-cons f x xs in let b = sum_by-cons (λ c. f c + 4) x xs in omega (arith, i, a, b)
 
-in_all : (e v n : ℕ) → e ≤ 255 → (17 * v + 80) + (2 * (11 * v + 31) + (42 * v + 180 + 9 * e)) * n ≤ 4 * ((2 * e + 16 * (v + 8)) * suc n)
+in_all : (e v n : ℕ) → e ≤ 255 → (17 * v + 80) + (2 * (11 * v + 31) + (42 * v + 180 + 9 * e)) * n
+    ≤ 4 * ((2 * e + 16 * (v + 8)) * suc n)
 in_all e v n h =
-    let m : (2 * (11 * v + 31) + (42 * v + 180 + 9 * e)) * n ≤ (8 * e + 64 * v + 512) * n = mul-le-mul_right n (omega (arith, h)) in
-    let s : 4 * ((2 * e + 16 * (v + 8)) * suc n) ≡ (8 * e + 64 * v + 512) + (8 * e + 64 * v + 512) * n = grind arith in
+    let m : (2 * (11 * v + 31) + (42 * v + 180 + 9 * e)) * n ≤ (8 * e + 64 * v + 512) * n =
+    mul-le-mul_right n (omega (arith, h)) in
+    let s : 4 * ((2 * e + 16 * (v + 8)) * suc n) ≡ (8 * e + 64 * v + 512) + (8 * e + 64 * v + 512) * n =
+    grind arith in
     omega (arith, m, s)
 
-module _ (parts : List Part) (l j k s : Graph) (needed live : List (List ℕ)) (cut : Cut) (narrow : widest parts ≤ most_statement_nodes) (P : PassGraphs parts l j k s needed live cut) where
-  pub stays_within : (draft image : Image) (world : World) (turns : ℕ) → CostsAtMost s (has live) draft world turns → WalksFor draft image world → StaysWithin parts s image world turns
+module _ (parts : List Part) (l j k s : Graph) (needed live : List (List ℕ)) (cut : Cut)
+    (narrow : widest parts ≤ most_statement_nodes) (P : PassGraphs parts l j k s needed live cut) where
+  pub stays_within : (draft image : Image) (world : World) (turns : ℕ) → CostsAtMost s (has live) draft world
+      turns → WalksFor draft image world → StaysWithin parts s image world turns
   stays_within draft image world turns costs walks o ends =
       let c = costs ends.0 o 0 ends.1 in
       let way = path s ends.0 (opening s world turns) in
       let w = last_weighs parts l j k s needed live cut P world turns ends.0 in
       let f = sum_more (quarters s (has live)) way in
       let b = in_all (widest parts) (most_variables parts) turns (omega (arith, narrow)) in
-      walks.costs (bound parts * suc turns) (λ t. (let x = c.1 t in let y = c.3 t in omega (arith, x, y, c.2, w, f, b)))
+      walks.costs (bound parts * suc turns)
+      (λ t. (let x = c.1 t in let y = c.3 t in omega (arith, x, y, c.2, w, f, b)))

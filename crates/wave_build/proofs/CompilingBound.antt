@@ -16,7 +16,8 @@ use Rattle.wave_build.specs.Passed.{PassGraphs}
 use Rattle.wave_build.specs.Prepared.{Prepared}
 use Rattle.wave_build.proofs.Bounding.{stays_within}
 
-pub all_passed : (parts : List Part) (g : Graph) (p : Prepared parts g) (live : List (List ℕ)) (cut : Cut) → AreLive g live → IsCut g cut → AreWaves g cut →
+pub all_passed : (parts : List Part) (g : Graph) (p : Prepared parts g) (live : List (List ℕ)) (cut : Cut)
+    → AreLive g live → IsCut g cut → AreWaves g cut →
     PassGraphs parts p.begun.lowered p.joined p.kept g p.needed live cut
 all_passed parts g p live cut l c w = record {
   lowering = p.begun.lowering;
@@ -29,8 +30,12 @@ all_passed parts g p live cut l c w = record {
   waving = w;
 }
 
-pub keeps_bound : (parts : List Part) (g : Graph) (p : Prepared parts g) (live : List (List ℕ)) (cut : Cut) → AreLive g live → IsCut g cut → AreWaves g cut → widest parts ≤ most_statement_nodes → (draft image : Image) →
-    ((world : World) → WorldOfWords world → (turns : ℕ) → CostsAtMost g (has live) draft world turns) → ((world : World) → WalksFor draft image world) → KeepsBound parts image
+pub keeps_bound : (parts : List Part) (g : Graph) (p : Prepared parts g) (live : List (List ℕ)) (cut : Cut)
+    → AreLive g live → IsCut g cut → AreWaves g cut → widest parts ≤ most_statement_nodes
+    → (draft image : Image) →
+    ((world : World) → WorldOfWords world → (turns : ℕ) → CostsAtMost g (has live) draft world turns)
+    → ((world : World) → WalksFor draft image world) → KeepsBound parts image
 keeps_bound parts g p live cut l c w narrow draft image costs walks world words n o passes =
     let r = p.shows.ends world n o passes in
-    stays_within parts p.begun.lowered p.joined p.kept g p.needed live cut narrow (all_passed parts g p live cut l c w) draft image world n (costs world words n) (walks world) r.0 r.1
+    stays_within parts p.begun.lowered p.joined p.kept g p.needed live cut narrow
+    (all_passed parts g p live cut l c w) draft image world n (costs world words n) (walks world) r.0 r.1

@@ -1,5 +1,6 @@
 -- How many variables are live where all that is live is in a list.
-use Rattle.std.proofs.Common.{ℕ, zero, suc, ◌+◌, ◌==◌, ◌&&◌, ◌≡◌, ◌<◌, ◌≤◌, not, Bool, true, false, cond, List, [], ◌∷◌, length, refl, ap, ◌∙◌, inl, inr, arith}
+use Rattle.std.proofs.Common.{ℕ, zero, suc, ◌+◌, ◌==◌, ◌&&◌, ◌≡◌, ◌<◌, ◌≤◌, not, Bool, true, false, cond}
+use Rattle.std.proofs.Common.{List, [], ◌∷◌, length, refl, ap, ◌∙◌, inl, inr, arith}
 use Rattle.std.proofs.lemmas.Bool.{cases_eq}
 use Rattle.std.proofs.lemmas.Bool.Decides.{nat_tests}
 use Rattle.call_gen.specs.Spelled.{below}
@@ -16,16 +17,19 @@ abbrev other : (ℕ → Bool) → ℕ → ℕ → Bool
 other p x y = p y && not (y == x)
 
 is_other : (p : ℕ → Bool) (x y : ℕ) → (y ≡ x → ⊥) → other p x y ≡ p y
-is_other p x y ne = let e : (y == x) ≡ false = grind (arith, nat_tests) in ap (λ (t : Bool). p y && not t) e ∙ keeps (p y)
+is_other p x y ne = let e : (y == x) ≡ false = grind (arith, nat_tests) in ap (λ (t : Bool). p y && not t) e
+    ∙ keeps (p y)
   where
     keeps : (b : Bool) → (b && true) ≡ b
     keeps true = refl
     keeps false = refl
 
-step : (p : ℕ → Bool) (a n : ℕ) (c : Bool) → p a ≡ c → length (live_from p a (suc n)) ≡ length (cond c (suc a ∷ live_from p (suc a) n) (live_from p (suc a) n))
+step : (p : ℕ → Bool) (a n : ℕ) (c : Bool) → p a ≡ c → length (live_from p a (suc n))
+    ≡ length (cond c (suc a ∷ live_from p (suc a) n) (live_from p (suc a) n))
 step p a n c e = ap (λ (b : Bool). length (cond b (suc a ∷ live_from p (suc a) n) (live_from p (suc a) n))) e
 
-grow : (c : Bool) (x : ℕ) (xs ys : List ℕ) → length xs ≤ length ys → length (cond c (x ∷ xs) xs) ≤ length (cond c (x ∷ ys) ys)
+grow : (c : Bool) (x : ℕ) (xs ys : List ℕ) → length xs ≤ length ys → length (cond c (x ∷ xs) xs)
+    ≤ length (cond c (x ∷ ys) ys)
 grow true x xs ys h = omega (arith, h)
 grow false x xs ys h = h
 
@@ -62,8 +66,10 @@ without p x a (suc n) = elim (cases_eq a x) [
     at_least false x xs = omega arith
 
     by_test : (c : Bool) → length (live_from p (suc a) n) ≤ suc (length (live_from (other p x) (suc a) n))
-        → length (live_from p a (suc n)) ≡ length (cond c (suc a ∷ live_from p (suc a) n) (live_from p (suc a) n))
-        → length (live_from (other p x) a (suc n)) ≡ length (cond c (suc a ∷ live_from (other p x) (suc a) n) (live_from (other p x) (suc a) n))
+        → length (live_from p a (suc n)) ≡ length
+        (cond c (suc a ∷ live_from p (suc a) n) (live_from p (suc a) n))
+        → length (live_from (other p x) a (suc n)) ≡ length (cond c (suc a ∷ live_from (other p x) (suc a) n)
+        (live_from (other p x) (suc a) n))
         → length (live_from p a (suc n)) ≤ suc (length (live_from (other p x) a (suc n)))
     by_test true i s t = omega (arith, i, s, t)
     by_test false i s t = omega (arith, i, s, t)
@@ -82,7 +88,8 @@ both true true e = absurd (cc)
 both false b e = absurd (cc)
 
 -- no more numbers pass a test than a list has that has all of them
-pub few_in : (ys : List ℕ) (p : ℕ → Bool) (a n : ℕ) → ((x : ℕ) → x < a + n → p x ≡ true → In x ys) → length (live_from p a n) ≤ length ys
+pub few_in : (ys : List ℕ) (p : ℕ → Bool) (a n : ℕ) → ((x : ℕ) → x < a + n → p x ≡ true → In x ys)
+    → length (live_from p a n) ≤ length ys
 few_in [] p a n h = none p a n h
 few_in (y ∷ ys) p a n h =
     let w = without p y a n in

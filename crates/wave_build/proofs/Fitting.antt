@@ -18,11 +18,14 @@ use Rattle.wave_build.proofs.CompilingRuns.{first_none}
 pub joined_none : (parts : List Part) (l j : Graph) → Lowered parts l → Joined l j → HasNoSend j
 unfolding spot_at no_spot
 joined_none parts l j L J b = elim (J.short.others b) [
-  | inl same ↦ subst (λ (x : Block). NoSend x.exit) (sym same) (first_none (block_at l b).exit (each_at (λ (x : Spot). IsFirstExit x.block.exit) (spots l) no_spot L.form.exits tt b))
+  | inl same ↦ subst (λ (x : Block). NoSend x.exit) (sym same)
+      (first_none (block_at l b).exit (each_at (λ (x : Spot). IsFirstExit x.block.exit) (spots l) no_spot
+      L.form.exits tt b))
   | inr new ↦ subst NoSend (sym new.goes) tt
 ]
 
-module _ (parts : List Part) (l j k s : Graph) (needed live : List (List ℕ)) (cut : Cut) (P : PassGraphs parts l j k s needed live cut) where
+module _ (parts : List Part) (l j k s : Graph) (needed live : List (List ℕ)) (cut : Cut)
+    (P : PassGraphs parts l j k s needed live cut) where
   arms : ArmsAlone s
   arms = P.spelling.arms (P.keeping.arms (P.joining.arms (shaped_alone l P.lowering.shape)))
 

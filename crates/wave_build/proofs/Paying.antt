@@ -1,5 +1,6 @@
 -- What turns pay for on the way to the last graph.
-use Rattle.std.proofs.Common.{ℕ, zero, suc, ◌+◌, ◌*◌, ◌≡◌, ◌≤◌, max, List, [], ◌∷◌, ◌++◌, length, refl, sym, ap, ◌∙◌, subst, inl, inr, arith}
+use Rattle.std.proofs.Common.{ℕ, zero, suc, ◌+◌, ◌*◌, ◌≡◌, ◌≤◌, max, List, [], ◌∷◌, ◌++◌, length, refl, sym}
+use Rattle.std.proofs.Common.{ap, ◌∙◌, subst, inl, inr, arith}
 use Rattle.std.specs.List.{AllByRecursion, sum_by}
 use Rattle.std.proofs.lemmas.Bool.{cases_lt}
 use Rattle.std.proofs.lemmas.List.Sums.{sum_by-append}
@@ -7,9 +8,12 @@ use Rattle.std.proofs.Math.Nat.{mul-le-mul_left}
 use Rattle.src_ast.specs.Syntax.{Part}
 use Rattle.src_ast.specs.Bound.{widest, most_variables}
 use Rattle.src_ast.specs.LanguageLimits.{most_parameters}
-use Rattle.cfg_core.specs.Graph.{Term, Op, Exit, Goto, Branch, Call, Return, Send, Stop, Block, GraphProc, Graph, Spot, spots, spots_in, spots_from, spot_at, no_spot, block_at, no_proc, proc_at, entry_of}
+use Rattle.cfg_core.specs.Graph.{Term, Op, Exit, Goto, Branch, Call, Return, Send, Stop, Block, GraphProc}
+use Rattle.cfg_core.specs.Graph.{Graph, Spot, spots, spots_in, spots_from, spot_at, no_spot, block_at}
+use Rattle.cfg_core.specs.Graph.{no_proc, proc_at, entry_of}
 use Rattle.cfg_core.specs.Rules.{ExitIn, ProcNumbers}
-use Rattle.cfg_core.specs.Weights.{turns_of, turns_at, acts_of, jumps_of, term_nodes, op_nodes, exit_nodes, highest, handed_on, IsPotential, first_block, TwoBlocksATurn, WalksWeigh}
+use Rattle.cfg_core.specs.Weights.{turns_of, turns_at, acts_of, jumps_of, term_nodes, op_nodes, exit_nodes}
+use Rattle.cfg_core.specs.Weights.{highest, handed_on, IsPotential, first_block, TwoBlocksATurn, WalksWeigh}
 use Rattle.cfg_core.proofs.Weighing.{walk_paid}
 use Rattle.phi_conv.specs.Joined.{joining}
 use Rattle.phi_conv.specs.Keeps.{JoinedAt}
@@ -37,42 +41,51 @@ scaled k n p t h =
     let b : k * (p + 2 * t) ≡ k * p + 2 * (k * t) = grind arith in
     omega (arith, m, a, b)
 
-finish : (k n p t d q c extra handed : ℕ) → 1 + n ≤ p + 2 * t → handed ≤ k * n + extra → q + c + extra ≤ k + 29 + d * t → q + c + handed ≤ k * p + 29 + (2 * k + d) * t
+finish : (k n p t d q c extra handed : ℕ) → 1 + n ≤ p + 2 * t → handed ≤ k * n + extra
+    → q + c + extra ≤ k + 29 + d * t → q + c + handed ≤ k * p + 29 + (2 * k + d) * t
 finish k n p t d q c extra handed paid h le =
     let s = scaled k n p t paid in
     let e : (2 * k + d) * t ≡ 2 * (k * t) + d * t = grind arith in
     omega (arith, s, e, h, le)
 
 at_least_once : (k t : ℕ) → 1 ≤ t → k ≤ k * t
-at_least_once k t h = let m : k * 1 ≤ k * t = mul-le-mul_left k h in let e : k * 1 ≡ k = grind arith in omega (arith, m, e)
+at_least_once k t h = let m : k * 1 ≤ k * t = mul-le-mul_left k h in let e : k * 1 ≡ k = grind arith in
+    omega (arith, m, e)
 
 times_none : (k t : ℕ) → t ≤ 0 → k * t ≤ 0
-times_none k t h = let m : k * t ≤ k * 0 = mul-le-mul_left k h in let e : k * 0 ≡ 0 = grind arith in omega (arith, m, e)
+times_none k t h = let m : k * t ≤ k * 0 = mul-le-mul_left k h in let e : k * 0 ≡ 0 = grind arith in
+    omega (arith, m, e)
 
 spread : (v e t : ℕ) → (42 * v + 180 + 9 * e) * t ≡ 42 * (v * t) + 180 * t + 9 * (e * t)
 spread v e t = grind arith
 
-in_blocks : (V home v : ℕ) (bs : List Block) → v ≤ V → AllByRecursion (λ (s : Spot). s.vars ≤ V) (spots_in home v bs)
+in_blocks : (V home v : ℕ) (bs : List Block) → v ≤ V → AllByRecursion (λ (s : Spot). s.vars ≤ V)
+    (spots_in home v bs)
 in_blocks V home v [] le = tt
 in_blocks V home v (b ∷ bs) le = (le, in_blocks V home v bs le)
 
-pub in_procs : (V home : ℕ) (ps : List GraphProc) → AllByRecursion (λ p. p.vars ≤ V) ps → AllByRecursion (λ (s : Spot). s.vars ≤ V) (spots_from home ps)
+pub in_procs : (V home : ℕ) (ps : List GraphProc) → AllByRecursion (λ p. p.vars ≤ V) ps
+    → AllByRecursion (λ (s : Spot). s.vars ≤ V) (spots_from home ps)
 in_procs V home [] h = tt
-in_procs V home (p ∷ ps) h = all_both (λ (s : Spot). s.vars ≤ V) (spots_in home p.vars p.blocks) (spots_from (suc home) ps) (in_blocks V home p.vars p.blocks h.0) (in_procs V (suc home) ps h.1)
+in_procs V home (p ∷ ps) h = all_both (λ (s : Spot). s.vars ≤ V) (spots_in home p.vars p.blocks)
+    (spots_from (suc home) ps) (in_blocks V home p.vars p.blocks h.0) (in_procs V (suc home) ps h.1)
 
-params_at_most : (n : ℕ) (ps : List GraphProc) (f : ℕ) → AllByRecursion (λ p. p.params ≤ n) ps → (or_else (nth ps f) no_proc).params ≤ n
+params_at_most : (n : ℕ) (ps : List GraphProc) (f : ℕ) → AllByRecursion (λ p. p.params ≤ n) ps
+    → (or_else (nth ps f) no_proc).params ≤ n
 unfolding no_proc
 params_at_most n [] f h = omega arith
 params_at_most n (p ∷ ps) zero h = h.0
 params_at_most n (p ∷ ps) (suc f) h = params_at_most n ps f h.1
 
-params_few : (V : ℕ) (ps : List GraphProc) (f : ℕ) → AllByRecursion ProcNumbers ps → AllByRecursion (λ p. p.vars ≤ V) ps → (or_else (nth ps f) no_proc).params ≤ V
+params_few : (V : ℕ) (ps : List GraphProc) (f : ℕ) → AllByRecursion ProcNumbers ps
+    → AllByRecursion (λ p. p.vars ≤ V) ps → (or_else (nth ps f) no_proc).params ≤ V
 unfolding no_proc
 params_few V [] f n h = omega arith
 params_few V (p ∷ ps) zero n h = omega (arith, n.0.params, h.0)
 params_few V (p ∷ ps) (suc f) n h = params_few V ps f n.1 h.1
 
-module _ (parts : List Part) (l j k s : Graph) (needed live : List (List ℕ)) (cut : Cut) (P : PassGraphs parts l j k s needed live cut) where
+module _ (parts : List Part) (l j k s : Graph) (needed live : List (List ℕ)) (cut : Cut)
+    (P : PassGraphs parts l j k s needed live cut) where
   abbrev V : ℕ
   V = most_variables parts
 
@@ -82,7 +95,8 @@ module _ (parts : List Part) (l j k s : Graph) (needed live : List (List ℕ)) (
   -- procedures of the lowered graph have few variables
   pub vars_few : (b : ℕ) → (spot_at l b).vars ≤ V
   unfolding spot_at no_spot
-  vars_few b = each_at (λ (s : Spot). s.vars ≤ V) (spots l) no_spot (in_procs V 0 l.procs P.lowering.small.vars) (omega arith) b
+  vars_few b = each_at (λ (s : Spot). s.vars ≤ V) (spots l) no_spot
+      (in_procs V 0 l.procs P.lowering.small.vars) (omega arith) b
 
   values_few : (f : ℕ) → (proc_at l f).params ≤ V
   unfolding proc_at
@@ -160,7 +174,9 @@ module _ (parts : List Part) (l j k s : Graph) (needed live : List (List ℕ)) (
     q = sum_by op_quarters ops
 
     -- what a block weighs beyond what its potential gives, by its turns
-    plain_few : (y : Exit) → CallsFew y → sum_by acts_of ops + jumps_of y ≤ t → sum_by op_nodes ops + exit_nodes y ≤ E * t + 1 → q + exit_charge V y + extra y ≤ each + 29 + beyond * t
+    plain_few : (y : Exit) → CallsFew y → sum_by acts_of ops + jumps_of y ≤ t
+        → sum_by op_nodes ops + exit_nodes y ≤ E * t + 1 → q + exit_charge V y + extra y ≤ each + 29 + beyond
+        * t
     plain_few (Goto c) few acts nodes = let o = ops_paid ops in let e = spread V E t in elim (cases_lt 0 t) [
       | inl pos ↦ omega (arith, o, e, acts, nodes)
       | inr none ↦ let z = no_acts ops (omega (arith, acts, none)) in omega (arith, z, e)
@@ -170,11 +186,14 @@ module _ (parts : List Part) (l j k s : Graph) (needed live : List (List ℕ)) (
         let v = at_least_once V t (omega (arith, acts)) in omega (arith, o, e, h, v, acts, nodes)
     plain_few (Call x f ts back) few acts nodes =
         let o = ops_paid ops in let e = spread V E t in let h = terms_paid ts in
-        let v = at_least_once V t (omega (arith, acts)) in omega (arith, o, e, h, v, acts, nodes, few.0, few.1)
-    plain_few (Return u) few acts nodes = let o = ops_paid ops in let e = spread V E t in let h = term_paid u in elim (cases_lt 0 t) [
-      | inl pos ↦ omega (arith, o, e, h, acts, nodes)
-      | inr none ↦ let z = no_acts ops (omega (arith, acts, none)) in let w = times_none E t none in omega (arith, z, e, h, w, nodes)
-    ]
+        let v = at_least_once V t (omega (arith, acts)) in
+        omega (arith, o, e, h, v, acts, nodes, few.0, few.1)
+    plain_few (Return u) few acts nodes = let o = ops_paid ops in let e = spread V E t in
+        let h = term_paid u in elim (cases_lt 0 t) [
+          | inl pos ↦ omega (arith, o, e, h, acts, nodes)
+          | inr none ↦ let z = no_acts ops (omega (arith, acts, none)) in let w = times_none E t none in
+              omega (arith, z, e, h, w, nodes)
+        ]
     plain_few (Send u ts ls) few acts nodes =
         let o = ops_paid ops in let e = spread V E t in
         let v = at_least_once V t (omega (arith, acts)) in omega (arith, o, e, v, acts, nodes)
@@ -184,7 +203,9 @@ module _ (parts : List Part) (l j k s : Graph) (needed live : List (List ℕ)) (
     ]
 
     -- the same where a short branch is joined
-    joined_few : (more : List Op) (test : Term) (n : ℕ) → n ≤ t → sum_by acts_of ops + 1 ≤ n → sum_by op_nodes ops + term_nodes test ≤ E * n + 1 → sum_by op_quarters more ≤ term_quarters test + 168 → sum_by op_quarters (ops ++ more) + (11 * V + 31) + 29 ≤ each + 29 + beyond * t
+    joined_few : (more : List Op) (test : Term) (n : ℕ) → n ≤ t → sum_by acts_of ops + 1 ≤ n
+        → sum_by op_nodes ops + term_nodes test ≤ E * n + 1 → sum_by op_quarters more ≤ term_quarters test
+        + 168 → sum_by op_quarters (ops ++ more) + (11 * V + 31) + 29 ≤ each + 29 + beyond * t
     joined_few more test n le acts nodes weigh =
         let o = ops_paid ops in let e = spread V E t in let h = term_paid test in
         let a = sum_by-append op_quarters ops more in
@@ -195,7 +216,8 @@ module _ (parts : List Part) (l j k s : Graph) (needed live : List (List ℕ)) (
   calls_few b (Goto c) e = tt
   calls_few b (Branch t a c) e = tt
   calls_few b (Call x f ts back) e =
-      let i = subst (λ (x : Exit). ExitIn l (spot_at l b).home (spot_at l b).vars x) e (numbers_at l P.lowering.rules b).exit in
+      let i = subst (λ (x : Exit). ExitIn l (spot_at l b).home (spot_at l b).vars x) e
+      (numbers_at l P.lowering.rules b).exit in
       let v = values_few f in let w = few_params f in (omega (arith, i.2, v), omega (arith, i.2, w))
   calls_few b (Return t) e = tt
   calls_few b (Send t ts ls) e = tt
@@ -214,8 +236,10 @@ module _ (parts : List Part) (l j k s : Graph) (needed live : List (List ℕ)) (
     | inl same ↦
         let a = P.lowering.work.acts b in let n = P.lowering.work.nodes b in
         let m : E * turns_at l b ≤ E * t = mul-le-mul_left E le in
-        subst (λ (x : Block). sum_by op_quarters x.ops + exit_charge V x.exit + extra x.exit ≤ each + 29 + beyond * t) (sym same)
-        (plain_few t (block_at l b).ops (block_at l b).exit (calls_few b (block_at l b).exit refl) (omega (arith, a, le)) (omega (arith, n, m)))
+        subst (λ (x : Block). sum_by op_quarters x.ops + exit_charge V x.exit + extra x.exit ≤ each + 29
+        + beyond * t) (sym same)
+        (plain_few t (block_at l b).ops (block_at l b).exit (calls_few b (block_at l b).exit refl)
+        (omega (arith, a, le)) (omega (arith, n, m)))
     | inr new ↦ of_joined new
   ]
     where
@@ -225,33 +249,43 @@ module _ (parts : List Part) (l j k s : Graph) (needed live : List (List ℕ)) (
           let more = joining new.sets new.vars new.short in
           let a = P.lowering.work.acts b in
           let n = P.lowering.work.nodes b in
-          let acts : sum_by acts_of ops + 1 ≤ turns_at l b = subst (λ (x : Exit). sum_by acts_of ops + jumps_of x ≤ turns_at l b) new.branch a in
-          let nodes : sum_by op_nodes ops + term_nodes new.test ≤ E * turns_at l b + 1 = subst (λ (x : Exit). sum_by op_nodes ops + exit_nodes x ≤ E * turns_at l b + 1) new.branch n in
-          let w : sum_by op_quarters more ≤ term_quarters new.short.test + 168 = joining_weight new.sets new.vars new.short new.is.few in
+          let acts : sum_by acts_of ops + 1 ≤ turns_at l b =
+          subst (λ (x : Exit). sum_by acts_of ops + jumps_of x ≤ turns_at l b) new.branch a in
+          let nodes : sum_by op_nodes ops + term_nodes new.test ≤ E * turns_at l b + 1 =
+          subst (λ (x : Exit). sum_by op_nodes ops + exit_nodes x ≤ E * turns_at l b + 1) new.branch n in
+          let w : sum_by op_quarters more ≤ term_quarters new.short.test + 168 =
+          joining_weight new.sets new.vars new.short new.is.few in
           let s : term_quarters new.short.test ≡ term_quarters new.test = ap term_quarters new.is.test in
           let weigh : sum_by op_quarters more ≤ term_quarters new.test + 168 = omega (arith, w, s) in
           let f = joined_few t ops more new.test (turns_at l b) le acts nodes weigh in
-          subst (λ (x : Exit). sum_by op_quarters (block_at j b).ops + exit_charge V x + extra x ≤ each + 29 + beyond * t) (sym new.goes)
-          (subst (λ (xs : List Op). sum_by op_quarters xs + (11 * V + 31) + 29 ≤ each + 29 + beyond * t) (sym new.ops) f)
+          subst (λ (x : Exit). sum_by op_quarters (block_at j b).ops + exit_charge V x + extra x ≤ each + 29
+          + beyond * t) (sym new.goes)
+          (subst (λ (xs : List Op). sum_by op_quarters xs + (11 * V + 31) + 29 ≤ each + 29 + beyond * t)
+          (sym new.ops) f)
 
   -- a joined block takes no fewer turns
   turns_more : (b : ℕ) → turns_at l b ≤ turns_at j b
   turns_more b = elim (P.joining.short.others b) [
-    | inl same ↦ (let e : turns_at j b ≡ turns_at l b = ap (λ (x : Block). sum_by turns_of x.ops) same in omega (arith, e))
+    | inl same ↦ (let e : turns_at j b ≡ turns_at l b = ap (λ (x : Block). sum_by turns_of x.ops) same in
+        omega (arith, e))
     | inr new ↦
         let more = joining new.sets new.vars new.short in
-        let e : turns_at j b ≡ turns_at l b + sum_by turns_of more = ap (λ (xs : List Op). sum_by turns_of xs) new.ops ∙ sum_by-append turns_of (block_at l b).ops more in omega (arith, e)
+        let e : turns_at j b ≡ turns_at l b + sum_by turns_of more = ap (λ (xs : List Op). sum_by turns_of xs)
+        new.ops ∙ sum_by-append turns_of (block_at l b).ops more in omega (arith, e)
   ]
 
   block_few : (b : ℕ) → charge b + extra (block_at j b).exit ≤ each + 29 + beyond * turns_at j b
   block_few b = paid_by b (turns_at j b) (turns_more b)
 
   -- whatever blocks walks pass, the turns of the program pay for what each block is charged
-  pub charge_few : (b : ℕ) → charge b ≤ (11 * most_variables parts + 60) + (42 * most_variables parts + 180 + 9 * widest parts) * turns_at l b
+  pub charge_few : (b : ℕ) → charge b ≤ (11 * most_variables parts + 60)
+      + (42 * most_variables parts + 180 + 9 * widest parts) * turns_at l b
   charge_few b = let p = paid_by b (turns_at l b) (omega arith) in omega (arith, p)
 
   pays_all : IsPotential j charge pay potential
-  pays_all b lt = finish each (handed_on j p (block_at j b).exit) (p b) (turns_at j b) beyond (sum_by op_quarters (block_at j b).ops) (exit_charge V (block_at j b).exit) (extra (block_at j b).exit) (handed_on j potential (block_at j b).exit)
+  pays_all b lt = finish each (handed_on j p (block_at j b).exit) (p b) (turns_at j b) beyond
+      (sum_by op_quarters (block_at j b).ops) (exit_charge V (block_at j b).exit) (extra (block_at j b).exit)
+      (handed_on j potential (block_at j b).exit)
       (two.pays b lt) (handed_few (block_at j b).exit) (block_few b)
 
   -- in the joined graph walks are charged no more

@@ -1,10 +1,12 @@
 -- How large the last graph is.
-use Rattle.std.proofs.Common.{ℕ, suc, ◌+◌, ◌≡◌, ◌<◌, ◌≤◌, if◌then◌else◌, List, [], ◌∷◌, length, map, Option, Some, None, refl, sym, ap, ◌∙◌, subst, inl, inr, arith}
+use Rattle.std.proofs.Common.{ℕ, suc, ◌+◌, ◌≡◌, ◌<◌, ◌≤◌, if◌then◌else◌, List, [], ◌∷◌, length, map, Option}
+use Rattle.std.proofs.Common.{Some, None, refl, sym, ap, ◌∙◌, subst, inl, inr, arith}
 use Rattle.std.specs.List.{AllByRecursion, sum_by}
 use Rattle.std.proofs.lemmas.List.Sums.{sum_by-cons}
 use Rattle.src_ast.specs.Syntax.{Part}
 use Rattle.src_ast.specs.LanguageLimits.{most_statements}
-use Rattle.cfg_core.specs.Graph.{Exit, Goto, Branch, Call, Return, Send, Stop, Block, GraphArray, GraphProc, Graph, Spot, spots, no_spot, spot_at, block_at}
+use Rattle.cfg_core.specs.Graph.{Exit, Goto, Branch, Call, Return, Send, Stop, Block, GraphArray, GraphProc}
+use Rattle.cfg_core.specs.Graph.{Graph, Spot, spots, no_spot, spot_at, block_at}
 use Rattle.cfg_core.specs.Rules.{calls}
 use Rattle.cfg_core.specs.Weights.{turns_of, acts_of, jumps_of, block_nodes}
 use Rattle.cfg_build.specs.Keeps.{IsFirstExit}
@@ -13,7 +15,8 @@ use Rattle.phi_conv.specs.Short.{Short, short}
 use Rattle.phi_conv.specs.Joined.{joined_if, joined_proc}
 use Rattle.phi_conv.proofs.Placing.{joined_spot, spots_are}
 use Rattle.call_gen.specs.Keeps.{SendsAtMost}
-use Rattle.call_gen.specs.Sizes.{call_count, cell_count, Sizes, LandingsAtMost, BlockWithin, ProcWithin, KeepsSizes, spelled_sizes}
+use Rattle.call_gen.specs.Sizes.{call_count, cell_count, Sizes, LandingsAtMost, BlockWithin, ProcWithin}
+use Rattle.call_gen.specs.Sizes.{KeepsSizes, spelled_sizes}
 use Rattle.wave_build.specs.Passed.{PassGraphs}
 use Rattle.wave_build.specs.Small.{lowered_sizes, joined_sizes}
 use Rattle.ws_words.proofs.Lists.{length_map as map_count}
@@ -22,20 +25,29 @@ use Rattle.cfg_core.proofs.Spots.{each_at}
 
 cells_are : (arrays : List GraphArray) → cell_count arrays ≡ sum_by (λ a. a.length) arrays
 cells_are [] = refl
-cells_are (a ∷ arrays) = let i = cells_are arrays in let c = sum_by-cons (λ (x : GraphArray). x.length) a arrays in omega (arith, i, c)
+cells_are (a ∷ arrays) = let i = cells_are arrays in let c = sum_by-cons (λ (x : GraphArray). x.length) a
+    arrays in omega (arith, i, c)
 
-both_within : (z : Sizes) (ps : List GraphProc) → AllByRecursion (λ p. p.params ≤ z.params) ps → AllByRecursion (λ p. p.vars ≤ z.vars) ps → AllByRecursion (ProcWithin z) ps
+both_within : (z : Sizes) (ps : List GraphProc) → AllByRecursion (λ p. p.params ≤ z.params) ps
+    → AllByRecursion (λ p. p.vars ≤ z.vars) ps → AllByRecursion (ProcWithin z) ps
 both_within z [] h i = tt
 both_within z (p ∷ ps) h i = (record { params = h.0; vars = i.0 }, both_within z ps h.1 i.1)
 
-more_within : (g : Graph) (live : List (List ℕ)) (z : Sizes) (ps : List GraphProc) → AllByRecursion (ProcWithin z) ps → AllByRecursion (ProcWithin (joined_sizes z)) (map (joined_proc g live) ps)
+more_within : (g : Graph) (live : List (List ℕ)) (z : Sizes) (ps : List GraphProc)
+    → AllByRecursion (ProcWithin z) ps → AllByRecursion (ProcWithin (joined_sizes z))
+    (map (joined_proc g live) ps)
 more_within g live z [] h = tt
-more_within g live z (p ∷ ps) h = (record { params = h.0.params; vars = (let v = h.0.vars in omega (arith, v)) }, more_within g live z ps h.1)
+more_within g live z (p ∷ ps) h = (
+  record { params = h.0.params; vars = (let v = h.0.vars in omega (arith, v)) },
+  more_within g live z ps h.1,
+)
 
 -- an item is no more than the sum
-each_summed : {A : Type 0} (f : A → ℕ) (xs : List A) (n : ℕ) → sum_by f xs ≤ n → AllByRecursion (λ x. f x ≤ n) xs
+each_summed : {A : Type 0} (f : A → ℕ) (xs : List A) (n : ℕ) → sum_by f xs ≤ n
+    → AllByRecursion (λ x. f x ≤ n) xs
 each_summed f [] n h = tt
-each_summed f (x ∷ xs) n h = let c = sum_by-cons f x xs in (omega (arith, c, h), each_summed f xs n (omega (arith, c, h)))
+each_summed f (x ∷ xs) n h = let c = sum_by-cons f x xs in
+    (omega (arith, c, h), each_summed f xs n (omega (arith, c, h)))
 
 first_sends : (n : ℕ) (x : Exit) → IsFirstExit x → SendsAtMost n x × LandingsAtMost n x
 first_sends n (Goto b) h = (tt, tt)
@@ -45,7 +57,10 @@ first_sends n (Return t) h = (tt, tt)
 first_sends n (Send t ts ls) h = absurd h
 first_sends n Stop h = (tt, tt)
 
-three : (z : Sizes) → z.values ≡ 0 → z.landings ≡ 0 → (ss : List Spot) → AllByRecursion (λ s. length s.block.ops ≤ z.ops) ss → AllByRecursion (λ s. block_nodes s.block ≤ z.nodes) ss → AllByRecursion (λ s. IsFirstExit s.block.exit) ss → AllByRecursion (λ s. BlockWithin z s.block) ss
+three : (z : Sizes) → z.values ≡ 0 → z.landings ≡ 0 → (ss : List Spot)
+    → AllByRecursion (λ s. length s.block.ops ≤ z.ops) ss
+    → AllByRecursion (λ s. block_nodes s.block ≤ z.nodes) ss → AllByRecursion (λ s. IsFirstExit s.block.exit)
+    ss → AllByRecursion (λ s. BlockWithin z s.block) ss
 three z ev el [] h i e = tt
 three z ev el (s ∷ ss) h i e = (
   record {
@@ -58,15 +73,19 @@ three z ev el (s ∷ ss) h i e = (
 )
 
 -- what holds at each place holds of all
-all_at : (P : Spot → Type 0) (xs : List Spot) → ((k : ℕ) → k < length xs → P (or_else (nth xs k) no_spot)) → AllByRecursion P xs
+all_at : (P : Spot → Type 0) (xs : List Spot) → ((k : ℕ) → k < length xs → P (or_else (nth xs k) no_spot))
+    → AllByRecursion P xs
 all_at P [] h = tt
 all_at P (x ∷ xs) h = (h 0 (omega arith), all_at P xs (λ k lt. h (suc k) (omega (arith, lt))))
 
-fewer_calls : (g : Graph) (live : List (List ℕ)) (ss : List Spot) → call_count (map (joined_spot g live) ss) ≤ call_count ss
+fewer_calls : (g : Graph) (live : List (List ℕ)) (ss : List Spot) → call_count (map (joined_spot g live) ss)
+    ≤ call_count ss
 fewer_calls g live [] = omega arith
 fewer_calls g live (s ∷ ss) = by_short (short g s.block.exit) (fewer_calls g live ss)
   where
-    by_short : (found : Option Short) → call_count (map (joined_spot g live) ss) ≤ call_count ss → (if calls (joined_if live s.vars s.block found).exit then 1 else 0) + call_count (map (joined_spot g live) ss) ≤ (if calls s.block.exit then 1 else 0) + call_count ss
+    by_short : (found : Option Short) → call_count (map (joined_spot g live) ss) ≤ call_count ss
+        → (if calls (joined_if live s.vars s.block found).exit then 1 else 0) + call_count
+        (map (joined_spot g live) ss) ≤ (if calls s.block.exit then 1 else 0) + call_count ss
     by_short None i = omega (arith, i)
     by_short (Some x) i = omega (arith, i)
 
@@ -80,20 +99,25 @@ one_call (Send t ts ls) = omega arith
 one_call Stop = omega arith
 
 -- each call has a turn
-calls_paid : (ss : List Spot) → AllByRecursion (λ s. sum_by acts_of s.block.ops + jumps_of s.block.exit ≤ sum_by turns_of s.block.ops) ss → call_count ss ≤ sum_by (λ s. sum_by turns_of s.block.ops) ss
+calls_paid : (ss : List Spot)
+    → AllByRecursion (λ s. sum_by acts_of s.block.ops + jumps_of s.block.exit ≤ sum_by turns_of s.block.ops)
+    ss → call_count ss ≤ sum_by (λ s. sum_by turns_of s.block.ops) ss
 calls_paid [] h = omega arith
 calls_paid (s ∷ ss) h =
     let i = calls_paid ss h.1 in let o = one_call s.block.exit in let a = h.0 in
     let c = sum_by-cons (λ (t : Spot). sum_by turns_of t.block.ops) s ss in omega (arith, i, o, a, c)
 
-module _ (parts : List Part) (l j k s : Graph) (needed live : List (List ℕ)) (cut : Cut) (P : PassGraphs parts l j k s needed live cut) where
+module _ (parts : List Part) (l j k s : Graph) (needed live : List (List ℕ)) (cut : Cut)
+    (P : PassGraphs parts l j k s needed live cut) where
   abbrev z : Sizes
   z = lowered_sizes parts
 
   few_calls : call_count (spots l) ≤ most_statements
   unfolding spot_at
   few_calls =
-      let c = calls_paid (spots l) (all_at (λ (x : Spot). sum_by acts_of x.block.ops + jumps_of x.block.exit ≤ sum_by turns_of x.block.ops) (spots l) (λ b lt. P.lowering.work.acts b)) in
+      let c = calls_paid (spots l)
+      (all_at (λ (x : Spot). sum_by acts_of x.block.ops + jumps_of x.block.exit ≤ sum_by turns_of
+      x.block.ops) (spots l) (λ b lt. P.lowering.work.acts b)) in
       let t = P.lowering.small.turns in omega (arith, c, t)
 
   lowered_within : KeepsSizes (lowered_sizes parts) l
@@ -104,43 +128,59 @@ module _ (parts : List Part) (l j k s : Graph) (needed live : List (List ℕ)) (
     count_procs = small.procs;
     procs = both_within (lowered_sizes parts) l.procs small.params small.vars;
     count_blocks = small.blocks;
-    blocks = three (lowered_sizes parts) refl refl (spots l) (each_summed (λ (x : Spot). length x.block.ops) (spots l) z.ops small.ops) (each_summed (λ (x : Spot). block_nodes x.block) (spots l) z.nodes small.nodes) P.lowering.form.exits;
+    blocks = three (lowered_sizes parts) refl refl (spots l)
+        (each_summed (λ (x : Spot). length x.block.ops) (spots l) z.ops small.ops)
+        (each_summed (λ (x : Spot). block_nodes x.block) (spots l) z.nodes small.nodes) P.lowering.form.exits;
     calls = few_calls;
   }
 
   block_within : (b : ℕ) → BlockWithin z (block_at l b)
   unfolding spot_at no_spot
-  block_within b = each_at (λ (x : Spot). BlockWithin z x.block) (spots l) no_spot lowered_within.blocks (record { ops = omega arith; nodes = omega arith; values = tt; landings = tt }) b
+  block_within b = each_at (λ (x : Spot). BlockWithin z x.block) (spots l) no_spot lowered_within.blocks
+      (record { ops = omega arith; nodes = omega arith; values = tt; landings = tt }) b
 
   sends_at : (b : ℕ) → SendsAtMost 0 (block_at j b).exit × LandingsAtMost 0 (block_at j b).exit
   sends_at b = elim (P.joining.short.others b) [
-    | inl same ↦ subst (λ (x : Block). SendsAtMost 0 x.exit × LandingsAtMost 0 x.exit) (sym same) ((block_within b).values, (block_within b).landings)
+    | inl same ↦ subst (λ (x : Block). SendsAtMost 0 x.exit × LandingsAtMost 0 x.exit) (sym same)
+        ((block_within b).values, (block_within b).landings)
     | inr new ↦ subst (λ (x : Exit). SendsAtMost 0 x × LandingsAtMost 0 x) (sym new.goes) (tt, tt)
   ]
 
   joined_block_within : (b : ℕ) → BlockWithin (joined_sizes z) (block_at j b)
   joined_block_within b =
       let w = block_within b in let o = P.joining.sizes.ops b in let m = P.joining.sizes.nodes b in
-      record { ops = (let h = w.ops in omega (arith, h, o)); nodes = (let h = w.nodes in omega (arith, h, m)); values = (sends_at b).0; landings = (sends_at b).1 }
+      record {
+        ops = (let h = w.ops in omega (arith, h, o));
+        nodes = (let h = w.nodes in omega (arith, h, m));
+        values = (sends_at b).0;
+        landings = (sends_at b).1;
+      }
 
   joined_within : KeepsSizes (joined_sizes (lowered_sizes parts)) j
   unfolding spot_at
   joined_within =
       let w = lowered_within in
       let arrays : j.arrays ≡ l.arrays = ap (λ (g : Graph). g.arrays) P.joining.is in
-      let procs : j.procs ≡ map (joined_proc l P.joining.sets) l.procs = ap (λ (g : Graph). g.procs) P.joining.is in
-      let count : length j.procs ≡ length l.procs = ap length procs ∙ map_count (joined_proc l P.joining.sets) l.procs in
+      let procs : j.procs ≡ map (joined_proc l P.joining.sets) l.procs =
+      ap (λ (g : Graph). g.procs) P.joining.is in
+      let count : length j.procs ≡ length l.procs = ap length procs ∙ map_count (joined_proc l P.joining.sets)
+      l.procs in
       let blocks : length (spots j) ≡ length (spots l) = P.joining.sizes.count in
-      let calls : call_count (spots j) ≡ call_count (map (joined_spot l P.joining.sets) (spots l)) = ap (λ (g : Graph). call_count (spots g)) P.joining.is ∙ ap call_count (spots_are l P.joining.sets) in
+      let calls : call_count (spots j) ≡ call_count (map (joined_spot l P.joining.sets) (spots l)) =
+      ap (λ (g : Graph). call_count (spots g)) P.joining.is ∙ ap call_count
+      (spots_are l P.joining.sets) in
       let fewer = fewer_calls l P.joining.sets (spots l) in
       record {
         arrays = subst (λ (xs : List GraphArray). length xs ≤ z.arrays) (sym arrays) w.arrays;
-        lengths = subst (λ (xs : List GraphArray). AllByRecursion (λ a. a.length ≤ z.length) xs) (sym arrays) w.lengths;
+        lengths = subst (λ (xs : List GraphArray). AllByRecursion (λ a. a.length ≤ z.length) xs) (sym arrays)
+            w.lengths;
         cells = subst (λ (xs : List GraphArray). cell_count xs ≤ z.cells) (sym arrays) w.cells;
         count_procs = (let c = w.count_procs in omega (arith, count, c));
-        procs = subst (λ (ps : List GraphProc). AllByRecursion (ProcWithin (joined_sizes z)) ps) (sym procs) (more_within l P.joining.sets z l.procs w.procs);
+        procs = subst (λ (ps : List GraphProc). AllByRecursion (ProcWithin (joined_sizes z)) ps) (sym procs)
+            (more_within l P.joining.sets z l.procs w.procs);
         count_blocks = (let c = w.count_blocks in omega (arith, blocks, c));
-        blocks = all_at (λ (x : Spot). BlockWithin (joined_sizes z) x.block) (spots j) (λ b lt. joined_block_within b);
+        blocks = all_at (λ (x : Spot). BlockWithin (joined_sizes z) x.block) (spots j)
+            (λ b lt. joined_block_within b);
         calls = (let c = w.calls in omega (arith, calls, fewer, c));
       }
 

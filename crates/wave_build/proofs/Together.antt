@@ -1,5 +1,6 @@
 -- What the blocks of the last graph weigh together, and that their code leaves room.
-use Rattle.std.proofs.Common.{ℕ, zero, suc, ◌+◌, ◌*◌, ◌≡◌, ◌<◌, ◌≤◌, ◌⊎◌, Bool, true, if◌then◌else◌, List, [], ◌∷◌, length, refl, ap, inl, inr, arith}
+use Rattle.std.proofs.Common.{ℕ, zero, suc, ◌+◌, ◌*◌, ◌≡◌, ◌<◌, ◌≤◌, ◌⊎◌, Bool, true, if◌then◌else◌, List, []}
+use Rattle.std.proofs.Common.{◌∷◌, length, refl, ap, inl, inr, arith}
 use Rattle.std.specs.List.{AllByRecursion, sum_by, range_with_len}
 use Rattle.std.proofs.Math.Nat.{mul-le-mul_right}
 use Rattle.src_ast.specs.Syntax.{Part}
@@ -7,7 +8,8 @@ use Rattle.src_ast.specs.Bound.{widest, most_variables}
 use Rattle.src_ast.specs.LanguageLimits.{most_locals, most_statements, most_statement_nodes}
 use Rattle.ws_isa.specs.Image.{Image, flat}
 use Rattle.ws_isa.specs.Formed.{most_instrs}
-use Rattle.cfg_core.specs.Graph.{Exit, Goto, Branch, Call, Return, Send, Stop, GraphProc, Graph, Spot, spots, spot_at, no_spot, block_at, no_proc, proc_at}
+use Rattle.cfg_core.specs.Graph.{Exit, Goto, Branch, Call, Return, Send, Stop, GraphProc, Graph, Spot, spots}
+use Rattle.cfg_core.specs.Graph.{spot_at, no_spot, block_at, no_proc, proc_at}
 use Rattle.cfg_core.specs.Rules.{calls}
 use Rattle.cfg_core.specs.Weights.{turns_of, turns_at}
 use Rattle.live_vars.specs.Marks.{has}
@@ -18,7 +20,8 @@ use Rattle.call_gen.specs.Sizes.{Sizes, ProcWithin, KeepsSizes, spelled_sizes}
 use Rattle.wave_gen.specs.Limits.{most_quarters, KeepsLimits}
 use Rattle.wave_build.specs.Passed.{PassGraphs}
 use Rattle.wave_build.specs.Small.{lowered_sizes, joined_sizes}
-use Rattle.wave_build.proofs.Sums.{low, low_is, spots_low, low_both, low_less, low_few, low_more, low_turns, in_range, Pays, paid}
+use Rattle.wave_build.proofs.Sums.{low, low_is, spots_low, low_both, low_less, low_few, low_more, low_turns}
+use Rattle.wave_build.proofs.Sums.{in_range, Pays, paid}
 use Rattle.wave_build.proofs.Sizing.{kept_within, last_within}
 use Rattle.wave_build.proofs.Weights.{clears_weigh}
 use Rattle.wave_build.proofs.Paying.{in_procs, charge, charge_few}
@@ -38,18 +41,38 @@ module _ (k : Graph) (needed : List (List ℕ)) (s : Graph) (C : CallsCharged k 
   abbrev procs : List ℕ
   procs = range_with_len 0 (length k.procs)
 
-  placed : (c : ℕ) → c < length (spots s) → Pays w C.places.block (λ b. w (C.places.block b)) blocks c ⊎ (Pays w C.places.door (λ f. w (C.places.door f)) procs c ⊎ Pays w C.places.point at_point blocks c)
+  placed : (c : ℕ) → c < length (spots s) → Pays w C.places.block (λ b. w (C.places.block b)) blocks c
+      ⊎ (Pays w C.places.door (λ f. w (C.places.door f)) procs c ⊎ Pays w C.places.point at_point blocks c)
   placed c lt = elim (C.each c lt) [
-    | inl p ↦ inl (p.0, in_range 0 (length (spots k)) p.0 (omega arith) (omega (arith, p.1)), p.2, (let e = ap w p.2 in omega (arith, e)))
+    | inl p ↦ inl (
+      p.0,
+      in_range 0 (length (spots k)) p.0 (omega arith) (omega (arith, p.1)),
+      p.2,
+      (let e = ap w p.2 in omega (arith, e)),
+    )
     | inr q ↦ elim q [
-      | inl p ↦ inr (inl (p.0, in_range 0 (length k.procs) p.0 (omega arith) (omega (arith, p.1)), p.2, (let e = ap w p.2 in omega (arith, e))))
-      | inr p ↦ inr (inr (p.0, in_range 0 (length (spots k)) p.0 (omega arith) (omega (arith, p.1)), p.3, returns c p.0 p.2 p.3))
+      | inl p ↦
+          inr (inl (
+            p.0,
+            in_range 0 (length k.procs) p.0 (omega arith) (omega (arith, p.1)),
+            p.2,
+            (let e = ap w p.2 in omega (arith, e)),
+          ))
+      | inr p ↦
+          inr (inr (
+            p.0,
+            in_range 0 (length (spots k)) p.0 (omega arith) (omega (arith, p.1)),
+            p.3,
+            returns c p.0 p.2 p.3,
+          ))
     ]
   ]
     where
       returns : (c b : ℕ) → calls (block_at k b).exit ≡ true → c ≡ C.places.point b → w c ≤ at_point b
       returns c b call e =
-          let one : 0 + (if calls (block_at k b).exit then w (C.places.point b) else 0) ≡ 0 + w (C.places.point b) = ap (λ (v : Bool). 0 + (if v then w (C.places.point b) else 0)) call in
+          let one : 0 + (if calls (block_at k b).exit then w (C.places.point b) else 0)
+          ≡ 0 + w (C.places.point b) = ap (λ (v : Bool). 0 + (if v then w (C.places.point b) else 0))
+          call in
           let f = ap w e in omega (arith, one, f)
 
   beside_pays : (b : ℕ) (x : Exit) → (if calls x then w (C.places.point b) else 0) ≤ beside w C.places b x
@@ -60,19 +83,23 @@ module _ (k : Graph) (needed : List (List ℕ)) (s : Graph) (C : CallsCharged k 
   beside_pays b (Send t ts ls) = omega arith
   beside_pays b Stop = omega arith
 
-  pub all_paid : low w (length (spots s)) ≤ low (charged k C.places w) (length (spots k)) + low (λ f. w (C.places.door f)) (length k.procs)
+  pub all_paid : low w (length (spots s)) ≤ low (charged k C.places w) (length (spots k)) + low
+      (λ f. w (C.places.door f)) (length k.procs)
   all_paid =
       let n = length (spots k) in
       let own : ℕ → ℕ = λ b. w (C.places.block b) in
       let door : ℕ → ℕ = λ f. w (C.places.door f) in
-      let p = paid w C.places.block C.places.door C.places.point own door at_point (length (spots s)) blocks procs blocks placed in
+      let p = paid w C.places.block C.places.door C.places.point own door at_point (length (spots s)) blocks
+      procs blocks placed in
       let a = low_is own n in let d = low_is door (length k.procs) in let t = low_is at_point n in
       let both = low_both own at_point n in
-      let less = low_less (λ b. own b + at_point b) (charged k C.places w) n (λ b lt. (let h = beside_pays b (block_at k b).exit in omega (arith, h))) in
+      let less = low_less (λ b. own b + at_point b) (charged k C.places w) n
+      (λ b lt. (let h = beside_pays b (block_at k b).exit in omega (arith, h))) in
       omega (arith, p, a, d, t, both, less)
 
 -- what the reached blocks are given pays for those that are kept
-module _ (j k : Graph) (R : ReachedInPlace j k) (w given : ℕ → ℕ) (enough : (b : ℕ) → b < length (spots j) → Reached j b → w (R.place b) ≤ given b) where
+module _ (j k : Graph) (R : ReachedInPlace j k) (w given : ℕ → ℕ) (enough : (b : ℕ) → b < length (spots j)
+    → Reached j b → w (R.place b) ≤ given b) where
   none : ℕ → ℕ
   none b = 0
 
@@ -86,17 +113,21 @@ module _ (j k : Graph) (R : ReachedInPlace j k) (w given : ℕ → ℕ) (enough 
       let a = low_is given n in
       omega (arith, p, z, a)
 
-proc_few : (z : Sizes) (ps : List GraphProc) (f : ℕ) → AllByRecursion (ProcWithin z) ps → ((or_else (nth ps f) no_proc).params ≤ z.params) × ((or_else (nth ps f) no_proc).vars ≤ z.vars)
+proc_few : (z : Sizes) (ps : List GraphProc) (f : ℕ) → AllByRecursion (ProcWithin z) ps
+    → ((or_else (nth ps f) no_proc).params ≤ z.params) × ((or_else (nth ps f) no_proc).vars ≤ z.vars)
 unfolding no_proc
 proc_few z [] f h = (omega arith, omega arith)
 proc_few z (p ∷ ps) zero h = (h.0.params, h.0.vars)
 proc_few z (p ∷ ps) (suc f) h = proc_few z ps f h.1
 
-vars_within : (z : Sizes) (n : ℕ) → z.vars ≤ n → (ps : List GraphProc) → AllByRecursion (ProcWithin z) ps → AllByRecursion (λ p. p.vars ≤ n) ps
+vars_within : (z : Sizes) (n : ℕ) → z.vars ≤ n → (ps : List GraphProc) → AllByRecursion (ProcWithin z) ps
+    → AllByRecursion (λ p. p.vars ≤ n) ps
 vars_within z n le [] h = tt
 vars_within z n le (p ∷ ps) h = ((let v = h.0.vars in omega (arith, v, le)), vars_within z n le ps h.1)
 
-module _ (parts : List Part) (l j k s : Graph) (needed live : List (List ℕ)) (cut : Cut) (P : PassGraphs parts l j k s needed live cut) (narrow : widest parts ≤ most_statement_nodes) (locals : most_variables parts ≤ most_locals) where
+module _ (parts : List Part) (l j k s : Graph) (needed live : List (List ℕ)) (cut : Cut)
+    (P : PassGraphs parts l j k s needed live cut) (narrow : widest parts ≤ most_statement_nodes)
+    (locals : most_variables parts ≤ most_locals) where
   W : KeepsSizes (spelled_sizes (joined_sizes (lowered_sizes parts))) s
   W = last_within parts l j k s needed live cut P
 
@@ -112,21 +143,27 @@ module _ (parts : List Part) (l j k s : Graph) (needed live : List (List ℕ)) (
 
   few_vars : (b : ℕ) → (spot_at s b).vars ≤ 98
   unfolding spot_at no_spot
-  few_vars b = each_at (λ (x : Spot). x.vars ≤ 98) (spots s) no_spot (in_procs 98 0 s.procs (vars_within (spelled_sizes (joined_sizes (lowered_sizes parts))) 98 (omega (arith, locals)) s.procs W.procs)) (omega arith) b
+  few_vars b = each_at (λ (x : Spot). x.vars ≤ 98) (spots s) no_spot
+      (in_procs 98 0 s.procs (vars_within (spelled_sizes (joined_sizes (lowered_sizes parts))) 98
+      (omega (arith, locals)) s.procs W.procs)) (omega arith) b
 
   few_in_proc : (f : ℕ) → ((proc_at k f).params ≤ 8) × ((proc_at k f).vars ≤ 97)
   unfolding proc_at
-  few_in_proc f = let h = proc_few (joined_sizes (lowered_sizes parts)) k.procs f K.procs in (omega (arith, h.0), omega (arith, h.1, locals))
+  few_in_proc f = let h = proc_few (joined_sizes (lowered_sizes parts)) k.procs f K.procs in
+      (omega (arith, h.0), omega (arith, h.1, locals))
 
   -- a door names parameters and clears variables
-  door_few : (f : ℕ) → f < length k.procs → weight parts l j k s needed live cut P (P.spelling.charged.places.door f) ≤ 653
+  door_few : (f : ℕ) → f < length k.procs → weight parts l j k s needed live cut P
+      (P.spelling.charged.places.door f) ≤ 653
   door_few f lt =
       let at = P.spelling.charged.places.door f in
       let door = P.spelling.charged.doors f lt in
       let few = few_in_proc f in
-      let both = P.spelling.charged.clears f 97 lt (omega (arith, few.0)) (λ x lx h. omega (arith, lx, few.1)) in
+      let both = P.spelling.charged.clears f 97 lt (omega (arith, few.0))
+      (λ x lx h. omega (arith, lx, few.1)) in
       let named = door.named in
-      let g = goes_weigh parts l j k s needed live cut P at door.goes.0 (length (block_at s at).ops * 6) door.goes.1 door.held (clears_weigh (block_at s at).ops door.ops) in
+      let g = goes_weigh parts l j k s needed live cut P at door.goes.0 (length (block_at s at).ops * 6)
+      door.goes.1 door.held (clears_weigh (block_at s at).ops door.ops) in
       omega (arith, g, both, named, few.0)
 
   -- each statement has one turn
@@ -139,7 +176,8 @@ module _ (parts : List Part) (l j k s : Graph) (needed live : List (List ℕ)) (
   each_few : (b : ℕ) → charge parts l j k s needed live cut P b ≤ 412 + 3819 * turns_at l b
   each_few b =
       let c = charge_few parts l j k s needed live cut P b in
-      let m : (42 * most_variables parts + 180 + 9 * widest parts) * turns_at l b ≤ 3819 * turns_at l b = mul-le-mul_right (turns_at l b) (omega (arith, narrow, locals)) in
+      let m : (42 * most_variables parts + 180 + 9 * widest parts) * turns_at l b ≤ 3819 * turns_at l b =
+      mul-le-mul_right (turns_at l b) (omega (arith, narrow, locals)) in
       omega (arith, c, m, locals)
 
   joined_few : low paying (length (spots j)) ≤ length (spots j) * 412 + 3819 * most_statements
@@ -151,20 +189,26 @@ module _ (parts : List Part) (l j k s : Graph) (needed live : List (List ℕ)) (
   last_few : low w (length (spots s)) ≤ length (spots j) * 412 + 3819 * most_statements + length k.procs * 653
   last_few =
       let a = all_paid k needed s P.spelling.charged w in
-      let b = kept_paid j k P.keeping.places (charged k P.spelling.charged.places w) paying (λ b lt r. fits parts l j k s needed live cut P b lt r) in
-      let d = low_few (λ f. w (P.spelling.charged.places.door f)) 653 (length k.procs) (λ f lt. door_few f lt) in
+      let b = kept_paid j k P.keeping.places (charged k P.spelling.charged.places w) paying
+      (λ b lt r. fits parts l j k s needed live cut P b lt r) in
+      let d = low_few (λ f. w (P.spelling.charged.places.door f)) 653 (length k.procs)
+      (λ f lt. door_few f lt) in
       let f = joined_few in omega (arith, a, b, d, f)
 
   -- with what is wanted past the ends of blocks
-  quarters_few : low (most_quarters s (has live)) (length (spots s)) + length (spots s) * 4 ≤ low w (length (spots s)) + length (spots s) * 693
-  quarters_few = low_more (most_quarters s (has live)) w 4 693 (length (spots s)) (λ b lt. (let v = few_vars b in omega (arith, v)))
+  quarters_few : low (most_quarters s (has live)) (length (spots s)) + length (spots s) * 4
+      ≤ low w (length (spots s)) + length (spots s) * 693
+  quarters_few = low_more (most_quarters s (has live)) w 4 693 (length (spots s))
+      (λ b lt. (let v = few_vars b in omega (arith, v)))
 
   -- the instructions of the draft, with one more in each block, are few enough
-  pub room : (draft : Image) → KeepsLimits s (has live) draft → length (flat draft.blocks) + length draft.blocks ≤ most_instrs
+  pub room : (draft : Image) → KeepsLimits s (has live) draft → length (flat draft.blocks) + length
+      draft.blocks ≤ most_instrs
   unfolding most_instrs
   room draft keeps =
       let i = keeps.instrs in let b = keeps.blocks in
       let e = low_is (most_quarters s (has live)) (length (spots s)) in
       let q = quarters_few in let f = last_few in
-      let n = W.count_blocks in let m = P.lowering.small.blocks in let c = P.joining.sizes.count in let p = K.count_procs in
+      let n = W.count_blocks in let m = P.lowering.small.blocks in let c = P.joining.sizes.count in
+      let p = K.count_procs in
       omega (arith, i, b, e, q, f, n, m, c, p)

@@ -1,11 +1,14 @@
 -- What operations weigh, by their nodes and acts, and what passes add.
-use Rattle.std.proofs.Common.{ℕ, zero, suc, ◌+◌, ◌*◌, ◌≡◌, ◌≤◌, Bool, true, false, if◌then◌else◌, List, [], ◌∷◌, ◌++◌, length, map, refl, ap, arith}
+use Rattle.std.proofs.Common.{ℕ, zero, suc, ◌+◌, ◌*◌, ◌≡◌, ◌≤◌, Bool, true, false, if◌then◌else◌, List, []}
+use Rattle.std.proofs.Common.{◌∷◌, ◌++◌, length, map, refl, ap, arith}
 use Rattle.std.specs.List.{AllByRecursion, sum_by}
 use Rattle.std.proofs.lemmas.List.Sums.{sum_by-cons, sum_by-append}
-use Rattle.cfg_core.specs.Graph.{Term, Number, Var, Cell, Flip, Not, Neg, Binary, Op, Assign, Store, Print, Read, Give, Take, Choose, Tick, TickBy}
+use Rattle.cfg_core.specs.Graph.{Term, Number, Var, Cell, Flip, Not, Neg, Binary, Op, Assign, Store, Print}
+use Rattle.cfg_core.specs.Graph.{Read, Give, Take, Choose, Tick, TickBy}
 use Rattle.cfg_core.specs.Weights.{term_nodes, op_nodes, acts_of}
 use Rattle.phi_conv.specs.Short.{Short, all_nodes, most_nodes}
-use Rattle.phi_conv.specs.Joined.{first_base, second_base, added, renamed, arm, written_by, is_still, keep_test, test_if, test_of, choice, choices, joining}
+use Rattle.phi_conv.specs.Joined.{first_base, second_base, added, renamed, arm, written_by, is_still}
+use Rattle.phi_conv.specs.Joined.{keep_test, test_if, test_of, choice, choices, joining}
 use Rattle.call_gen.specs.Charged.{IsSave, IsLoad, IsClear}
 use Rattle.wave_gen.specs.Cost.{term_quarters, op_quarters}
 use Rattle.phi_conv.proofs.Sizing.{chosen, chosen_count, arms, turns}
@@ -36,7 +39,8 @@ op_paid (Print t) = let h = term_paid t in omega (arith, h)
 op_paid (Read x) = omega arith
 op_paid (Give p x) = omega arith
 op_paid (Take p t) = let h = term_paid t in omega (arith, h)
-op_paid (Choose x t a b) = let h = term_paid t in let i = term_paid a in let j = term_paid b in omega (arith, h, i, j)
+op_paid (Choose x t a b) = let h = term_paid t in let i = term_paid a in let j = term_paid b in
+    omega (arith, h, i, j)
 op_paid (Tick n) = omega arith
 op_paid (TickBy t n m) = omega arith
 
@@ -44,7 +48,8 @@ pub ops_paid : (ops : List Op) → sum_by op_quarters ops ≤ 9 * sum_by op_node
 ops_paid [] = omega arith
 ops_paid (op ∷ ops) =
     let h = op_paid op in let i = ops_paid ops in
-    let a = sum_by-cons op_quarters op ops in let b = sum_by-cons op_nodes op ops in let c = sum_by-cons acts_of op ops in omega (arith, h, i, a, b, c)
+    let a = sum_by-cons op_quarters op ops in let b = sum_by-cons op_nodes op ops in
+    let c = sum_by-cons acts_of op ops in omega (arith, h, i, a, b, c)
 
 idle : (op : Op) → acts_of op ≤ 0 → op_quarters op ≤ 0
 idle (Tick n) h = omega arith
@@ -66,7 +71,8 @@ no_acts (op ∷ ops) h =
     let b = sum_by-cons op_quarters op ops in omega (arith, a, i, b)
 
 -- operations of one kind
-each_weighs : (Is : Op → Type 0) (k : ℕ) → ((op : Op) → Is op → op_quarters op ≤ k) → (ops : List Op) → AllByRecursion Is ops → sum_by op_quarters ops ≤ length ops * k
+each_weighs : (Is : Op → Type 0) (k : ℕ) → ((op : Op) → Is op → op_quarters op ≤ k) → (ops : List Op)
+    → AllByRecursion Is ops → sum_by op_quarters ops ≤ length ops * k
 each_weighs Is k h [] all = omega arith
 each_weighs Is k h (op ∷ ops) all =
     let a = h op all.0 in let i = each_weighs Is k h ops all.1 in
@@ -155,13 +161,16 @@ renamed_weight base done (Cell a t) = ap (λ n. 5 + n) (renamed_weight base done
 renamed_weight base done (Flip t) = ap (λ n. 9 + n) (renamed_weight base done t)
 renamed_weight base done (Not t) = ap (λ n. 5 + n) (renamed_weight base done t)
 renamed_weight base done (Neg t) = ap (λ n. 5 + n) (renamed_weight base done t)
-renamed_weight base done (Binary op a b) = let x = renamed_weight base done a in let y = renamed_weight base done b in omega (arith, x, y)
+renamed_weight base done (Binary op a b) = let x = renamed_weight base done a in
+    let y = renamed_weight base done b in omega (arith, x, y)
 
-arm_weight : (base : ℕ) (done : List ℕ) (ops : List Op) → sum_by op_quarters (arm base done ops) ≤ 10 * all_nodes ops
+arm_weight : (base : ℕ) (done : List ℕ) (ops : List Op) → sum_by op_quarters (arm base done ops)
+    ≤ 10 * all_nodes ops
 arm_weight base done [] = omega arith
 arm_weight base done (Assign x t ∷ ops) =
     let a = renamed_weight base done t in let h = term_paid t in let b = arm_weight base (added done x) ops in
-    let c = sum_by-cons op_quarters (Assign (base + x) (renamed base done t)) (arm base (added done x) ops) in omega (arith, a, h, b, c)
+    let c = sum_by-cons op_quarters (Assign (base + x) (renamed base done t)) (arm base (added done x) ops) in
+    omega (arith, a, h, b, c)
 arm_weight base done (Store a t u ∷ ops) = let b = arm_weight base done ops in omega (arith, b)
 arm_weight base done (Print t ∷ ops) = let b = arm_weight base done ops in omega (arith, b)
 arm_weight base done (Read x ∷ ops) = let b = arm_weight base done ops in omega (arith, b)
@@ -172,7 +181,8 @@ arm_weight base done (Tick n ∷ ops) = let b = arm_weight base done ops in omeg
 arm_weight base done (TickBy t n m ∷ ops) = let b = arm_weight base done ops in omega (arith, b)
 
 -- where the test stands for itself it weighs at most 5, else its variable weighs nothing
-held_weight : (c : Bool) (v : ℕ) (either : List ℕ) (t : Term) → is_still either t ≡ c → term_quarters (test_if c v t) ≤ (if c then 5 else 0)
+held_weight : (c : Bool) (v : ℕ) (either : List ℕ) (t : Term) → is_still either t ≡ c
+    → term_quarters (test_if c v t) ≤ (if c then 5 else 0)
 held_weight true v either (Number n) e = let h = number_few n in omega (arith, h)
 held_weight true v either (Var x) e = omega arith
 held_weight true v either (Cell a t) e = absurd (cc)
@@ -182,24 +192,31 @@ held_weight true v either (Neg t) e = absurd (cc)
 held_weight true v either (Binary op a b) e = absurd (cc)
 held_weight false v either t e = omega arith
 
-keep_weight : (c : Bool) (v : ℕ) (t : Term) → sum_by op_quarters (keep_test c v t) ≤ (if c then 0 else term_quarters t + 5)
+keep_weight : (c : Bool) (v : ℕ) (t : Term) → sum_by op_quarters (keep_test c v t)
+    ≤ (if c then 0 else term_quarters t + 5)
 keep_weight true v t = omega arith
 keep_weight false v t = omega arith
 
-module _ (live : List (List ℕ)) (v : ℕ) (s : Short) (few : all_nodes s.first + all_nodes s.second ≤ most_nodes) where
-  choices_weight : (k : ℕ) → term_quarters (test_of v s) ≤ k → (xs : List ℕ) → sum_by op_quarters (map (choice v s) xs) ≤ length xs * (k + 6)
+module _ (live : List (List ℕ)) (v : ℕ) (s : Short) (few : all_nodes s.first + all_nodes s.second
+    ≤ most_nodes) where
+  choices_weight : (k : ℕ) → term_quarters (test_of v s) ≤ k → (xs : List ℕ)
+      → sum_by op_quarters (map (choice v s) xs) ≤ length xs * (k + 6)
   choices_weight k h [] = omega arith
   choices_weight k h (x ∷ xs) =
       let r = choices_weight k h xs in let c = sum_by-cons op_quarters (choice v s x) (map (choice v s) xs) in
-      let e : suc (length xs) * (k + 6) ≡ (k + 6) + length xs * (k + 6) = grind arith in omega (arith, h, r, c, e)
+      let e : suc (length xs) * (k + 6) ≡ (k + 6) + length xs * (k + 6) = grind arith in
+      omega (arith, h, r, c, e)
 
   abbrev still : Bool
   still = is_still (written_by s) s.test
 
-  parts_weigh : sum_by op_quarters (joining live v s) ≡ sum_by op_quarters (keep_test still v s.test) + (sum_by op_quarters (arm (first_base v) [] s.first) + (sum_by op_quarters (arm (second_base v) [] s.second) + sum_by op_quarters (choices live v s)))
+  parts_weigh : sum_by op_quarters (joining live v s) ≡ sum_by op_quarters (keep_test still v s.test)
+      + (sum_by op_quarters (arm (first_base v) [] s.first)
+      + (sum_by op_quarters (arm (second_base v) [] s.second) + sum_by op_quarters (choices live v s)))
   parts_weigh =
       let f = sum_by-append op_quarters (keep_test still v s.test) (turns live v s ∷ arms live v s) in
-      let i = sum_by-append op_quarters (arm (first_base v) [] s.first) (arm (second_base v) [] s.second ++ choices live v s) in
+      let i = sum_by-append op_quarters (arm (first_base v) [] s.first)
+      (arm (second_base v) [] s.second ++ choices live v s) in
       let j = sum_by-append op_quarters (arm (second_base v) [] s.second) (choices live v s) in
       let l = sum_by-cons op_quarters (turns live v s) (arms live v s) in
       omega (arith, f, i, j, l)
@@ -212,22 +229,29 @@ module _ (live : List (List ℕ)) (v : ℕ) (s : Short) (few : all_nodes s.first
       by_still true e =
           let a = arm_weight (first_base v) [] s.first in
           let b = arm_weight (second_base v) [] s.second in
-          let t : term_quarters (test_of v s) ≤ (if still then 5 else 0) = held_weight still v (written_by s) s.test refl in
+          let t : term_quarters (test_of v s) ≤ (if still then 5 else 0) =
+          held_weight still v (written_by s) s.test refl in
           let five : 0 + (if still then 5 else 0) ≡ 0 + 5 = ap (λ (x : Bool). 0 + (if x then 5 else 0)) e in
           let d = choices_weight 5 (omega (arith, t, five)) (chosen live v s) in
-          let k : sum_by op_quarters (keep_test still v s.test) ≤ (if still then 0 else term_quarters s.test + 5) = keep_weight still v s.test in
-          let none : 0 + (if still then 0 else term_quarters s.test + 5) ≡ 0 + 0 = ap (λ (x : Bool). 0 + (if x then 0 else term_quarters s.test + 5)) e in
+          let k : sum_by op_quarters (keep_test still v s.test)
+          ≤ (if still then 0 else term_quarters s.test + 5) = keep_weight still v s.test in
+          let none : 0 + (if still then 0 else term_quarters s.test + 5) ≡ 0 + 0 =
+          ap (λ (x : Bool). 0 + (if x then 0 else term_quarters s.test + 5)) e in
           let n : length (chosen live v s) ≤ 8 = chosen_count live v s few in
           let m : length (chosen live v s) * (5 + 6) ≤ 88 = omega (arith, n) in
           omega (arith, parts_weigh, a, b, d, k, none, m, few)
       by_still false e =
           let a = arm_weight (first_base v) [] s.first in
           let b = arm_weight (second_base v) [] s.second in
-          let t : term_quarters (test_of v s) ≤ (if still then 5 else 0) = held_weight still v (written_by s) s.test refl in
-          let zero_held : 0 + (if still then 5 else 0) ≡ 0 + 0 = ap (λ (x : Bool). 0 + (if x then 5 else 0)) e in
+          let t : term_quarters (test_of v s) ≤ (if still then 5 else 0) =
+          held_weight still v (written_by s) s.test refl in
+          let zero_held : 0 + (if still then 5 else 0) ≡ 0 + 0 = ap (λ (x : Bool). 0 + (if x then 5 else 0))
+          e in
           let d = choices_weight 0 (omega (arith, t, zero_held)) (chosen live v s) in
-          let k : sum_by op_quarters (keep_test still v s.test) ≤ (if still then 0 else term_quarters s.test + 5) = keep_weight still v s.test in
-          let all : 0 + (if still then 0 else term_quarters s.test + 5) ≡ 0 + (term_quarters s.test + 5) = ap (λ (x : Bool). 0 + (if x then 0 else term_quarters s.test + 5)) e in
+          let k : sum_by op_quarters (keep_test still v s.test)
+          ≤ (if still then 0 else term_quarters s.test + 5) = keep_weight still v s.test in
+          let all : 0 + (if still then 0 else term_quarters s.test + 5) ≡ 0 + (term_quarters s.test + 5) =
+          ap (λ (x : Bool). 0 + (if x then 0 else term_quarters s.test + 5)) e in
           let n : length (chosen live v s) ≤ 8 = chosen_count live v s few in
           let m : length (chosen live v s) * (0 + 6) ≤ 48 = omega (arith, n) in
           omega (arith, parts_weigh, a, b, d, k, all, m, few)

@@ -1,18 +1,25 @@
 -- Every block of a draft keeps the tie of wants and slots.
-use Rattle.std.proofs.Common.{ℕ, zero, suc, ◌+◌, ◌-◌, ◌≡◌, ◌<◌, ◌≤◌, ◌⊎◌, Bool, true, false, cond, List, [], ◌∷◌, length, Some, None, refl, sym, ap, ◌∙◌, subst, inl, inr, arith}
+use Rattle.std.proofs.Common.{ℕ, zero, suc, ◌+◌, ◌-◌, ◌≡◌, ◌<◌, ◌≤◌, ◌⊎◌, Bool, true, false, cond, List, []}
+use Rattle.std.proofs.Common.{◌∷◌, length, Some, None, refl, sym, ap, ◌∙◌, subst, inl, inr, arith}
 use Rattle.std.proofs.lemmas.Bool.{cases_Bool, cases_eq, cases_order, both_ways, cond-true, cond-false}
 use Rattle.ws_isa.specs.declared.instr.Op.TheVariants.{Merge, Advance}
 use Rattle.ws_isa.specs.Sound.{HasDest}
 use Rattle.wave_gen.specs.Waits.{Owner}
 use Rattle.wave_gen.specs.Wire.{Target, Back, Front, dests_of, WiredInstr, Wants, no_wants, Made, emit, wire}
-use Rattle.wave_gen.specs.Plans.{merges, HowLeft, Onto, Either, Lands, Halts, Plan, pulse, same_spots, differing, steered, is_among, past, Tail, steers, sends, selected, tails_of, end_wants, behind_source, exit_made, body_made, block_made, has_front, renew, advances, fronts, no_plan, no_made, plan_at, start_of, blocks_from, mades, made_at, starts_at, numbers, begins, owner_of}
+use Rattle.wave_gen.specs.Plans.{merges, HowLeft, Onto, Either, Lands, Halts, Plan, pulse, same_spots}
+use Rattle.wave_gen.specs.Plans.{differing, steered, is_among, past, Tail, steers, sends, selected, tails_of}
+use Rattle.wave_gen.specs.Plans.{end_wants, behind_source, exit_made, body_made, block_made, has_front, renew}
+use Rattle.wave_gen.specs.Plans.{advances, fronts, no_plan, no_made, plan_at, start_of, blocks_from, mades}
+use Rattle.wave_gen.specs.Plans.{made_at, starts_at, numbers, begins, owner_of}
 use Rattle.wave_gen.proofs.Planned.{Needs, Apart, Inner, Outer, EdgesAre, PlanIs}
 use Rattle.ws_isa.proofs.Steps.{first_le}
 use Rattle.wave_gen.proofs.SteeredNames.{or_in}
 use Rattle.wave_gen.proofs.Wiring.{Ahead, Inv, Good, emit_inv}
-use Rattle.wave_gen.proofs.Flow.{Wanted, wire_wanted, make_wanted, gather_wanted, with_uses_wanted, selected_wanted, reads_more, helds}
+use Rattle.wave_gen.proofs.Flow.{Wanted, wire_wanted, make_wanted, gather_wanted, with_uses_wanted}
+use Rattle.wave_gen.proofs.Flow.{selected_wanted, reads_more, helds}
 use Rattle.wave_gen.proofs.Ends.{Clean, body_good, renew_good, merge_good}
-use Rattle.wave_gen.proofs.Fronts.{in_or_not, fronts_none, fronts_clean, advances_count, advances_other, renewed, no_front, renew_wanted}
+use Rattle.wave_gen.proofs.Fronts.{in_or_not, fronts_none, fronts_clean, advances_count, advances_other}
+use Rattle.wave_gen.proofs.Fronts.{renewed, no_front, renew_wanted}
 use Rattle.wave_gen.proofs.Number.{number_is, mades_count}
 use Rattle.ws_words.specs.Items.{nth, or_else, In}
 use Rattle.ws_words.proofs.Places.{nth_or}
@@ -20,27 +27,41 @@ use Rattle.ws_words.proofs.Places.{nth_or}
 -- list of blocks
 record MadeAs (width : ℕ) (ps : List Plan) (b : ℕ) (qs : List Plan) (i : ℕ) (p : Plan) : Type 0 where
   pub later : List Made
-  pub is : nth (blocks_from width ps b qs) i ≡ Some (block_made width (start_of ps (suc (b + i)) later) (b + i) p)
+  pub is : nth (blocks_from width ps b qs) i ≡ Some (block_made width (start_of ps (suc (b + i)) later)
+      (b + i) p)
   pub tail : (j : ℕ) → nth later j ≡ nth (blocks_from width ps b qs) (suc i + j)
 
-made_as : (width : ℕ) (ps : List Plan) (b : ℕ) (qs : List Plan) (i : ℕ) (p : Plan) → nth qs i ≡ Some p → MadeAs width ps b qs i p
+made_as : (width : ℕ) (ps : List Plan) (b : ℕ) (qs : List Plan) (i : ℕ) (p : Plan) → nth qs i ≡ Some p
+    → MadeAs width ps b qs i p
 made_as width ps b [] i p e = absurd (let a : None ≡ Some p = e in cc)
 made_as width ps b (q ∷ qs) zero p e =
     let g : q ≡ p = cc in let z : b + 0 ≡ b = omega arith in
-    record { later = blocks_from width ps (suc b) qs; is = rw (z, g) refl; tail = λ j. (let y : 1 + j ≡ suc j = omega arith in rw y refl) }
+    record {
+      later = blocks_from width ps (suc b) qs;
+      is = rw (z, g) refl;
+      tail = λ j. (let y : 1 + j ≡ suc j = omega arith in rw y refl);
+    }
 made_as width ps b (q ∷ qs) (suc i) p e =
     let r = made_as width ps (suc b) qs i p e in
     let z : b + suc i ≡ suc b + i = omega arith in
-    record { later = r.later; is = rw z r.is; tail = λ j. r.tail j ∙ (let y : suc (suc i) + j ≡ suc (suc i + j) = omega arith in rw y refl) }
+    record {
+      later = r.later;
+      is = rw z r.is;
+      tail = λ j. r.tail j
+          ∙ (let y : suc (suc i) + j ≡ suc (suc i + j) = omega arith in rw y refl);
+    }
 
 numbers_zero : (ms : List Made) → numbers ms zero ≡ 1
 numbers_zero [] = refl
 numbers_zero (m ∷ ms) = refl
 
-numbers_next : (ms : List Made) (i : ℕ) (m : Made) → nth ms i ≡ Some m → numbers ms (suc i) ≡ numbers ms i + length m.code
+numbers_next : (ms : List Made) (i : ℕ) (m : Made) → nth ms i ≡ Some m → numbers ms (suc i) ≡ numbers ms i
+    + length m.code
 numbers_next [] i m e = absurd (let a : None ≡ Some m = e in cc)
-numbers_next (n ∷ ms) zero m e = let g : n ≡ m = cc in let z : numbers ms zero ≡ 1 = numbers_zero ms in rw g (omega (arith, z))
-numbers_next (n ∷ ms) (suc i) m e = let h : numbers ms (suc i) ≡ numbers ms i + length m.code = numbers_next ms i m e in omega arith
+numbers_next (n ∷ ms) zero m e = let g : n ≡ m = cc in let z : numbers ms zero ≡ 1 = numbers_zero ms in
+    rw g (omega (arith, z))
+numbers_next (n ∷ ms) (suc i) m e = let h : numbers ms (suc i) ≡ numbers ms i + length m.code =
+    numbers_next ms i m e in omega arith
 
 -- exits that agree on the wants at their targets
 targets_agree : (s t : ℕ → Wants) → HowLeft → Type 0
@@ -56,13 +77,16 @@ module _ (width : ℕ) (ps : List Plan) where
   Is b = (1 ≤ b) × (b ≤ length ps)
 
   pub begins_le : (b c : ℕ) → b ≤ c → begins width ps b ≤ begins width ps c
-  begins_le b c l = rw (sym (number_is [] width ps b), sym (number_is [] width ps c)) (first_le (Rattle.wave_gen.specs.Plans.draft_of [] width ps) b c l)
+  begins_le b c l = rw (sym (number_is [] width ps b), sym (number_is [] width ps c))
+      (first_le (Rattle.wave_gen.specs.Plans.draft_of [] width ps) b c l)
 
   made_nth : (b : ℕ) → suc b ≤ length ps → nth (mades width ps) b ≡ Some (made_at width ps (suc b))
   unfolding made_at
-  made_nth b l = nth_or (mades width ps) b no_made (let e : length (mades width ps) ≡ length ps = mades_count [] width ps in omega arith)
+  made_nth b l = nth_or (mades width ps) b no_made (let e : length (mades width ps) ≡ length ps =
+      mades_count [] width ps in omega arith)
 
-  pub begins_next : (b : ℕ) → Is b → begins width ps (suc b) ≡ begins width ps b + length (made_at width ps b).code
+  pub begins_next : (b : ℕ) → Is b → begins width ps (suc b) ≡ begins width ps b + length
+      (made_at width ps b).code
   unfolding begins
   begins_next zero h = absurd (omega (arith, h.0))
   begins_next (suc b) h = numbers_next (mades width ps) b (made_at width ps (suc b)) (made_nth b h.1)
@@ -88,11 +112,14 @@ module _ (width : ℕ) (ps : List Plan) where
         found = λ c l. found r.later r.tail c l;
       }
     where
-      found : (later : List Made) → ((j : ℕ) → nth later j ≡ nth (blocks_from width ps 1 ps) (suc b + j)) → (c : ℕ) → suc b < c → or_else (nth later (c - suc (suc b))) no_made ≡ made_at width ps c
+      found : (later : List Made) → ((j : ℕ) → nth later j ≡ nth (blocks_from width ps 1 ps) (suc b + j))
+          → (c : ℕ) → suc b < c → or_else (nth later (c - suc (suc b))) no_made ≡ made_at width ps c
       found later tail zero l = absurd (omega arith)
-      found later tail (suc c) l = let z : suc b + (suc c - suc (suc b)) ≡ c = omega arith in rw (tail (suc c - suc (suc b)), z) refl
+      found later tail (suc c) l = let z : suc b + (suc c - suc (suc b)) ≡ c = omega arith in
+          rw (tail (suc c - suc (suc b)), z) refl
 
-  start_same : (b c : ℕ) (l : Laid b) → Inner ps b c ⊎ Outer ps c → ◌≡◌ {A = Wants} (start_of ps (suc b) l.later c) (starts_at width ps c)
+  start_same : (b c : ℕ) (l : Laid b) → Inner ps b c ⊎ Outer ps c
+      → ◌≡◌ {A = Wants} (start_of ps (suc b) l.later c) (starts_at width ps c)
   unfolding starts_at
   start_same b c l (inr o) = rw o.first refl
   start_same b c l (inl i) = rw (i.not_first, l.found c i.later) refl
@@ -100,45 +127,61 @@ module _ (width : ℕ) (ps : List Plan) where
   tails_same : (s t : ℕ → Wants) (x : HowLeft) → targets_agree s t x → tails_of width s x ≡ tails_of width t x
   unfolding targets_agree
   tails_same s t (Onto c) a = refl
-  tails_same s t (Either op from c d) a = ap (λ (w : Wants). steers w (s d) (steered width w (s d))) a.0 ∙ ap (λ (w : Wants). steers (t c) w (steered width (t c) w)) a.1
+  tails_same s t (Either op from c d) a = ap (λ (w : Wants). steers w (s d) (steered width w (s d))) a.0
+      ∙ ap (λ (w : Wants). steers (t c) w (steered width (t c) w)) a.1
   tails_same s t (Lands op from values ls) a = refl
   tails_same s t Halts a = refl
 
-  end_same : (s t : ℕ → Wants) (x : HowLeft) → targets_agree s t x → ◌≡◌ {A = Wants} (end_wants width s x) (end_wants width t x)
+  end_same : (s t : ℕ → Wants) (x : HowLeft) → targets_agree s t x → ◌≡◌ {A = Wants} (end_wants width s x)
+      (end_wants width t x)
   unfolding targets_agree
   end_same s t (Onto c) a = a
-  end_same s t (Either op from c d) a = ap (λ (w : Wants). past (steered width w (s d)) w) a.0 ∙ ap (λ (w : Wants). past (steered width (t c) w) (t c)) a.1
+  end_same s t (Either op from c d) a = ap (λ (w : Wants). past (steered width w (s d)) w) a.0
+      ∙ ap (λ (w : Wants). past (steered width (t c) w) (t c)) a.1
   end_same s t (Lands op from values ls) a = refl
   end_same s t Halts a = refl
 
-  exit_same : (s t : ℕ → Wants) (b : ℕ) (p : Plan) (x : HowLeft) → behind_source width s b p ≡ behind_source width t b p → exit_made width s b p x ≡ exit_made width t b p x
+  exit_same : (s t : ℕ → Wants) (b : ℕ) (p : Plan) (x : HowLeft) → behind_source width s b p ≡ behind_source
+      width t b p → exit_made width s b p x ≡ exit_made width t b p x
   exit_same s t b p (Onto c) e = e
   exit_same s t b p (Either op from c d) e = rw e refl
   exit_same s t b p (Lands op from values ls) e = rw e refl
   exit_same s t b p Halts e = rw e refl
 
-  behind_same : (s t : ℕ → Wants) (b : ℕ) (p : Plan) → targets_agree s t p.exit → behind_source width s b p ≡ behind_source width t b p
-  behind_same s t b p a = ap (λ (ts : List Tail). selected b p.test ts (end_wants width s p.exit)) (tails_same s t p.exit a) ∙ ap (λ (w : Wants). selected b p.test (tails_of width t p.exit) w) (end_same s t p.exit a)
+  behind_same : (s t : ℕ → Wants) (b : ℕ) (p : Plan) → targets_agree s t p.exit
+      → behind_source width s b p ≡ behind_source width t b p
+  behind_same s t b p a = ap (λ (ts : List Tail). selected b p.test ts (end_wants width s p.exit))
+      (tails_same s t p.exit a) ∙ ap (λ (w : Wants). selected b p.test (tails_of width t p.exit) w)
+      (end_same s t p.exit a)
 
-  block_same : (s t : ℕ → Wants) (b : ℕ) (p : Plan) → targets_agree s t p.exit → block_made width s b p ≡ block_made width t b p
-  block_same s t b p a = let e : exit_made width s b p p.exit ≡ exit_made width t b p p.exit = exit_same s t b p p.exit (behind_same s t b p a) in
-      ap (λ (m : Made). cond p.first (advances b p.entries (renew b p.entries (wire b p.items m))) (cond (merges p (wire b p.items m)) (emit b pulse Merge (pulse ∷ []) (wire b p.items m)) (wire b p.items m))) e
+  block_same : (s t : ℕ → Wants) (b : ℕ) (p : Plan) → targets_agree s t p.exit
+      → block_made width s b p ≡ block_made width t b p
+  block_same s t b p a = let e : exit_made width s b p p.exit ≡ exit_made width t b p p.exit =
+      exit_same s t b p p.exit (behind_same s t b p a) in
+      ap (λ (m : Made). cond p.first (advances b p.entries (renew b p.entries (wire b p.items m)))
+      (cond (merges p (wire b p.items m)) (emit b pulse Merge (pulse ∷ []) (wire b p.items m))
+      (wire b p.items m))) e
 
-  laid_agree : (b : ℕ) (l : Laid b) (x : HowLeft) → EdgesAre ps b x → targets_agree (start_of ps (suc b) l.later) (starts_at width ps) x
+  laid_agree : (b : ℕ) (l : Laid b) (x : HowLeft) → EdgesAre ps b x
+      → targets_agree (start_of ps (suc b) l.later) (starts_at width ps) x
   unfolding targets_agree
   laid_agree b l (Onto c) e = start_same b c l e
   laid_agree b l (Either op from c d) e = (start_same b c l (inl e.0), start_same b d l (inl e.1))
   laid_agree b l (Lands op from values ls) e = tt
   laid_agree b l Halts e = tt
 
-  pub made_is : (b : ℕ) → Is b → EdgesAre ps b (plan_at ps b).exit → made_at width ps b ≡ block_made width (starts_at width ps) b (plan_at ps b)
-  made_is b h e = let l = laid b h in l.is ∙ block_same (start_of ps (suc b) l.later) (starts_at width ps) b (plan_at ps b) (laid_agree b l (plan_at ps b).exit e)
+  pub made_is : (b : ℕ) → Is b → EdgesAre ps b (plan_at ps b).exit → made_at width ps b ≡ block_made width
+      (starts_at width ps) b (plan_at ps b)
+  made_is b h e = let l = laid b h in l.is ∙ block_same (start_of ps (suc b) l.later) (starts_at width ps) b
+      (plan_at ps b) (laid_agree b l (plan_at ps b).exit e)
 
-  pub starts_inner : (c : ℕ) → (plan_at ps c).first ≡ false → ◌≡◌ {A = Wants} (starts_at width ps c) (made_at width ps c).wants
+  pub starts_inner : (c : ℕ) → (plan_at ps c).first ≡ false → ◌≡◌ {A = Wants} (starts_at width ps c)
+      (made_at width ps c).wants
   unfolding starts_at
   starts_inner c e = rw e refl
 
-  pub starts_outer : (c : ℕ) → (plan_at ps c).first ≡ true → ◌≡◌ {A = Wants} (starts_at width ps c) (fronts c 0 (plan_at ps c).entries)
+  pub starts_outer : (c : ℕ) → (plan_at ps c).first ≡ true → ◌≡◌ {A = Wants} (starts_at width ps c)
+      (fronts c 0 (plan_at ps c).entries)
   unfolding starts_at
   starts_outer c e = rw e refl
 
@@ -162,11 +205,14 @@ module _ (width : ℕ) (ps : List Plan) where
   O b = owner_of (begins width ps) width (E b)
 
   -- names that differ
-  pub differing_in : (w v : Wants) (x n y : ℕ) → In y (differing w v x n) → (same_spots (w y) (v y) ≡ false) × (y < x + n)
+  pub differing_in : (w v : Wants) (x n y : ℕ) → In y (differing w v x n) → (same_spots (w y) (v y) ≡ false)
+      × (y < x + n)
   differing_in w v x zero y h = absurd h
   differing_in w v x (suc n) y h = go (cases_Bool (same_spots (w x) (v x))) (differing_in w v (suc x) n y)
     where
-      go : (same_spots (w x) (v x) ≡ true) ⊎ (same_spots (w x) (v x) ≡ false) → (In y (differing w v (suc x) n) → (same_spots (w y) (v y) ≡ false) × (y < suc x + n)) → (same_spots (w y) (v y) ≡ false) × (y < x + suc n)
+      go : (same_spots (w x) (v x) ≡ true) ⊎ (same_spots (w x) (v x) ≡ false)
+          → (In y (differing w v (suc x) n) → (same_spots (w y) (v y) ≡ false) × (y < suc x + n))
+          → (same_spots (w y) (v y) ≡ false) × (y < x + suc n)
       go (inl e) ih = let r = ih (rw e at h) in (r.0, (let l : y < suc x + n = r.1 in omega arith))
       go (inr e) ih = elim (rw e at h) [
         | inl f ↦ (rw f e, omega arith)
@@ -186,19 +232,22 @@ module _ (width : ℕ) (ps : List Plan) where
   nil_or (p ∷ l) = inr (λ e. cc)
 
   -- a name that is steered is the pulse or wanted in an arm
-  pub steered_wanted : (w v : Wants) (y : ℕ) → In y (steered width w v) → (y ≡ pulse) ⊎ (Wanted w y ⊎ Wanted v y)
+  pub steered_wanted : (w v : Wants) (y : ℕ) → In y (steered width w v)
+      → (y ≡ pulse) ⊎ (Wanted w y ⊎ Wanted v y)
   steered_wanted w v y i = elim (or_in (differing w v 0 width) y i) [
     | inl e ↦ inl e
     | inr h ↦ elim (nil_or (w y)) [
       | inr n ↦ inr (inl n)
       | inl e ↦ elim (nil_or (v y)) [
         | inr n ↦ inr (inr n)
-        | inl f ↦ absurd (both_ways (same_spots (w y) (v y)) (differing_in w v 0 width y h).0 (rw (e, f) refl))
+        | inl f ↦
+            absurd (both_ways (same_spots (w y) (v y)) (differing_in w v 0 width y h).0 (rw (e, f) refl))
       ]
     ]
   ]
 
-  pub past_wanted : (xs : List ℕ) (w : Wants) (x : ℕ) → Wanted (past xs w) x → (is_among x xs ≡ false) × Wanted w x
+  pub past_wanted : (xs : List ℕ) (w : Wants) (x : ℕ) → Wanted (past xs w) x → (is_among x xs ≡ false)
+      × Wanted w x
   past_wanted xs w x h = go (cases_Bool (is_among x xs))
     where
       go : (is_among x xs ≡ true) ⊎ (is_among x xs ≡ false) → (is_among x xs ≡ false) × Wanted w x
@@ -206,24 +255,35 @@ module _ (width : ℕ) (ps : List Plan) where
       go (inr e) = (e, λ f. h (rw e f))
 
   -- what is wanted behind an exit's front is what the exit needs
-  exit_wanted : (Live : ℕ → ℕ → Type 0) (b : ℕ) (p : Plan) (x : ℕ) → ((c y : ℕ) → Inner ps b c ⊎ Outer ps c → Wanted (S c) y → Live c y) → EdgesAre ps b p.exit → Wanted (exit_made width S b p p.exit).wants x → Needs Live p.test p.exit x
+  exit_wanted : (Live : ℕ → ℕ → Type 0) (b : ℕ) (p : Plan) (x : ℕ)
+      → ((c y : ℕ) → Inner ps b c ⊎ Outer ps c → Wanted (S c) y → Live c y) → EdgesAre ps b p.exit
+      → Wanted (exit_made width S b p p.exit).wants x → Needs Live p.test p.exit x
   exit_wanted Live b p x live e h = go p.exit refl e h
     where
-      behind : (l : HowLeft) → p.exit ≡ l → Wanted (behind_source width S b p).wants x → (x ≡ p.test) ⊎ (In x (helds (tails_of width S l)) ⊎ Wanted (end_wants width S l) x)
-      behind l q g = subst (λ (m : HowLeft). (x ≡ p.test) ⊎ (In x (helds (tails_of width S m)) ⊎ Wanted (end_wants width S m) x)) q
+      behind : (l : HowLeft) → p.exit ≡ l → Wanted (behind_source width S b p).wants x
+          → (x ≡ p.test) ⊎ (In x (helds (tails_of width S l)) ⊎ Wanted (end_wants width S l) x)
+      behind l q g =
+          subst (λ (m : HowLeft). (x ≡ p.test)
+          ⊎ (In x (helds (tails_of width S m)) ⊎ Wanted (end_wants width S m) x)) q
           (selected_wanted b p.test (tails_of width S p.exit) (end_wants width S p.exit) x g)
 
-      bare : (l : HowLeft) → p.exit ≡ l → Wanted (behind_source width S b p).wants x → Wanted (selected b p.test (tails_of width S l) (end_wants width S l)).wants x
-      bare l q g = subst (λ (m : HowLeft). Wanted (selected b p.test (tails_of width S m) (end_wants width S m)).wants x) q g
+      bare : (l : HowLeft) → p.exit ≡ l → Wanted (behind_source width S b p).wants x
+          → Wanted (selected b p.test (tails_of width S l) (end_wants width S l)).wants x
+      bare l q g =
+          subst (λ (m : HowLeft). Wanted (selected b p.test (tails_of width S m) (end_wants width S m)).wants
+          x) q g
 
-      either : (c d : ℕ) → Inner ps b c → Inner ps b d → (y : ℕ) → y ≡ x → In x (steered width (S c) (S d)) ⊎ Wanted (past (steered width (S c) (S d)) (S c)) x → (x ≡ pulse) ⊎ (Live c x ⊎ Live d x)
+      either : (c d : ℕ) → Inner ps b c → Inner ps b d → (y : ℕ) → y ≡ x → In x (steered width (S c) (S d))
+          ⊎ Wanted (past (steered width (S c) (S d)) (S c)) x → (x ≡ pulse) ⊎ (Live c x ⊎ Live d x)
       either c d i j y f (inl k) = elim (steered_wanted (S c) (S d) x k) [
         | inl g ↦ inl g
         | inr g ↦ elim g [ inl w ↦ inr (inl (live c x (inl i) w)) | inr w ↦ inr (inr (live d x (inl j) w)) ]
       ]
-      either c d i j y f (inr k) = inr (inl (live c x (inl i) (past_wanted (steered width (S c) (S d)) (S c) x k).1))
+      either c d i j y f (inr k) =
+          inr (inl (live c x (inl i) (past_wanted (steered width (S c) (S d)) (S c) x k).1))
 
-      go : (l : HowLeft) → p.exit ≡ l → EdgesAre ps b l → Wanted (exit_made width S b p l).wants x → Needs Live p.test l x
+      go : (l : HowLeft) → p.exit ≡ l → EdgesAre ps b l → Wanted (exit_made width S b p l).wants x
+          → Needs Live p.test l x
       go (Onto c) q e g = live c x e (bare (Onto c) q g)
       go (Either op from c d) q e g = elim (make_wanted b p.test op from (behind_source width S b p) x g) [
         | inl i ↦ inl i
@@ -231,30 +291,47 @@ module _ (width : ℕ) (ps : List Plan) where
           r.0,
           elim (behind (Either op from c d) q r.1) [
             | inl f ↦ absurd (r.0 f)
-            | inr k ↦ either c d e.0 e.1 x refl (elim k [ inl m ↦ inl (subst (λ (ys : List ℕ). In x ys) (helds_steers (S c) (S d) (steered width (S c) (S d))) m) | inr m ↦ inr m ])
+            | inr k ↦
+                either c d e.0 e.1 x refl
+                (elim k [
+                  | inl m ↦
+                      inl (subst (λ (ys : List ℕ). In x ys)
+                      (helds_steers (S c) (S d) (steered width (S c) (S d)))
+                      m)
+                  | inr m ↦ inr m
+                ])
           ],
         )
       ]
-      go (Lands op from values ls) q e g = elim (make_wanted b p.test op from (behind_source width S b p) x g) [
-        | inl i ↦ inl i
-        | inr r ↦ inr (
-          r.0,
-          elim (behind (Lands op from values ls) q r.1) [
-            | inl f ↦ absurd (r.0 f)
-            | inr k ↦ elim k [ inl m ↦ subst (λ (ys : List ℕ). In x ys) (helds_sends 0 values) m | inr m ↦ absurd (m refl) ]
-          ],
-        )
-      ]
-      go Halts q e g = elim (with_uses_wanted b (length (behind_source width S b p).code) 0 (pulse ∷ []) (behind_source width S b p).wants x g) [
-        | inl i ↦ elim i [ inl f ↦ f | inr z ↦ absurd z ]
-        | inr r ↦ absurd (bare Halts q r refl)
-      ]
+      go (Lands op from values ls) q e g =
+          elim (make_wanted b p.test op from (behind_source width S b p) x g) [
+            | inl i ↦ inl i
+            | inr r ↦ inr (
+              r.0,
+              elim (behind (Lands op from values ls) q r.1) [
+                | inl f ↦ absurd (r.0 f)
+                | inr k ↦ elim k [
+                  | inl m ↦ subst (λ (ys : List ℕ). In x ys) (helds_sends 0 values) m
+                  | inr m ↦
+                      absurd (m refl)
+                ]
+              ],
+            )
+          ]
+      go Halts q e g = elim (with_uses_wanted b (length (behind_source width S b p).code) 0 (pulse ∷ [])
+          (behind_source width S b p).wants x g) [
+            | inl i ↦ elim i [ inl f ↦ f | inr z ↦ absurd z ]
+            | inr r ↦ absurd (bare Halts q r refl)
+          ]
 
   -- behind the front of a block: what the block needs
-  body_wanted : (Live : ℕ → ℕ → Type 0) (b : ℕ) (x : ℕ) → PlanIs ps width Live b → ((c y : ℕ) → Inner ps b c ⊎ Outer ps c → Wanted (S c) y → Live c y) → Wanted (body_made width S b (plan_at ps b)).wants x → Live b x
+  body_wanted : (Live : ℕ → ℕ → Type 0) (b : ℕ) (x : ℕ) → PlanIs ps width Live b
+      → ((c y : ℕ) → Inner ps b c ⊎ Outer ps c → Wanted (S c) y → Live c y)
+      → Wanted (body_made width S b (plan_at ps b)).wants x → Live b x
   body_wanted Live b x plan live h =
       let p : Plan = plan_at ps b in
-      plan.live x (reads_more p.items (Wanted (exit_made width S b p p.exit).wants) (Needs Live p.test p.exit) x
+      plan.live x (reads_more p.items (Wanted (exit_made width S b p p.exit).wants) (Needs Live p.test p.exit)
+      x
       (λ g. exit_wanted Live b p x live plan.edges g)
       (wire_wanted b p.items (exit_made width S b p p.exit) x h))
 
@@ -270,12 +347,17 @@ module _ (width : ℕ) (ps : List Plan) where
       go true = inl refl
       go false = inr refl
 
-  pub past_clean : (Fn : ℕ → ℕ → Type 0) (k : ℕ) (xs : List ℕ) (w : Wants) → Clean F Fn k width w → Clean F Fn k width (past xs w)
+  pub past_clean : (Fn : ℕ → ℕ → Type 0) (k : ℕ) (xs : List ℕ) (w : Wants) → Clean F Fn k width w
+      → Clean F Fn k width (past xs w)
   past_clean Fn k xs w c = record {
     apart = λ x y j q h g. c.apart x y j q (sub x j q h) (sub y j q g);
     once = λ x. elim (past_is xs w x) [ inl e ↦ rw e tt | inr e ↦ rw e (c.once x) ];
     few = λ x h. c.few x (past_wanted xs w x h).1;
-    ahead = λ x p h. elim (past_is xs w x) [ inl e ↦ absurd (subst (λ (l : List Target). In p l) e h) | inr e ↦ c.ahead x p (subst (λ (l : List Target). In p l) e h) ];
+    ahead = λ x p h. elim (past_is xs w x) [
+      | inl e ↦ absurd (subst (λ (l : List Target). In p l) e h)
+      | inr
+          e ↦ c.ahead x p (subst (λ (l : List Target). In p l) e h)
+    ];
   }
     where
       sub : (x j q : ℕ) → HasDest (dests_of F (past xs w x)) j q → HasDest (dests_of F (w x)) j q
@@ -285,7 +367,12 @@ module _ (width : ℕ) (ps : List Plan) where
       ]
 
   pub none_clean : (Fn : ℕ → ℕ → Type 0) (k : ℕ) → Clean F Fn k width no_wants
-  none_clean Fn k = record { apart = λ x y j q h g. absurd h; once = λ x. tt; few = λ x h. absurd (h refl); ahead = λ x p h. absurd h }
+  none_clean Fn k = record {
+    apart = λ x y j q h g. absurd h;
+    once = λ x. tt;
+    few = λ x h. absurd (h refl);
+    ahead = λ x p h. absurd h;
+  }
 
   module _ (Live : ℕ → ℕ → Type 0) (plans : (b : ℕ) → Is b → PlanIs ps width Live b) where
     -- what is known of a block
@@ -293,9 +380,12 @@ module _ (width : ℕ) (ps : List Plan) where
       pub inv : Inv F b (O b) (FineAt b) (F b) (made_at width ps b)
       pub live : (x : ℕ) → Wanted (S b) x → Live b x
       pub clean : (k : ℕ) → k ≤ F b → Clean F Fine k width (S b)
-      pub spare : (plan_at ps b).first ≡ true → (x : ℕ) → (In x (plan_at ps b).entries → ⊥) → (made_at width ps b).wants x ≡ []
+      pub spare : (plan_at ps b).first ≡ true → (x : ℕ) → (In x (plan_at ps b).entries → ⊥)
+          → (made_at width ps b).wants x ≡ []
       -- an advance sends to no entry of its block
-      pub bars : (plan_at ps b).first ≡ true → (i : ℕ) (l : WiredInstr) → i < length (plan_at ps b).entries → nth (made_at width ps b).code i ≡ Some l → (q : Target) → In q l.dests → Ahead F (FineAt b) (F b + length (plan_at ps b).entries) q
+      pub bars : (plan_at ps b).first ≡ true → (i : ℕ) (l : WiredInstr) → i < length (plan_at ps b).entries
+          → nth (made_at width ps b).code i ≡ Some l → (q : Target) → In q l.dests
+          → Ahead F (FineAt b) (F b + length (plan_at ps b).entries) q
 
     outer_is : (c : ℕ) → Outer ps c → Is c
     outer_is c o = (o.some, o.there)
@@ -303,12 +393,16 @@ module _ (width : ℕ) (ps : List Plan) where
     outer_clean : (c k : ℕ) → Outer ps c → Clean F Fine k width (S c)
     outer_clean c k o = let p = plans c (outer_is c o) in
         subst (λ (w : Wants). Clean F Fine k width w) (sym (starts_outer c o.first))
-        (fronts_clean F Fine k width c (plan_at ps c).entries p.entries_apart (λ x i. p.few x (p.entries_live o.first x i)) (λ i l. record { block = outer_is c o; first = o.first; place = l }))
+        (fronts_clean F Fine k width c (plan_at ps c).entries p.entries_apart
+        (λ x i. p.few x (p.entries_live o.first x i))
+        (λ i l. record { block = outer_is c o; first = o.first; place = l }))
 
     outer_live : (c x : ℕ) → Outer ps c → Wanted (S c) x → Live c x
     outer_live c x o h = elim (in_or_not (plan_at ps c).entries x) [
       | inl i ↦ (plans c (outer_is c o)).entries_live o.first x i
-      | inr n ↦ absurd (h (ap (λ (w : Wants). w x) (starts_outer c o.first) ∙ fronts_none c 0 (plan_at ps c).entries x n))
+      | inr n ↦
+          absurd (h (ap (λ (w : Wants). w x) (starts_outer c o.first) ∙ fronts_none c 0 (plan_at ps c).entries
+          x n))
     ]
 
     module _ (b : ℕ) (h : Is b) (facts : (c : ℕ) → b < c → c ≤ length ps → Facts c) where
@@ -328,7 +422,8 @@ module _ (width : ℕ) (ps : List Plan) where
         where
           go : (x : HowLeft) → EdgesAre ps b x → Clean F Fine (F (suc b)) width (end_wants width S x)
           go (Onto c) e = target_clean c e
-          go (Either op from c d) e = past_clean Fine (F (suc b)) (steered width (S c) (S d)) (S c) (target_clean c (inl e.0))
+          go (Either op from c d) e = past_clean Fine (F (suc b)) (steered width (S c) (S d)) (S c)
+              (target_clean c (inl e.0))
           go (Lands op from values ls) e = none_clean Fine (F (suc b))
           go Halts e = none_clean Fine (F (suc b))
 
@@ -342,15 +437,20 @@ module _ (width : ℕ) (ps : List Plan) where
       pub entry_inside : (c i : ℕ) → Fine c i → F c + i < F (suc c)
       entry_inside c i f =
           let n : F (suc c) ≡ F c + length (made_at width ps c).code = begins_next c f.block in
-          let m : length (made_at width ps c).code ≡ length (plan_at ps c).entries + length (renew c (plan_at ps c).entries (body_made width S c (plan_at ps c))).code = ap (λ (z : Made). length z.code) (made_is c f.block (plans c f.block).edges ∙ cond-true (plan_at ps c).first _ _ f.first)
-          ∙ advances_count c (plan_at ps c).entries (renew c (plan_at ps c).entries (body_made width S c (plan_at ps c))) in
+          let m : length (made_at width ps c).code ≡ length (plan_at ps c).entries + length
+          (renew c (plan_at ps c).entries (body_made width S c (plan_at ps c))).code =
+          ap (λ (z : Made). length z.code) (made_is c f.block (plans c f.block).edges
+          ∙ cond-true (plan_at ps c).first _ _ f.first)
+          ∙ advances_count c (plan_at ps c).entries
+          (renew c (plan_at ps c).entries (body_made width S c (plan_at ps c))) in
           let l : i < length (plan_at ps c).entries = f.place in omega arith
 
       elsewhere : (c i k : ℕ) → Fine c i → (c ≡ b → ⊥) → F b ≤ k → k < F (suc b) → F c + i ≡ k → ⊥
       elsewhere c i k f n lo hi e = elim (cases_order c b) [
         | inl g ↦ n g
         | inr g ↦ elim g [
-          | inl l ↦ (let a : F (suc c) ≤ F b = begins_le (suc c) b l in let d : F c + i < F (suc c) = entry_inside c i f in omega arith)
+          | inl l ↦ (let a : F (suc c) ≤ F b = begins_le (suc c) b l in
+              let d : F c + i < F (suc c) = entry_inside c i f in omega arith)
           | inr l ↦ (let a : F (suc b) ≤ F c = begins_le (suc b) c l in omega arith)
         ]
       ]
@@ -358,22 +458,29 @@ module _ (width : ℕ) (ps : List Plan) where
       -- a block that isn't the first of its wave
       module _ (not_first : (plan_at ps b).first ≡ false) where
         clear : (c i : ℕ) → Fine c i → F b ≤ F c + i → F c + i < F (suc b) → ⊥
-        clear c i f lo hi = elsewhere c i (F c + i) f (λ e. both_ways (plan_at ps b).first not_first (ap (λ (z : ℕ). (plan_at ps z).first) (sym e) ∙ f.first)) lo hi refl
+        clear c i f lo hi =
+            elsewhere c i (F c + i) f (λ e. both_ways (plan_at ps b).first not_first
+            (ap (λ (z : ℕ). (plan_at ps z).first) (sym e) ∙ f.first)) lo hi refl
 
         body_ok : Good F b (O b) Fine (F b) clear (body_made width S b (plan_at ps b))
-        body_ok = body_good F b width Fine (F b) clear (E b) end_clean S (plan_at ps b) refl (plans b h).items (plans b h).source
+        body_ok = body_good F b width Fine (F b) clear (E b) end_clean S (plan_at ps b) refl (plans b h).items
+            (plans b h).source
 
-        made_inner : made_at width ps b ≡ cond (merges (plan_at ps b) body) (emit b pulse Merge (pulse ∷ []) body) body
+        made_inner : made_at width ps b ≡ cond (merges (plan_at ps b) body)
+            (emit b pulse Merge (pulse ∷ []) body) body
         unfolding body
         made_inner = made_is b h (plans b h).edges ∙ cond-false (plan_at ps b).first _ _ not_first
 
-        inner_good : (f : Bool) → Good F b (O b) Fine (F b) clear (cond f (emit b pulse Merge (pulse ∷ []) body) body)
+        inner_good : (f : Bool)
+            → Good F b (O b) Fine (F b) clear (cond f (emit b pulse Merge (pulse ∷ []) body) body)
         unfolding body
-        inner_good true = merge_good F b width Fine (F b) clear (E b) end_clean (body_made width S b (plan_at ps b)) body_ok
+        inner_good true = merge_good F b width Fine (F b) clear (E b) end_clean
+            (body_made width S b (plan_at ps b)) body_ok
         inner_good false = body_ok
 
         good_made : Good F b (O b) Fine (F b) clear (made_at width ps b)
-        good_made = subst (λ (m : Made). Good F b (O b) Fine (F b) clear m) (sym made_inner) (inner_good (merges (plan_at ps b) body))
+        good_made = subst (λ (m : Made). Good F b (O b) Fine (F b) clear m) (sym made_inner)
+            (inner_good (merges (plan_at ps b) body))
 
         inv_inner : Inv F b (O b) Fine (F b) (made_at width ps b)
         inv_inner =
@@ -381,7 +488,8 @@ module _ (width : ℕ) (ps : List Plan) where
             let z : F (suc b) - length (made_at width ps b).code ≡ F b = omega arith in
             subst (λ (k : ℕ). Inv F b (O b) Fine k (made_at width ps b)) z (good_made (omega arith))
 
-        inner_live : (f : Bool) (x : ℕ) → Wanted (cond f (emit b pulse Merge (pulse ∷ []) body) body).wants x → Live b x
+        inner_live : (f : Bool) (x : ℕ) → Wanted (cond f (emit b pulse Merge (pulse ∷ []) body) body).wants x
+            → Live b x
         unfolding body
         inner_live false x w = body_wanted Live b x (plans b h) target_live w
         inner_live true x w = elim (gather_wanted b pulse (body_made width S b (plan_at ps b)) x w) [
@@ -390,25 +498,43 @@ module _ (width : ℕ) (ps : List Plan) where
         ]
 
         live_inner : (x : ℕ) → Wanted (S b) x → Live b x
-        live_inner x w = inner_live (merges (plan_at ps b) body) x (λ e. w (ap (λ (v : Wants). v x) (starts_inner b not_first) ∙ ap (λ (m : Made). m.wants x) made_inner ∙ e))
+        live_inner x w = inner_live (merges (plan_at ps b) body) x
+            (λ e. w (ap (λ (v : Wants). v x) (starts_inner b not_first)
+            ∙ ap (λ (m : Made). m.wants x) made_inner ∙ e))
 
         clean_inner : (k : ℕ) → k ≤ F b → Clean F Fine k width (S b)
-        clean_inner k l = subst (λ (w : Wants). Clean F Fine k width w) (sym (starts_inner b not_first)) (record {
-          apart = λ x y j q a d. (let e : Some x ≡ Some y = sym (inv_inner.has x j q a) ∙ inv_inner.has y j q d in cc);
-          once = inv_inner.once;
-          few = λ x w. (plans b h).few x (live_inner x (λ e. w (sym (ap (λ (v : Wants). v x) (starts_inner b not_first)) ∙ e)));
-          ahead = λ x q a. ahead_low Fine (F b) k q l (inv_inner.ahead x q a);
-        })
+        clean_inner k l = subst (λ (w : Wants). Clean F Fine k width w) (sym (starts_inner b not_first))
+            (record {
+              apart = λ x y j q a d. (let e : Some x ≡ Some y = sym (inv_inner.has x j q a)
+                  ∙ inv_inner.has y j q d in cc);
+              once = inv_inner.once;
+              few = λ x w. (plans b h).few x
+                  (live_inner x (λ e. w (sym (ap (λ (v : Wants). v x) (starts_inner b not_first)) ∙ e)));
+              ahead = λ x q a. ahead_low Fine (F b) k q l (inv_inner.ahead x q a);
+            })
 
         facts_inner : Facts b
-        facts_inner = record { inv = fine_at; live = live_inner; clean = clean_inner; spare = λ f x n. absurd (both_ways (plan_at ps b).first not_first f); bars = λ f i l u e q a. absurd (both_ways (plan_at ps b).first not_first f) }
+        facts_inner = record {
+          inv = fine_at;
+          live = live_inner;
+          clean = clean_inner;
+          spare = λ f x n. absurd (both_ways (plan_at ps b).first not_first f);
+          bars = λ f i l u e q a. absurd (both_ways (plan_at ps b).first not_first f);
+        }
           where
             at_spot : (q : Target) → Ahead F Fine (F b) q → Ahead F (FineAt b) (F b) q
             at_spot (Back c r i) a = a
             at_spot (Front c i) a = (a, λ e. absurd (both_ways (plan_at ps b).first not_first e))
 
             fine_at : Inv F b (O b) (FineAt b) (F b) (made_at width ps b)
-            fine_at = let v = inv_inner in record { at = v.at; has = v.has; all = v.all; once = v.once; ahead = λ x q a. at_spot q (v.ahead x q a); lines = v.lines }
+            fine_at = let v = inv_inner in record {
+              at = v.at;
+              has = v.has;
+              all = v.all;
+              once = v.once;
+              ahead = λ x q a. at_spot q (v.ahead x q a);
+              lines = v.lines;
+            }
 
       -- the first block of a wave
       module _ (is_first : (plan_at ps b).first ≡ true) where
@@ -421,18 +547,22 @@ module _ (width : ℕ) (ps : List Plan) where
         core : Made
         core = renew b (plan_at ps b).entries (body_made width S b (plan_at ps b))
 
-        clear_first : (c i : ℕ) → Fine c i → F b + length (plan_at ps b).entries ≤ F c + i → F c + i < F (suc b) → ⊥
+        clear_first : (c i : ℕ) → Fine c i → F b + length (plan_at ps b).entries ≤ F c + i
+            → F c + i < F (suc b) → ⊥
         clear_first c i f lo hi = elim (cases_eq c b) [
           | inl e ↦ (let l : i < length (plan_at ps c).entries = f.place in
-              let l' : i < length (plan_at ps b).entries = subst (λ (z : ℕ). i < length (plan_at ps z).entries) e l in
+              let l' : i < length (plan_at ps b).entries =
+              subst (λ (z : ℕ). i < length (plan_at ps z).entries) e l in
               let g : F c ≡ F b = ap F e in omega arith)
           | inr n ↦ elsewhere c i (F c + i) f n (omega arith) hi refl
         ]
 
         core_good : Good F b (O b) Fine (F b + length (plan_at ps b).entries) clear_first core
         unfolding core
-        core_good = renew_good F b width Fine (F b + length (plan_at ps b).entries) clear_first (E b) end_clean (plan_at ps b).entries (body_made width S b (plan_at ps b))
-            (body_good F b width Fine (F b + length (plan_at ps b).entries) clear_first (E b) end_clean S (plan_at ps b) refl (plans b h).items (plans b h).source)
+        core_good = renew_good F b width Fine (F b + length (plan_at ps b).entries) clear_first (E b)
+            end_clean (plan_at ps b).entries (body_made width S b (plan_at ps b))
+            (body_good F b width Fine (F b + length (plan_at ps b).entries) clear_first (E b) end_clean S
+            (plan_at ps b) refl (plans b h).items (plans b h).source)
 
         made_outer : made_at width ps b ≡ advances b (plan_at ps b).entries core
         unfolding core
@@ -441,15 +571,18 @@ module _ (width : ℕ) (ps : List Plan) where
         total : F (suc b) ≡ F b + (length (plan_at ps b).entries + length core.code)
         total =
             let n : F (suc b) ≡ F b + length (made_at width ps b).code = begins_next b h in
-            let m : length (made_at width ps b).code ≡ length (plan_at ps b).entries + length core.code = ap (λ (z : Made). length z.code) made_outer ∙ advances_count b (plan_at ps b).entries core in omega arith
+            let m : length (made_at width ps b).code ≡ length (plan_at ps b).entries + length core.code =
+            ap (λ (z : Made). length z.code) made_outer ∙ advances_count b (plan_at ps b).entries core in
+            omega arith
 
         -- every name that is wanted behind the advances has one
         core_wanted : (x : ℕ) → Wanted core.wants x → In x (plan_at ps b).entries
         unfolding core
-        core_wanted x w = elim (renew_wanted b (plan_at ps b).entries (body_made width S b (plan_at ps b)) x w) [
-          | inl i ↦ i
-          | inr g ↦ (plans b h).entries is_first x (body_wanted Live b x (plans b h) target_live g)
-        ]
+        core_wanted x w = elim (renew_wanted b (plan_at ps b).entries (body_made width S b (plan_at ps b)) x
+            w) [
+              | inl i ↦ i
+              | inr g ↦ (plans b h).entries is_first x (body_wanted Live b x (plans b h) target_live g)
+            ]
 
         core_renewed : (x : ℕ) → In x (plan_at ps b).entries → has_front b (core.wants x) ≡ false
         unfolding core
@@ -462,42 +595,66 @@ module _ (width : ℕ) (ps : List Plan) where
         core_inv =
             let t : F (suc b) ≡ F b + (length (plan_at ps b).entries + length core.code) = total in
             let z : F (suc b) - length core.code ≡ F b + length (plan_at ps b).entries = omega arith in
-            let v : Inv F b (O b) Fine (F b + length (plan_at ps b).entries) core = subst (λ (k : ℕ). Inv F b (O b) Fine k core) z (core_good (omega arith)) in
-            record { at = v.at; has = v.has; all = v.all; once = v.once; ahead = λ x q a. at_spot x q a (v.ahead x q a); lines = v.lines }
+            let v : Inv F b (O b) Fine (F b + length (plan_at ps b).entries) core =
+            subst (λ (k : ℕ). Inv F b (O b) Fine k core) z (core_good (omega arith)) in
+            record {
+              at = v.at;
+              has = v.has;
+              all = v.all;
+              once = v.once;
+              ahead = λ x q a. at_spot x q a (v.ahead x q a);
+              lines = v.lines;
+            }
           where
-            at_spot : (x : ℕ) (q : Target) → In q (core.wants x) → Ahead F Fine (F b + length (plan_at ps b).entries) q → Ahead F (FineAt b) (F b + length (plan_at ps b).entries) q
+            at_spot : (x : ℕ) (q : Target) → In q (core.wants x)
+                → Ahead F Fine (F b + length (plan_at ps b).entries) q
+                → Ahead F (FineAt b) (F b + length (plan_at ps b).entries) q
             at_spot x (Back c r i) a f = f
-            at_spot x (Front c i) a f = (f, λ e g. no_front b (core.wants x) i (core_renewed x (core_wanted x (spot_wanted core.wants x (Front c i) a))) (subst (λ (z : ℕ). In (Front z i) (core.wants x)) g a))
+            at_spot x (Front c i) a f = (
+              f,
+              λ e g. no_front b (core.wants x) i
+                  (core_renewed x (core_wanted x (spot_wanted core.wants x (Front c i) a)))
+                  (subst (λ (z : ℕ). In (Front z i) (core.wants x)) g a),
+            )
 
         front_clear : (k : ℕ) → F b ≤ k → k < F (suc b) → (c i : ℕ) → FineAt b c i → F c + i ≡ k → ⊥
         front_clear k lo hi c i f e = elsewhere c i k f.0 (f.1 is_first) lo hi e
 
         -- the advances
-        advances_inv : (ys : List ℕ) (n : ℕ) → F b + n + length ys ≡ F b + length (plan_at ps b).entries → Inv F b (O b) (FineAt b) (F b + n) (advances b ys core)
-        advances_inv [] n e = let z : F b + length (plan_at ps b).entries ≡ F b + n = omega arith in subst (λ (k : ℕ). Inv F b (O b) (FineAt b) k core) z core_inv
+        advances_inv : (ys : List ℕ) (n : ℕ) → F b + n + length ys ≡ F b + length (plan_at ps b).entries
+            → Inv F b (O b) (FineAt b) (F b + n) (advances b ys core)
+        advances_inv [] n e = let z : F b + length (plan_at ps b).entries ≡ F b + n = omega arith in
+            subst (λ (k : ℕ). Inv F b (O b) (FineAt b) k core) z core_inv
         advances_inv (y ∷ ys) n e =
             let t : F (suc b) ≡ F b + (length (plan_at ps b).entries + length core.code) = total in
             let z : F b + suc n ≡ suc (F b + n) = omega arith in
             emit_inv F b (O b) (FineAt b) (F b + n) (advances b ys core)
-            (subst (λ (k : ℕ). Inv F b (O b) (FineAt b) k (advances b ys core)) z (advances_inv ys (suc n) (omega arith)))
+            (subst (λ (k : ℕ). Inv F b (O b) (FineAt b) k (advances b ys core)) z
+            (advances_inv ys (suc n) (omega arith)))
             (front_clear (F b + n) (omega arith) (omega arith)) y Advance (y ∷ []) (λ ds. refl) refl
 
         facts_outer : Facts b
         facts_outer = record {
           inv = (let z : F b + 0 ≡ F b = omega arith in
               subst (λ (m : Made). Inv F b (O b) (FineAt b) (F b) m) (sym made_outer)
-              (subst (λ (k : ℕ). Inv F b (O b) (FineAt b) k (advances b (plan_at ps b).entries core)) z (advances_inv (plan_at ps b).entries 0 (omega arith))));
+              (subst (λ (k : ℕ). Inv F b (O b) (FineAt b) k (advances b (plan_at ps b).entries core)) z
+              (advances_inv (plan_at ps b).entries 0 (omega arith))));
           live = λ x w. outer_live b x (record { some = h.0; there = h.1; first = is_first }) w;
           clean = λ k l. outer_clean b k (record { some = h.0; there = h.1; first = is_first });
-          spare = λ f x n. ap (λ (m : Made). m.wants x) made_outer ∙ advances_other b (plan_at ps b).entries core x n ∙ elim (nil_or (core.wants x)) [ inl e ↦ e | inr w ↦ absurd (n (core_wanted x w)) ];
-          bars = λ f i l u e q a. bar (plan_at ps b).entries i l u (plans b h).entries_apart (ap (λ (m : Made). nth m.code i) (sym made_outer) ∙ e) q a;
+          spare = λ f x n. ap (λ (m : Made). m.wants x) made_outer ∙ advances_other b (plan_at ps b).entries
+              core x n ∙ elim (nil_or (core.wants x)) [ inl e ↦ e | inr w ↦ absurd (n (core_wanted x w)) ];
+          bars = λ f i l u e q a. bar (plan_at ps b).entries i l u (plans b h).entries_apart
+              (ap (λ (m : Made). nth m.code i) (sym made_outer) ∙ e) q a;
         }
           where
-            bar : (ys : List ℕ) (i : ℕ) (l : WiredInstr) → i < length ys → Apart ys → nth (advances b ys core).code i ≡ Some l → (q : Target) → In q l.dests → Ahead F (FineAt b) (F b + length (plan_at ps b).entries) q
+            bar : (ys : List ℕ) (i : ℕ) (l : WiredInstr) → i < length ys → Apart ys
+                → nth (advances b ys core).code i ≡ Some l → (q : Target) → In q l.dests
+                → Ahead F (FineAt b) (F b + length (plan_at ps b).entries) q
             bar [] i l u a e q k = absurd (omega arith)
             bar (y ∷ ys) zero l u a e q k =
                 let g : record { op = Advance; dests = (advances b ys core).wants y; others = [] } ≡ l = cc in
-                core_inv.ahead y q (subst (λ (d : List Target). In q d) (ap (λ (m : WiredInstr). m.dests) (sym g) ∙ advances_other b ys core y a.0) k)
+                core_inv.ahead y q (subst (λ (d : List Target). In q d)
+                (ap (λ (m : WiredInstr). m.dests) (sym g) ∙ advances_other b ys core y a.0) k)
             bar (y ∷ ys) (suc i) l u a e q k = bar ys i l (omega arith) a.1 e q k
 
       facts_here : Facts b

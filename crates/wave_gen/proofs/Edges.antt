@@ -1,15 +1,21 @@
 -- What is open behind an edge of a draft is what the target wants.
-use Rattle.std.proofs.Common.{ℕ, zero, suc, ◌+◌, ◌≡◌, ◌<◌, ◌≤◌, ◌⊎◌, ◌&&◌, ◌||◌, eqb, Bool, true, false, cond, List, [], ◌∷◌, ◌++◌, length, Some, None, refl, sym, ap, ◌∙◌, subst, inl, inr, arith, eq-eqb, ne_eqb}
+use Rattle.std.proofs.Common.{ℕ, zero, suc, ◌+◌, ◌≡◌, ◌<◌, ◌≤◌, ◌⊎◌, ◌&&◌, ◌||◌, eqb, Bool, true, false, cond}
+use Rattle.std.proofs.Common.{List, [], ◌∷◌, ◌++◌, length, Some, None, refl, sym, ap, ◌∙◌, subst, inl, inr}
+use Rattle.std.proofs.Common.{arith, eq-eqb, ne_eqb}
 use Rattle.std.proofs.lemmas.Bool.{cases_Bool, cases_eq, both_ways}
 use Rattle.ws_isa.specs.declared.instr.Op.{Op}
 use Rattle.ws_isa.specs.declared.instr.Op.TheVariants.{Steer, Send}
 use Rattle.ws_isa.specs.declared.instr.Dest.{Dest}
 use Rattle.ws_isa.specs.Image as image
-use Rattle.ws_isa.specs.Image.{Image, Instr, Array, instr_at, block_at, first_number, edge_of, edge_dests, pad_of, leave_to, landing_of, target, IsIn}
+use Rattle.ws_isa.specs.Image.{Image, Instr, Array, instr_at, block_at, first_number, edge_of, edge_dests}
+use Rattle.ws_isa.specs.Image.{pad_of, leave_to, landing_of, target, IsIn}
 use Rattle.ws_isa.specs.Sound.{HasDest, edge_all, opens_at}
 use Rattle.wave_gen.specs.Waits.{DistinctDests, Code, starts, Arrives, went_past, was_sent}
 use Rattle.wave_gen.specs.Wire.{Target, Back, Front, dests_of, WiredInstr, Wants}
-use Rattle.wave_gen.specs.Plans.{HowLeft, Onto, Either, Lands, Plan, same_spot, same_spots, differing, steered, is_among, past, Tail, TailAt, steer_of, steers, sends, fronts, plan_at, starts_at, begins, tails_of, end_wants, pads_of, draft_of, code_of, exit_of, source_of, filled, next_of, instr_of}
+use Rattle.wave_gen.specs.Plans.{HowLeft, Onto, Either, Lands, Plan, same_spot, same_spots, differing}
+use Rattle.wave_gen.specs.Plans.{steered, is_among, past, Tail, TailAt, steer_of, steers, sends, fronts}
+use Rattle.wave_gen.specs.Plans.{plan_at, starts_at, begins, tails_of, end_wants, pads_of, draft_of, code_of}
+use Rattle.wave_gen.specs.Plans.{exit_of, source_of, filled, next_of, instr_of}
 use Rattle.wave_gen.proofs.SteeredNames.{or_apart, in_or}
 use Rattle.wave_gen.proofs.Planned.{Apart, AllIn, PadsFit, PlansAre, Outer}
 use Rattle.wave_gen.proofs.Ends.{Clean, owner_has, owner_from}
@@ -26,7 +32,8 @@ use Rattle.ws_isa.proofs.Steps.{first_up as next_first}
 use Rattle.ws_words.specs.Items.{nth, In}
 use Rattle.ws_words.proofs.Places.{nth_short}
 
-edge_none : (image : Image) (b r : ℕ) (i : Instr) (op : Op) → is_tail_op op ≡ false → edge_of image b r i op ≡ []
+edge_none : (image : Image) (b r : ℕ) (i : Instr) (op : Op) → is_tail_op op ≡ false
+    → edge_of image b r i op ≡ []
 edge_none image b r i Steer e = absurd (both_ways true e refl)
 edge_none image b r i (Send p) e = absurd (both_ways true e refl)
 edge_none image b r i _ e = refl
@@ -35,31 +42,44 @@ pub empty_distinct : (ds : List Dest) → ((j q : ℕ) → HasDest ds j q → �
 empty_distinct [] n = tt
 empty_distinct (d ∷ ds) n = absurd (n d.instr d.port (inl (refl, refl)))
 
-distinct_append : (ds es : List Dest) → DistinctDests ds → DistinctDests es → ((j q : ℕ) → HasDest ds j q → HasDest es j q → ⊥) → DistinctDests (ds ++ es)
+distinct_append : (ds es : List Dest) → DistinctDests ds → DistinctDests es
+    → ((j q : ℕ) → HasDest ds j q → HasDest es j q → ⊥) → DistinctDests (ds ++ es)
 distinct_append [] es a b n = b
 distinct_append (d ∷ ds) es a b n = (
-  (λ h. elim (has_append_cases ds es d.instr d.port h) [ inl g ↦ a.0 g | inr g ↦ n d.instr d.port (inl (refl, refl)) g ]),
+  (λ h. elim (has_append_cases ds es d.instr d.port h) [
+    | inl g ↦ a.0 g
+    | inr g ↦
+        n d.instr d.port (inl (refl, refl)) g
+  ]),
   distinct_append ds es a.1 b (λ j q g. n j q (inr g)),
 )
 
 -- lists of the instructions of a block that have nothing in common
-edges_distinct : (image : Image) (b r k n : ℕ) → ((m : ℕ) → k ≤ m → m < k + n → DistinctDests (edge_dests image b r m)) →
-    ((m l j q : ℕ) → k ≤ m → m < k + n → k ≤ l → l < k + n → HasDest (edge_dests image b r m) j q → HasDest (edge_dests image b r l) j q → m ≡ l) → DistinctDests (edge_all image b r k n)
+edges_distinct : (image : Image) (b r k n : ℕ)
+    → ((m : ℕ) → k ≤ m → m < k + n → DistinctDests (edge_dests image b r m)) →
+    ((m l j q : ℕ) → k ≤ m → m < k + n → k ≤ l → l < k + n → HasDest (edge_dests image b r m) j q
+    → HasDest (edge_dests image b r l) j q → m ≡ l) → DistinctDests (edge_all image b r k n)
 edges_distinct image b r k zero d s = tt
-edges_distinct image b r k (suc n) d s = distinct_append (edge_dests image b r k) (edge_all image b r (suc k) n) (d k (omega arith) (omega arith))
-    (edges_distinct image b r (suc k) n (λ m l u. d m (omega arith) (omega arith)) (λ m l j q a c e f g h. s m l j q (omega arith) (omega arith) (omega arith) (omega arith) g h))
+edges_distinct image b r k (suc n) d s = distinct_append (edge_dests image b r k)
+    (edge_all image b r (suc k) n) (d k (omega arith) (omega arith))
+    (edges_distinct image b r (suc k) n (λ m l u. d m (omega arith) (omega arith))
+    (λ m l j q a c e f g h. s m l j q (omega arith) (omega arith) (omega arith) (omega arith) g h))
     (λ j q g h. apart j q g h)
   where
     apart : (j q : ℕ) → HasDest (edge_dests image b r k) j q → HasDest (edge_all image b r (suc k) n) j q → ⊥
     apart j q g h = let f = Rattle.ws_isa.proofs.Slots.edge_all_from image b r (suc k) n j q h in
         let lo : suc k ≤ f.source = f.low in let hi : f.source < suc k + n = f.high in
-        let e : k ≡ f.source = s k f.source j q (omega arith) (omega arith) (omega arith) (omega arith) g f.has in omega arith
+        let e : k ≡ f.source = s k f.source j q (omega arith) (omega arith) (omega arith) (omega arith) g
+        f.has in omega arith
 
 -- lists of spots that are told apart
 spot_eq : (p q : Target) → same_spot p q ≡ true → p ≡ q
-spot_eq (Back b r i) (Back c s j) e = let a = and_both (eqb b c) (eqb r s && eqb i j) e in let d = and_both (eqb r s) (eqb i j) a.1 in
-    ap (λ (x : ℕ). Back x r i) (eqb_is b c a.0) ∙ ap (λ (x : ℕ). Back c x i) (eqb_is r s d.0) ∙ ap (λ (x : ℕ). Back c s x) (eqb_is i j d.1)
-spot_eq (Front b i) (Front c j) e = let a = and_both (eqb b c) (eqb i j) e in ap (λ (x : ℕ). Front x i) (eqb_is b c a.0) ∙ ap (λ (x : ℕ). Front c x) (eqb_is i j a.1)
+spot_eq (Back b r i) (Back c s j) e = let a = and_both (eqb b c) (eqb r s && eqb i j) e in
+    let d = and_both (eqb r s) (eqb i j) a.1 in
+    ap (λ (x : ℕ). Back x r i) (eqb_is b c a.0) ∙ ap (λ (x : ℕ). Back c x i) (eqb_is r s d.0)
+    ∙ ap (λ (x : ℕ). Back c s x) (eqb_is i j d.1)
+spot_eq (Front b i) (Front c j) e = let a = and_both (eqb b c) (eqb i j) e in
+    ap (λ (x : ℕ). Front x i) (eqb_is b c a.0) ∙ ap (λ (x : ℕ). Front c x) (eqb_is i j a.1)
 spot_eq (Back b r i) (Front c j) e = absurd (both_ways false refl e)
 spot_eq (Front b i) (Back c s j) e = absurd (both_ways false refl e)
 
@@ -72,7 +92,11 @@ spots_eq (p ∷ l) (q ∷ m) e = let a = and_both (same_spot p q) (same_spots l 
 
 pub among_in : (x : ℕ) (xs : List ℕ) → is_among x xs ≡ true → In x xs
 among_in x [] e = absurd (both_ways false refl e)
-among_in x (y ∷ xs) e = elim (or_cases (eqb x y) (is_among x xs) e) [ inl h ↦ inl (eqb_is x y h) | inr h ↦ inr (among_in x xs h) ]
+among_in x (y ∷ xs) e = elim (or_cases (eqb x y) (is_among x xs) e) [
+  | inl h ↦ inl (eqb_is x y h)
+  | inr h ↦
+      inr (among_in x xs h)
+]
 
 pub in_among : (x : ℕ) (xs : List ℕ) → In x xs → is_among x xs ≡ true
 in_among x [] h = absurd h
@@ -84,11 +108,14 @@ in_among x (y ∷ xs) (inr h) = right (eqb x y) (is_among x xs) (in_among x xs h
     right false g e = e
 
 -- names that differ, each once
-differing_has : (w v : Wants) (x n y : ℕ) → x ≤ y → y < x + n → same_spots (w y) (v y) ≡ false → In y (differing w v x n)
+differing_has : (w v : Wants) (x n y : ℕ) → x ≤ y → y < x + n → same_spots (w y) (v y) ≡ false
+    → In y (differing w v x n)
 differing_has w v x zero y l u e = absurd (omega arith)
-differing_has w v x (suc n) y l u e = go (cases_Bool (same_spots (w x) (v x))) (cases_eq y x) (λ m. differing_has w v (suc x) n y (omega arith) (omega arith) e)
+differing_has w v x (suc n) y l u e = go (cases_Bool (same_spots (w x) (v x))) (cases_eq y x)
+    (λ m. differing_has w v (suc x) n y (omega arith) (omega arith) e)
   where
-    go : (same_spots (w x) (v x) ≡ true) ⊎ (same_spots (w x) (v x) ≡ false) → (y ≡ x) ⊎ (y ≡ x → ⊥) → ((y ≡ x → ⊥) → In y (differing w v (suc x) n)) → In y (differing w v x (suc n))
+    go : (same_spots (w x) (v x) ≡ true) ⊎ (same_spots (w x) (v x) ≡ false) → (y ≡ x) ⊎ (y ≡ x → ⊥)
+        → ((y ≡ x → ⊥) → In y (differing w v (suc x) n)) → In y (differing w v x (suc n))
     go (inl f) (inl m) ih = absurd (both_ways (same_spots (w y) (v y)) e (rw (sym m) at f))
     go (inl f) (inr m) ih = rw f (ih m)
     go (inr f) (inl m) ih = rw f (inl m)
@@ -98,27 +125,35 @@ differing_low : (w v : Wants) (x n y : ℕ) → In y (differing w v x n) → x �
 differing_low w v x zero y h = absurd h
 differing_low w v x (suc n) y h = go (cases_Bool (same_spots (w x) (v x))) (differing_low w v (suc x) n y)
   where
-    go : (same_spots (w x) (v x) ≡ true) ⊎ (same_spots (w x) (v x) ≡ false) → (In y (differing w v (suc x) n) → suc x ≤ y) → x ≤ y
+    go : (same_spots (w x) (v x) ≡ true) ⊎ (same_spots (w x) (v x) ≡ false)
+        → (In y (differing w v (suc x) n) → suc x ≤ y) → x ≤ y
     go (inl f) ih = let l : suc x ≤ y = ih (rw f at h) in omega arith
-    go (inr f) ih = elim (rw f at h) [ inl e ↦ omega arith | inr g ↦ (let l : suc x ≤ y = ih g in omega arith) ]
+    go (inr f) ih = elim (rw f at h) [
+      | inl e ↦ omega arith
+      | inr g ↦
+          (let l : suc x ≤ y = ih g in omega arith)
+    ]
 
 differing_apart : (w v : Wants) (x n : ℕ) → Apart (differing w v x n)
 differing_apart w v x zero = tt
 differing_apart w v x (suc n) = go (cases_Bool (same_spots (w x) (v x))) (differing_apart w v (suc x) n)
   where
-    go : (same_spots (w x) (v x) ≡ true) ⊎ (same_spots (w x) (v x) ≡ false) → Apart (differing w v (suc x) n) → Apart (differing w v x (suc n))
+    go : (same_spots (w x) (v x) ≡ true) ⊎ (same_spots (w x) (v x) ≡ false) → Apart (differing w v (suc x) n)
+        → Apart (differing w v x (suc n))
     go (inl f) ih = rw f ih
     go (inr f) ih = rw f ((λ h. (let l : suc x ≤ x = differing_low w v (suc x) n x h in omega arith)), ih)
 
 pub steered_apart : (width : ℕ) (w v : Wants) → Apart (steered width w v)
 steered_apart width w v = or_apart (differing w v 0 width) (differing_apart w v 0 width)
 
-steers_nth : (w v : Wants) (xs : List ℕ) (i x : ℕ) → nth xs i ≡ Some x → nth (steers w v xs) i ≡ Some (steer_of w v x)
+steers_nth : (w v : Wants) (xs : List ℕ) (i x : ℕ) → nth xs i ≡ Some x
+    → nth (steers w v xs) i ≡ Some (steer_of w v x)
 steers_nth w v [] i x e = absurd (let a : None ≡ Some x = e in cc)
 steers_nth w v (y ∷ xs) zero x e = let g : y ≡ x = cc in ap (λ (z : ℕ). Some (steer_of w v z)) g
 steers_nth w v (y ∷ xs) (suc i) x e = steers_nth w v xs i x e
 
-steers_from : (w v : Wants) (xs : List ℕ) (i : ℕ) (t : Tail) → nth (steers w v xs) i ≡ Some t → (x : ℕ) × (nth xs i ≡ Some x) × (steer_of w v x ≡ t)
+steers_from : (w v : Wants) (xs : List ℕ) (i : ℕ) (t : Tail) → nth (steers w v xs) i ≡ Some t
+    → (x : ℕ) × (nth xs i ≡ Some x) × (steer_of w v x ≡ t)
 steers_from w v [] i t e = absurd (let a : None ≡ Some t = e in cc)
 steers_from w v (y ∷ xs) zero t e = (y, refl, (let g : steer_of w v y ≡ t = cc in g))
 steers_from w v (y ∷ xs) (suc i) t e = steers_from w v xs i t e
@@ -130,7 +165,8 @@ nth_apart (y ∷ xs) zero (suc j) x a e f = absurd (let g : y ≡ x = cc in a.0 
 nth_apart (y ∷ xs) (suc i) zero x a e f = absurd (let g : y ≡ x = cc in a.0 (rw (sym g) at (in_nth xs i x e)))
 nth_apart (y ∷ xs) (suc i) (suc j) x a e f = ap suc (nth_apart xs i j x a.1 e f)
 
-module _ (arrays : List Array) (width : ℕ) (ps : List Plan) (Live : ℕ → ℕ → Type 0) (plans : PlansAre ps width Live) where
+module _ (arrays : List Array) (width : ℕ) (ps : List Plan) (Live : ℕ → ℕ → Type 0)
+    (plans : PlansAre ps width Live) where
   abbrev I : Image
   I = draft_of arrays width ps
 
@@ -153,7 +189,8 @@ module _ (arrays : List Array) (width : ℕ) (ps : List Plan) (Live : ℕ → �
   all = starts_all arrays width ps Live plans
 
   -- a slot waits for one name
-  one_name : (b : ℕ) → Is b → (x y j q : ℕ) → HasDest (dests_of F (S b x)) j q → HasDest (dests_of F (S b y)) j q → x ≡ y
+  one_name : (b : ℕ) → Is b → (x y j q : ℕ) → HasDest (dests_of F (S b x)) j q
+      → HasDest (dests_of F (S b y)) j q → x ≡ y
   one_name b h x y j q d e = let a : Some x ≡ Some y = sym (has b h x j q d) ∙ has b h y j q e in cc
 
   module _ (b : ℕ) (h : Is b) where
@@ -166,25 +203,31 @@ module _ (arrays : List Array) (width : ℕ) (ps : List Plan) (Live : ℕ → �
     clean : Clean F (Fine width ps) (F (suc b)) width (end_wants width S (plan_at ps b).exit)
     clean = end_clean width ps Live plans.each b h later
 
-    ends_has : (x j q : ℕ) → HasDest (dests_of F (end_wants width S (plan_at ps b).exit x)) j q → C.ends b j q ≡ Some x
+    ends_has : (x j q : ℕ) → HasDest (dests_of F (end_wants width S (plan_at ps b).exit x)) j q
+        → C.ends b j q ≡ Some x
     unfolding code_of
-    ends_has x j q d = owner_has F (Fine width ps) (F (suc b)) width (end_wants width S (plan_at ps b).exit) clean x j q d
+    ends_has x j q d = owner_has F (Fine width ps) (F (suc b)) width (end_wants width S (plan_at ps b).exit)
+        clean x j q d
 
-    ends_all : (x j q : ℕ) → C.ends b j q ≡ Some x → HasDest (dests_of F (end_wants width S (plan_at ps b).exit x)) j q
+    ends_all : (x j q : ℕ) → C.ends b j q ≡ Some x
+        → HasDest (dests_of F (end_wants width S (plan_at ps b).exit x)) j q
     unfolding code_of
     ends_all x j q e = owner_from F width (end_wants width S (plan_at ps b).exit) j q x e
 
-    pub ends_none : (j q : ℕ) → ((x : ℕ) → HasDest (dests_of F (end_wants width S (plan_at ps b).exit x)) j q → ⊥) → C.ends b j q ≡ None
+    pub ends_none : (j q : ℕ) → ((x : ℕ) → HasDest (dests_of F (end_wants width S (plan_at ps b).exit x)) j q
+        → ⊥) → C.ends b j q ≡ None
     ends_none j q n = Rattle.wave_gen.proofs.Turns.none_of (C.ends b j q) (λ x e. n x (ends_all x j q e))
 
     pub exit_is : (block_at I b).exit ≡ exit_of (source_of width ps b) (plan_at ps b).exit
     exit_is = ap (λ (k : image.Block). k.exit) (block_at_is arrays width ps b h)
 
-    pub target_is : (e : HowLeft) → (plan_at ps b).exit ≡ e → (r : ℕ) → target I b r ≡ leave_to (exit_of (source_of width ps b) e) r
+    pub target_is : (e : HowLeft) → (plan_at ps b).exit ≡ e → (r : ℕ)
+        → target I b r ≡ leave_to (exit_of (source_of width ps b) e) r
     unfolding target
     target_is e q r = ap (λ (x : image.Exit). leave_to x r) (exit_is ∙ ap (exit_of (source_of width ps b)) q)
 
-    pub next_is : (e : HowLeft) → (plan_at ps b).exit ≡ e → (r x : ℕ) (env : ℕ → ℕ) → C.next b r env x ≡ next_of ps e r env x
+    pub next_is : (e : HowLeft) → (plan_at ps b).exit ≡ e → (r x : ℕ) (env : ℕ → ℕ)
+        → C.next b r env x ≡ next_of ps e r env x
     unfolding code_of
     next_is e q r x env = ap (λ (l : HowLeft). next_of ps l r env x) q
 
@@ -193,23 +236,29 @@ module _ (arrays : List Array) (width : ℕ) (ps : List Plan) (Live : ℕ → �
     kept_tail m x t = inr t
 
     -- what is sent along an edge is a tail's
-    edge_tail : (r m j q : ℕ) → IsIn I b m → HasDest (edge_dests I b r m) j q → IsTail arrays width ps Live plans.each b h m
+    edge_tail : (r m j q : ℕ) → IsIn I b m → HasDest (edge_dests I b r m) j q
+        → IsTail arrays width ps Live plans.each b h m
     unfolding edge_dests
     edge_tail r m j q i d = elim (cases_Bool (is_tail_op (instr_at I m).op)) [
       | inl e ↦ is_tail arrays width ps Live plans.each b h m i e
-      | inr e ↦ absurd (subst (λ (l : List Dest). HasDest l j q) (edge_none I b r (instr_at I m) (instr_at I m).op e) d)
+      | inr e ↦
+          absurd (subst (λ (l : List Dest). HasDest l j q) (edge_none I b r (instr_at I m) (instr_at I m).op
+          e) d)
     ]
 
-    tail_edge : (r m : ℕ) (line : WiredInstr) → instr_at I m ≡ instr_of F line → edge_dests I b r m ≡ edge_of I b r (instr_of F line) line.op
+    tail_edge : (r m : ℕ) (line : WiredInstr) → instr_at I m ≡ instr_of F line
+        → edge_dests I b r m ≡ edge_of I b r (instr_of F line) line.op
     unfolding edge_dests
     tail_edge r m line e = ap (λ (i : Instr). edge_of I b r i i.op) e
 
-    pub block_size : (m : ℕ) → first_number I b ≤ m → m < first_number I b + image.size_of I b → m < first_number I (suc b)
+    pub block_size : (m : ℕ) → first_number I b ≤ m → m < first_number I b + image.size_of I b
+        → m < first_number I (suc b)
     unfolding image.size_of
     block_size m l u = let a : first_number I b ≤ first_number I (suc b) = next_first I b in omega arith
 
     -- a list of an edge has no repeats
-    one_distinct : (r m : ℕ) → ((j q : ℕ) → HasDest (edge_dests I b r m) j q → DistinctDests (edge_dests I b r m)) → DistinctDests (edge_dests I b r m)
+    one_distinct : (r m : ℕ) → ((j q : ℕ) → HasDest (edge_dests I b r m) j q
+        → DistinctDests (edge_dests I b r m)) → DistinctDests (edge_dests I b r m)
     one_distinct r m f = go (edge_dests I b r m) refl
       where
         go : (l : List Dest) → edge_dests I b r m ≡ l → DistinctDests (edge_dests I b r m)
@@ -225,20 +274,32 @@ module _ (arrays : List Array) (width : ℕ) (ps : List Plan) (Live : ℕ → �
       end_is x = ap (λ (l : HowLeft). end_wants width S l x) q0
 
       no_tail : (m : ℕ) → IsTail arrays width ps Live plans.each b h m → ⊥
-      no_tail m t = let e : nth [] t.place ≡ Some t.tail = subst (λ (l : HowLeft). nth (tails_of width S l) t.place ≡ Some t.tail) q0 t.at in let z : None ≡ Some t.tail = e in cc
+      no_tail m t = let e : nth [] t.place ≡ Some t.tail =
+          subst (λ (l : HowLeft). nth (tails_of width S l) t.place ≡ Some t.tail) q0 t.at in
+          let z : None ≡ Some t.tail = e in cc
 
       pub onto_arrives : (r j q x : ℕ) → starts I C (target I b r) j q ≡ Some x → Arrives I C b r j q x
-      onto_arrives r j q x e = went_past (ends_has x j q (subst (λ (l : List Target). HasDest (dests_of F l) j q) (sym (end_is x)) (all c hc x j q (subst (λ (t : ℕ). starts I C t j q ≡ Some x) (onto_target r) e))))
+      onto_arrives r j q x e =
+          went_past
+          (ends_has x j q (subst (λ (l : List Target). HasDest (dests_of F l) j q) (sym (end_is x))
+          (all c hc x j q (subst (λ (t : ℕ). starts I C t j q ≡ Some x) (onto_target r) e))))
           (λ env. next_is (Onto c) q0 r x env)
 
-      pub onto_past : (r j q x : ℕ) → C.ends b j q ≡ Some x → (y : ℕ) × (starts I C (target I b r) j q ≡ Some y)
-      onto_past r j q x e = (x, subst (λ (t : ℕ). starts I C t j q ≡ Some x) (sym (onto_target r)) (has c hc x j q (subst (λ (l : List Target). HasDest (dests_of F l) j q) (end_is x) (ends_all x j q e))))
+      pub onto_past : (r j q x : ℕ) → C.ends b j q ≡ Some x
+          → (y : ℕ) × (starts I C (target I b r) j q ≡ Some y)
+      onto_past r j q x e = (
+        x,
+        subst (λ (t : ℕ). starts I C t j q ≡ Some x) (sym (onto_target r))
+            (has c hc x j q (subst (λ (l : List Target). HasDest (dests_of F l) j q) (end_is x)
+            (ends_all x j q e))),
+      )
 
       pub onto_sent : (r m j q : ℕ) → IsIn I b m → HasDest (edge_dests I b r m) j q → ⊥
       onto_sent r m j q i d = no_tail m (edge_tail r m j q i d)
 
     -- two edges
-    module _ (op : Op) (from : List ℕ) (c d : ℕ) (q0 : (plan_at ps b).exit ≡ Either op from c d) (hc : Is c) (hd : Is d) where
+    module _ (op : Op) (from : List ℕ) (c d : ℕ) (q0 : (plan_at ps b).exit ≡ Either op from c d) (hc : Is c)
+        (hd : Is d) where
       arm : ℕ → ℕ
       arm r = cond (eqb r 0) d c
 
@@ -258,11 +319,13 @@ module _ (arrays : List Array) (width : ℕ) (ps : List Plan) (Live : ℕ → �
       tails_are : tails_of width S (plan_at ps b).exit ≡ steers (S c) (S d) (steered width (S c) (S d))
       tails_are = ap (tails_of width S) q0
 
-      past_end_is : (x : ℕ) → end_wants width S (plan_at ps b).exit x ≡ past (steered width (S c) (S d)) (S c) x
+      past_end_is : (x : ℕ) → end_wants width S (plan_at ps b).exit x ≡ past (steered width (S c) (S d)) (S c)
+          x
       past_end_is x = ap (λ (l : HowLeft). end_wants width S l x) q0
 
       -- a steer sends to what its arm wants
-      steer_sends : (r m x : ℕ) → instr_at I m ≡ instr_of F (steer_of (S c) (S d) x).line → edge_dests I b r m ≡ dests_of F (S (cond (eqb r 0) d c) x)
+      steer_sends : (r m x : ℕ) → instr_at I m ≡ instr_of F (steer_of (S c) (S d) x).line
+          → edge_dests I b r m ≡ dests_of F (S (cond (eqb r 0) d c) x)
       steer_sends r m x e = tail_edge r m (steer_of (S c) (S d) x).line e ∙ go (eqb r 0)
         where
           go : (f : Bool) → cond f (dests_of F (S d x)) (dests_of F (S c x)) ≡ dests_of F (S (cond f d c) x)
@@ -270,67 +333,102 @@ module _ (arrays : List Array) (width : ℕ) (ps : List Plan) (Live : ℕ → �
           go false = refl
 
       -- names that aren't steered are wanted alike
-      alike : (x : ℕ) → (In x (steered width (S c) (S d)) → ⊥) → Wanted (S c) x ⊎ Wanted (S d) x → S c x ≡ S d x
+      alike : (x : ℕ) → (In x (steered width (S c) (S d)) → ⊥) → Wanted (S c) x ⊎ Wanted (S d) x
+          → S c x ≡ S d x
       alike x n w = elim (cases_Bool (same_spots (S c x) (S d x))) [
         | inl e ↦ spots_eq (S c x) (S d x) e
-        | inr e ↦ absurd (n (in_or (differing (S c) (S d) 0 width) x (differing_has (S c) (S d) 0 width x (omega arith) (few x w) e)))
+        | inr e ↦
+            absurd (n
+            (in_or (differing (S c) (S d) 0 width) x (differing_has (S c) (S d) 0 width x (omega arith)
+            (few x w) e)))
       ]
         where
           few : (x : ℕ) → Wanted (S c) x ⊎ Wanted (S d) x → x < 0 + width
-          few x (inl w) = let l : x < width = ((facts width ps Live plans.each c hc).clean 0 (omega arith)).few x w in omega arith
-          few x (inr w) = let l : x < width = ((facts width ps Live plans.each d hd).clean 0 (omega arith)).few x w in omega arith
+          few x (inl w) = let l : x < width =
+              ((facts width ps Live plans.each c hc).clean 0 (omega arith)).few x w in omega arith
+          few x (inr w) = let l : x < width =
+              ((facts width ps Live plans.each d hd).clean 0 (omega arith)).few x w in omega arith
 
       wanted_by : (t x j q : ℕ) → HasDest (dests_of F (S t x)) j q → Wanted (S t) x
       wanted_by t x j q g e = subst (λ (l : List Target). HasDest (dests_of F l) j q) e g
 
-      arm_wants : (r x j q : ℕ) → (In x (steered width (S c) (S d)) → ⊥) → HasDest (dests_of F (S (cond (eqb r 0) d c) x)) j q → HasDest (dests_of F (S c x)) j q
+      arm_wants : (r x j q : ℕ) → (In x (steered width (S c) (S d)) → ⊥)
+          → HasDest (dests_of F (S (cond (eqb r 0) d c) x)) j q → HasDest (dests_of F (S c x)) j q
       arm_wants r x j q n g = go (eqb r 0) g
         where
           go : (f : Bool) → HasDest (dests_of F (S (cond f d c) x)) j q → HasDest (dests_of F (S c x)) j q
-          go true k = subst (λ (l : List Target). HasDest (dests_of F l) j q) (sym (alike x n (inr (wanted_by d x j q k)))) k
+          go true k = subst (λ (l : List Target). HasDest (dests_of F l) j q)
+              (sym (alike x n (inr (wanted_by d x j q k)))) k
           go false k = k
 
-      wants_arm : (r x j q : ℕ) → (In x (steered width (S c) (S d)) → ⊥) → HasDest (dests_of F (S c x)) j q → HasDest (dests_of F (S (cond (eqb r 0) d c) x)) j q
+      wants_arm : (r x j q : ℕ) → (In x (steered width (S c) (S d)) → ⊥) → HasDest (dests_of F (S c x)) j q
+          → HasDest (dests_of F (S (cond (eqb r 0) d c) x)) j q
       wants_arm r x j q n g = go (eqb r 0)
         where
           go : (f : Bool) → HasDest (dests_of F (S (cond f d c) x)) j q
-          go true = subst (λ (l : List Target). HasDest (dests_of F l) j q) (alike x n (inl (wanted_by c x j q g))) g
+          go true = subst (λ (l : List Target). HasDest (dests_of F l) j q)
+              (alike x n (inl (wanted_by c x j q g))) g
           go false = g
 
-      not_among : (x : ℕ) → (In x (steered width (S c) (S d)) → ⊥) → past (steered width (S c) (S d)) (S c) x ≡ S c x
+      not_among : (x : ℕ) → (In x (steered width (S c) (S d)) → ⊥) → past (steered width (S c) (S d)) (S c) x
+          ≡ S c x
       not_among x n = go (cases_Bool (is_among x (steered width (S c) (S d))))
         where
-          go : (is_among x (steered width (S c) (S d)) ≡ true) ⊎ (is_among x (steered width (S c) (S d)) ≡ false) → past (steered width (S c) (S d)) (S c) x ≡ S c x
+          go : (is_among x (steered width (S c) (S d)) ≡ true)
+              ⊎ (is_among x (steered width (S c) (S d)) ≡ false) → past (steered width (S c) (S d)) (S c) x
+              ≡ S c x
           go (inl e) = absurd (n (among_in x (steered width (S c) (S d)) e))
           go (inr e) = rw e refl
 
       pub either_arrives : (r j q x : ℕ) → starts I C (target I b r) j q ≡ Some x → Arrives I C b r j q x
       either_arrives r j q x e = elim (in_or_not (steered width (S c) (S d)) x) [
-        | inr n ↦ went_past (ends_has x j q (subst (λ (l : List Target). HasDest (dests_of F l) j q) (sym (past_end_is x ∙ not_among x n)) (arm_wants r x j q n at_arm))) (λ env. next_is (Either op from c d) q0 r x env)
+        | inr n ↦
+            went_past
+            (ends_has x j q (subst (λ (l : List Target). HasDest (dests_of F l) j q)
+            (sym (past_end_is x ∙ not_among x n)) (arm_wants r x j q n at_arm)))
+            (λ env. next_is (Either op from c d) q0 r x env)
         | inl i ↦ (let k = nth_in (steered width (S c) (S d)) x i in
-            let a : nth (tails_of width S (plan_at ps b).exit) k.0 ≡ Some (steer_of (S c) (S d) x) = subst (λ (ts : List Tail). nth ts k.0 ≡ Some (steer_of (S c) (S d) x)) (sym tails_are) (steers_nth (S c) (S d) (steered width (S c) (S d)) k.0 x k.1) in
+            let a : nth (tails_of width S (plan_at ps b).exit) k.0 ≡ Some (steer_of (S c) (S d) x) =
+            subst (λ (ts : List Tail). nth ts k.0 ≡ Some (steer_of (S c) (S d) x)) (sym tails_are)
+            (steers_nth (S c) (S d) (steered width (S c) (S d)) k.0 x k.1) in
             let t = tail_instr arrays width ps Live plans.each b h k.0 (steer_of (S c) (S d) x) a in
-            was_sent t.instr x t.inside (subst (λ (l : List Dest). HasDest l j q) (sym (steer_sends r t.instr x t.is)) at_arm)
+            was_sent t.instr x t.inside (subst (λ (l : List Dest). HasDest l j q)
+            (sym (steer_sends r t.instr x t.is)) at_arm)
             (kept_tail t.instr x (tail_at arrays width ps Live plans.each b h k.0 (steer_of (S c) (S d) x) a))
             (λ env. next_is (Either op from c d) q0 r x env))
       ]
         where
           at_arm : HasDest (dests_of F (S (cond (eqb r 0) d c) x)) j q
-          at_arm = all (cond (eqb r 0) d c) (arm_is r) x j q (subst (λ (t : ℕ). starts I C t j q ≡ Some x) (either_target r) e)
+          at_arm = all (cond (eqb r 0) d c) (arm_is r) x j q
+              (subst (λ (t : ℕ). starts I C t j q ≡ Some x) (either_target r) e)
 
-      past_not : (x j q : ℕ) → HasDest (dests_of F (past (steered width (S c) (S d)) (S c) x)) j q → (In x (steered width (S c) (S d)) → ⊥) × HasDest (dests_of F (S c x)) j q
+      past_not : (x j q : ℕ) → HasDest (dests_of F (past (steered width (S c) (S d)) (S c) x)) j q
+          → (In x (steered width (S c) (S d)) → ⊥) × HasDest (dests_of F (S c x)) j q
       past_not x j q g = go (cases_Bool (is_among x (steered width (S c) (S d))))
         where
-          go : (is_among x (steered width (S c) (S d)) ≡ true) ⊎ (is_among x (steered width (S c) (S d)) ≡ false) → (In x (steered width (S c) (S d)) → ⊥) × HasDest (dests_of F (S c x)) j q
+          go : (is_among x (steered width (S c) (S d)) ≡ true)
+              ⊎ (is_among x (steered width (S c) (S d)) ≡ false) → (In x (steered width (S c) (S d)) → ⊥)
+              × HasDest (dests_of F (S c x)) j q
           go (inl e) = absurd (subst (λ (f : Bool). HasDest (dests_of F (cond f [] (S c x))) j q) e g)
-          go (inr e) = ((λ i. both_ways (is_among x (steered width (S c) (S d))) e (in_among x (steered width (S c) (S d)) i)), subst (λ (f : Bool). HasDest (dests_of F (cond f [] (S c x))) j q) e g)
+          go (inr e) = (
+            (λ i. both_ways (is_among x (steered width (S c) (S d))) e
+                (in_among x (steered width (S c) (S d)) i)),
+            subst (λ (f : Bool). HasDest (dests_of F (cond f [] (S c x))) j q) e g,
+          )
 
-      end_past : (j q x : ℕ) → C.ends b j q ≡ Some x → (In x (steered width (S c) (S d)) → ⊥) × HasDest (dests_of F (S c x)) j q
-      end_past j q x e = past_not x j q (subst (λ (l : List Target). HasDest (dests_of F l) j q) (past_end_is x) (ends_all x j q e))
+      end_past : (j q x : ℕ) → C.ends b j q ≡ Some x → (In x (steered width (S c) (S d)) → ⊥)
+          × HasDest (dests_of F (S c x)) j q
+      end_past j q x e =
+          past_not x j q (subst (λ (l : List Target). HasDest (dests_of F l) j q) (past_end_is x)
+          (ends_all x j q e))
 
-      pub either_past : (r j q x : ℕ) → C.ends b j q ≡ Some x → (y : ℕ) × (starts I C (target I b r) j q ≡ Some y)
-      either_past r j q x e = let p = end_past j q x e in
-          (x, subst (λ (t : ℕ). starts I C t j q ≡ Some x) (sym (either_target r)) (has (cond (eqb r 0) d c) (arm_is r) x j q (wants_arm r x j q p.0 p.1)))
+      pub either_past : (r j q x : ℕ) → C.ends b j q ≡ Some x → (y : ℕ)
+          × (starts I C (target I b r) j q ≡ Some y)
+      either_past r j q x e = let p = end_past j q x e in (
+        x,
+        subst (λ (t : ℕ). starts I C t j q ≡ Some x) (sym (either_target r))
+            (has (cond (eqb r 0) d c) (arm_is r) x j q (wants_arm r x j q p.0 p.1)),
+      )
 
       record Steers (r m j q : ℕ) : Type 0 where
         pub name : ℕ
@@ -343,17 +441,36 @@ module _ (arrays : List Array) (width : ℕ) (ps : List Plan) (Live : ℕ → �
       steers_it : (r m j q : ℕ) → IsIn I b m → HasDest (edge_dests I b r m) j q → Steers r m j q
       steers_it r m j q i g =
           let t = edge_tail r m j q i g in
-          let k = steers_from (S c) (S d) (steered width (S c) (S d)) t.place t.tail (subst (λ (ts : List Tail). nth ts t.place ≡ Some t.tail) tails_are t.at) in
-          let l : edge_dests I b r m ≡ dests_of F (S (cond (eqb r 0) d c) k.0) = steer_sends r m k.0 (t.is ∙ ap (λ (u : Tail). instr_of F u.line) (sym k.2)) in
-          record { name = k.0; place = t.place; at = k.1; wants = subst (λ (ds : List Dest). HasDest ds j q) l g; list = l; number = t.number }
+          let k = steers_from (S c) (S d) (steered width (S c) (S d)) t.place t.tail
+          (subst (λ (ts : List Tail). nth ts t.place ≡ Some t.tail) tails_are t.at) in
+          let l : edge_dests I b r m ≡ dests_of F (S (cond (eqb r 0) d c) k.0) =
+          steer_sends r m k.0 (t.is ∙ ap (λ (u : Tail). instr_of F u.line) (sym k.2)) in
+          record {
+            name = k.0;
+            place = t.place;
+            at = k.1;
+            wants = subst (λ (ds : List Dest). HasDest ds j q) l
+                g;
+            list = l;
+            number = t.number;
+          }
 
-      pub either_sent : (r m j q : ℕ) → IsIn I b m → HasDest (edge_dests I b r m) j q → (C.ends b j q ≡ None) × ((y : ℕ) × (starts I C (target I b r) j q ≡ Some y))
+      pub either_sent : (r m j q : ℕ) → IsIn I b m → HasDest (edge_dests I b r m) j q
+          → (C.ends b j q ≡ None) × ((y : ℕ) × (starts I C (target I b r) j q ≡ Some y))
       either_sent r m j q i g =
           let s = steers_it r m j q i g in (
-            ends_none j q (λ x f. (let p = past_not x j q (subst (λ (l : List Target). HasDest (dests_of F l) j q) (past_end_is x) f) in
-                let e : x ≡ s.name = one_name (cond (eqb r 0) d c) (arm_is r) x s.name j q (wants_arm r x j q p.0 p.1) s.wants in
-                p.0 (subst (λ (z : ℕ). In z (steered width (S c) (S d))) (sym e) (in_nth (steered width (S c) (S d)) s.place s.name s.at)))),
-            (s.name, subst (λ (t : ℕ). starts I C t j q ≡ Some s.name) (sym (either_target r)) (has (cond (eqb r 0) d c) (arm_is r) s.name j q s.wants)),
+            ends_none j q
+                (λ x f. (let p = past_not x j q (subst (λ (l : List Target). HasDest (dests_of F l) j q)
+                (past_end_is x) f) in
+                let e : x ≡ s.name = one_name (cond (eqb r 0) d c) (arm_is r) x s.name j q
+                (wants_arm r x j q p.0 p.1) s.wants in
+                p.0 (subst (λ (z : ℕ). In z (steered width (S c) (S d))) (sym e)
+                (in_nth (steered width (S c) (S d)) s.place s.name s.at)))),
+            (
+              s.name,
+              subst (λ (t : ℕ). starts I C t j q ≡ Some s.name) (sym (either_target r))
+                  (has (cond (eqb r 0) d c) (arm_is r) s.name j q s.wants),
+            ),
           )
 
       pub either_once : (r : ℕ) → DistinctDests (opens_at I b r)
@@ -363,24 +480,37 @@ module _ (arrays : List Array) (width : ℕ) (ps : List Plan) (Live : ℕ → �
           in_block : (m : ℕ) → first_number I b ≤ m → m < first_number I b + image.size_of I b → IsIn I b m
           in_block m l u = (l, size_in m l u)
             where
-              size_in : (m : ℕ) → first_number I b ≤ m → m < first_number I b + image.size_of I b → m < first_number I (suc b)
+              size_in : (m : ℕ) → first_number I b ≤ m → m < first_number I b + image.size_of I b
+                  → m < first_number I (suc b)
               size_in m l u = block_size m l u
 
-          one : (m : ℕ) → first_number I b ≤ m → m < first_number I b + image.size_of I b → DistinctDests (edge_dests I b r m)
+          one : (m : ℕ) → first_number I b ≤ m → m < first_number I b + image.size_of I b
+              → DistinctDests (edge_dests I b r m)
           one m l u = one_distinct r m (λ j q g. (let s = steers_it r m j q (in_block m l u) g in
-              rw s.list (((facts width ps Live plans.each (cond (eqb r 0) d c) (arm_is r)).clean 0 (omega arith)).once s.name)))
+              rw s.list
+              (((facts width ps Live plans.each (cond (eqb r 0) d c) (arm_is r)).clean 0
+              (omega arith)).once s.name)))
 
-          two : (m k j q : ℕ) → first_number I b ≤ m → m < first_number I b + image.size_of I b → first_number I b ≤ k → k < first_number I b + image.size_of I b → HasDest (edge_dests I b r m) j q → HasDest (edge_dests I b r k) j q → m ≡ k
+          two : (m k j q : ℕ) → first_number I b ≤ m → m < first_number I b + image.size_of I b
+              → first_number I b ≤ k → k < first_number I b + image.size_of I b
+              → HasDest (edge_dests I b r m) j q → HasDest (edge_dests I b r k) j q → m ≡ k
           two m k j q l u l' u' g g' =
-              let s = steers_it r m j q (in_block m l u) g in let t = steers_it r k j q (in_block k l' u') g' in
-              let e : s.name ≡ t.name = one_name (cond (eqb r 0) d c) (arm_is r) s.name t.name j q s.wants t.wants in
-              let f : s.place ≡ t.place = nth_apart (steered width (S c) (S d)) s.place t.place t.name (steered_apart width (S c) (S d)) (s.at ∙ ap Some e) t.at in
+              let s = steers_it r m j q (in_block m l u) g in let t = steers_it r k j q (in_block k l' u')
+              g' in
+              let e : s.name ≡ t.name = one_name (cond (eqb r 0) d c) (arm_is r) s.name t.name j q s.wants
+              t.wants in
+              let f : s.place ≡ t.place = nth_apart (steered width (S c) (S d)) s.place t.place t.name
+              (steered_apart width (S c) (S d)) (s.at ∙ ap Some e) t.at in
               let n : m + length (tails_of width S (plan_at ps b).exit) ≡ F (suc b) + s.place = s.number in
-              let n' : k + length (tails_of width S (plan_at ps b).exit) ≡ F (suc b) + t.place = t.number in omega arith
+              let n' : k + length (tails_of width S (plan_at ps b).exit) ≡ F (suc b) + t.place = t.number in
+              omega arith
 
     -- landings
-    module _ (op : Op) (from values landings : List ℕ) (q0 : (plan_at ps b).exit ≡ Lands op from values landings) (some : 1 ≤ length landings) (ok : AllIn landings (λ c. Outer ps c × PadsFit ps values c)) where
-      landing_in : (ls : List ℕ) (r : ℕ) → 1 ≤ length ls → AllIn ls (λ c. Outer ps c × PadsFit ps values c) → Outer ps (landing_of ls r) × PadsFit ps values (landing_of ls r)
+    module _ (op : Op) (from values landings : List ℕ) (q0 : (plan_at ps b).exit ≡ Lands op from values
+        landings) (some : 1 ≤ length landings)
+        (ok : AllIn landings (λ c. Outer ps c × PadsFit ps values c)) where
+      landing_in : (ls : List ℕ) (r : ℕ) → 1 ≤ length ls → AllIn ls (λ c. Outer ps c × PadsFit ps values c)
+          → Outer ps (landing_of ls r) × PadsFit ps values (landing_of ls r)
       landing_in [] r l a = absurd (omega arith)
       landing_in (c ∷ []) r l a = a.0
       landing_in (c ∷ d ∷ ls) zero l a = a.0
@@ -399,39 +529,65 @@ module _ (arrays : List Array) (width : ℕ) (ps : List Plan) (Live : ℕ → �
       land_is r = ((outer r).some, (outer r).there)
 
       pub lands_none : (j q : ℕ) → C.ends b j q ≡ None
-      lands_none j q = ends_none j q (λ x g. subst (λ (l : HowLeft). HasDest (dests_of F (end_wants width S l x)) j q) q0 g)
+      lands_none j q =
+          ends_none j q (λ x g. subst (λ (l : HowLeft). HasDest (dests_of F (end_wants width S l x)) j q) q0
+          g)
 
-      pads_nth : (c i k : ℕ) (entries xs : List ℕ) (x : ℕ) → nth xs i ≡ Some x → pad_of (pads_of F c k entries xs) (k + i) ≡ dests_of F (fronts c 0 entries x)
+      pads_nth : (c i k : ℕ) (entries xs : List ℕ) (x : ℕ) → nth xs i ≡ Some x
+          → pad_of (pads_of F c k entries xs) (k + i) ≡ dests_of F (fronts c 0 entries x)
       pads_nth c i k entries [] x e = absurd (let a : None ≡ Some x = e in cc)
-      pads_nth c zero k entries (y ∷ xs) x e = let g : y ≡ x = cc in let z : k + 0 ≡ k = omega arith in rw (z, eq-eqb k k refl) (ap (λ (n : ℕ). dests_of F (fronts c 0 entries n)) g)
+      pads_nth c zero k entries (y ∷ xs) x e = let g : y ≡ x = cc in let z : k + 0 ≡ k = omega arith in
+          rw (z, eq-eqb k k refl) (ap (λ (n : ℕ). dests_of F (fronts c 0 entries n)) g)
       pads_nth c (suc i) k entries (y ∷ xs) x e =
           let z : k + suc i ≡ suc k + i = omega arith in
-          rw (ne_eqb k (k + suc i) (λ f. (let g : k ≡ k + suc i = f in omega arith))) (rw z (pads_nth c i (suc k) entries xs x e))
+          rw (ne_eqb k (k + suc i) (λ f. (let g : k ≡ k + suc i = f in omega arith)))
+          (rw z (pads_nth c i (suc k) entries xs x e))
 
-      pads_none : (c i k : ℕ) (entries xs : List ℕ) → length xs ≤ i → pad_of (pads_of F c k entries xs) (k + i) ≡ []
+      pads_none : (c i k : ℕ) (entries xs : List ℕ) → length xs ≤ i → pad_of (pads_of F c k entries xs)
+          (k + i) ≡ []
       pads_none c i k entries [] l = refl
       pads_none c zero k entries (y ∷ xs) l = absurd (omega arith)
       pads_none c (suc i) k entries (y ∷ xs) l =
           let z : k + suc i ≡ suc k + i = omega arith in
-          rw (ne_eqb k (k + suc i) (λ f. (let g : k ≡ k + suc i = f in omega arith))) (rw z (pads_none c i (suc k) entries xs (omega arith)))
+          rw (ne_eqb k (k + suc i) (λ f. (let g : k ≡ k + suc i = f in omega arith)))
+          (rw z (pads_none c i (suc k) entries xs (omega arith)))
 
-      sends_nth : (p : ℕ) (vs : List ℕ) (i v : ℕ) → nth vs i ≡ Some v → nth (sends p vs) i ≡ Some (record { held = v; line = record { op = Send (p + i); dests = []; others = [] } })
+      sends_nth : (p : ℕ) (vs : List ℕ) (i v : ℕ) → nth vs i ≡ Some v
+          → nth (sends p vs) i ≡ Some
+          (record { held = v; line = record { op = Send (p + i); dests = []; others = [] } })
       sends_nth p [] i v e = absurd (let a : None ≡ Some v = e in cc)
-      sends_nth p (u ∷ vs) zero v e = let g : u ≡ v = cc in let z : p + 0 ≡ p = omega arith in rw z (ap (λ (n : ℕ). Some (record { held = n; line = record { op = Send p; dests = []; others = [] } })) g)
-      sends_nth p (u ∷ vs) (suc i) v e = let z : p + suc i ≡ suc p + i = omega arith in rw z (sends_nth (suc p) vs i v e)
+      sends_nth p (u ∷ vs) zero v e = let g : u ≡ v = cc in let z : p + 0 ≡ p = omega arith in
+          rw z (ap (λ (n : ℕ).
+          Some (record { held = n; line = record { op = Send p; dests = []; others = [] } })) g)
+      sends_nth p (u ∷ vs) (suc i) v e = let z : p + suc i ≡ suc p + i = omega arith in
+          rw z (sends_nth (suc p) vs i v e)
 
-      sends_from : (p : ℕ) (vs : List ℕ) (i : ℕ) (t : Tail) → nth (sends p vs) i ≡ Some t → (v : ℕ) × (nth vs i ≡ Some v) × (record { held = v; line = record { op = Send (p + i); dests = []; others = [] } } ≡ t)
+      sends_from : (p : ℕ) (vs : List ℕ) (i : ℕ) (t : Tail) → nth (sends p vs) i ≡ Some t
+          → (v : ℕ) × (nth vs i ≡ Some v)
+          × (record { held = v; line = record { op = Send (p + i); dests = []; others = [] } } ≡ t)
       sends_from p [] i t e = absurd (let a : None ≡ Some t = e in cc)
-      sends_from p (u ∷ vs) zero t e = let z : p + 0 ≡ p = omega arith in (u, refl, rw z (let g : record { held = u; line = record { op = Send p; dests = []; others = [] } } ≡ t = cc in g))
-      sends_from p (u ∷ vs) (suc i) t e = let r = sends_from (suc p) vs i t e in let z : p + suc i ≡ suc p + i = omega arith in (r.0, r.1, rw z r.2)
+      sends_from p (u ∷ vs) zero t e = let z : p + 0 ≡ p = omega arith in (
+        u,
+        refl,
+        rw z (let g : record { held = u; line = record { op = Send p; dests = []; others = [] } }
+            ≡ t = cc in g),
+      )
+      sends_from p (u ∷ vs) (suc i) t e = let r = sends_from (suc p) vs i t e in
+          let z : p + suc i ≡ suc p + i = omega arith in (r.0, r.1, rw z r.2)
 
       -- a send sends to the entry that its pad fills
-      send_list : (r m i v x : ℕ) → instr_at I m ≡ instr_of F (record { op = Send (0 + i); dests = []; others = [] }) → nth (plan_at ps (landing_of landings r)).pads i ≡ Some x → edge_dests I b r m ≡ dests_of F (S (landing_of landings r) x)
+      send_list : (r m i v x : ℕ)
+          → instr_at I m ≡ instr_of F (record { op = Send (0 + i); dests = []; others = [] })
+          → nth (plan_at ps (landing_of landings r)).pads i ≡ Some x
+          → edge_dests I b r m ≡ dests_of F (S (landing_of landings r) x)
       send_list r m i v x e p = tail_edge r m (record { op = Send (0 + i); dests = []; others = [] }) e
           ∙ ap (λ (k : ℕ). pad_of (block_at I k).pads (0 + i)) (lands_target r)
-          ∙ ap (λ (k : image.Block). pad_of k.pads (0 + i)) (block_at_is arrays width ps (landing_of landings r) (land_is r))
-          ∙ pads_nth (landing_of landings r) i 0 (plan_at ps (landing_of landings r)).entries (plan_at ps (landing_of landings r)).pads x p
-          ∙ sym (ap (dests_of F) (ap (λ (w : Wants). w x) (starts_outer width ps (landing_of landings r) (outer r).first)))
+          ∙ ap (λ (k : image.Block). pad_of k.pads (0 + i))
+          (block_at_is arrays width ps (landing_of landings r) (land_is r))
+          ∙ pads_nth (landing_of landings r) i 0 (plan_at ps (landing_of landings r)).entries
+          (plan_at ps (landing_of landings r)).pads x p
+          ∙ sym (ap (dests_of F)
+          (ap (λ (w : Wants). w x) (starts_outer width ps (landing_of landings r) (outer r).first)))
 
       tails_are' : tails_of width S (plan_at ps b).exit ≡ sends 0 values
       tails_are' = ap (tails_of width S) q0
@@ -441,39 +597,58 @@ module _ (arrays : List Array) (width : ℕ) (ps : List Plan) (Live : ℕ → �
       some_value (x ∷ xs) zero l = (x, refl)
       some_value (x ∷ xs) (suc i) l = some_value xs i (omega arith)
 
-      filled_at : (ys vs : List ℕ) (env : ℕ → ℕ) (i x v : ℕ) → Apart ys → nth ys i ≡ Some x → nth vs i ≡ Some v → filled ys vs env x ≡ env v
+      filled_at : (ys vs : List ℕ) (env : ℕ → ℕ) (i x v : ℕ) → Apart ys → nth ys i ≡ Some x
+          → nth vs i ≡ Some v → filled ys vs env x ≡ env v
       filled_at [] vs env i x v a e f = absurd (let c : None ≡ Some x = e in cc)
       filled_at (y ∷ ys) [] env i x v a e f = absurd (let c : None ≡ Some v = f in cc)
-      filled_at (y ∷ ys) (u ∷ vs) env zero x v a e f = let g : x ≡ y = (let g' : y ≡ x = cc in sym g') in let k : u ≡ v = cc in rw (eq-eqb x y g) (ap env k)
-      filled_at (y ∷ ys) (u ∷ vs) env (suc i) x v a e f = rw (ne_eqb x y (λ g. a.0 (rw (sym g) (in_nth ys i x e)))) (filled_at ys vs env i x v a.1 e f)
+      filled_at (y ∷ ys) (u ∷ vs) env zero x v a e f = let g : x ≡ y = (let g' : y ≡ x = cc in sym g') in
+          let k : u ≡ v = cc in rw (eq-eqb x y g) (ap env k)
+      filled_at (y ∷ ys) (u ∷ vs) env (suc i) x v a e f =
+          rw (ne_eqb x y (λ g. a.0 (rw (sym g) (in_nth ys i x e)))) (filled_at ys vs env i x v a.1 e f)
 
       pub lands_arrives : (r j q x : ℕ) → starts I C (target I b r) j q ≡ Some x → Arrives I C b r j q x
       lands_arrives r j q x e = was_sent t.instr v.0 t.inside
           (subst (λ (l : List Dest). HasDest l j q) (sym (send_list r t.instr k.0 v.0 x t.is k.1)) at_land)
-          (kept_tail t.instr v.0 (tail_at arrays width ps Live plans.each b h k.0 (record { held = v.0; line = record { op = Send (0 + k.0); dests = []; others = [] } }) a))
-          (λ env. next_is (Lands op from values landings) q0 r x env ∙ filled_at (plan_at ps c).pads values env k.0 x v.0 (fit r).apart k.1 v.1)
+          (kept_tail t.instr v.0 (tail_at arrays width ps Live plans.each b h k.0
+          (record { held = v.0; line = record { op = Send (0 + k.0); dests = []; others = [] } }) a))
+          (λ env. next_is (Lands op from values landings) q0 r x env ∙ filled_at (plan_at ps c).pads values
+          env k.0 x v.0 (fit r).apart k.1 v.1)
         where
           c : ℕ
           c = landing_of landings r
 
           at_land : HasDest (dests_of F (S (landing_of landings r) x)) j q
-          at_land = all (landing_of landings r) (land_is r) x j q (subst (λ (t : ℕ). starts I C t j q ≡ Some x) (lands_target r) e)
+          at_land = all (landing_of landings r) (land_is r) x j q
+              (subst (λ (t : ℕ). starts I C t j q ≡ Some x) (lands_target r) e)
 
           front : FrontIs F (landing_of landings r) (plan_at ps (landing_of landings r)).entries x j q
-          front = front_is F (landing_of landings r) (plan_at ps (landing_of landings r)).entries x j q (plans.each (landing_of landings r) (land_is r)).entries_apart
-              (subst (λ (l : List Target). HasDest (dests_of F l) j q) (ap (λ (w : Wants). w x) (starts_outer width ps (landing_of landings r) (outer r).first)) at_land)
+          front = front_is F (landing_of landings r) (plan_at ps (landing_of landings r)).entries x j q
+              (plans.each (landing_of landings r) (land_is r)).entries_apart
+              (subst (λ (l : List Target). HasDest (dests_of F l) j q)
+              (ap (λ (w : Wants). w x) (starts_outer width ps (landing_of landings r) (outer r).first))
+              at_land)
 
           k : (i : ℕ) × (nth (plan_at ps (landing_of landings r)).pads i ≡ Some x)
-          k = nth_in (plan_at ps (landing_of landings r)).pads x ((fit r).filled x (in_nth (plan_at ps (landing_of landings r)).entries front.place x front.is))
+          k = nth_in (plan_at ps (landing_of landings r)).pads x
+              ((fit r).filled x (in_nth (plan_at ps (landing_of landings r)).entries front.place x front.is))
 
           v : (v : ℕ) × (nth values k.0 ≡ Some v)
-          v = some_value values k.0 (let l : k.0 < length (plan_at ps (landing_of landings r)).pads = nth_short (plan_at ps (landing_of landings r)).pads k.0 x k.1 in let n : length (plan_at ps (landing_of landings r)).pads ≡ length values = (fit r).as_many in omega arith)
+          v = some_value values k.0 (let l : k.0 < length (plan_at ps (landing_of landings r)).pads =
+              nth_short (plan_at ps (landing_of landings r)).pads k.0 x k.1 in
+              let n : length (plan_at ps (landing_of landings r)).pads ≡ length values = (fit r).as_many in
+              omega arith)
 
-          a : nth (tails_of width S (plan_at ps b).exit) k.0 ≡ Some (record { held = v.0; line = record { op = Send (0 + k.0); dests = []; others = [] } })
-          a = subst (λ (ts : List Tail). nth ts k.0 ≡ Some (record { held = v.0; line = record { op = Send (0 + k.0); dests = []; others = [] } })) (sym tails_are') (sends_nth 0 values k.0 v.0 v.1)
+          a : nth (tails_of width S (plan_at ps b).exit) k.0 ≡ Some
+              (record { held = v.0; line = record { op = Send (0 + k.0); dests = []; others = [] } })
+          a = subst
+              (λ (ts : List Tail). nth ts k.0 ≡ Some
+              (record { held = v.0; line = record { op = Send (0 + k.0); dests = []; others = [] } }))
+              (sym tails_are') (sends_nth 0 values k.0 v.0 v.1)
 
-          t : TailInstr arrays width ps Live plans.each b h k.0 (record { held = v.0; line = record { op = Send (0 + k.0); dests = []; others = [] } })
-          t = tail_instr arrays width ps Live plans.each b h k.0 (record { held = v.0; line = record { op = Send (0 + k.0); dests = []; others = [] } }) a
+          t : TailInstr arrays width ps Live plans.each b h k.0
+              (record { held = v.0; line = record { op = Send (0 + k.0); dests = []; others = [] } })
+          t = tail_instr arrays width ps Live plans.each b h k.0
+              (record { held = v.0; line = record { op = Send (0 + k.0); dests = []; others = [] } }) a
 
       record SendsIt (r m j q : ℕ) : Type 0 where
         pub name : ℕ
@@ -486,29 +661,52 @@ module _ (arrays : List Array) (width : ℕ) (ps : List Plan) (Live : ℕ → �
       sends_it : (r m j q : ℕ) → IsIn I b m → HasDest (edge_dests I b r m) j q → SendsIt r m j q
       sends_it r m j q i g =
           let t = edge_tail r m j q i g in
-          let k = sends_from 0 values t.place t.tail (subst (λ (ts : List Tail). nth ts t.place ≡ Some t.tail) tails_are' t.at) in
+          let k = sends_from 0 values t.place t.tail (subst (λ (ts : List Tail). nth ts t.place ≡ Some t.tail)
+          tails_are' t.at) in
           let n : length (plan_at ps (landing_of landings r)).pads ≡ length values = (fit r).as_many in
           let u : t.place < length values = nth_short values t.place k.0 k.1 in
           let x = some_value (plan_at ps (landing_of landings r)).pads t.place (omega arith) in
-          let l : edge_dests I b r m ≡ dests_of F (S (landing_of landings r) x.0) = send_list r m t.place k.0 x.0 (t.is ∙ ap (λ (u : Tail). instr_of F u.line) (sym k.2)) x.1 in
-          record { name = x.0; place = t.place; at = x.1; wants = subst (λ (ds : List Dest). HasDest ds j q) l g; list = l; number = t.number }
+          let l : edge_dests I b r m ≡ dests_of F (S (landing_of landings r) x.0) =
+          send_list r m t.place k.0 x.0 (t.is ∙ ap (λ (u : Tail). instr_of F u.line) (sym k.2)) x.1 in
+          record {
+            name = x.0;
+            place = t.place;
+            at = x.1;
+            wants = subst (λ (ds : List Dest). HasDest ds j q) l
+                g;
+            list = l;
+            number = t.number;
+          }
 
-      pub lands_sent : (r m j q : ℕ) → IsIn I b m → HasDest (edge_dests I b r m) j q → (y : ℕ) × (starts I C (target I b r) j q ≡ Some y)
-      lands_sent r m j q i g = let s = sends_it r m j q i g in
-          (s.name, subst (λ (t : ℕ). starts I C t j q ≡ Some s.name) (sym (lands_target r)) (has (landing_of landings r) (land_is r) s.name j q s.wants))
+      pub lands_sent : (r m j q : ℕ) → IsIn I b m → HasDest (edge_dests I b r m) j q
+          → (y : ℕ) × (starts I C (target I b r) j q ≡ Some y)
+      lands_sent r m j q i g = let s = sends_it r m j q i g in (
+        s.name,
+        subst (λ (t : ℕ). starts I C t j q ≡ Some s.name) (sym (lands_target r))
+            (has (landing_of landings r) (land_is r) s.name j q s.wants),
+      )
 
       pub lands_once : (r : ℕ) → DistinctDests (opens_at I b r)
       unfolding opens_at
       lands_once r = edges_distinct I b r (first_number I b) (image.size_of I b) one two
         where
-          one : (m : ℕ) → first_number I b ≤ m → m < first_number I b + image.size_of I b → DistinctDests (edge_dests I b r m)
+          one : (m : ℕ) → first_number I b ≤ m → m < first_number I b + image.size_of I b
+              → DistinctDests (edge_dests I b r m)
           one m l u = one_distinct r m (λ j q g. (let s = sends_it r m j q (l, block_size m l u) g in
-              rw s.list (((facts width ps Live plans.each (landing_of landings r) (land_is r)).clean 0 (omega arith)).once s.name)))
+              rw s.list
+              (((facts width ps Live plans.each (landing_of landings r) (land_is r)).clean 0
+              (omega arith)).once s.name)))
 
-          two : (m k j q : ℕ) → first_number I b ≤ m → m < first_number I b + image.size_of I b → first_number I b ≤ k → k < first_number I b + image.size_of I b → HasDest (edge_dests I b r m) j q → HasDest (edge_dests I b r k) j q → m ≡ k
+          two : (m k j q : ℕ) → first_number I b ≤ m → m < first_number I b + image.size_of I b
+              → first_number I b ≤ k → k < first_number I b + image.size_of I b
+              → HasDest (edge_dests I b r m) j q → HasDest (edge_dests I b r k) j q → m ≡ k
           two m k j q l u l' u' g g' =
-              let s = sends_it r m j q (l, block_size m l u) g in let t = sends_it r k j q (l', block_size k l' u') g' in
-              let e : s.name ≡ t.name = one_name (landing_of landings r) (land_is r) s.name t.name j q s.wants t.wants in
-              let f : s.place ≡ t.place = nth_apart (plan_at ps (landing_of landings r)).pads s.place t.place t.name (fit r).apart (s.at ∙ ap Some e) t.at in
+              let s = sends_it r m j q (l, block_size m l u) g in let t =
+              sends_it r k j q (l', block_size k l' u') g' in
+              let e : s.name ≡ t.name = one_name (landing_of landings r) (land_is r) s.name t.name j q s.wants
+              t.wants in
+              let f : s.place ≡ t.place = nth_apart (plan_at ps (landing_of landings r)).pads s.place t.place
+              t.name (fit r).apart (s.at ∙ ap Some e) t.at in
               let n : m + length (tails_of width S (plan_at ps b).exit) ≡ F (suc b) + s.place = s.number in
-              let n' : k + length (tails_of width S (plan_at ps b).exit) ≡ F (suc b) + t.place = t.number in omega arith
+              let n' : k + length (tails_of width S (plan_at ps b).exit) ≡ F (suc b) + t.place = t.number in
+              omega arith

@@ -12,10 +12,12 @@ use Rattle.wave_gen.proofs.Paced.{spots_most, last_block}
 less_times : (m n t : ℕ) → suc m * t < suc n * t → m < n
 less_times m n t h = elim (cases_lt m n) [
   | inl l ↦ l
-  | inr l ↦ (let e : suc n * t ≤ suc m * t = mul-le (suc n) t (suc m) t (omega (arith, l)) (omega arith) in absurd (omega (arith, h, e)))
+  | inr l ↦ (let e : suc n * t ≤ suc m * t = mul-le (suc n) t (suc m) t (omega (arith, l)) (omega arith) in
+      absurd (omega (arith, h, e)))
 ]
 
-pub endless : (g : Graph) (draft : Image) (world : World) → ((turns : ℕ) → KeepsWalk g draft world turns) → EndlessWith g draft world
+pub endless : (g : Graph) (draft : Image) (world : World) → ((turns : ℕ) → KeepsWalk g draft world turns)
+    → EndlessWith g draft world
 endless g draft world keeps all k cost =
     let M = length draft.blocks * suc k in
     let turns = suc M * suc (spots_most (spots g)) in
@@ -25,5 +27,7 @@ endless g draft world keeps all k cost =
     let w = (keeps turns).goes_on l.place l.block l.state l.frames l.left l.at in
     let c : length (instances draft world w.0) ≤ k = cost w.0 in
     let a : l.place < length draft.blocks * suc (length (instances draft world w.0)) = w.3 in
-    let e : length draft.blocks * suc (length (instances draft world w.0)) ≤ length draft.blocks * suc k = mul-le (length draft.blocks) (suc (length (instances draft world w.0))) (length draft.blocks) (suc k) (omega arith) (omega (arith, c)) in
+    let e : length draft.blocks * suc (length (instances draft world w.0)) ≤ length draft.blocks * suc k =
+    mul-le (length draft.blocks) (suc (length (instances draft world w.0))) (length draft.blocks) (suc k)
+    (omega arith) (omega (arith, c)) in
     omega (arith, u, a, e)

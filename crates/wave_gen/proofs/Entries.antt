@@ -1,5 +1,6 @@
 -- The names that a block needs, and the variables that it reads.
-use Rattle.std.proofs.Common.{ℕ, zero, suc, ◌+◌, ◌≡◌, ◌<◌, ◌≤◌, ◌||◌, Bool, true, false, cond, List, [], ◌∷◌, length, refl, sym, ap, ◌∙◌, subst, inl, inr, arith, eq-eqb, ne_eqb}
+use Rattle.std.proofs.Common.{ℕ, zero, suc, ◌+◌, ◌≡◌, ◌<◌, ◌≤◌, ◌||◌, Bool, true, false, cond, List, [], ◌∷◌}
+use Rattle.std.proofs.Common.{length, refl, sym, ap, ◌∙◌, subst, inl, inr, arith, eq-eqb, ne_eqb}
 use Rattle.std.proofs.lemmas.Bool.{cases_eq, both_ways, cases_lt, lt-ltb, le-ltb}
 use Rattle.cfg_core.specs.Graph.{Spot, no_spot}
 use Rattle.wave_gen.specs.Plans.{is_among}
@@ -10,7 +11,11 @@ use Rattle.ws_words.specs.Items.{nth, or_else, In}
 
 pub among_in : (x : ℕ) (ys : List ℕ) → is_among x ys ≡ true → In x ys
 among_in x [] e = absurd (both_ways false refl e)
-among_in x (y ∷ ys) e = elim (cases_eq x y) [ inl f ↦ inl f | inr d ↦ inr (among_in x ys (subst (λ z. (z || is_among x ys) ≡ true) (ne_eqb x y d) e)) ]
+among_in x (y ∷ ys) e = elim (cases_eq x y) [
+  | inl f ↦ inl f
+  | inr d ↦
+      inr (among_in x ys (subst (λ z. (z || is_among x ys) ≡ true) (ne_eqb x y d) e))
+]
 
 pub in_among : (x : ℕ) (ys : List ℕ) → In x ys → is_among x ys ≡ true
 in_among x [] h = absurd h
@@ -38,25 +43,42 @@ pub record LiveName (live : ℕ → Bool) (x n z : ℕ) : Type 0 where
   pub is_live : live var ≡ true
 
 later_name : (live : ℕ → Bool) (x n z : ℕ) → LiveName live (suc x) n z → LiveName live x (suc n) z
-later_name live x n z h = let a : suc x ≤ h.var = h.from in let b : h.var < suc x + n = h.below in record { var = h.var; name = h.name; from = omega (arith, a); below = omega (arith, b); is_live = h.is_live }
+later_name live x n z h = let a : suc x ≤ h.var = h.from in let b : h.var < suc x + n = h.below in
+    record {
+      var = h.var;
+      name = h.name;
+      from = omega (arith, a);
+      below = omega (arith, b);
+      is_live = h.is_live;
+    }
 
 pub live_in : (live : ℕ → Bool) (x n z : ℕ) → In z (live_from live x n) → LiveName live x n z
 live_in live x zero z h = absurd h
 live_in live x (suc n) z h = go (live x) refl (λ i. later_name live x n z (live_in live (suc x) n z i)) h
   where
-    go : (v : Bool) → live x ≡ v → (In z (live_from live (suc x) n) → LiveName live x (suc n) z) → In z (cond v (suc x ∷ live_from live (suc x) n) (live_from live (suc x) n)) → LiveName live x (suc n) z
-    go true e rest (inl f) = record { var = x; name = f; from = omega arith; below = omega arith; is_live = e }
+    go : (v : Bool) → live x ≡ v → (In z (live_from live (suc x) n) → LiveName live x (suc n) z)
+        → In z (cond v (suc x ∷ live_from live (suc x) n) (live_from live (suc x) n))
+        → LiveName live x (suc n) z
+    go true e rest (inl f) = record {
+      var = x;
+      name = f;
+      from = omega arith;
+      below = omega arith;
+      is_live = e;
+    }
     go true e rest (inr i) = rest i
     go false e rest i = rest i
 
-pub live_has : (live : ℕ → Bool) (x n y : ℕ) → x ≤ y → y < x + n → live y ≡ true → In (suc y) (live_from live x n)
+pub live_has : (live : ℕ → Bool) (x n y : ℕ) → x ≤ y → y < x + n → live y ≡ true
+    → In (suc y) (live_from live x n)
 live_has live x zero y l u e = absurd (omega (arith, l, u))
 live_has live x (suc n) y l u e = elim (cases_eq y x) [
   | inl f ↦ rw (ap live (sym f) ∙ e) (inl (ap suc f))
   | inr d ↦ go (live x) (live_has live (suc x) n y (omega (arith, l, d)) (omega (arith, u)) e)
 ]
   where
-    go : (v : Bool) → In (suc y) (live_from live (suc x) n) → In (suc y) (cond v (suc x ∷ live_from live (suc x) n) (live_from live (suc x) n))
+    go : (v : Bool) → In (suc y) (live_from live (suc x) n)
+        → In (suc y) (cond v (suc x ∷ live_from live (suc x) n) (live_from live (suc x) n))
     go true i = inr i
     go false i = i
 
@@ -64,15 +86,22 @@ pub live_apart : (live : ℕ → Bool) (x n : ℕ) → Apart (live_from live x n
 live_apart live x zero = tt
 live_apart live x (suc n) = go (live x) (live_apart live (suc x) n)
   where
-    go : (v : Bool) → Apart (live_from live (suc x) n) → Apart (cond v (suc x ∷ live_from live (suc x) n) (live_from live (suc x) n))
-    go true a = ((λ i. (let h = live_in live (suc x) n (suc x) i in let e : suc x ≡ suc h.var = h.name in let l : suc x ≤ h.var = h.from in omega (arith, e, l))), a)
+    go : (v : Bool) → Apart (live_from live (suc x) n)
+        → Apart (cond v (suc x ∷ live_from live (suc x) n) (live_from live (suc x) n))
+    go true a = (
+      (λ i. (let h = live_in live (suc x) n (suc x) i in let e : suc x ≡ suc h.var = h.name in
+          let l : suc x ≤ h.var = h.from in omega (arith, e, l))),
+      a,
+    )
     go false a = a
 
-pub live_none : (live : ℕ → Bool) (x n : ℕ) → ((y : ℕ) → y < x + n → live y ≡ true → ⊥) → live_from live x n ≡ []
+pub live_none : (live : ℕ → Bool) (x n : ℕ) → ((y : ℕ) → y < x + n → live y ≡ true → ⊥)
+    → live_from live x n ≡ []
 live_none live x zero f = refl
 live_none live x (suc n) f = go (live x) refl (live_none live (suc x) n (λ y l. f y (omega (arith, l))))
   where
-    go : (v : Bool) → live x ≡ v → live_from live (suc x) n ≡ [] → cond v (suc x ∷ live_from live (suc x) n) (live_from live (suc x) n) ≡ []
+    go : (v : Bool) → live x ≡ v → live_from live (suc x) n ≡ [] → cond v (suc x ∷ live_from live (suc x) n)
+        (live_from live (suc x) n) ≡ []
     go true e h = absurd (f x (omega arith) e)
     go false e h = h
 
@@ -84,10 +113,15 @@ most_is (s ∷ ss) b l = elim (cases_lt s.vars (most_vars ss)) [
   | inr u ↦ rw (le-ltb s.vars (most_vars ss) u) (ho b u l (λ c m. most_is ss c m))
 ]
   where
-    go : (b : ℕ) → s.vars < most_vars ss → b < suc (length ss) → ((c : ℕ) → c < length ss → (or_else (nth ss c) no_spot).vars ≤ most_vars ss) → (or_else (nth (s ∷ ss) b) no_spot).vars ≤ most_vars ss
+    go : (b : ℕ) → s.vars < most_vars ss → b < suc (length ss)
+        → ((c : ℕ) → c < length ss → (or_else (nth ss c) no_spot).vars ≤ most_vars ss)
+        → (or_else (nth (s ∷ ss) b) no_spot).vars ≤ most_vars ss
     go zero u m ih = omega (arith, u)
     go (suc c) u m ih = ih c (omega (arith, m))
 
-    ho : (b : ℕ) → most_vars ss ≤ s.vars → b < suc (length ss) → ((c : ℕ) → c < length ss → (or_else (nth ss c) no_spot).vars ≤ most_vars ss) → (or_else (nth (s ∷ ss) b) no_spot).vars ≤ s.vars
+    ho : (b : ℕ) → most_vars ss ≤ s.vars → b < suc (length ss)
+        → ((c : ℕ) → c < length ss → (or_else (nth ss c) no_spot).vars ≤ most_vars ss)
+        → (or_else (nth (s ∷ ss) b) no_spot).vars ≤ s.vars
     ho zero u m ih = omega arith
-    ho (suc c) u m ih = let v : (or_else (nth ss c) no_spot).vars ≤ most_vars ss = ih c (omega (arith, m)) in omega (arith, u, v)
+    ho (suc c) u m ih = let v : (or_else (nth ss c) no_spot).vars ≤ most_vars ss = ih c (omega (arith, m)) in
+        omega (arith, u, v)

@@ -1,5 +1,7 @@
 -- The fronts of blocks: entries, their advances, and merges behind them.
-use Rattle.std.proofs.Common.{ℕ, zero, suc, ◌+◌, ◌-◌, ◌≡◌, ◌<◌, ◌≤◌, ◌⊎◌, ◌||◌, Bool, true, false, cond, eqb, List, [], ◌∷◌, length, Some, None, refl, sym, ap, ◌∙◌, subst, inl, inr, arith, eq-eqb, ne_eqb}
+use Rattle.std.proofs.Common.{ℕ, zero, suc, ◌+◌, ◌-◌, ◌≡◌, ◌<◌, ◌≤◌, ◌⊎◌, ◌||◌, Bool, true, false, cond, eqb}
+use Rattle.std.proofs.Common.{List, [], ◌∷◌, length, Some, None, refl, sym, ap, ◌∙◌, subst, inl, inr, arith}
+use Rattle.std.proofs.Common.{eq-eqb, ne_eqb}
 use Rattle.std.proofs.lemmas.Bool.{cases_eq, both_ways}
 use Rattle.ws_isa.specs.Sound.{HasDest}
 use Rattle.wave_gen.specs.Wire.{Target, Back, Front, dests_of, Made, gather}
@@ -24,13 +26,19 @@ pub in_or_not : (xs : List ℕ) (x : ℕ) → In x xs ⊎ (In x xs → ⊥)
 in_or_not [] x = inr (λ h. h)
 in_or_not (y ∷ xs) x = elim (cases_eq x y) [
   | inl e ↦ inl (inl e)
-  | inr n ↦ elim (in_or_not xs x) [ inl h ↦ inl (inr h) | inr m ↦ inr (λ h. elim h [ inl e ↦ n e | inr g ↦ m g ]) ]
+  | inr n ↦ elim (in_or_not xs x) [
+    | inl h ↦ inl (inr h)
+    | inr m ↦
+        inr (λ h. elim h [ inl e ↦ n e | inr g ↦ m g ])
+  ]
 ]
 
 -- fronts
-pub fronts_at : (b k : ℕ) (xs : List ℕ) (i x : ℕ) → Apart xs → nth xs i ≡ Some x → fronts b k xs x ≡ Front b (k + i) ∷ []
+pub fronts_at : (b k : ℕ) (xs : List ℕ) (i x : ℕ) → Apart xs → nth xs i ≡ Some x
+    → fronts b k xs x ≡ Front b (k + i) ∷ []
 fronts_at b k [] i x a e = absurd (let c : None ≡ Some x = e in cc)
-fronts_at b k (y ∷ xs) zero x a e = let g : x ≡ y = (let g' : y ≡ x = cc in sym g') in let z : k + 0 ≡ k = omega arith in rw (eq-eqb x y g, z) refl
+fronts_at b k (y ∷ xs) zero x a e = let g : x ≡ y = (let g' : y ≡ x = cc in sym g') in let z : k + 0 ≡ k =
+    omega arith in rw (eq-eqb x y g, z) refl
 fronts_at b k (y ∷ xs) (suc i) x a e =
     let n : x ≡ y → ⊥ = λ g. a.0 (rw (sym g) (in_nth xs i x e)) in
     let z : k + suc i ≡ suc k + i = omega arith in
@@ -47,28 +55,49 @@ pub record FrontIs (first : ℕ → ℕ) (b : ℕ) (xs : List ℕ) (x j q : ℕ)
   pub instr : j ≡ first b + place
   pub port : q ≡ 0
 
-pub front_is : (first : ℕ → ℕ) (b : ℕ) (xs : List ℕ) (x j q : ℕ) → Apart xs → HasDest (dests_of first (fronts b 0 xs x)) j q → FrontIs first b xs x j q
+pub front_is : (first : ℕ → ℕ) (b : ℕ) (xs : List ℕ) (x j q : ℕ) → Apart xs
+    → HasDest (dests_of first (fronts b 0 xs x)) j q → FrontIs first b xs x j q
 front_is first b xs x j q a h = elim (in_or_not xs x) [
   | inl i ↦ (let r = nth_in xs x i in
-      let g : HasDest (dests_of first (Front b (0 + r.0) ∷ [])) j q = subst (λ (l : List Target). HasDest (dests_of first l) j q) (fronts_at b 0 xs r.0 x a r.1) h in
-      elim g [ inl d ↦ record { place = r.0; is = r.1; instr = (let f : first b + (0 + r.0) ≡ j = d.0 in omega arith); port = sym d.1 } | inr z ↦ absurd z ])
+      let g : HasDest (dests_of first (Front b (0 + r.0) ∷ [])) j q =
+      subst (λ (l : List Target). HasDest (dests_of first l) j q) (fronts_at b 0 xs r.0 x a r.1) h in
+      elim g [
+        | inl d ↦
+            record {
+              place = r.0;
+              is = r.1;
+              instr = (let f : first b + (0 + r.0) ≡ j = d.0 in omega arith);
+              port = sym d.1;
+            }
+        | inr z ↦ absurd z
+      ])
   | inr n ↦ absurd (subst (λ (l : List Target). HasDest (dests_of first l) j q) (fronts_none b 0 xs x n) h)
 ]
 
-pub is_front : (first : ℕ → ℕ) (b : ℕ) (xs : List ℕ) (i x : ℕ) → Apart xs → nth xs i ≡ Some x → HasDest (dests_of first (fronts b 0 xs x)) (first b + i) 0
-is_front first b xs i x a e = subst (λ (l : List Target). HasDest (dests_of first l) (first b + i) 0) (sym (fronts_at b 0 xs i x a e)) (inl ((let z : 0 + i ≡ i = omega arith in rw z refl), refl))
+pub is_front : (first : ℕ → ℕ) (b : ℕ) (xs : List ℕ) (i x : ℕ) → Apart xs → nth xs i ≡ Some x
+    → HasDest (dests_of first (fronts b 0 xs x)) (first b + i) 0
+is_front first b xs i x a e = subst (λ (l : List Target). HasDest (dests_of first l) (first b + i) 0)
+    (sym (fronts_at b 0 xs i x a e)) (inl ((let z : 0 + i ≡ i = omega arith in rw z refl), refl))
 
-pub fronts_one : (b k : ℕ) (xs : List ℕ) (x : ℕ) → (fronts b k xs x ≡ []) ⊎ ((i : ℕ) × (k ≤ i) × (i < k + length xs) × (fronts b k xs x ≡ Front b i ∷ []))
+pub fronts_one : (b k : ℕ) (xs : List ℕ) (x : ℕ) → (fronts b k xs x ≡ [])
+    ⊎ ((i : ℕ) × (k ≤ i) × (i < k + length xs) × (fronts b k xs x ≡ Front b i ∷ []))
 fronts_one b k [] x = inl refl
 fronts_one b k (y ∷ xs) x = elim (cases_eq x y) [
   | inl e ↦ inr (k, omega arith, omega arith, rw (eq-eqb x y e) refl)
   | inr n ↦ elim (fronts_one b (suc k) xs x) [
     | inl e ↦ inl (rw (ne_eqb x y n) e)
-    | inr r ↦ inr (r.0, (let l : suc k ≤ r.0 = r.1 in omega arith), (let l : r.0 < suc k + length xs = r.2 in omega arith), rw (ne_eqb x y n) r.3)
+    | inr r ↦ inr (
+      r.0,
+      (let l : suc k ≤ r.0 = r.1 in omega arith),
+      (let l : r.0 < suc k + length xs = r.2 in omega arith),
+      rw (ne_eqb x y n) r.3,
+    )
   ]
 ]
 
-pub fronts_clean : (first : ℕ → ℕ) (Fine : ℕ → ℕ → Type 0) (k width b : ℕ) (xs : List ℕ) → Apart xs → ((x : ℕ) → In x xs → x < width) → ((i : ℕ) → i < length xs → Fine b i) → Clean first Fine k width (fronts b 0 xs)
+pub fronts_clean : (first : ℕ → ℕ) (Fine : ℕ → ℕ → Type 0) (k width b : ℕ) (xs : List ℕ) → Apart xs
+    → ((x : ℕ) → In x xs → x < width) → ((i : ℕ) → i < length xs → Fine b i)
+    → Clean first Fine k width (fronts b 0 xs)
 fronts_clean first Fine k width b xs a few fine = record {
   apart = λ x y j q h g. same x y j q (front_is first b xs x j q a h) (front_is first b xs y j q a g);
   once = λ x. elim (fronts_one b 0 xs x) [ inl e ↦ rw e tt | inr r ↦ rw r.3 ((λ h. h), tt) ];
@@ -76,7 +105,8 @@ fronts_clean first Fine k width b xs a few fine = record {
   ahead = λ x p h. elim (fronts_one b 0 xs x) [
     | inl e ↦ absurd (subst (λ (l : List Target). In p l) e h)
     | inr r ↦ elim (subst (λ (l : List Target). In p l) r.3 h) [
-      | inl e ↦ subst (λ (s : Target). Ahead first Fine k s) (sym e) (fine r.0 (let l : r.0 < 0 + length xs = r.2 in omega arith))
+      | inl e ↦ subst (λ (s : Target). Ahead first Fine k s) (sym e)
+          (fine r.0 (let l : r.0 < 0 + length xs = r.2 in omega arith))
       | inr z ↦ absurd z
     ]
   ];
@@ -84,18 +114,22 @@ fronts_clean first Fine k width b xs a few fine = record {
   where
     same : (x y j q : ℕ) → FrontIs first b xs x j q → FrontIs first b xs y j q → x ≡ y
     same x y j q f g =
-        let e : f.place ≡ g.place = (let c : j ≡ first b + f.place = f.instr in let d : j ≡ first b + g.place = g.instr in omega arith) in
+        let e : f.place ≡ g.place = (let c : j ≡ first b + f.place = f.instr in
+        let d : j ≡ first b + g.place = g.instr in omega arith) in
         let z : Some x ≡ Some y = sym f.is ∙ ap (nth xs) e ∙ g.is in cc
 
 -- advances
 one_use : (b y : ℕ) (s : Made) → (gather b y s).wants y ≡ Back b (length s.code) 0 ∷ []
 one_use b y s = rw (eq-eqb y y refl) refl
 
-pub advances_count : (b : ℕ) (xs : List ℕ) (s : Made) → length (advances b xs s).code ≡ length xs + length s.code
+pub advances_count : (b : ℕ) (xs : List ℕ) (s : Made) → length (advances b xs s).code ≡ length xs + length
+    s.code
 advances_count b [] s = omega arith
-advances_count b (x ∷ xs) s = let e : length (advances b xs s).code ≡ length xs + length s.code = advances_count b xs s in omega arith
+advances_count b (x ∷ xs) s = let e : length (advances b xs s).code ≡ length xs + length s.code =
+    advances_count b xs s in omega arith
 
-pub advances_at : (b : ℕ) (xs : List ℕ) (s : Made) (i x : ℕ) → Apart xs → nth xs i ≡ Some x → (advances b xs s).wants x ≡ Back b (length s.code + (length xs - suc i)) 0 ∷ []
+pub advances_at : (b : ℕ) (xs : List ℕ) (s : Made) (i x : ℕ) → Apart xs → nth xs i ≡ Some x
+    → (advances b xs s).wants x ≡ Back b (length s.code + (length xs - suc i)) 0 ∷ []
 advances_at b [] s i x a e = absurd (let c : None ≡ Some x = e in cc)
 advances_at b (y ∷ xs) s zero x a e =
     let g : x ≡ y = (let g' : y ≡ x = cc in sym g') in
@@ -104,10 +138,12 @@ advances_at b (y ∷ xs) s zero x a e =
     rw (eq-eqb x y g, eq-eqb y y refl, z) refl
 advances_at b (y ∷ xs) s (suc i) x a e =
     let n : x ≡ y → ⊥ = λ g. a.0 (rw (sym g) (in_nth xs i x e)) in
-    let z : length s.code + (suc (length xs) - suc (suc i)) ≡ length s.code + (length xs - suc i) = omega arith in
+    let z : length s.code + (suc (length xs) - suc (suc i)) ≡ length s.code + (length xs - suc i) =
+    omega arith in
     rw (ne_eqb x y n, z) (advances_at b xs s i x a.1 e)
 
-pub advances_other : (b : ℕ) (xs : List ℕ) (s : Made) (x : ℕ) → (In x xs → ⊥) → (advances b xs s).wants x ≡ s.wants x
+pub advances_other : (b : ℕ) (xs : List ℕ) (s : Made) (x : ℕ) → (In x xs → ⊥)
+    → (advances b xs s).wants x ≡ s.wants x
 advances_other b [] s x n = refl
 advances_other b (y ∷ xs) s x n = rw (ne_eqb x y (λ e. n (inl e))) (advances_other b xs s x (λ h. n (inr h)))
 
@@ -115,24 +151,30 @@ advances_other b (y ∷ xs) s x n = rw (ne_eqb x y (λ e. n (inl e))) (advances_
 gather_back : (b x : ℕ) (s : Made) → has_front b ((gather b x s).wants x) ≡ false
 gather_back b x s = ap (has_front b) (one_use b x s)
 
-gather_front : (b x y : ℕ) (s : Made) → has_front b (s.wants x) ≡ false → has_front b ((gather b y s).wants x) ≡ false
+gather_front : (b x y : ℕ) (s : Made) → has_front b (s.wants x) ≡ false
+    → has_front b ((gather b y s).wants x) ≡ false
 gather_front b x y s h = elim (cases_eq x y) [
   | inl e ↦ ap (λ (z : ℕ). has_front b ((gather b y s).wants z)) e ∙ gather_back b y s
   | inr n ↦ rw (ne_eqb x y n) h
 ]
 
-renew_keeps : (b : ℕ) (xs : List ℕ) (s : Made) (x : ℕ) → has_front b (s.wants x) ≡ false → has_front b ((renew b xs s).wants x) ≡ false
+renew_keeps : (b : ℕ) (xs : List ℕ) (s : Made) (x : ℕ) → has_front b (s.wants x) ≡ false
+    → has_front b ((renew b xs s).wants x) ≡ false
 renew_keeps b [] s x h = h
-renew_keeps b (y ∷ xs) s x h = renew_keeps b xs (cond (has_front b (s.wants y)) (gather b y s) s) x (go (has_front b (s.wants y)))
+renew_keeps b (y ∷ xs) s x h = renew_keeps b xs (cond (has_front b (s.wants y)) (gather b y s) s) x
+    (go (has_front b (s.wants y)))
   where
     go : (f : Bool) → has_front b ((cond f (gather b y s) s).wants x) ≡ false
     go true = gather_front b x y s h
     go false = h
 
-pub renewed : (b : ℕ) (xs : List ℕ) (s : Made) (x : ℕ) → In x xs → has_front b ((renew b xs s).wants x) ≡ false
+pub renewed : (b : ℕ) (xs : List ℕ) (s : Made) (x : ℕ) → In x xs → has_front b ((renew b xs s).wants x)
+    ≡ false
 renewed b [] s x h = absurd h
 renewed b (y ∷ xs) s x (inr h) = renewed b xs (cond (has_front b (s.wants y)) (gather b y s) s) x h
-renewed b (y ∷ xs) s x (inl e) = renew_keeps b xs (cond (has_front b (s.wants y)) (gather b y s) s) x (ap (λ (z : ℕ). has_front b ((cond (has_front b (s.wants y)) (gather b y s) s).wants z)) e ∙ go (has_front b (s.wants y)) refl)
+renewed b (y ∷ xs) s x (inl e) = renew_keeps b xs (cond (has_front b (s.wants y)) (gather b y s) s) x
+    (ap (λ (z : ℕ). has_front b ((cond (has_front b (s.wants y)) (gather b y s) s).wants z)) e
+    ∙ go (has_front b (s.wants y)) refl)
   where
     go : (f : Bool) → has_front b (s.wants y) ≡ f → has_front b ((cond f (gather b y s) s).wants y) ≡ false
     go true g = gather_back b y s
@@ -153,19 +195,26 @@ no_front b l i e h = both_ways (has_front b l) e (go l h)
 
     go : (l : List Target) → In (Front b i) l → has_front b l ≡ true
     go [] h = absurd h
-    go (Front c k ∷ l) (inl f) = left (eqb b c) (has_front b l) (eq-eqb b c (same_block (Front c k) f c k refl))
+    go (Front c k ∷ l) (inl f) =
+        left (eqb b c) (has_front b l) (eq-eqb b c (same_block (Front c k) f c k refl))
     go (Front c k ∷ l) (inr h) = right (eqb b c) (has_front b l) (go l h)
     go (Back c r q ∷ l) (inl f) = absurd (let z : Front b i ≡ Back c r q = f in cc)
     go (Back c r q ∷ l) (inr h) = go l h
 
 -- renewing wants only entries more
-pub renew_wanted : (b : ℕ) (xs : List ℕ) (s : Made) (x : ℕ) → Wanted (renew b xs s).wants x → In x xs ⊎ Wanted s.wants x
+pub renew_wanted : (b : ℕ) (xs : List ℕ) (s : Made) (x : ℕ) → Wanted (renew b xs s).wants x
+    → In x xs ⊎ Wanted s.wants x
 renew_wanted b [] s x h = inr h
-renew_wanted b (y ∷ xs) s x h = elim (renew_wanted b xs (cond (has_front b (s.wants y)) (gather b y s) s) x h) [
-  | inl g ↦ inl (inr g)
-  | inr g ↦ go (has_front b (s.wants y)) g
-]
+renew_wanted b (y ∷ xs) s x h =
+    elim (renew_wanted b xs (cond (has_front b (s.wants y)) (gather b y s) s) x h) [
+      | inl g ↦ inl (inr g)
+      | inr g ↦ go (has_front b (s.wants y)) g
+    ]
   where
     go : (f : Bool) → Wanted (cond f (gather b y s) s).wants x → In x (y ∷ xs) ⊎ Wanted s.wants x
-    go true g = elim (Rattle.wave_gen.proofs.Flow.gather_wanted b y s x g) [ inl e ↦ inl (inl e) | inr z ↦ inr z ]
+    go true g = elim (Rattle.wave_gen.proofs.Flow.gather_wanted b y s x g) [
+      | inl e ↦ inl (inl e)
+      | inr z ↦
+          inr z
+    ]
     go false g = inr g

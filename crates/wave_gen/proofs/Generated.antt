@@ -39,7 +39,8 @@ no_call (graph.Return t) h = refl
 no_call (graph.Send t ts ls) h = refl
 no_call graph.Stop h = refl
 
-pub brought : (g : Graph) (exit : graph.Exit) → NoneAcross g exit → (l x : ℕ) → In l (landings_of exit) → Live g l x → In x (block_at g l).named
+pub brought : (g : Graph) (exit : graph.Exit) → NoneAcross g exit → (l x : ℕ) → In l (landings_of exit)
+    → Live g l x → In x (block_at g l).named
 brought g (graph.Send t ts ls) h l x i v = h l x i v
 brought g (graph.Goto b) h l x i v = absurd i
 brought g (graph.Branch t a b) h l x i v = absurd i
@@ -47,7 +48,8 @@ brought g (graph.Call r f ts back) h l x i v = absurd i
 brought g (graph.Return t) h l x i v = absurd i
 brought g graph.Stop h l x i v = absurd i
 
-pub fits : (g : Graph) (planes : List (List ℕ)) (cut : Cut) → IsGraph g → AreLive g planes → IsCut g cut → AreWaves g cut → HasNoCall g → NoneLiveAcross g → ArmsAlone g → Fits g (has planes) cut
+pub fits : (g : Graph) (planes : List (List ℕ)) (cut : Cut) → IsGraph g → AreLive g planes → IsCut g cut
+    → AreWaves g cut → HasNoCall g → NoneLiveAcross g → ArmsAlone g → Fits g (has planes) cut
 fits g planes cut r l c w n a b = record {
   graph = r;
   sets = l;
@@ -66,15 +68,19 @@ pub record Kept (g : Graph) (live : ℕ → ℕ → Bool) (draft : Image) : Type
   pub no_nop : HasNoNop draft
   pub limits : KeepsLimits g live draft
   pub arrays : draft.arrays ≡ arrays_of g
-  pub walk : GraphOfWords g → (world : World) → WorldOfWords world → (turns : ℕ) → KeepsWalk g draft world turns
+  pub walk : GraphOfWords g → (world : World) → WorldOfWords world → (turns : ℕ)
+      → KeepsWalk g draft world turns
   pub endless : GraphOfWords g → (world : World) → WorldOfWords world → EndlessWith g draft world
-  pub cost : GraphOfWords g → (world : World) → WorldOfWords world → (turns : ℕ) → CostsAtMost g live draft world turns
+  pub cost : GraphOfWords g → (world : World) → WorldOfWords world → (turns : ℕ)
+      → CostsAtMost g live draft world turns
 
-arrays_kept : (g : Graph) (live : ℕ → ℕ → Bool) (cut : Cut) → (graph_draft g (arrays_of g) live cut).arrays ≡ arrays_of g
+arrays_kept : (g : Graph) (live : ℕ → ℕ → Bool) (cut : Cut) → (graph_draft g (arrays_of g) live cut).arrays
+    ≡ arrays_of g
 unfolding graph_draft draft_of
 arrays_kept g live cut = refl
 
-pub kept : (g : Graph) (live : ℕ → ℕ → Bool) (cut : Cut) → Fits g live cut → (draft : Image) → draft ≡ draft_of (arrays_of g) (width_of g) (plans_of g live cut) → Kept g live draft
+pub kept : (g : Graph) (live : ℕ → ℕ → Bool) (cut : Cut) → Fits g live cut → (draft : Image)
+    → draft ≡ draft_of (arrays_of g) (width_of g) (plans_of g live cut) → Kept g live draft
 unfolding graph_draft
 kept g live cut f draft e = subst (Kept g live) (sym e) (record {
   open_to_notes = graph_open g live cut f;
@@ -83,12 +89,15 @@ kept g live cut f draft e = subst (Kept g live) (sym e) (record {
   limits = graph_limits g live cut f;
   arrays = arrays_kept g live cut;
   walk = λ words world w turns. graph_walks g live cut f words world w turns;
-  endless = λ words world w. endless g (graph_draft g (arrays_of g) live cut) world (λ turns. graph_walks g live cut f words world w turns);
+  endless = λ words world w. endless g (graph_draft g (arrays_of g) live cut) world
+      (λ turns. graph_walks g live cut f words world w turns);
   cost = λ words world w turns. graph_costs g live cut f words world w turns;
 })
 
 -- edges of its plans lead ahead
-pub leads : (g : Graph) (live : ℕ → ℕ → Bool) (cut : Cut) → Fits g live cut → (ps : List Plan) → ps ≡ plans_of g live cut → (b : ℕ) → LeadsAhead ps b (plan_at ps b).exit
+pub leads : (g : Graph) (live : ℕ → ℕ → Bool) (cut : Cut) → Fits g live cut → (ps : List Plan)
+    → ps ≡ plans_of g live cut → (b : ℕ) → LeadsAhead ps b (plan_at ps b).exit
 leads g live cut f ps e b =
     subst (λ (qs : List Plan). LeadsAhead qs b (plan_at qs b).exit) (sym e)
-    (plans_lead_ahead (plans_of g live cut) (width_of g) (λ n x. needed g live cut n x ≡ true) (plans_are g live cut f) b)
+    (plans_lead_ahead (plans_of g live cut) (width_of g) (λ n x. needed g live cut n x ≡ true)
+    (plans_are g live cut f) b)

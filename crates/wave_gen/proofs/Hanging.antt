@@ -1,5 +1,6 @@
 -- The selector's names among the tails, counted from the first one.
-use Rattle.std.proofs.Common.{ℕ, zero, suc, ◌+◌, ◌-◌, ◌*◌, ◌/◌, ◌≡◌, ◌≤◌, List, [], ◌∷◌, length, refl, sym, ap, ◌∙◌, arith}
+use Rattle.std.proofs.Common.{ℕ, zero, suc, ◌+◌, ◌-◌, ◌*◌, ◌/◌, ◌≡◌, ◌≤◌, List, [], ◌∷◌, length, refl, sym}
+use Rattle.std.proofs.Common.{ap, ◌∙◌, arith}
 use Rattle.ws_isa.specs.declared.instr.Op.{Op}
 use Rattle.ws_isa.specs.declared.instr.Op.TheVariants.{Merge, Send}
 use Rattle.wave_gen.specs.Wire.{Wants, Made, Make, wire_item, wire}
@@ -16,7 +17,8 @@ next_name z k p e = omega arith
 this_name : (n z k p : ℕ) → n ≤ 5 → 6 * z + 6 ≡ 6 * k + (p + suc n) → k + p / 6 ≡ z
 this_name n z k p le e = omega arith
 
-hang_at : (b n z k p : ℕ) (ts : List Tail) (w : Wants) → n ≤ 6 → 6 * z + 6 ≡ 6 * k + (p + n) → hang b n z ts w ≡ hangs b k p ts (bare w)
+hang_at : (b n z k p : ℕ) (ts : List Tail) (w : Wants) → n ≤ 6 → 6 * z + 6 ≡ 6 * k + (p + n)
+    → hang b n z ts w ≡ hangs b k p ts (bare w)
 hang_at b n z k p [] w le e = refl
 hang_at b zero z k p (t ∷ ts) w le e =
     ap (hung b t (suc z)) (hang_at b 5 (suc z) k (suc p) ts w (omega arith) (omega arith))
@@ -25,7 +27,8 @@ hang_at b (suc n) z k p (t ∷ ts) w le e =
     ap (hung b t z) (hang_at b n z k (suc p) ts w (omega arith) (omega arith))
     ∙ ap (λ y. hung b t y (hangs b k (suc p) ts (bare w))) (sym (this_name n z k p (omega arith) e))
 
-more_at : (n z k p : ℕ) (t : Tail) (ts : List Tail) → n ≤ 6 → 6 * z + 6 ≡ 6 * k + (p + n) → z + more n (t ∷ ts) ≡ k + (p + length ts) / 6
+more_at : (n z k p : ℕ) (t : Tail) (ts : List Tail) → n ≤ 6 → 6 * z + 6 ≡ 6 * k + (p + n)
+    → z + more n (t ∷ ts) ≡ k + (p + length ts) / 6
 more_at zero z k p t [] le e = omega (arith, next_name z k p (omega arith), add-zero-at p)
   where
     add-zero-at : (p : ℕ) → (p + 0) / 6 ≡ p / 6
@@ -47,14 +50,16 @@ more_is (t ∷ ts) =
     let down : (0 + length ts) / 6 ≡ (suc (length ts) - 1) / 6 = ap (λ n. n / 6) (omega arith) in
     omega (arith, more_at 6 0 0 0 t ts (omega arith) refl)
 
-pub selected_is : (b z n : ℕ) (ts : List Tail) (w : Wants) → n ≡ (length ts - 1) / 6 → wire b (chain z n) (hangs b z 0 ts (bare w)) ≡ selected b z ts w
+pub selected_is : (b z n : ℕ) (ts : List Tail) (w : Wants) → n ≡ (length ts - 1) / 6
+    → wire b (chain z n) (hangs b z 0 ts (bare w)) ≡ selected b z ts w
 selected_is b z n ts w e =
     ap (λ k. wire b (chain z k) (hangs b z 0 ts (bare w))) (e ∙ sym (more_is ts))
     ∙ ap (wire b (chain z (more 6 ts))) (sym (hang_at b 6 z z 0 ts w (omega arith) (omega arith)))
 
 -- one name more in the chain
 pub chain_more : (b z n k j x y : ℕ) (s : Made) → k ≡ suc j → k ≤ n → x ≡ z + k → y ≡ x - 1
-    → wire_item b (Make x Merge (y ∷ [])) (wire b (chain (z + k) (n - k)) s) ≡ wire b (chain (z + j) (n - j)) s
+    → wire_item b (Make x Merge (y ∷ [])) (wire b (chain (z + k) (n - k)) s) ≡ wire b (chain (z + j) (n - j))
+    s
 chain_more b z n k j x y s ek le ex ey =
     let e : n - j ≡ suc (n - k) = omega arith in
     let at : suc (z + j) ≡ z + k = omega arith in
@@ -66,7 +71,8 @@ chain_more b z n k j x y s ek le ex ey =
     ∙ ap (λ a. wire b (chain (z + j) a) s) (sym e)
 
 -- the tails from one more on
-pub hangs_more : (b z n y : ℕ) (t : Tail) (ts : List Tail) (s : Made) → y ≡ z + n / 6 → hung b t y (hangs b z (suc n) ts s) ≡ hangs b z n (t ∷ ts) s
+pub hangs_more : (b z n y : ℕ) (t : Tail) (ts : List Tail) (s : Made) → y ≡ z + n / 6
+    → hung b t y (hangs b z (suc n) ts s) ≡ hangs b z n (t ∷ ts) s
 hangs_more b z n y t ts s e = ap (λ a. hung b t a (hangs b z (suc n) ts s)) e
 
 pub chain_none : (b z n k : ℕ) (s : Made) → k ≡ 0 → wire b (chain (z + k) (n - k)) s ≡ wire b (chain z n) s

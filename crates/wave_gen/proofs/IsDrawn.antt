@@ -9,7 +9,8 @@ use Rattle.wave_gen.proofs.Planned.{PlansAre}
 use Rattle.wave_gen.proofs.DrawnPlans.{Drawn}
 
 -- plans that make a draft, drawn from a graph that keeps its rules; the arrays have the graph's lengths
-pub record IsDrawn (g : Graph) (arrays : List Array) (width : ℕ) (ps : List Plan) (live : ℕ → ℕ → Bool) (place : ℕ → ℕ) (zeroed : ℕ → List ℕ) : Type 0 where
+pub record IsDrawn (g : Graph) (arrays : List Array) (width : ℕ) (ps : List Plan) (live : ℕ → ℕ → Bool)
+    (place : ℕ → ℕ) (zeroed : ℕ → List ℕ) : Type 0 where
   pub plans : PlansAre ps width (λ b x. live b x ≡ true)
   pub rules : IsGraph g
   pub drawn : Drawn g ps width place zeroed

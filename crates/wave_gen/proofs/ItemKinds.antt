@@ -17,23 +17,35 @@ pub term_items : (t : Term) (k : ℕ) → ItemsAre (gen_term k t).items
 term_items (Number zero) k = tt
 term_items (Number (suc n)) k = (((λ ds. refl, refl), refl), tt)
 term_items (Var x) k = tt
-term_items (Cell a t) k = items_append (gen_term k t).items _ (term_items t k) (((λ ds. refl, refl), refl), tt)
-term_items (Flip t) k = items_append _ _ (items_append (gen_term k t).items _ (term_items t k) (((λ ds. refl, refl), refl), tt)) (((λ ds. refl, refl), refl), tt)
+term_items (Cell a t) k = items_append (gen_term k t).items _ (term_items t k) (
+  ((λ ds. refl, refl), refl),
+  tt,
+)
+term_items (Flip t) k =
+    items_append _ _ (items_append (gen_term k t).items _ (term_items t k) (((λ ds. refl, refl), refl), tt))
+    (((λ ds. refl, refl), refl), tt)
 term_items (Not t) k = items_append (gen_term k t).items _ (term_items t k) (((λ ds. refl, refl), refl), tt)
 term_items (Neg t) k = items_append (gen_term k t).items _ (term_items t k) (((λ ds. refl, refl), refl), tt)
-term_items (Binary op a b) k = items_append _ _ (items_append (gen_term k a).items _ (term_items a k) (term_items b (gen_term k a).next)) (((λ ds. refl, refl), refl), tt)
+term_items (Binary op a b) k =
+    items_append _ _ (items_append (gen_term k a).items _ (term_items a k) (term_items b (gen_term k a).next))
+    (((λ ds. refl, refl), refl), tt)
 
 pub source_items : (t : Term) (k : ℕ) → ItemsAre (gen_source k t).items
 source_items (Number zero) k = tt
 source_items (Number (suc n)) k = tt
 source_items (Var x) k = tt
 source_items (Cell a t) k = term_items t k
-source_items (Flip t) k = items_append (gen_term k t).items _ (term_items t k) (((λ ds. refl, refl), refl), tt)
+source_items (Flip t) k = items_append (gen_term k t).items _ (term_items t k) (
+  ((λ ds. refl, refl), refl),
+  tt,
+)
 source_items (Not t) k = term_items t k
 source_items (Neg t) k = term_items t k
-source_items (Binary op a b) k = items_append (gen_term k a).items _ (term_items a k) (term_items b (gen_term k a).next)
+source_items (Binary op a b) k = items_append (gen_term k a).items _ (term_items a k)
+    (term_items b (gen_term k a).next)
 
-pub source_op : (t : Term) (k : ℕ) → Sends (gen_source k t).op × (length (gen_source k t).from ≡ ports_of (gen_source k t).op)
+pub source_op : (t : Term) (k : ℕ) → Sends (gen_source k t).op
+    × (length (gen_source k t).from ≡ ports_of (gen_source k t).op)
 source_op (Number zero) k = ((λ ds. refl, refl), refl)
 source_op (Number (suc n)) k = ((λ ds. refl, refl), refl)
 source_op (Var x) k = ((λ ds. refl, refl), refl)
@@ -45,17 +57,21 @@ source_op (Binary op a b) k = ((λ ds. refl, refl), refl)
 
 terms_items : (ts : List Term) (k : ℕ) → ItemsAre (gen_terms k ts).items
 terms_items [] k = tt
-terms_items (t ∷ ts) k = items_append (gen_term k t).items _ (term_items t k) (tt, terms_items ts (suc (gen_term k t).next))
+terms_items (t ∷ ts) k = items_append (gen_term k t).items _ (term_items t k)
+    (tt, terms_items ts (suc (gen_term k t).next))
 
 op_items : (op : graph.Op) (k : ℕ) → ItemsAre (gen_op k op).items
 op_items (graph.Assign x t) k = items_append (gen_term k t).items _ (term_items t k) (tt, tt)
-op_items (graph.Store a t u) k = items_append (gen_term k t).items _ (term_items t k) (items_append (gen_term (gen_term k t).next u).items _ (term_items u (gen_term k t).next) ((refl, refl), tt))
+op_items (graph.Store a t u) k = items_append (gen_term k t).items _ (term_items t k)
+    (items_append (gen_term (gen_term k t).next u).items _ (term_items u (gen_term k t).next)
+    ((refl, refl), tt))
 op_items (graph.Print t) k = items_append (gen_term k t).items _ (term_items t k) ((refl, refl), tt)
 op_items (graph.Read x) k = (((λ ds. refl, refl), refl), tt)
 op_items (graph.Give p x) k = (((λ ds. refl, refl), refl), tt)
 op_items (graph.Take p t) k = items_append (gen_term k t).items _ (term_items t k) ((refl, refl), tt)
 op_items (graph.Choose x t a b) k = let g = gen_term k t in let h = gen_term g.next a in
-    items_append g.items _ (term_items t k) (items_append h.items _ (term_items a g.next) (items_append (gen_term h.next b).items _ (term_items b h.next) (((λ ds. refl, refl), refl), tt)))
+    items_append g.items _ (term_items t k) (items_append h.items _ (term_items a g.next)
+    (items_append (gen_term h.next b).items _ (term_items b h.next) (((λ ds. refl, refl), refl), tt)))
 op_items (graph.Tick n) k = tt
 op_items (graph.TickBy t n m) k = tt
 
@@ -68,7 +84,8 @@ exit_items place (graph.Goto c) k = tt
 exit_items place (graph.Branch t a b) k = source_items t k
 exit_items place (graph.Call r f ts back) k = tt
 exit_items place (graph.Return t) k = term_items t k
-exit_items place (graph.Send t ts ls) k = items_append (gen_term k t).items _ (term_items t k) (terms_items ts (gen_term k t).next)
+exit_items place (graph.Send t ts ls) k = items_append (gen_term k t).items _ (term_items t k)
+    (terms_items ts (gen_term k t).next)
 exit_items place graph.Stop k = tt
 
 pub exit_source : (place : ℕ → ℕ) (exit : graph.Exit) (k : ℕ) → SourceIs (gen_exit place k exit).exit

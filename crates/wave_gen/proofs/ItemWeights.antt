@@ -1,5 +1,6 @@
 -- What the items of a graph's terms, operations and exits weigh.
-use Rattle.std.proofs.Common.{ℕ, zero, suc, ◌+◌, ◌*◌, ◌≡◌, ◌≤◌, List, [], ◌∷◌, ◌++◌, length, cond, Some, None, ap, arith, ne_eqb}
+use Rattle.std.proofs.Common.{ℕ, zero, suc, ◌+◌, ◌*◌, ◌≡◌, ◌≤◌, List, [], ◌∷◌, ◌++◌, length, cond, Some, None}
+use Rattle.std.proofs.Common.{ap, arith, ne_eqb}
 use Rattle.std.specs.List.{sum_by}
 use Rattle.std.proofs.lemmas.List.Sums.{sum_by-cons}
 use Rattle.ws_words.specs.declared.alu.Alu.TheVariants.{Sub, Eq}
@@ -23,13 +24,17 @@ use Rattle.ws_isa.proofs.Images.{few_ports as ports_few}
 
 pub heavies_append : (xs ys : List Item) → heavies (xs ++ ys) ≡ heavies xs + heavies ys
 heavies_append [] ys = omega arith
-heavies_append (x ∷ xs) ys = let e : heavies (xs ++ ys) ≡ heavies xs + heavies ys = heavies_append xs ys in omega (arith, e)
+heavies_append (x ∷ xs) ys = let e : heavies (xs ++ ys) ≡ heavies xs + heavies ys = heavies_append xs ys in
+    omega (arith, e)
 
-one_more : (xs : List Item) (i : Item) (n m : ℕ) → heavies xs ≤ n → weight i + extra_of (const_of i) ≤ m → heavies (xs ++ i ∷ []) ≤ n + m
-one_more xs i n m h l = let e : heavies (xs ++ i ∷ []) ≡ heavies xs + heavies (i ∷ []) = heavies_append xs (i ∷ []) in omega (arith, e, h, l)
+one_more : (xs : List Item) (i : Item) (n m : ℕ) → heavies xs ≤ n → weight i + extra_of (const_of i) ≤ m
+    → heavies (xs ++ i ∷ []) ≤ n + m
+one_more xs i n m h l = let e : heavies (xs ++ i ∷ []) ≡ heavies xs + heavies (i ∷ []) =
+    heavies_append xs (i ∷ []) in omega (arith, e, h, l)
 
 both_weigh : (xs ys : List Item) (n m : ℕ) → heavies xs ≤ n → heavies ys ≤ m → heavies (xs ++ ys) ≤ n + m
-both_weigh xs ys n m h l = let e : heavies (xs ++ ys) ≡ heavies xs + heavies ys = heavies_append xs ys in omega (arith, e, h, l)
+both_weigh xs ys n m h l = let e : heavies (xs ++ ys) ≡ heavies xs + heavies ys = heavies_append xs ys in
+    omega (arith, e, h, l)
 
 -- A name that is the pulse may make a constant of what it triggers.
 abbrev lone : ℕ → ℕ
@@ -40,28 +45,46 @@ lone_none : (x : ℕ) → 1 ≤ x → lone x ≡ 0
 lone_none zero l = absurd (omega (arith, l))
 lone_none (suc x) l = omega arith
 
-top_weight : (k x n : ℕ) → weight (Make k (Const n) (x ∷ [])) + extra_of (const_of (Make k (Const n) (x ∷ []))) ≤ 4 + lone x
+top_weight : (k x n : ℕ) → weight (Make k (Const n) (x ∷ [])) + extra_of
+    (const_of (Make k (Const n) (x ∷ []))) ≤ 4 + lone x
 top_weight k zero n = omega arith
-top_weight k (suc x) n = let e : extra_of (const_of (Make k (Const n) (suc x ∷ []))) ≡ 0 = ap (λ v. extra_of (cond v (Some n) None)) (ne_eqb (suc x) pulse (λ e. omega (arith, e))) in omega (arith, e)
+top_weight k (suc x) n = let e : extra_of (const_of (Make k (Const n) (suc x ∷ []))) ≡ 0 =
+    ap (λ v. extra_of (cond v (Some n) None)) (ne_eqb (suc x) pulse (λ e. omega (arith, e))) in
+    omega (arith, e)
 
-term_lone : (t : Term) (k : ℕ) → 1 ≤ k → heavies (gen_term k t).items + lone (gen_term k t).name ≤ term_quarters t
+term_lone : (t : Term) (k : ℕ) → 1 ≤ k → heavies (gen_term k t).items + lone (gen_term k t).name
+    ≤ term_quarters t
 term_lone (Number zero) k u = omega arith
 term_lone (Number (suc n)) k u = let l = lone_none k u in omega (arith, l)
 term_lone (Var x) k u = omega arith
-term_lone (Cell a t) k u = let g = gen_term k t in let i = term_lone t k u in let w = next_after t k in let l = lone_none g.next (omega (arith, u, w)) in let h = one_more g.items (Make g.next (Load a) (g.name ∷ [])) (term_quarters t) 5 (omega (arith, i)) (omega arith) in omega (arith, h, l)
+term_lone (Cell a t) k u = let g = gen_term k t in let i = term_lone t k u in let w = next_after t k in
+    let l = lone_none g.next (omega (arith, u, w)) in let h =
+    one_more g.items (Make g.next (Load a) (g.name ∷ [])) (term_quarters t) 5 (omega (arith, i))
+    (omega arith) in omega (arith, h, l)
 term_lone (Flip t) k u =
     let g = gen_term k t in let l = term_lone t k u in
     let a = heavies_append g.items (Make g.next (Const top_word) (g.name ∷ []) ∷ []) in
     let w = top_weight g.next g.name top_word in
-    let i = one_more (g.items ++ Make g.next (Const top_word) (g.name ∷ []) ∷ []) (Make (suc g.next) (Alu Sub) (g.next ∷ g.name ∷ [])) (term_quarters t + 4) 5 (omega (arith, a, l, w)) (omega arith) in omega (arith, i)
-term_lone (Not t) k u = let g = gen_term k t in let i = term_lone t k u in let w = next_after t k in let l = lone_none g.next (omega (arith, u, w)) in let h = one_more g.items (Make g.next (Alu Eq) (g.name ∷ pulse ∷ [])) (term_quarters t) 5 (omega (arith, i)) (omega arith) in omega (arith, h, l)
-term_lone (Neg t) k u = let g = gen_term k t in let i = term_lone t k u in let w = next_after t k in let l = lone_none g.next (omega (arith, u, w)) in let h = one_more g.items (Make g.next (Alu Sub) (pulse ∷ g.name ∷ [])) (term_quarters t) 5 (omega (arith, i)) (omega arith) in omega (arith, h, l)
+    let i = one_more (g.items ++ Make g.next (Const top_word) (g.name ∷ []) ∷ [])
+    (Make (suc g.next) (Alu Sub) (g.next ∷ g.name ∷ [])) (term_quarters t + 4) 5 (omega (arith, a, l, w))
+    (omega arith) in omega (arith, i)
+term_lone (Not t) k u = let g = gen_term k t in let i = term_lone t k u in let w = next_after t k in
+    let l = lone_none g.next (omega (arith, u, w)) in let h =
+    one_more g.items (Make g.next (Alu Eq) (g.name ∷ pulse ∷ [])) (term_quarters t) 5 (omega (arith, i))
+    (omega arith) in omega (arith, h, l)
+term_lone (Neg t) k u = let g = gen_term k t in let i = term_lone t k u in let w = next_after t k in
+    let l = lone_none g.next (omega (arith, u, w)) in let h =
+    one_more g.items (Make g.next (Alu Sub) (pulse ∷ g.name ∷ [])) (term_quarters t) 5 (omega (arith, i))
+    (omega arith) in omega (arith, h, l)
 term_lone (Binary op a b) k u =
     let g = gen_term k a in let i = gen_term g.next b in
-    let wa = next_after a k in let wb = next_after b g.next in let l = lone_none i.next (omega (arith, u, wa, wb)) in
+    let wa = next_after a k in let wb = next_after b g.next in let l =
+    lone_none i.next (omega (arith, u, wa, wb)) in
     let x = term_lone a k u in let y = term_lone b g.next (omega (arith, u, wa)) in
-    let w = both_weigh g.items i.items (term_quarters a) (term_quarters b) (omega (arith, x)) (omega (arith, y)) in
-    let h = one_more (g.items ++ i.items) (Make i.next (Alu op) (g.name ∷ i.name ∷ [])) (term_quarters a + term_quarters b) 5 w (omega arith) in omega (arith, h, l)
+    let w = both_weigh g.items i.items (term_quarters a) (term_quarters b) (omega (arith, x))
+    (omega (arith, y)) in
+    let h = one_more (g.items ++ i.items) (Make i.next (Alu op) (g.name ∷ i.name ∷ []))
+    (term_quarters a + term_quarters b) 5 w (omega arith) in omega (arith, h, l)
 
 term_weight : (t : Term) (k : ℕ) → 1 ≤ k → heavies (gen_term k t).items ≤ term_quarters t
 term_weight t k u = let l = term_lone t k u in omega (arith, l)
@@ -83,42 +106,58 @@ source_weight (Not t) k u = let h = term_weight t k u in omega (arith, h)
 source_weight (Neg t) k u = let h = term_weight t k u in omega (arith, h)
 source_weight (Binary op a b) k u =
     let g = gen_term k a in let i = gen_term g.next b in
-    let w = both_weigh g.items i.items (term_quarters a) (term_quarters b) (term_weight a k u) (term_weight b g.next (later a k u)) in omega (arith, w)
+    let w = both_weigh g.items i.items (term_quarters a) (term_quarters b) (term_weight a k u)
+    (term_weight b g.next (later a k u)) in omega (arith, w)
 
-terms_weight : (ts : List Term) (k : ℕ) → 1 ≤ k → heavies (gen_terms k ts).items ≤ sum_by term_quarters ts + 5 * length ts
+terms_weight : (ts : List Term) (k : ℕ) → 1 ≤ k → heavies (gen_terms k ts).items ≤ sum_by term_quarters ts + 5
+    * length ts
 terms_weight [] k u = omega arith
 terms_weight (t ∷ ts) k u =
     let g = gen_term k t in
-    let e : sum_by term_quarters (t ∷ ts) ≡ term_quarters t + sum_by term_quarters ts = sum_by-cons term_quarters t ts in
+    let e : sum_by term_quarters (t ∷ ts) ≡ term_quarters t + sum_by term_quarters ts =
+    sum_by-cons term_quarters t ts in
     let i = terms_weight ts (suc g.next) (omega arith) in
-    let h = both_weigh g.items (Same g.next g.name ∷ (gen_terms (suc g.next) ts).items) (term_quarters t) (5 + (sum_by term_quarters ts + 5 * length ts)) (term_weight t k u) (omega (arith, i)) in
+    let h = both_weigh g.items (Same g.next g.name ∷ (gen_terms (suc g.next) ts).items) (term_quarters t)
+    (5 + (sum_by term_quarters ts + 5 * length ts)) (term_weight t k u) (omega (arith, i)) in
     omega (arith, h, e)
 
 op_weight : (op : graph.Op) (k : ℕ) → 1 ≤ k → heavies (gen_op k op).items ≤ op_quarters op
-op_weight (graph.Assign x t) k o = let g = gen_term k t in let h = one_more g.items (Same (suc x) g.name) (term_quarters t) 5 (term_weight t k o) (omega arith) in omega (arith, h)
+op_weight (graph.Assign x t) k o = let g = gen_term k t in let h = one_more g.items (Same (suc x) g.name)
+    (term_quarters t) 5 (term_weight t k o) (omega arith) in omega (arith, h)
 op_weight (graph.Store a t u) k o =
     let g = gen_term k t in let i = gen_term g.next u in
-    let h = one_more i.items (Act (Store a) (g.name ∷ i.name ∷ [])) (term_quarters u) 6 (term_weight u g.next (later t k o)) (omega arith) in
-    let w = both_weigh g.items (i.items ++ Act (Store a) (g.name ∷ i.name ∷ []) ∷ []) (term_quarters t) (term_quarters u + 6) (term_weight t k o) h in omega (arith, w)
-op_weight (graph.Print t) k o = let g = gen_term k t in let h = one_more g.items (Act Output (g.name ∷ [])) (term_quarters t) 5 (term_weight t k o) (omega arith) in omega (arith, h)
+    let h = one_more i.items (Act (Store a) (g.name ∷ i.name ∷ [])) (term_quarters u) 6
+    (term_weight u g.next (later t k o)) (omega arith) in
+    let w = both_weigh g.items (i.items ++ Act (Store a) (g.name ∷ i.name ∷ []) ∷ []) (term_quarters t)
+    (term_quarters u + 6) (term_weight t k o) h in omega (arith, w)
+op_weight (graph.Print t) k o = let g = gen_term k t in let h = one_more g.items (Act Output (g.name ∷ []))
+    (term_quarters t) 5 (term_weight t k o) (omega arith) in omega (arith, h)
 op_weight (graph.Read x) k o = omega arith
 op_weight (graph.Give p x) k o = omega arith
-op_weight (graph.Take p t) k o = let g = gen_term k t in let h = one_more g.items (Act (Take p) (g.name ∷ [])) (term_quarters t) 5 (term_weight t k o) (omega arith) in omega (arith, h)
+op_weight (graph.Take p t) k o = let g = gen_term k t in let h = one_more g.items (Act (Take p) (g.name ∷ []))
+    (term_quarters t) 5 (term_weight t k o) (omega arith) in omega (arith, h)
 op_weight (graph.Choose x t a b) k o =
     let g = gen_term k t in let i = gen_term g.next a in let j = gen_term i.next b in
-    let u = one_more j.items (Make (suc x) Phi (i.name ∷ j.name ∷ g.name ∷ [])) (term_quarters b) 6 (term_weight b i.next (later a g.next (later t k o))) (omega arith) in
-    let v = both_weigh i.items (j.items ++ Make (suc x) Phi (i.name ∷ j.name ∷ g.name ∷ []) ∷ []) (term_quarters a) (term_quarters b + 6) (term_weight a g.next (later t k o)) u in
-    let w = both_weigh g.items (i.items ++ (j.items ++ Make (suc x) Phi (i.name ∷ j.name ∷ g.name ∷ []) ∷ [])) (term_quarters t) (term_quarters a + (term_quarters b + 6)) (term_weight t k o) v in omega (arith, w)
+    let u = one_more j.items (Make (suc x) Phi (i.name ∷ j.name ∷ g.name ∷ [])) (term_quarters b) 6
+    (term_weight b i.next (later a g.next (later t k o))) (omega arith) in
+    let v = both_weigh i.items (j.items ++ Make (suc x) Phi (i.name ∷ j.name ∷ g.name ∷ []) ∷ [])
+    (term_quarters a) (term_quarters b + 6) (term_weight a g.next (later t k o)) u in
+    let w = both_weigh g.items (i.items ++ (j.items ++ Make (suc x) Phi (i.name ∷ j.name ∷ g.name ∷ []) ∷ []))
+    (term_quarters t) (term_quarters a + (term_quarters b + 6)) (term_weight t k o) v in omega (arith, w)
 op_weight (graph.Tick n) k o = omega arith
 op_weight (graph.TickBy t n m) k o = omega arith
 
 -- the items of operations
-pub ops_weight : (ops : List graph.Op) (k : ℕ) → 1 ≤ k → heavies (gen_ops k ops).items ≤ sum_by op_quarters ops
+pub ops_weight : (ops : List graph.Op) (k : ℕ) → 1 ≤ k → heavies (gen_ops k ops).items ≤ sum_by op_quarters
+    ops
 ops_weight [] k u = omega arith
 ops_weight (op ∷ ops) k u =
-    let e : sum_by op_quarters (op ∷ ops) ≡ op_quarters op + sum_by op_quarters ops = sum_by-cons op_quarters op ops in
+    let e : sum_by op_quarters (op ∷ ops) ≡ op_quarters op + sum_by op_quarters ops =
+    sum_by-cons op_quarters op ops in
     let n = op_next op k in
-    let h = both_weigh (gen_op k op).items (gen_ops (gen_op k op).next ops).items (op_quarters op) (sum_by op_quarters ops) (op_weight op k u) (ops_weight ops (gen_op k op).next (omega (arith, u, n))) in
+    let h = both_weigh (gen_op k op).items (gen_ops (gen_op k op).next ops).items (op_quarters op)
+    (sum_by op_quarters ops) (op_weight op k u)
+    (ops_weight ops (gen_op k op).next (omega (arith, u, n))) in
     omega (arith, h, e)
 
 -- the items of an exit
@@ -128,13 +167,16 @@ exit_items (graph.Return t) = term_quarters t
 exit_items (graph.Send t ts ls) = term_quarters t + (sum_by term_quarters ts + 5 * length ts)
 exit_items _ = 0
 
-pub exit_weight : (place : ℕ → ℕ) (exit : graph.Exit) (k : ℕ) → 1 ≤ k → heavies (gen_exit place k exit).items ≤ exit_items exit
+pub exit_weight : (place : ℕ → ℕ) (exit : graph.Exit) (k : ℕ) → 1 ≤ k → heavies (gen_exit place k exit).items
+    ≤ exit_items exit
 exit_weight place (graph.Goto c) k u = omega arith
 exit_weight place (graph.Branch t a b) k u = source_weight t k u
 exit_weight place (graph.Call r f ts back) k u = omega arith
 exit_weight place (graph.Return t) k u = term_weight t k u
 exit_weight place (graph.Send t ts ls) k u =
-    both_weigh (gen_term k t).items (gen_terms (gen_term k t).next ts).items (term_quarters t) (sum_by term_quarters ts + 5 * length ts) (term_weight t k u) (terms_weight ts (gen_term k t).next (later t k u))
+    both_weigh (gen_term k t).items (gen_terms (gen_term k t).next ts).items (term_quarters t)
+    (sum_by term_quarters ts + 5 * length ts) (term_weight t k u)
+    (terms_weight ts (gen_term k t).next (later t k u))
 exit_weight place graph.Stop k u = omega arith
 
 -- a number above all names of a list, and of items
@@ -155,11 +197,23 @@ all_below n (x ∷ xs) h = (omega (arith, h), all_below n xs (omega (arith, h)))
 pub items_below : (n : ℕ) (is : List Item) → ItemsAre is → items_above is ≤ n → ItemsBelow n is
 items_below n [] a h = tt
 items_below n (Make x op from ∷ is) a h = (
-  (omega (arith, h), all_below n from (omega (arith, h)), (let e : length from ≡ ports_of op = a.0.1 in let l = ports_few op in omega (arith, e, l))),
+  (
+    omega (arith, h),
+    all_below n from (omega (arith, h)),
+    (let e : length from ≡ ports_of op = a.0.1 in
+        let l = ports_few op in omega (arith, e, l)),
+  ),
   items_below n is a.1 (omega (arith, h)),
 )
 items_below n (Act op from ∷ is) a h = (
-  (all_below n from (omega (arith, h)), (let e : length from ≡ ports_of op = a.0.0 in let l = ports_few op in omega (arith, e, l))),
+  (
+    all_below n from (omega (arith, h)),
+    (let e : length from ≡ ports_of op = a.0.0 in let l = ports_few op in
+        omega (arith, e, l)),
+  ),
   items_below n is a.1 (omega (arith, h)),
 )
-items_below n (Same x y ∷ is) a h = ((omega (arith, h), omega (arith, h)), items_below n is a.1 (omega (arith, h)))
+items_below n (Same x y ∷ is) a h = (
+  (omega (arith, h), omega (arith, h)),
+  items_below n is a.1 (omega (arith, h)),
+)

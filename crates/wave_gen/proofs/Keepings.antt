@@ -1,7 +1,10 @@
 -- What is kept of a table is what the table wants, and which names are steered.
-use Rattle.std.proofs.Common.{ℕ, zero, suc, ◌+◌, ◌-◌, ◌≡◌, ◌<◌, ◌≤◌, ◌||◌, ◌&&◌, Bool, true, false, cond, eqb, List, [], ◌∷◌, ◌++◌, length, map, reverse, drop, get_or, refl, sym, ap, ◌∙◌, subst, inl, inr, arith, eq-eqb, ne_eqb}
+use Rattle.std.proofs.Common.{ℕ, zero, suc, ◌+◌, ◌-◌, ◌≡◌, ◌<◌, ◌≤◌, ◌||◌, ◌&&◌, Bool, true, false, cond, eqb}
+use Rattle.std.proofs.Common.{List, [], ◌∷◌, ◌++◌, length, map, reverse, drop, get_or, refl, sym, ap, ◌∙◌}
+use Rattle.std.proofs.Common.{subst, inl, inr, arith, eq-eqb, ne_eqb}
 use Rattle.std.proofs.lemmas.Bool.{cases_eq, cases_lt}
-use Rattle.std.proofs.lemmas.List.{length-map, length-reverse, drop_more, append-nil, map_push, map-append, reverse-append}
+use Rattle.std.proofs.lemmas.List.{length-map, length-reverse, drop_more, append-nil, map_push, map-append}
+use Rattle.std.proofs.lemmas.List.{reverse-append}
 use Rattle.ws_isa.specs.declared.instr.Op.TheVariants.{Steer}
 use Rattle.wave_gen.specs.declared.spot.Line.{Line}
 use Rattle.wave_gen.specs.declared.kept.Want.{Want}
@@ -9,7 +12,8 @@ use Rattle.wave_gen.specs.declared.tails.Tail.{Tail}
 use Rattle.wave_gen.specs.declared.fork.Arms.{Arms}
 use Rattle.wave_gen.specs.Wire.{Target, Wants, with_wants}
 use Rattle.wave_gen.specs.Plans as plans
-use Rattle.wave_gen.specs.Plans.{pulse, or_pulse, same_spot, same_spots, differing, is_among, past, steer_of, steers}
+use Rattle.wave_gen.specs.Plans.{pulse, or_pulse, same_spot, same_spots, differing, is_among, past, steer_of}
+use Rattle.wave_gen.specs.Plans.{steers}
 use Rattle.wave_gen.specs.Tables.{listed, tail_of}
 use Rattle.wave_gen.specs.Kept.{wanted, wants_of, wants_below, Forked}
 use Rattle.wave_gen.proofs.Listed.{Lists, list_past}
@@ -17,7 +21,10 @@ use Rattle.wave_gen.proofs.Listed.{Lists, list_past}
 wanted_append : (ps qs : List Want) (x : ℕ) → wanted (ps ++ qs) x ≡ wanted ps x ++ wanted qs x
 wanted_append [] qs x = refl
 wanted_append (p ∷ ps) qs x = elim (cases_eq x p.name) [
-  | inl e ↦ rw (eq-eqb x p.name e) (ap (λ (l : List Target). p.spot ∷ l) (wanted_append ps qs p.name ∙ ap (λ y. wanted ps p.name ++ wanted qs y) (sym e)))
+  | inl e ↦
+      rw (eq-eqb x p.name e)
+      (ap (λ (l : List Target). p.spot ∷ l) (wanted_append ps qs p.name
+      ∙ ap (λ y. wanted ps p.name ++ wanted qs y) (sym e)))
   | inr n ↦ rw (ne_eqb x p.name n) (wanted_append ps qs x)
 ]
 
@@ -39,8 +46,10 @@ wanted_beyond w (suc n) x le =
 wanted_below : (w : Wants) (n x : ℕ) → x < n → wanted (wants_below w n) x ≡ w x
 wanted_below w zero x lt = absurd (omega arith)
 wanted_below w (suc n) x lt = wanted_append (wants_below w n) (wants_of n (w n)) x ∙ elim (cases_eq x n) [
-  | inl e ↦ ap (λ (l : List Target). l ++ wanted (wants_of n (w n)) x) (wanted_beyond w n x (omega arith)) ∙ ap (wanted (wants_of n (w n))) e ∙ wanted_here n (w n) ∙ ap w (sym e)
-  | inr d ↦ ap (λ (l : List Target). wanted (wants_below w n) x ++ l) (wanted_there n x (w n) d) ∙ append-nil (wanted (wants_below w n) x) ∙ wanted_below w n x (omega arith)
+  | inl e ↦ ap (λ (l : List Target). l ++ wanted (wants_of n (w n)) x) (wanted_beyond w n x (omega arith))
+      ∙ ap (wanted (wants_of n (w n))) e ∙ wanted_here n (w n) ∙ ap w (sym e)
+  | inr d ↦ ap (λ (l : List Target). wanted (wants_below w n) x ++ l) (wanted_there n x (w n) d)
+      ∙ append-nil (wanted (wants_below w n) x) ∙ wanted_below w n x (omega arith)
 ]
 
 kept_at : (vs : Lists) (n x : ℕ) → length vs ≤ n → wanted (wants_below (listed vs) n) x ≡ listed vs x
@@ -49,20 +58,26 @@ kept_at vs n x le = elim (cases_lt x n) [
   | inr ge ↦ wanted_beyond (listed vs) n x ge ∙ sym (list_past vs x (omega arith))
 ]
 
-pub kept_all : (vs : Lists) (n : ℕ) (ws : List Want) → length vs ≤ n → ws ≡ wants_below (listed vs) n → ◌≡◌ {A = Wants} (wanted ws) (listed vs)
+pub kept_all : (vs : Lists) (n : ℕ) (ws : List Want) → length vs ≤ n → ws ≡ wants_below (listed vs) n
+    → ◌≡◌ {A = Wants} (wanted ws) (listed vs)
 kept_all vs n ws le e = ap wanted e ∙ (λ i x. kept_at vs n x le i)
 
-pub back_at : {X : Type 0} (xs : List X) (k : ℕ) (d : X) → 0 < k → k ≤ length xs → drop (k - 1) xs ≡ get_or xs (k - 1) d ∷ drop k xs
+pub back_at : {X : Type 0} (xs : List X) (k : ℕ) (d : X) → 0 < k → k ≤ length xs
+    → drop (k - 1) xs ≡ get_or xs (k - 1) d ∷ drop k xs
 back_at xs k d pos le =
     let up : (k - 1) + 1 ≡ k = omega arith in
     drop_more xs (k - 1) d (omega arith) ∙ ap (λ n. get_or xs (k - 1) d ∷ drop n xs) up
 
 -- one more is loaded
-pub load_more : (ws : List Want) (k : ℕ) (d : Want) (w v : Wants) → 0 < k → k ≤ length ws → ◌≡◌ {A = Wants} w (wanted (drop k ws))
-    → ◌≡◌ {A = Wants} v (with_wants w (get_or ws (k - 1) d).name ((get_or ws (k - 1) d).spot ∷ w (get_or ws (k - 1) d).name)) → ◌≡◌ {A = Wants} v (wanted (drop (k - 1) ws))
+pub load_more : (ws : List Want) (k : ℕ) (d : Want) (w v : Wants) → 0 < k → k ≤ length ws
+    → ◌≡◌ {A = Wants} w (wanted (drop k ws))
+    → ◌≡◌ {A = Wants} v
+    (with_wants w (get_or ws (k - 1) d).name ((get_or ws (k - 1) d).spot ∷ w (get_or ws (k - 1) d).name))
+    → ◌≡◌ {A = Wants} v (wanted (drop (k - 1) ws))
 load_more ws k d w v pos le ew ev =
     let p : Want = get_or ws (k - 1) d in
-    subst (λ (ys : List Want). ◌≡◌ {A = Wants} v (wanted ys)) (sym (back_at ws k d pos le)) (ev ∙ ap (λ (u : Wants). with_wants u p.name (p.spot ∷ u p.name)) ew)
+    subst (λ (ys : List Want). ◌≡◌ {A = Wants} v (wanted ys)) (sym (back_at ws k d pos le))
+    (ev ∙ ap (λ (u : Wants). with_wants u p.name (p.spot ∷ u p.name)) ew)
 
 -- Steers.
 
@@ -73,18 +88,25 @@ past_or : (a b : Bool) (l : List Target) → cond a [] (cond b [] l) ≡ cond (a
 past_or true b l = refl
 past_or false b l = refl
 
-past_more : (x : ℕ) (xs : List ℕ) (w u v : Wants) → ◌≡◌ {A = Wants} u (past xs w) → ◌≡◌ {A = Wants} v (with_wants u x []) → ◌≡◌ {A = Wants} v (past (x ∷ xs) w)
-past_more x xs w u v eu ev = ev ∙ ap (λ (z : Wants). with_wants z x []) eu ∙ (λ i y. past_or (eqb y x) (is_among y xs) (w y) i)
+past_more : (x : ℕ) (xs : List ℕ) (w u v : Wants) → ◌≡◌ {A = Wants} u (past xs w)
+    → ◌≡◌ {A = Wants} v (with_wants u x []) → ◌≡◌ {A = Wants} v (past (x ∷ xs) w)
+past_more x xs w u v eu ev = ev ∙ ap (λ (z : Wants). with_wants z x []) eu
+    ∙ (λ i y. past_or (eqb y x) (is_among y xs) (w y) i)
 
-pub forked_more : (x : ℕ) (xs : List ℕ) (w v : Wants) (f g : Arms) (l : Line) → is_among x xs ≡ false → l.op ≡ Steer → l.dests.items ≡ listed f.some.lists.items x → l.others.items ≡ listed f.none.lists.items x
-    → ◌≡◌ {A = Wants} (listed g.some.lists.items) (with_wants (listed f.some.lists.items) x []) → ◌≡◌ {A = Wants} (listed g.none.lists.items) (with_wants (listed f.none.lists.items) x [])
-    → g.tails.items ≡ f.tails.items ++ record { held = x; line = l } ∷ [] → Forked w v xs f → Forked w v (x ∷ xs) g
+pub forked_more : (x : ℕ) (xs : List ℕ) (w v : Wants) (f g : Arms) (l : Line) → is_among x xs ≡ false
+    → l.op ≡ Steer → l.dests.items ≡ listed f.some.lists.items x → l.others.items ≡ listed f.none.lists.items
+    x
+    → ◌≡◌ {A = Wants} (listed g.some.lists.items) (with_wants (listed f.some.lists.items) x [])
+    → ◌≡◌ {A = Wants} (listed g.none.lists.items) (with_wants (listed f.none.lists.items) x [])
+    → g.tails.items ≡ f.tails.items ++ record { held = x; line = l } ∷ [] → Forked w v xs f
+    → Forked w v (x ∷ xs) g
 forked_more x xs w v f g l free op ed eo es en et was =
     let t : Tail = record { held = x; line = l } in
     let ts : List Tail = f.tails.items in
     let dests : l.dests.items ≡ w x = ed ∙ ap (λ (z : Wants). z x) was.some ∙ not_among x xs w free in
     let others : l.others.items ≡ v x = eo ∙ ap (λ (z : Wants). z x) was.none ∙ not_among x xs v free in
-    let steer : tail_of t ≡ steer_of w v x = λ i. record { held = x; line = record { op = op i; dests = dests i; others = others i } } in
+    let steer : tail_of t ≡ steer_of w v x =
+    λ i. record { held = x; line = record { op = op i; dests = dests i; others = others i } } in
     record {
       tails = ap (λ (us : List Tail). reverse (map tail_of us)) et
           ∙ ap (λ (us : List plans.Tail). reverse us) (map_push tail_of ts t)
@@ -95,34 +117,48 @@ forked_more x xs w v f g l free op ed eo es en et was =
       none = past_more x xs v (listed f.none.lists.items) (listed g.none.lists.items) was.none en;
     }
 
-same_is : (x : ℕ) (xs : List ℕ) (w v : Wants) (f : Arms) (l k : List Target) (r : Bool) → is_among x xs ≡ false → l ≡ listed f.some.lists.items x → k ≡ listed f.none.lists.items x → r ≡ same_spots l k → Forked w v xs f → r ≡ same_spots (w x) (v x)
+same_is : (x : ℕ) (xs : List ℕ) (w v : Wants) (f : Arms) (l k : List Target) (r : Bool)
+    → is_among x xs ≡ false → l ≡ listed f.some.lists.items x → k ≡ listed f.none.lists.items x
+    → r ≡ same_spots l k → Forked w v xs f → r ≡ same_spots (w x) (v x)
 same_is x xs w v f l k r free el ek er was =
     let here : l ≡ w x = el ∙ ap (λ (z : Wants). z x) was.some ∙ not_among x xs w free in
     let there : k ≡ v x = ek ∙ ap (λ (z : Wants). z x) was.none ∙ not_among x xs v free in
     er ∙ ap (λ (z : List Target). same_spots z k) here ∙ ap (same_spots (w x)) there
 
-pub compared_same : (x : ℕ) (xs : List ℕ) (w v : Wants) (f : Arms) (l k : List Target) (r : Bool) → l ≡ listed f.some.lists.items x → k ≡ listed f.none.lists.items x → r ≡ same_spots l k → r ≡ true → is_among x xs ≡ false
+pub compared_same : (x : ℕ) (xs : List ℕ) (w v : Wants) (f : Arms) (l k : List Target) (r : Bool)
+    → l ≡ listed f.some.lists.items x → k ≡ listed f.none.lists.items x → r ≡ same_spots l k → r ≡ true
+    → is_among x xs ≡ false
     → Forked w v xs f → Forked w v (cond (same_spots (w x) (v x)) xs (x ∷ xs)) f
-compared_same x xs w v f l k r el ek er t free was = subst (λ b. Forked w v (cond b xs (x ∷ xs)) f) (sym t ∙ same_is x xs w v f l k r free el ek er was) was
+compared_same x xs w v f l k r el ek er t free was = subst (λ b. Forked w v (cond b xs (x ∷ xs)) f)
+    (sym t ∙ same_is x xs w v f l k r free el ek er was) was
 
-pub compared_other : (x : ℕ) (xs : List ℕ) (w v : Wants) (f g : Arms) (l k : List Target) (r : Bool) → l ≡ listed f.some.lists.items x → k ≡ listed f.none.lists.items x → r ≡ same_spots l k → r ≡ false → is_among x xs ≡ false
+pub compared_other : (x : ℕ) (xs : List ℕ) (w v : Wants) (f g : Arms) (l k : List Target) (r : Bool)
+    → l ≡ listed f.some.lists.items x → k ≡ listed f.none.lists.items x → r ≡ same_spots l k → r ≡ false
+    → is_among x xs ≡ false
     → Forked w v xs f → Forked w v (x ∷ xs) g → Forked w v (cond (same_spots (w x) (v x)) xs (x ∷ xs)) g
-compared_other x xs w v f g l k r el ek er t free was end = subst (λ b. Forked w v (cond b xs (x ∷ xs)) g) (sym t ∙ same_is x xs w v f l k r free el ek er was) end
+compared_other x xs w v f g l k r el ek er t free was end = subst (λ b. Forked w v (cond b xs (x ∷ xs)) g)
+    (sym t ∙ same_is x xs w v f l k r free el ek er was) end
 
-among_either : (x y : ℕ) (ys : List ℕ) (b : Bool) → x < y → is_among x ys ≡ false → is_among x (cond b ys (y ∷ ys)) ≡ false
+among_either : (x y : ℕ) (ys : List ℕ) (b : Bool) → x < y → is_among x ys ≡ false
+    → is_among x (cond b ys (y ∷ ys)) ≡ false
 among_either x y ys true lt e = e
 among_either x y ys false lt e = rw (ne_eqb x y (λ h. absurd (omega arith))) e
 
 -- names before x are not among those from x on
 pub differing_from : (w v : Wants) (x y n : ℕ) → x < y → is_among x (differing w v y n) ≡ false
 differing_from w v x y zero lt = refl
-differing_from w v x y (suc n) lt = among_either x y (differing w v (suc y) n) (same_spots (w y) (v y)) lt (differing_from w v x (suc y) n (omega arith))
+differing_from w v x y (suc n) lt = among_either x y (differing w v (suc y) n) (same_spots (w y) (v y)) lt
+    (differing_from w v x (suc y) n (omega arith))
 
 -- one name more, from the end
-pub forked_next : (w v : Wants) (width k j : ℕ) (f : Arms) → k ≡ suc j → k ≤ width → Forked w v (cond (same_spots (w j) (v j)) (differing w v k (width - k)) (j ∷ differing w v k (width - k))) f → Forked w v (differing w v j (width - j)) f
+pub forked_next : (w v : Wants) (width k j : ℕ) (f : Arms) → k ≡ suc j → k ≤ width
+    → Forked w v (cond (same_spots (w j) (v j)) (differing w v k (width - k))
+    (j ∷ differing w v k (width - k))) f → Forked w v (differing w v j (width - j)) f
 forked_next w v width k j f ek le was =
     let more : width - j ≡ suc (width - k) = omega arith in
-    subst (λ n. Forked w v (differing w v j n) f) (sym more) (subst (λ i. Forked w v (cond (same_spots (w j) (v j)) (differing w v i (width - k)) (j ∷ differing w v i (width - k))) f) ek was)
+    subst (λ n. Forked w v (differing w v j n) f) (sym more)
+    (subst (λ i. Forked w v (cond (same_spots (w j) (v j)) (differing w v i (width - k))
+    (j ∷ differing w v i (width - k))) f) ek was)
 
 steers_count : (w v : Wants) (xs : List ℕ) → length (steers w v xs) ≡ length xs
 steers_count w v [] = refl
@@ -130,19 +166,24 @@ steers_count w v (x ∷ xs) = ap suc (steers_count w v xs)
 
 tails_count : (w v : Wants) (xs : List ℕ) (f : Arms) → Forked w v xs f → length f.tails.items ≡ length xs
 tails_count w v xs f was =
-    sym (length-map f.tails.items tail_of) ∙ sym (length-reverse (map tail_of f.tails.items)) ∙ ap (λ (ts : List plans.Tail). length ts) was.tails ∙ steers_count w v xs
+    sym (length-map f.tails.items tail_of) ∙ sym (length-reverse (map tail_of f.tails.items))
+    ∙ ap (λ (ts : List plans.Tail). length ts) was.tails ∙ steers_count w v xs
 
-pub last_name : (w v : Wants) (n k : ℕ) (f : Arms) → k ≤ 0 → Forked w v (differing w v k (n - k)) f → Forked w v (differing w v 0 n) f
+pub last_name : (w v : Wants) (n k : ℕ) (f : Arms) → k ≤ 0 → Forked w v (differing w v k (n - k)) f
+    → Forked w v (differing w v 0 n) f
 last_name w v n k f hi was =
     let none : k ≡ 0 = omega arith in let all : n - 0 ≡ n = omega arith in
-    subst (λ i. Forked w v (differing w v 0 i) f) all (subst (λ i. Forked w v (differing w v i (n - i)) f) none was)
+    subst (λ i. Forked w v (differing w v 0 i) f) all (subst (λ i. Forked w v (differing w v i (n - i)) f)
+    none was)
 
 -- some name is steered, where there are tails
-pub steered_some : (w v : Wants) (xs : List ℕ) (f : Arms) (n : ℕ) → length f.tails.items ≡ suc n → Forked w v xs f → Forked w v (or_pulse xs) f
+pub steered_some : (w v : Wants) (xs : List ℕ) (f : Arms) (n : ℕ) → length f.tails.items ≡ suc n
+    → Forked w v xs f → Forked w v (or_pulse xs) f
 steered_some w v [] f n e was = absurd (omega (arith, tails_count w v [] f was))
 steered_some w v (x ∷ xs) f n e was = was
 
-pub steered_none : (w v : Wants) (xs : List ℕ) (f g : Arms) → length f.tails.items ≡ 0 → Forked w v xs f → (is_among pulse [] ≡ false → Forked w v [] f → Forked w v (pulse ∷ []) g) → Forked w v (or_pulse xs) g
+pub steered_none : (w v : Wants) (xs : List ℕ) (f g : Arms) → length f.tails.items ≡ 0 → Forked w v xs f
+    → (is_among pulse [] ≡ false → Forked w v [] f → Forked w v (pulse ∷ []) g) → Forked w v (or_pulse xs) g
 steered_none w v [] f g e was step = step refl was
 steered_none w v (x ∷ xs) f g e was step = absurd (omega (arith, tails_count w v (x ∷ xs) f was))
 
@@ -152,7 +193,8 @@ map_reverse ts = mapped ts []
     mapped : (ts us : List Tail) → map tail_of (reverse ts) ≡ reverse (map tail_of ts)
     mapped [] us = refl
     mapped (t ∷ ts) us =
-        ap (λ (z : List Tail). map tail_of z) (reverse-append (t ∷ []) ts) ∙ map-append tail_of (reverse ts) (t ∷ [])
+        ap (λ (z : List Tail). map tail_of z) (reverse-append (t ∷ []) ts)
+        ∙ map-append tail_of (reverse ts) (t ∷ [])
         ∙ ap (λ (z : List plans.Tail). z ++ tail_of t ∷ []) (mapped ts us)
         ∙ sym (reverse-append (tail_of t ∷ []) (map tail_of ts))
 
@@ -164,4 +206,5 @@ pub lengths_differ : (ps qs : List Target) → (length ps ≡ length qs → ⊥)
 lengths_differ [] [] n = absurd (n refl)
 lengths_differ [] (q ∷ qs) n = refl
 lengths_differ (p ∷ ps) [] n = refl
-lengths_differ (p ∷ ps) (q ∷ qs) n = false_and (same_spot p q) (same_spots ps qs) (lengths_differ ps qs (λ e. n (ap suc e)))
+lengths_differ (p ∷ ps) (q ∷ qs) n = false_and (same_spot p q) (same_spots ps qs)
+    (lengths_differ ps qs (λ e. n (ap suc e)))

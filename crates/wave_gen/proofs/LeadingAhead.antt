@@ -31,9 +31,11 @@ zero_ahead : (ps : List Plan) → LeadsAhead ps 0 (plan_at ps 0).exit
 unfolding plan_at no_plan
 zero_ahead ps = tt
 
-pub plans_lead_ahead : (ps : List Plan) (width : ℕ) (Live : ℕ → ℕ → Type 0) → PlansAre ps width Live → (b : ℕ) → LeadsAhead ps b (plan_at ps b).exit
+pub plans_lead_ahead : (ps : List Plan) (width : ℕ) (Live : ℕ → ℕ → Type 0) → PlansAre ps width Live → (b : ℕ)
+    → LeadsAhead ps b (plan_at ps b).exit
 plans_lead_ahead ps width Live are zero = zero_ahead ps
 plans_lead_ahead ps width Live are (suc b) = elim (cases_lt b (length ps)) [
-  | inl lt ↦ edges_ahead ps (suc b) (plan_at ps (suc b)).exit (are.each (suc b) (omega arith, omega arith)).edges
+  | inl lt ↦ edges_ahead ps (suc b) (plan_at ps (suc b)).exit
+      (are.each (suc b) (omega arith, omega arith)).edges
   | inr ge ↦ past_ahead ps (suc b) (omega arith)
 ]

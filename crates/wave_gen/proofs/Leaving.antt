@@ -1,5 +1,6 @@
 -- How many blocks a walk leaves.
-use Rattle.std.proofs.Common.{ℕ, zero, suc, ◌+◌, ◌-◌, ◌≡◌, ◌≤◌, Bool, true, false, cond, List, [], ◌∷◌, ◌++◌, length, Some, None, refl, ap, ◌∙◌, subst, inl, inr, arith, length-append}
+use Rattle.std.proofs.Common.{ℕ, zero, suc, ◌+◌, ◌-◌, ◌≡◌, ◌≤◌, Bool, true, false, cond, List, [], ◌∷◌, ◌++◌}
+use Rattle.std.proofs.Common.{length, Some, None, refl, ap, ◌∙◌, subst, inl, inr, arith, length-append}
 use Rattle.std.proofs.lemmas.Bool.{cases_order, cond-true}
 use Rattle.ws_words.specs.Outside.{Outside, World}
 use Rattle.ws_isa.specs.Image.{Image}
@@ -13,11 +14,14 @@ use Rattle.wave_link.proofs.WalksOf.{over_next}
 
 module _ (image : Image) (world : World) where
   -- each step fires an instruction or leaves a block
-  one_step : (t : ℕ) → blocks_left image world (suc t) + length (walk image world (suc t)) ≤ suc (blocks_left image world t + length (walk image world t))
+  one_step : (t : ℕ) → blocks_left image world (suc t) + length (walk image world (suc t))
+      ≤ suc (blocks_left image world t + length (walk image world t))
   unfolding blocks_left walk fires fires_from
-  one_step t = go (blocks_left image world t) (walk image world t) (inst_at image (pos image world t)) (pos image world t).over (is_within image (pos image world t))
+  one_step t = go (blocks_left image world t) (walk image world t) (inst_at image (pos image world t))
+      (pos image world t).over (is_within image (pos image world t))
     where
-      go : (n : ℕ) (xs : List Inst) (i : Inst) (o w : Bool) → n + cond o 0 (cond w 0 1) + length (with_inst xs (cond o None (cond w (Some i) None))) ≤ suc (n + length xs)
+      go : (n : ℕ) (xs : List Inst) (i : Inst) (o w : Bool) → n + cond o 0 (cond w 0 1) + length
+          (with_inst xs (cond o None (cond w (Some i) None))) ≤ suc (n + length xs)
       go n xs i true w = omega arith
       go n xs i false true = let e = length-append xs (i ∷ []) in omega (arith, e)
       go n xs i false false = omega arith
@@ -38,12 +42,15 @@ module _ (image : Image) (world : World) where
       let a = left_up d t in let b = left_grows (d + t) in
       rw e (omega (arith, a, b))
 
-  none_left : (t : ℕ) → (pos image world t).over ≡ true → blocks_left image world (suc t) ≤ blocks_left image world t
+  none_left : (t : ℕ) → (pos image world t).over ≡ true → blocks_left image world (suc t) ≤ blocks_left image
+      world t
   unfolding blocks_left
   none_left t o =
-      let e : where_left image (pos image world t) 1 ≡ zero = cond-true (pos image world t).over 0 _ o in omega (arith, e)
+      let e : where_left image (pos image world t) 1 ≡ zero = cond-true (pos image world t).over 0 _ o in
+      omega (arith, e)
 
-  quiet : (d t : ℕ) → (pos image world t).over ≡ true → ((pos image world (d + t)).over ≡ true) × (blocks_left image world (d + t) ≤ blocks_left image world t)
+  quiet : (d t : ℕ) → (pos image world t).over ≡ true → ((pos image world (d + t)).over ≡ true)
+      × (blocks_left image world (d + t) ≤ blocks_left image world t)
   quiet zero t o = let e : 0 + t ≡ t = omega arith in rw e (o, omega arith)
   quiet (suc d) t o =
       let e : suc d + t ≡ suc (d + t) = omega arith in
@@ -51,7 +58,8 @@ module _ (image : Image) (world : World) where
       rw e (over_next image world (d + t) i.0, omega (arith, i.1, l))
 
   -- once the walk is over it leaves no more
-  pub most_left : (t : ℕ) → (pos image world t).over ≡ true → (u : ℕ) → blocks_left image world u ≤ blocks_left image world t
+  pub most_left : (t : ℕ) → (pos image world t).over ≡ true → (u : ℕ) → blocks_left image world u
+      ≤ blocks_left image world t
   most_left t o u = elim (cases_order u t) [
     | inl e ↦ rw e (omega arith)
     | inr r ↦ elim r [
@@ -70,13 +78,17 @@ module _ (g : Graph) where
   walk_going (suc m) o p k e = walk_going m o p k e
 
   -- a walk is over once it has left its blocks
-  pub path_enough : (m : ℕ) (c : Config) (o : Outside) (k : ℕ) → graph.walk g m c ≡ Over o k → graph.walk g (length (path g m c)) c ≡ Over o k
+  pub path_enough : (m : ℕ) (c : Config) (o : Outside) (k : ℕ) → graph.walk g m c ≡ Over o k
+      → graph.walk g (length (path g m c)) c ≡ Over o k
   path_enough zero c o k e = e
   path_enough (suc m) (Over p j) o k e = path_enough m (Over p j) o k e
   path_enough (suc m) (Going p) o k e = absurd (walk_going m p o k e)
-  path_enough (suc m) (At b s frames j) o k e = go (graph.step g (At b s frames j)) refl (path_enough m (graph.step g (At b s frames j)) o k e) e
+  path_enough (suc m) (At b s frames j) o k e = go (graph.step g (At b s frames j)) refl
+      (path_enough m (graph.step g (At b s frames j)) o k e) e
     where
-      go : (c : Config) → graph.step g (At b s frames j) ≡ c → graph.walk g (length (path g m c)) c ≡ Over o k → graph.walk g m c ≡ Over o k → graph.walk g (length (block_left (At b s frames j) c ++ path g m c)) (At b s frames j) ≡ Over o k
+      go : (c : Config) → graph.step g (At b s frames j) ≡ c → graph.walk g (length (path g m c)) c ≡ Over o k
+          → graph.walk g m c ≡ Over o k → graph.walk g (length (block_left (At b s frames j) c ++ path g m c))
+          (At b s frames j) ≡ Over o k
       go (At c t fs i) to h w = ap (graph.walk g (length (path g m (At c t fs i)))) to ∙ h
       go (Over p i) to h w = ap (graph.walk g (length (path g m (Over p i)))) to ∙ h
       go (Going p) to h w = absurd (walk_going m p o k w)

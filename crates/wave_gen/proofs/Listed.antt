@@ -1,5 +1,7 @@
 -- What is wanted by a table after a change.
-use Rattle.std.proofs.Common.{drop, slice_index, add-one, ℕ, zero, suc, ◌+◌, ◌≡◌, ◌<◌, ◌≤◌, Bool, true, false, cond, eqb, List, [], ◌∷◌, ◌++◌, length, slice_set, refl, sym, ap, ◌∙◌, arith, inl, inr, eq-eqb, ne_eqb}
+use Rattle.std.proofs.Common.{drop, slice_index, add-one, ℕ, zero, suc, ◌+◌, ◌≡◌, ◌<◌, ◌≤◌, Bool, true, false}
+use Rattle.std.proofs.Common.{cond, eqb, List, [], ◌∷◌, ◌++◌, length, slice_set, refl, sym, ap, ◌∙◌, arith}
+use Rattle.std.proofs.Common.{inl, inr, eq-eqb, ne_eqb}
 use Rattle.std.proofs.lemmas.Bool.{cases_eq}
 use Rattle.std.proofs.lemmas.List.{drop_more}
 use Rattle.std.specs.Prelude.{Vec, slice_index_or}
@@ -10,7 +12,8 @@ use Rattle.wave_gen.specs.Tables.{listed}
 abbrev pub Lists : Type 0
 Lists = List (Vec Target Global)
 
-pub list_at : (vs : Lists) (x : ℕ) (v : Vec Target Global) → x < length vs → v ≡ slice_index_or vs x v → v.items ≡ listed vs x
+pub list_at : (vs : Lists) (x : ℕ) (v : Vec Target Global) → x < length vs → v ≡ slice_index_or vs x v
+    → v.items ≡ listed vs x
 list_at [] x v lt e = absurd (omega arith)
 list_at (w ∷ vs) zero v lt e = ap (λ (u : Vec Target Global). u.items) e
 list_at (w ∷ vs) (suc x) v lt e = list_at vs x v (omega arith) e
@@ -20,26 +23,31 @@ list_past [] x le = refl
 list_past (w ∷ vs) zero le = absurd (omega arith)
 list_past (w ∷ vs) (suc x) le = list_past vs x (omega arith)
 
-set_same : (vs : Lists) (x : ℕ) (v : Vec Target Global) → x < length vs → listed (slice_set vs x v) x ≡ v.items
+set_same : (vs : Lists) (x : ℕ) (v : Vec Target Global) → x < length vs
+    → listed (slice_set vs x v) x ≡ v.items
 set_same [] x v lt = absurd (omega arith)
 set_same (w ∷ vs) zero v lt = refl
 set_same (w ∷ vs) (suc x) v lt = set_same vs x v (omega arith)
 
-set_other : (vs : Lists) (x y : ℕ) (v : Vec Target Global) → (y ≡ x → ⊥) → listed (slice_set vs x v) y ≡ listed vs y
+set_other : (vs : Lists) (x y : ℕ) (v : Vec Target Global) → (y ≡ x → ⊥)
+    → listed (slice_set vs x v) y ≡ listed vs y
 set_other [] x y v n = refl
 set_other (w ∷ vs) zero zero v n = absurd (n refl)
 set_other (w ∷ vs) zero (suc y) v n = refl
 set_other (w ∷ vs) (suc x) zero v n = refl
 set_other (w ∷ vs) (suc x) (suc y) v n = set_other vs x y v (λ e. n (ap suc e))
 
-set_at : (vs : Lists) (x y : ℕ) (v : Vec Target Global) → x < length vs → listed (slice_set vs x v) y ≡ cond (eqb y x) v.items (listed vs y)
+set_at : (vs : Lists) (x y : ℕ) (v : Vec Target Global) → x < length vs
+    → listed (slice_set vs x v) y ≡ cond (eqb y x) v.items (listed vs y)
 set_at vs x y v lt = elim (cases_eq y x) [
   | inl e ↦ ap (listed (slice_set vs x v)) e ∙ set_same vs x v lt ∙ sym (rw (eq-eqb y x e) refl)
   | inr n ↦ set_other vs x y v n ∙ sym (rw (ne_eqb y x n) refl)
 ]
 
-pub list_set : (vs : Lists) (x : ℕ) (v : Vec Target Global) (l : List Target) → x < length vs → v.items ≡ l → ◌≡◌ {A = Wants} (listed (slice_set vs x v)) (with_wants (listed vs) x l)
-list_set vs x v l lt e = λ i y. (set_at vs x y v lt ∙ ap (λ (k : List Target). cond (eqb y x) k (listed vs y)) e) i
+pub list_set : (vs : Lists) (x : ℕ) (v : Vec Target Global) (l : List Target) → x < length vs → v.items ≡ l
+    → ◌≡◌ {A = Wants} (listed (slice_set vs x v)) (with_wants (listed vs) x l)
+list_set vs x v l lt e = λ i y. (set_at vs x y v lt ∙ ap (λ (k : List Target). cond (eqb y x) k (listed vs y))
+    e) i
 
 push_at : (vs : Lists) (v : Vec Target Global) (y : ℕ) → v.items ≡ [] → listed (vs ++ v ∷ []) y ≡ listed vs y
 push_at [] v zero e = e
@@ -48,7 +56,8 @@ push_at (w ∷ vs) v zero e = refl
 push_at (w ∷ vs) v (suc y) e = push_at vs v y e
 
 -- an empty list more
-pub list_push : (vs : Lists) (v : Vec Target Global) → v.items ≡ [] → ◌≡◌ {A = Wants} (listed (vs ++ v ∷ [])) (listed vs)
+pub list_push : (vs : Lists) (v : Vec Target Global) → v.items ≡ [] → ◌≡◌ {A = Wants} (listed (vs ++ v ∷ []))
+    (listed vs)
 list_push vs v e = λ i y. push_at vs v y e i
 
 none_at : (w : Wants) (x y : ℕ) → w x ≡ [] → w y ≡ with_wants w x [] y
@@ -65,26 +74,36 @@ twice_at true l k m = refl
 twice_at false l k m = refl
 
 -- the last list stays
-pub wanted_twice : (w : Wants) (x : ℕ) (k l : List Target) → ◌≡◌ {A = Wants} (with_wants (with_wants w x k) x l) (with_wants w x l)
+pub wanted_twice : (w : Wants) (x : ℕ) (k l : List Target)
+    → ◌≡◌ {A = Wants} (with_wants (with_wants w x k) x l) (with_wants w x l)
 wanted_twice w x k l = λ i y. twice_at (eqb y x) l k (w y) i
 
 pub wanted_other : (w : Wants) (x y : ℕ) (l : List Target) → (x ≡ y → ⊥) → with_wants w x l y ≡ w y
 wanted_other w x y l n = rw (ne_eqb y x (λ e. n (sym e))) refl
 
 -- the front of a name's list
-pub wanted_more : (w v u : Wants) (x : ℕ) (p : Target) (l k : List Target) → l ≡ w x → k ≡ p ∷ l → ◌≡◌ {A = Wants} v (with_wants w x []) → ◌≡◌ {A = Wants} u (with_wants v x k) → ◌≡◌ {A = Wants} u (with_wants w x (p ∷ w x))
-wanted_more w v u x p l k el ek ev eu = eu ∙ ap (λ (z : Wants). with_wants z x k) ev ∙ wanted_twice w x [] k ∙ ap (λ (z : List Target). with_wants w x z) (ek ∙ ap (λ (z : List Target). p ∷ z) el)
+pub wanted_more : (w v u : Wants) (x : ℕ) (p : Target) (l k : List Target) → l ≡ w x → k ≡ p ∷ l
+    → ◌≡◌ {A = Wants} v (with_wants w x []) → ◌≡◌ {A = Wants} u (with_wants v x k)
+    → ◌≡◌ {A = Wants} u (with_wants w x (p ∷ w x))
+wanted_more w v u x p l k el ek ev eu = eu ∙ ap (λ (z : Wants). with_wants z x k) ev ∙ wanted_twice w x [] k
+    ∙ ap (λ (z : List Target). with_wants w x z) (ek ∙ ap (λ (z : List Target). p ∷ z) el)
 
 -- one name's list to another's
-pub wanted_moved : (w v u : Wants) (x y : ℕ) (l k : List Target) → (x ≡ y → ⊥) → l ≡ w x → ◌≡◌ {A = Wants} v (with_wants w x []) → k ≡ l ++ v y → ◌≡◌ {A = Wants} u (with_wants v y k) → ◌≡◌ {A = Wants} u (moved x y w)
+pub wanted_moved : (w v u : Wants) (x y : ℕ) (l k : List Target) → (x ≡ y → ⊥) → l ≡ w x
+    → ◌≡◌ {A = Wants} v (with_wants w x []) → k ≡ l ++ v y → ◌≡◌ {A = Wants} u (with_wants v y k)
+    → ◌≡◌ {A = Wants} u (moved x y w)
 wanted_moved w v u x y l k n el ev ek eu =
     let at : v y ≡ w y = ap (λ (z : Wants). z y) ev ∙ wanted_other w x y [] n in
-    let ey : k ≡ w x ++ w y = ek ∙ ap (λ (z : List Target). l ++ z) at ∙ ap (λ (z : List Target). z ++ w y) el in
-    eu ∙ ap (λ (z : Wants). with_wants z y k) ev ∙ ap (λ (z : List Target). with_wants (with_wants w x []) y z) ey
+    let ey : k ≡ w x ++ w y = ek ∙ ap (λ (z : List Target). l ++ z) at ∙ ap (λ (z : List Target). z ++ w y)
+    el in
+    eu ∙ ap (λ (z : Wants). with_wants z y k) ev
+    ∙ ap (λ (z : List Target). with_wants (with_wants w x []) y z) ey
 
 -- one port more is wanted
-pub used_more : (b r : ℕ) (from : List ℕ) (i x : ℕ) (w v t : Wants) → i < length from → x ≡ slice_index from i → ◌≡◌ {A = Wants} v (with_wants w x (Back b r i ∷ w x))
-    → ◌≡◌ {A = Wants} (with_uses b r i (drop i from) w) t → ◌≡◌ {A = Wants} (with_uses b r (i + 1) (drop (i + 1) from) v) t
+pub used_more : (b r : ℕ) (from : List ℕ) (i x : ℕ) (w v t : Wants) → i < length from → x ≡ slice_index from i
+    → ◌≡◌ {A = Wants} v (with_wants w x (Back b r i ∷ w x))
+    → ◌≡◌ {A = Wants} (with_uses b r i (drop i from) w) t
+    → ◌≡◌ {A = Wants} (with_uses b r (i + 1) (drop (i + 1) from) v) t
 used_more b r from i x w v t lt ex ev e =
     ap (with_uses b r (i + 1) (drop (i + 1) from)) ev
     ∙ (rw (ex, add-one) (sym (rw (drop_more from i 0 lt, add-one) refl)))

@@ -1,5 +1,6 @@
 -- What is said of each block by all exits.
-use Rattle.std.proofs.Common.{ℕ, zero, suc, ◌-◌, ◌≡◌, ◌<◌, ◌≤◌, ◌||◌, cond, ltb, true, false, Bool, List, [], ◌∷◌, length, drop, replicate, refl, sym, ap, ◌∙◌, arith}
+use Rattle.std.proofs.Common.{ℕ, zero, suc, ◌-◌, ◌≡◌, ◌<◌, ◌≤◌, ◌||◌, cond, ltb, true, false, Bool, List, []}
+use Rattle.std.proofs.Common.{◌∷◌, length, drop, replicate, refl, sym, ap, ◌∙◌, arith}
 use Rattle.std.proofs.lemmas.Bool.{lt-ltb, le-ltb}
 use Rattle.cfg_core.specs.Graph as graph
 use Rattle.cfg_core.specs.Graph.{Graph, Spot, no_spot, spots, spot_at, block_at}
@@ -12,7 +13,8 @@ pub or_assoc : (x y z : Bool) → ((x || y) || z) ≡ (x || (y || z))
 or_assoc true y z = refl
 or_assoc false y z = refl
 
-pub spot_drop : (g : Graph) (i : ℕ) → i < length (spots g) → drop i (spots g) ≡ spot_at g i ∷ drop (suc i) (spots g)
+pub spot_drop : (g : Graph) (i : ℕ) → i < length (spots g) → drop i (spots g) ≡ spot_at g i ∷ drop (suc i)
+    (spots g)
 unfolding spot_at
 spot_drop g i l = at (spots g) i l
   where
@@ -22,17 +24,21 @@ spot_drop g i l = at (spots g) i l
     at (x ∷ xs) (suc i) l = at xs i (omega (arith, l))
 
 -- one block more, from the last to the first
-pub some_next : (f : graph.Exit → List ℕ) (g : Graph) (j b : ℕ) (old new : Bool) → 0 < j → j ≤ length (spots g) → old ≡ in_some f (drop j (spots g)) b → new ≡ (old || is_among b (f (block_at g (j - 1)).exit)) → new ≡ in_some f (drop (j - 1) (spots g)) b
+pub some_next : (f : graph.Exit → List ℕ) (g : Graph) (j b : ℕ) (old new : Bool) → 0 < j
+    → j ≤ length (spots g) → old ≡ in_some f (drop j (spots g)) b
+    → new ≡ (old || is_among b (f (block_at g (j - 1)).exit)) → new ≡ in_some f (drop (j - 1) (spots g)) b
 some_next f g j b old new o l h e =
     let i = j - 1 in let z : j ≡ suc i = omega arith in
     e ∙ or_comm old (is_among b (f (block_at g i).exit))
     ∙ ap (λ v. is_among b (f (block_at g i).exit) || v) (h ∙ ap (λ k. in_some f (drop k (spots g)) b) z)
     ∙ ap (λ (xs : List Spot). in_some f xs b) (sym (spot_drop g i (omega arith)))
 
-pub none_marked : (f : graph.Exit → List ℕ) (s : Spot) (b : ℕ) (v : Bool) → f graph.Stop ≡ [] → s ≡ no_spot → v ≡ (v || is_among b (f s.block.exit))
+pub none_marked : (f : graph.Exit → List ℕ) (s : Spot) (b : ℕ) (v : Bool) → f graph.Stop ≡ [] → s ≡ no_spot
+    → v ≡ (v || is_among b (f s.block.exit))
 unfolding no_spot
 none_marked f s b v e h =
-    sym (ap (λ (x : Spot). v || is_among b (f x.block.exit)) h ∙ ap (λ (xs : List ℕ). v || is_among b xs) e ∙ or_false v)
+    sym (ap (λ (x : Spot). v || is_among b (f x.block.exit)) h ∙ ap (λ (xs : List ℕ). v || is_among b xs) e
+    ∙ or_false v)
 
 pub none_vars : (s : Spot) → s ≡ no_spot → 0 ≡ s.vars
 unfolding no_spot
@@ -47,15 +53,23 @@ pub drop_none : {A : Type 0} (xs : List A) → drop (length xs) xs ≡ []
 drop_none [] = refl
 drop_none (x ∷ xs) = drop_none xs
 
-pub vars_next : (g : Graph) (j most vars : ℕ) → 0 < j → j ≤ length (spots g) → most ≡ most_vars (drop j (spots g)) → vars ≡ (spot_at g (j - 1)).vars → cond (ltb vars most) most vars ≡ most_vars (drop (j - 1) (spots g))
+pub vars_next : (g : Graph) (j most vars : ℕ) → 0 < j → j ≤ length (spots g)
+    → most ≡ most_vars (drop j (spots g)) → vars ≡ (spot_at g (j - 1)).vars
+    → cond (ltb vars most) most vars ≡ most_vars (drop (j - 1) (spots g))
 vars_next g j most vars o l h e =
     let i = j - 1 in let z : j ≡ suc i = omega arith in
     ap (λ m. cond (ltb vars m) m vars) (h ∙ ap (λ k. most_vars (drop k (spots g))) z)
     ∙ ap (λ v. cond (ltb v (most_vars (drop (suc i) (spots g)))) (most_vars (drop (suc i) (spots g))) v) e
     ∙ ap most_vars (sym (spot_drop g i (omega arith)))
 
-pub vars_more : (g : Graph) (j most vars : ℕ) → 0 < j → j ≤ length (spots g) → most ≡ most_vars (drop j (spots g)) → vars ≡ (spot_at g (j - 1)).vars → most ≤ vars → vars ≡ most_vars (drop (j - 1) (spots g))
-vars_more g j most vars o l h e m = sym (ap (λ v. cond v most vars) (le-ltb vars most m)) ∙ vars_next g j most vars o l h e
+pub vars_more : (g : Graph) (j most vars : ℕ) → 0 < j → j ≤ length (spots g)
+    → most ≡ most_vars (drop j (spots g)) → vars ≡ (spot_at g (j - 1)).vars → most ≤ vars
+    → vars ≡ most_vars (drop (j - 1) (spots g))
+vars_more g j most vars o l h e m = sym (ap (λ v. cond v most vars) (le-ltb vars most m))
+    ∙ vars_next g j most vars o l h e
 
-pub vars_less : (g : Graph) (j most vars : ℕ) → 0 < j → j ≤ length (spots g) → most ≡ most_vars (drop j (spots g)) → vars ≡ (spot_at g (j - 1)).vars → vars < most → most ≡ most_vars (drop (j - 1) (spots g))
-vars_less g j most vars o l h e m = sym (ap (λ v. cond v most vars) (lt-ltb vars most m)) ∙ vars_next g j most vars o l h e
+pub vars_less : (g : Graph) (j most vars : ℕ) → 0 < j → j ≤ length (spots g)
+    → most ≡ most_vars (drop j (spots g)) → vars ≡ (spot_at g (j - 1)).vars → vars < most
+    → most ≡ most_vars (drop (j - 1) (spots g))
+vars_less g j most vars o l h e m = sym (ap (λ v. cond v most vars) (lt-ltb vars most m))
+    ∙ vars_next g j most vars o l h e

@@ -29,7 +29,17 @@ abbrev IsOther : Op → Type 0
 IsOther op = is_nop op ≡ false
 
 plain_other : Plain IsOther
-plain_other = record { top = refl; alu = λ o. refl; merge = refl; phi = refl; input = refl; output = refl; steer = refl; send = λ p. refl; halt = refl }
+plain_other = record {
+  top = refl;
+  alu = λ o. refl;
+  merge = refl;
+  phi = refl;
+  input = refl;
+  output = refl;
+  steer = refl;
+  send = λ p. refl;
+  halt = refl;
+}
 
 term_other : (t : Term) → TermHas IsOther t
 term_other (Number zero) = tt
@@ -68,17 +78,23 @@ exit_other (graph.Return t) = term_other t
 exit_other (graph.Send t ts ls) = (term_other t, terms_other ts)
 exit_other graph.Stop = tt
 
-all_other : (g : Graph) (live : ℕ → ℕ → Bool) (cut : Cut) → Fits g live cut → AllByRecursion (λ i. IsOther i.op) (flat (draft_of (arrays_of g) (width_of g) (plans_of g live cut)).blocks)
+all_other : (g : Graph) (live : ℕ → ℕ → Bool) (cut : Cut) → Fits g live cut
+    → AllByRecursion (λ i. IsOther i.op)
+    (flat (draft_of (arrays_of g) (width_of g) (plans_of g live cut)).blocks)
 all_other g live cut fit =
-    let has : BlocksHave g live cut fit IsOther plain_other = record { ops = λ b l. ops_other (block_at g b).ops; exits = λ b l. exit_other (block_at g b).exit } in
+    let has : BlocksHave g live cut fit IsOther plain_other =
+    record { ops = λ b l. ops_other (block_at g b).ops; exits = λ b l. exit_other (block_at g b).exit } in
     all_instrs (arrays_of g) (width_of g) (plans_of g live cut) (λ i. IsOther i.op)
-    (op_has (arrays_of g) (width_of g) (plans_of g live cut) (λ n x. needed g live cut n x ≡ true) (plans_are g live cut fit) (plans_give g live cut fit) (plans_open g live cut fit) IsOther refl refl
+    (op_has (arrays_of g) (width_of g) (plans_of g live cut) (λ n x. needed g live cut n x ≡ true)
+    (plans_are g live cut fit) (plans_give g live cut fit) (plans_open g live cut fit) IsOther refl refl
     (plan_items g live cut fit IsOther plain_other has) (plan_kind g live cut fit IsOther plain_other has))
 
 -- the draft of a graph has no no-op
-pub graph_no_nop : (g : Graph) (live : ℕ → ℕ → Bool) (cut : Cut) → Fits g live cut → HasNoNop (graph_draft g (arrays_of g) live cut)
+pub graph_no_nop : (g : Graph) (live : ℕ → ℕ → Bool) (cut : Cut) → Fits g live cut
+    → HasNoNop (graph_draft g (arrays_of g) live cut)
 unfolding graph_draft
 graph_no_nop g live cut fit k i e =
     let image : Image = draft_of (arrays_of g) (width_of g) (plans_of g live cut) in
-    let other : is_nop Nop ≡ false = ap is_nop (sym e) ∙ instr_of_all (λ j. IsOther j.op) image k (all_other g live cut fit) i in
+    let other : is_nop Nop ≡ false = ap is_nop (sym e) ∙ instr_of_all (λ j. IsOther j.op) image k
+    (all_other g live cut fit) i in
     let z : true ≡ false = other in cc

@@ -1,20 +1,25 @@
 -- The numbers of the blocks and instructions of a draft.
-use Rattle.std.proofs.Common.{ℕ, zero, suc, ◌+◌, ◌-◌, ◌≡◌, ◌<◌, ◌≤◌, List, [], ◌∷◌, length, map, Some, None, refl, sym, ap, ◌∙◌, arith}
-use Rattle.ws_isa.specs.Image.{Image, Instr, Block, Array, flat, first_of, first_number, instr_at, block_at, IsBlock}
+use Rattle.std.proofs.Common.{ℕ, zero, suc, ◌+◌, ◌-◌, ◌≡◌, ◌<◌, ◌≤◌, List, [], ◌∷◌, length, map, Some, None}
+use Rattle.std.proofs.Common.{refl, sym, ap, ◌∙◌, arith}
+use Rattle.ws_isa.specs.Image.{Image, Instr, Block, Array, flat, first_of, first_number, instr_at, block_at}
+use Rattle.ws_isa.specs.Image.{IsBlock}
 use Rattle.wave_gen.specs.Wire.{WiredInstr, Made}
-use Rattle.wave_gen.specs.Plans.{Plan, no_made, mades, made_at, blocks_from, numbers, begins, instr_of, block_of, blocks_of, draft_of}
+use Rattle.wave_gen.specs.Plans.{Plan, no_made, mades, made_at, blocks_from, numbers, begins, instr_of}
+use Rattle.wave_gen.specs.Plans.{block_of, blocks_of, draft_of}
 use Rattle.ws_isa.proofs.Steps.{first_of_pos}
 use Rattle.ws_words.proofs.Lists.{length_map}
 use Rattle.ws_isa.proofs.Blocks.{nth_append_right}
 use Rattle.ws_words.specs.Items.{nth, or_else}
 use Rattle.ws_words.proofs.Places.{nth_short, nth_append_left}
 
-pub nth_map : {A B : Type 0} (f : A → B) (xs : List A) (i : ℕ) (x : A) → nth xs i ≡ Some x → nth (map f xs) i ≡ Some (f x)
+pub nth_map : {A B : Type 0} (f : A → B) (xs : List A) (i : ℕ) (x : A) → nth xs i ≡ Some x
+    → nth (map f xs) i ≡ Some (f x)
 nth_map f [] i x e = absurd (let a : None ≡ Some x = e in cc)
 nth_map f (y ∷ xs) zero x e = let g : y ≡ x = cc in rw g refl
 nth_map f (y ∷ xs) (suc i) x e = nth_map f xs i x e
 
-flat_nth : (bs : List Block) (b i : ℕ) (x : Block) (n : Instr) → nth bs b ≡ Some x → nth x.instrs i ≡ Some n → nth (flat bs) ((first_of bs b + i) - 1) ≡ Some n
+flat_nth : (bs : List Block) (b i : ℕ) (x : Block) (n : Instr) → nth bs b ≡ Some x → nth x.instrs i ≡ Some n
+    → nth (flat bs) ((first_of bs b + i) - 1) ≡ Some n
 flat_nth [] b i x n e f = absurd (let a : None ≡ Some x = e in cc)
 flat_nth (y ∷ bs) zero i x n e f =
     let h : y ≡ x = cc in let g : (1 + i) - 1 ≡ i = omega arith in
@@ -22,7 +27,8 @@ flat_nth (y ∷ bs) zero i x n e f =
     rw g (nth_append_left y.instrs (flat bs) i (nth_short y.instrs i n f') ∙ f')
 flat_nth (y ∷ bs) (suc b) i x n e f =
     let h : 1 ≤ first_of bs b = first_of_pos bs b in
-    let g : (length y.instrs + first_of bs b + i) - 1 ≡ length y.instrs + ((first_of bs b + i) - 1) = omega arith in
+    let g : (length y.instrs + first_of bs b + i) - 1 ≡ length y.instrs + ((first_of bs b + i) - 1) =
+    omega arith in
     rw g (nth_append_right y.instrs (flat bs) ((first_of bs b + i) - 1) ∙ flat_nth bs b i x n e f)
 
 module _ (arrays : List Array) (width : ℕ) (ps : List Plan) where
@@ -37,12 +43,19 @@ module _ (arrays : List Array) (width : ℕ) (ps : List Plan) where
   unfolding mades
   mades_count = from_count 1 ps
 
-  firsts : (ms : List Made) (s n i : ℕ) → ((j : ℕ) → made_at width ps (suc s + j) ≡ or_else (nth ms j) no_made) → n ≡ length ms → first_of (blocks_of width ps (suc s) n) i ≡ numbers ms i
+  firsts : (ms : List Made) (s n i : ℕ)
+      → ((j : ℕ) → made_at width ps (suc s + j) ≡ or_else (nth ms j) no_made) → n ≡ length ms
+      → first_of (blocks_of width ps (suc s) n) i ≡ numbers ms i
   firsts [] s n i h e = rw e refl
   firsts (m ∷ ms) s n zero h e = rw e refl
   firsts (m ∷ ms) s n (suc i) h e =
       let here : made_at width ps (suc s) ≡ m = (let z : suc s + 0 ≡ suc s = omega arith in rw z at (h 0)) in
-      rw e (rw (length_map (instr_of (begins width ps)) (made_at width ps (suc s)).code, here, firsts ms (suc s) (length ms) i (λ j. (let z : suc (suc s) + j ≡ suc s + suc j = omega arith in rw z (h (suc j)))) refl) refl)
+      rw e (rw (
+        length_map (instr_of (begins width ps)) (made_at width ps (suc s)).code,
+        here,
+        firsts ms (suc s) (length ms) i (λ j. (let z : suc (suc s) + j ≡ suc s + suc j = omega arith in
+            rw z (h (suc j)))) refl,
+      ) refl)
 
   made_shown : (j : ℕ) → made_at width ps (suc j) ≡ or_else (nth (mades width ps) j) no_made
   unfolding made_at
@@ -64,7 +77,8 @@ module _ (arrays : List Array) (width : ℕ) (ps : List Plan) where
   blocks_nth : (s n i : ℕ) → i < n → nth (blocks_of width ps s n) i ≡ Some (block_of width ps (s + i))
   blocks_nth s zero i l = absurd (omega arith)
   blocks_nth s (suc n) zero l = let z : s + 0 ≡ s = omega arith in rw z refl
-  blocks_nth s (suc n) (suc i) l = let z : s + suc i ≡ suc s + i = omega arith in rw z (blocks_nth (suc s) n i (omega arith))
+  blocks_nth s (suc n) (suc i) l = let z : s + suc i ≡ suc s + i = omega arith in
+      rw z (blocks_nth (suc s) n i (omega arith))
 
   -- b is one of the blocks
   abbrev pub Is : ℕ → Type 0
@@ -72,15 +86,24 @@ module _ (arrays : List Array) (width : ℕ) (ps : List Plan) where
 
   pub is_block : (b : ℕ) → IsBlock I b → Is b
   unfolding draft_of
-  is_block b h = (h.0, let e : length (blocks_of width ps 1 (length ps)) ≡ length ps = blocks_count 1 (length ps) in omega (arith, h.1))
+  is_block b h = (
+    h.0,
+    let e : length (blocks_of width ps 1 (length ps)) ≡ length ps =
+        blocks_count 1 (length ps) in omega (arith, h.1),
+  )
 
   pub block_is : (b : ℕ) → Is b → IsBlock I b
   unfolding draft_of
-  block_is b h = (h.0, let e : length (blocks_of width ps 1 (length ps)) ≡ length ps = blocks_count 1 (length ps) in omega (arith, h.1))
+  block_is b h = (
+    h.0,
+    let e : length (blocks_of width ps 1 (length ps)) ≡ length ps =
+        blocks_count 1 (length ps) in omega (arith, h.1),
+  )
 
   nth_block : (b : ℕ) → suc b ≤ length ps → nth I.blocks b ≡ Some (block_of width ps (suc b))
   unfolding draft_of
-  nth_block b l = blocks_nth 1 (length ps) b l ∙ ap (λ (c : ℕ). Some (block_of width ps c)) (let z : 1 + b ≡ suc b = omega arith in z)
+  nth_block b l = blocks_nth 1 (length ps) b l ∙ ap (λ (c : ℕ). Some (block_of width ps c))
+      (let z : 1 + b ≡ suc b = omega arith in z)
 
   pub block_at_is : (b : ℕ) → Is b → block_at I b ≡ block_of width ps b
   unfolding block_at
@@ -91,18 +114,24 @@ module _ (arrays : List Array) (width : ℕ) (ps : List Plan) where
   unfolding first_number
   first_shown b i = refl
 
-  instr_shown : (k m : ℕ) (n : Instr) → 1 ≤ m → k ≡ m → nth (flat I.blocks) (m - 1) ≡ Some n → instr_at I k ≡ n
+  instr_shown : (k m : ℕ) (n : Instr) → 1 ≤ m → k ≡ m → nth (flat I.blocks) (m - 1) ≡ Some n
+      → instr_at I k ≡ n
   unfolding instr_at
   instr_shown zero m n l e f = absurd (omega arith)
-  instr_shown (suc k) m n l e f = let z : m - 1 ≡ k = omega arith in let g : nth (flat I.blocks) k ≡ Some n = rw z at f in rw g refl
+  instr_shown (suc k) m n l e f = let z : m - 1 ≡ k = omega arith in let g : nth (flat I.blocks) k ≡ Some n =
+      rw z at f in rw g refl
 
   -- the instruction for a line
-  pub instr_is : (b i : ℕ) (line : WiredInstr) → Is b → nth (made_at width ps b).code i ≡ Some line → instr_at I (begins width ps b + i) ≡ instr_of (begins width ps) line
+  pub instr_is : (b i : ℕ) (line : WiredInstr) → Is b → nth (made_at width ps b).code i ≡ Some line
+      → instr_at I (begins width ps b + i) ≡ instr_of (begins width ps) line
   instr_is zero i line h e = absurd (omega (arith, h.0))
   instr_is (suc b) i line h e = rw (sym (number_is (suc b))) (go (first_number I (suc b) + i) refl)
     where
       at_place : nth (flat I.blocks) ((first_of I.blocks b + i) - 1) ≡ Some (instr_of (begins width ps) line)
-      at_place = flat_nth I.blocks b i (block_of width ps (suc b)) (instr_of (begins width ps) line) (nth_block b h.1) (nth_map (instr_of (begins width ps)) (made_at width ps (suc b)).code i line e)
+      at_place = flat_nth I.blocks b i (block_of width ps (suc b)) (instr_of (begins width ps) line)
+          (nth_block b h.1) (nth_map (instr_of (begins width ps)) (made_at width ps (suc b)).code i line e)
 
       go : (k : ℕ) → k ≡ first_number I (suc b) + i → instr_at I k ≡ instr_of (begins width ps) line
-      go k f = instr_shown k (first_of I.blocks b + i) (instr_of (begins width ps) line) (let z : 1 ≤ first_of I.blocks b = first_of_pos I.blocks b in omega arith) (f ∙ first_shown b i) at_place
+      go k f = instr_shown k (first_of I.blocks b + i) (instr_of (begins width ps) line)
+          (let z : 1 ≤ first_of I.blocks b = first_of_pos I.blocks b in omega arith) (f ∙ first_shown b i)
+          at_place

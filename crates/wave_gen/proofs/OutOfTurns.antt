@@ -1,9 +1,12 @@
 -- What a walk has done when it is out of turns is done first by the walk with more turns.
-use Rattle.std.proofs.Common.{ℕ, zero, suc, ◌+◌, ◌-◌, ◌≡◌, ◌≤◌, ◌==◌, Bool, true, false, if◌then◌else◌, List, [], ◌∷◌, ◌++◌, refl, sym, ap, ◌∙◌, subst, arith}
+use Rattle.std.proofs.Common.{ℕ, zero, suc, ◌+◌, ◌-◌, ◌≡◌, ◌≤◌, ◌==◌, Bool, true, false, if◌then◌else◌, List}
+use Rattle.std.proofs.Common.{[], ◌∷◌, ◌++◌, refl, sym, ap, ◌∙◌, subst, arith}
 use Rattle.ws_words.specs.Outside.{Act, Outside, ProcState}
 use Rattle.ws_words.specs.Past.{ActsBegin}
-use Rattle.cfg_core.specs.Graph.{Op, Assign, Store, Print, Read, Give, Take, Choose, Tick, TickBy, Exit, Goto, Branch, Call, Return, Send, Stop, Graph}
-use Rattle.cfg_core.specs.Walk.{value_of, values_of, OpsOutcome, Done, Out, and_then, spend, run_op, run_ops, Config, At, Over, Going, Frame, leave}
+use Rattle.cfg_core.specs.Graph.{Op, Assign, Store, Print, Read, Give, Take, Choose, Tick, TickBy, Exit, Goto}
+use Rattle.cfg_core.specs.Graph.{Branch, Call, Return, Send, Stop, Graph}
+use Rattle.cfg_core.specs.Walk.{value_of, values_of, OpsOutcome, Done, Out, and_then, spend, run_op, run_ops}
+use Rattle.cfg_core.specs.Walk.{Config, At, Over, Going, Frame, leave}
 use Rattle.wave_gen.proofs.Paced.{op_most, ops_most}
 
 append_nil : (xs : List Act) → xs ≡ xs ++ []
@@ -49,24 +52,55 @@ record Whole (s : ProcState) (m n : ℕ) (run : ℕ → OpsOutcome) : Type 0 whe
   pub same : (k : ℕ) → Agrees state (run k)
 
 at_once : (s u : ProcState) (n : ℕ) → Longer s.out u.out → Whole s 0 n (λ k. Done u k)
-at_once s u n l = record { state = u; left = n; done = refl; enough = omega arith; longer = l; same = λ k. refl }
+at_once s u n l = record {
+  state = u;
+  left = n;
+  done = refl;
+  enough = omega arith;
+  longer = l;
+  same = λ k. refl;
+}
 
 spend_done : (m : ℕ) (s : ProcState) (n : ℕ) → m ≤ n → spend m s n ≡ Done s (n - m)
 spend_done zero s n l = ap (Done s) (let z : n ≡ n - 0 = omega arith in z)
 spend_done (suc m) s zero l = absurd (omega arith)
-spend_done (suc m) s (suc n) l = let e : suc n - suc m ≡ n - m = omega arith in spend_done m s n (omega (arith, l)) ∙ ap (Done s) (sym e)
+spend_done (suc m) s (suc n) l = let e : suc n - suc m ≡ n - m = omega arith in
+    spend_done m s n (omega (arith, l)) ∙ ap (Done s) (sym e)
 
 spend_same : (m : ℕ) (s : ProcState) (k : ℕ) → Agrees s (spend m s k)
 spend_same zero s k = refl
 spend_same (suc m) s zero = refl
 spend_same (suc m) s (suc k) = spend_same m s k
 
-spent : (s u : ProcState) (m most n : ℕ) → m ≤ most → most ≤ n → Longer s.out u.out → Whole s most n (spend m u)
-spent s u m most n l h w = record { state = u; left = n - m; done = spend_done m u n (omega (arith, l, h)); enough = omega (arith, l, h); longer = w; same = spend_same m u }
+spent : (s u : ProcState) (m most n : ℕ) → m ≤ most → most ≤ n → Longer s.out u.out
+    → Whole s most n (spend m u)
+spent s u m most n l h w = record {
+  state = u;
+  left = n - m;
+  done = spend_done m u n (omega (arith, l, h));
+  enough = omega (arith, l, h);
+  longer = w;
+  same = spend_same m u;
+}
 
-either_whole : (s : ProcState) (m n : ℕ) (v : Bool) (x y : ℕ → OpsOutcome) → Whole s m n x → Whole s m n y → Whole s m n (λ k. if v then x k else y k)
-either_whole s m n true x y a b = record { state = a.state; left = a.left; done = a.done; enough = a.enough; longer = a.longer; same = a.same }
-either_whole s m n false x y a b = record { state = b.state; left = b.left; done = b.done; enough = b.enough; longer = b.longer; same = b.same }
+either_whole : (s : ProcState) (m n : ℕ) (v : Bool) (x y : ℕ → OpsOutcome) → Whole s m n x → Whole s m n y
+    → Whole s m n (λ k. if v then x k else y k)
+either_whole s m n true x y a b = record {
+  state = a.state;
+  left = a.left;
+  done = a.done;
+  enough = a.enough;
+  longer = a.longer;
+  same = a.same;
+}
+either_whole s m n false x y a b = record {
+  state = b.state;
+  left = b.left;
+  done = b.done;
+  enough = b.enough;
+  longer = b.longer;
+  same = b.same;
+}
 
 op_whole : (op : Op) (s : ProcState) (n : ℕ) → op_most op ≤ n → Whole s (op_most op) n (run_op op s)
 op_whole (Assign x t) s n h = at_once s _ n (_, refl)
@@ -78,8 +112,10 @@ op_whole (Take p t) s n h = at_once s _ n (_, append_assoc s.out.acts _ _)
 op_whole (Choose x t a b) s n h = either_whole s 0 n ((value_of t s).0 == 0) _ _
     (at_once s _ n (_, append_assoc s.out.acts _ _)) (at_once s _ n (_, append_assoc s.out.acts _ _))
 op_whole (Tick m) s n h = spent s s m m n (omega arith) h (longer_same s.out)
-op_whole (TickBy t i j) s n h = either_whole s (i + j) n ((value_of t s).0 == 0) (spend j (value_of t s).1) (spend i (value_of t s).1)
-    (spent s (value_of t s).1 j (i + j) n (omega arith) h (loads_longer t s)) (spent s (value_of t s).1 i (i + j) n (omega arith) h (loads_longer t s))
+op_whole (TickBy t i j) s n h = either_whole s (i + j) n ((value_of t s).0 == 0) (spend j (value_of t s).1)
+    (spend i (value_of t s).1)
+    (spent s (value_of t s).1 j (i + j) n (omega arith) h (loads_longer t s))
+    (spent s (value_of t s).1 i (i + j) n (omega arith) h (loads_longer t s))
 
 -- operations with enough turns are done
 pub record Ran (o : Outside) (r : OpsOutcome) : Type 0 where
@@ -94,10 +130,17 @@ all_run (op ∷ ops) s n h =
     let w = op_whole op s n (omega (arith, h)) in
     let e : n ≤ w.left + op_most op = w.enough in
     let r = all_run ops w.state w.left (omega (arith, h, e)) in
-    record { state = r.state; left = r.left; done = ap (λ (x : OpsOutcome). and_then x (run_ops ops)) w.done ∙ r.done; longer = longer_trans s.out w.state.out r.state.out w.longer r.longer }
+    record {
+      state = r.state;
+      left = r.left;
+      done = ap (λ (x : OpsOutcome). and_then x (run_ops ops)) w.done
+          ∙ r.done;
+      longer = longer_trans s.out w.state.out r.state.out w.longer r.longer;
+    }
 
 -- operations that are out of turns have done what they do first with enough of them
-pub front_run : (ops : List Op) (s : ProcState) (k n : ℕ) (o : Outside) → run_ops ops s k ≡ Out o → ops_most ops ≤ n → Ran o (run_ops ops s n)
+pub front_run : (ops : List Op) (s : ProcState) (k n : ℕ) (o : Outside) → run_ops ops s k ≡ Out o
+    → ops_most ops ≤ n → Ran o (run_ops ops s n)
 front_run [] s k n o e h = absurd (let z : Done s k ≡ Out o = e in cc)
 front_run (op ∷ ops) s k n o e h = go (run_op op s k) refl (w.same k) (λ t l f m i. front_run ops t l m o f i)
   where
@@ -110,16 +153,29 @@ front_run (op ∷ ops) s k n o e h = go (run_op op s k) refl (w.same k) (λ t l 
     enough : ops_most ops ≤ w.left
     enough = let f : n ≤ w.left + op_most op = w.enough in omega (arith, h, f)
 
-    go : (r : OpsOutcome) → run_op op s k ≡ r → Agrees w.state r → ((t : ProcState) (l : ℕ) → run_ops ops t l ≡ Out o → (m : ℕ) → ops_most ops ≤ m → Ran o (run_ops ops t m)) → Ran o (run_ops (op ∷ ops) s n)
+    go : (r : OpsOutcome) → run_op op s k ≡ r → Agrees w.state r
+        → ((t : ProcState) (l : ℕ) → run_ops ops t l ≡ Out o → (m : ℕ) → ops_most ops ≤ m
+        → Ran o (run_ops ops t m)) → Ran o (run_ops (op ∷ ops) s n)
     go (Done t l) q a ih =
         let f : run_ops ops t l ≡ Out o = ap (λ (x : OpsOutcome). and_then x (run_ops ops)) (sym q) ∙ e in
         let r = ih t l f w.left enough in
-        record { state = r.state; left = r.left; done = first ∙ ap (λ (u : ProcState). run_ops ops u w.left) (sym a) ∙ r.done; longer = r.longer }
+        record {
+          state = r.state;
+          left = r.left;
+          done = first ∙ ap (λ (u : ProcState). run_ops ops u w.left)
+              (sym a) ∙ r.done;
+          longer = r.longer;
+        }
     go (Out p) q a ih =
         let f : Out p ≡ Out o = ap (λ (x : OpsOutcome). and_then x (run_ops ops)) (sym q) ∙ e in
         let z : p ≡ o = cc in
         let r = all_run ops w.state w.left enough in
-        record { state = r.state; left = r.left; done = first ∙ r.done; longer = subst (λ (x : Outside). Longer x r.state.out) (sym a ∙ z) r.longer }
+        record {
+          state = r.state;
+          left = r.left;
+          done = first ∙ r.done;
+          longer = subst (λ (x : Outside). Longer x r.state.out) (sym a ∙ z) r.longer;
+        }
 
 -- what is outside in a configuration
 abbrev pub outside : Config → Outside
@@ -128,15 +184,19 @@ outside (Over o k) = o
 outside (Going o) = o
 
 -- an exit goes on
-pub exit_longer : (g : Graph) (exit : Exit) (s : ProcState) (frames : List Frame) (k : ℕ) → (more : List Act) × ((outside (leave g exit s frames k)).acts ≡ s.out.acts ++ more)
+pub exit_longer : (g : Graph) (exit : Exit) (s : ProcState) (frames : List Frame) (k : ℕ)
+    → (more : List Act) × ((outside (leave g exit s frames k)).acts ≡ s.out.acts ++ more)
 exit_longer g (Goto b) s frames k = longer_same s.out
 exit_longer g (Branch t a b) s frames k = go ((value_of t s).0 == 0)
   where
-    go : (v : Bool) → Longer s.out (outside (if v then At b (value_of t s).1 frames k else At a (value_of t s).1 frames k))
+    go : (v : Bool)
+        → Longer s.out
+        (outside (if v then At b (value_of t s).1 frames k else At a (value_of t s).1 frames k))
     go true = loads_longer t s
     go false = loads_longer t s
 exit_longer g (Call x f ts back) s frames k = all_longer ts s
 exit_longer g (Return t) s [] k = loads_longer t s
 exit_longer g (Return t) s (f ∷ frames) k = loads_longer t s
-exit_longer g (Send t ts ls) s frames k = longer_trans s.out (value_of t s).1.out (values_of ts (value_of t s).1).1.out (loads_longer t s) (all_longer ts (value_of t s).1)
+exit_longer g (Send t ts ls) s frames k = longer_trans s.out (value_of t s).1.out
+    (values_of ts (value_of t s).1).1.out (loads_longer t s) (all_longer ts (value_of t s).1)
 exit_longer g Stop s frames k = longer_same s.out

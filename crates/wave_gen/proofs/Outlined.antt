@@ -1,5 +1,6 @@
 -- The plan of a block, by the outline of its graph.
-use Rattle.std.proofs.Common.{ℕ, suc, ◌+◌, ◌-◌, ◌≡◌, ◌<◌, ◌||◌, cond, not, eqb, true, false, Bool, List, [], ◌∷◌, ◌++◌, length, map, get_or, refl, sym, ap, ◌∙◌, append_assoc, arith}
+use Rattle.std.proofs.Common.{ℕ, suc, ◌+◌, ◌-◌, ◌≡◌, ◌<◌, ◌||◌, cond, not, eqb, true, false, Bool, List, []}
+use Rattle.std.proofs.Common.{◌∷◌, ◌++◌, length, map, get_or, refl, sym, ap, ◌∙◌, append_assoc, arith}
 use Rattle.cfg_core.specs.Graph.{Block, spots, spot_at, block_at}
 use Rattle.cfg_core.specs.View as view
 use Rattle.cfg_core.specs.Shows.{SpotIs, TableIs}
@@ -24,28 +25,45 @@ use Rattle.ws_words.specs.Items.{flag_at}
 use Rattle.cfg_core.specs.Weights.{first_block}
 
 -- one variable more
-pub entries_next : (f : ℕ → Bool) (x vars : ℕ) (old new whole : List ℕ) → x < vars → new ≡ old ++ cond (f x) (suc x ∷ []) [] → old ++ live_from f x (vars - x) ≡ whole → new ++ live_from f (x + 1) (vars - (x + 1)) ≡ whole
+pub entries_next : (f : ℕ → Bool) (x vars : ℕ) (old new whole : List ℕ) → x < vars
+    → new ≡ old ++ cond (f x) (suc x ∷ []) [] → old ++ live_from f x (vars - x) ≡ whole
+    → new ++ live_from f (x + 1) (vars - (x + 1)) ≡ whole
 entries_next f x vars old new whole l e h =
     let z : x + 1 ≡ suc x = omega arith in let n = vars - suc x in let y : vars - x ≡ suc n = omega arith in
     let rest = live_from f (suc x) n in
     ap (λ j. new ++ live_from f j (vars - j)) z
     ∙ ap (λ (xs : List ℕ). xs ++ rest) e
     ∙ append_assoc old (cond (f x) (suc x ∷ []) []) rest
-    ∙ ap (λ (xs : List ℕ). old ++ xs) (elim (f x) as (λ v. cond v (suc x ∷ []) [] ++ rest ≡ cond v (suc x ∷ rest) rest) [ true ↦ refl | false ↦ refl ])
+    ∙ ap (λ (xs : List ℕ). old ++ xs)
+    (elim (f x) as (λ v. cond v (suc x ∷ []) [] ++ rest ≡ cond v (suc x ∷ rest) rest)
+    [ true ↦ refl | false ↦ refl ])
     ∙ ap (λ k. old ++ live_from f x k) (sym y)
     ∙ h
 
 -- the code's plan is this one
-pub plan_is : (p : Plan) (q : plans.Plan) → p.wave ≡ q.wave → p.first ≡ q.first → p.joined ≡ q.joined → p.entries.items ≡ q.entries → p.pads.items ≡ q.pads → map shown.item p.items.items ≡ q.items → shown.leaves p.exit ≡ q.exit → p.test ≡ q.test → shown.plan p ≡ q
-plan_is p q w f j e d i x t = λ k. record { wave = w k; first = f k; joined = j k; entries = e k; pads = d k; items = i k; exit = x k; test = t k }
+pub plan_is : (p : Plan) (q : plans.Plan) → p.wave ≡ q.wave → p.first ≡ q.first → p.joined ≡ q.joined
+    → p.entries.items ≡ q.entries → p.pads.items ≡ q.pads → map shown.item p.items.items ≡ q.items
+    → shown.leaves p.exit ≡ q.exit → p.test ≡ q.test → shown.plan p ≡ q
+plan_is p q w f j e d i x t = λ k. record {
+  wave = w k;
+  first = f k;
+  joined = j k;
+  entries = e k;
+  pads = d k;
+  items = i k;
+  exit = x k;
+  test = t k;
+}
 
-pub spot_of : (t : GraphTable) → TableIs t → (b : ℕ) (x : code.Spot) → b < length t.spots.items → x ≡ get_or t.spots.items b x → SpotIs (spot_at (view.graph t.graph.now) b) x
+pub spot_of : (t : GraphTable) → TableIs t → (b : ℕ) (x : code.Spot) → b < length t.spots.items
+    → x ≡ get_or t.spots.items b x → SpotIs (spot_at (view.graph t.graph.now) b) x
 unfolding spot_at
 spot_of t h b x l e = spot_in t.spots.items (spots (view.graph t.graph.now)) b x h.spots l e
 
 -- code is that of a block where the names of places and variables are the same
 abbrev ItemsOf : (ℕ → ℕ) → ℕ → Block → List Item
-ItemsOf f width x = let d = gen_ops width x.ops in shared none_known (d.items ++ (gen_exit f d.next x.exit).items)
+ItemsOf f width x = let d = gen_ops width x.ops in
+    shared none_known (d.items ++ (gen_exit f d.next x.exit).items)
 
 abbrev ExitOf : (ℕ → ℕ) → ℕ → Block → HowLeft
 ExitOf f width x = (gen_exit f (gen_ops width x.ops).next x.exit).exit
@@ -53,14 +71,19 @@ ExitOf f width x = (gen_exit f (gen_ops width x.ops).next x.exit).exit
 abbrev TestOf : ℕ → Block → ℕ
 TestOf width x = exit_next (gen_ops width x.ops).next x.exit
 
-pub plan_made : (o : PlanGround) → OutlineIs o → (b : ℕ) → b < length (spots (view.graph o.table.graph.now)) → (x : code.Spot) → SpotIs (spot_at (view.graph o.table.graph.now) b) x → (p : Plan) →
-    p.wave ≡ turned_at o.waves.now o.start b → p.first ≡ is_first o.waves.now b → p.joined ≡ not (is_first o.waves.now b || flag_at o.arms.items b) →
+pub plan_made : (o : PlanGround) → OutlineIs o → (b : ℕ) → b < length (spots (view.graph o.table.graph.now))
+    → (x : code.Spot) → SpotIs (spot_at (view.graph o.table.graph.now) b) x → (p : Plan) →
+    p.wave ≡ turned_at o.waves.now o.start b → p.first ≡ is_first o.waves.now b
+    → p.joined ≡ not (is_first o.waves.now b || flag_at o.arms.items b) →
     p.entries.items ≡ cond (is_first o.waves.now b) (pulse ∷ live_from (has o.live.now b) 0 x.vars) [] →
-    p.pads.items ≡ cond (eqb b o.start || flag_at o.landed.items b) (pulse ∷ map suc (view.block x.block.now).named) [] →
+    p.pads.items ≡ cond (eqb b o.start || flag_at o.landed.items b)
+    (pulse ∷ map suc (view.block x.block.now).named) [] →
     map shown.item p.items.items ≡ ItemsOf (place o.order) o.width (view.block x.block.now) →
     shown.leaves p.exit ≡ ExitOf (place o.order) o.width (view.block x.block.now) →
     p.test ≡ TestOf o.width (view.block x.block.now) →
-    shown.plan p ≡ plan_of (view.graph o.table.graph.now) (has o.live.now) (turned (view.graph o.table.graph.now) o.waves.now) (is_first o.waves.now) (place_of (view.graph o.table.graph.now) o.waves.now) (width_of (view.graph o.table.graph.now)) b
+    shown.plan p ≡ plan_of (view.graph o.table.graph.now) (has o.live.now)
+    (turned (view.graph o.table.graph.now) o.waves.now) (is_first o.waves.now)
+    (place_of (view.graph o.table.graph.now) o.waves.now) (width_of (view.graph o.table.graph.now)) b
 plan_made o h b l x s p w f j e d i c t =
     let g = view.graph o.table.graph.now in let cut = o.waves.now in
     let live = has o.live.now in
@@ -70,9 +93,16 @@ plan_made o h b l x s p w f j e d i c t =
     f
     (j ∙ ap (λ v. not (is_first cut b || v)) (h.arms b l))
     (e ∙ ap (λ n. cond (is_first cut b) (pulse ∷ live_from (live b) 0 n) []) (sym s.vars))
-    (d ∙ ap (λ k. cond (eqb b k || flag_at o.landed.items b) (pulse ∷ map suc (view.block x.block.now).named) []) h.start
-    ∙ ap (λ v. cond (eqb b (first_block g) || v) (pulse ∷ map suc (view.block x.block.now).named) []) (h.landed b l)
-    ∙ ap (λ (y : Block). cond (eqb b (first_block g) || in_some landings_of (spots g) b) (pulse ∷ map suc y.named) []) bl)
-    (i ∙ ap (λ (q : ℕ → ℕ). ItemsOf q o.width (view.block x.block.now)) h.order.places ∙ ap (λ n. ItemsOf (place_of g cut) n (view.block x.block.now)) h.width ∙ ap (ItemsOf (place_of g cut) (width_of g)) bl)
-    (c ∙ ap (λ (q : ℕ → ℕ). ExitOf q o.width (view.block x.block.now)) h.order.places ∙ ap (λ n. ExitOf (place_of g cut) n (view.block x.block.now)) h.width ∙ ap (ExitOf (place_of g cut) (width_of g)) bl)
+    (d ∙ ap (λ k. cond (eqb b k || flag_at o.landed.items b) (pulse ∷ map suc (view.block x.block.now).named)
+    []) h.start
+    ∙ ap (λ v. cond (eqb b (first_block g) || v) (pulse ∷ map suc (view.block x.block.now).named) [])
+    (h.landed b l)
+    ∙ ap (λ (y : Block). cond (eqb b (first_block g) || in_some landings_of (spots g) b)
+    (pulse ∷ map suc y.named) []) bl)
+    (i ∙ ap (λ (q : ℕ → ℕ). ItemsOf q o.width (view.block x.block.now)) h.order.places
+    ∙ ap (λ n. ItemsOf (place_of g cut) n (view.block x.block.now)) h.width
+    ∙ ap (ItemsOf (place_of g cut) (width_of g)) bl)
+    (c ∙ ap (λ (q : ℕ → ℕ). ExitOf q o.width (view.block x.block.now)) h.order.places
+    ∙ ap (λ n. ExitOf (place_of g cut) n (view.block x.block.now)) h.width
+    ∙ ap (ExitOf (place_of g cut) (width_of g)) bl)
     (t ∙ ap (λ n. TestOf n (view.block x.block.now)) h.width ∙ ap (TestOf (width_of g)) bl)

@@ -1,9 +1,13 @@
 -- How many blocks a walk passes before it is out of turns.
-use Rattle.std.proofs.Common.{ℕ, zero, suc, ◌+◌, ◌*◌, ◌≡◌, ◌<◌, ◌≤◌, ◌⊎◌, ◌==◌, Bool, true, false, if◌then◌else◌, List, [], ◌∷◌, refl, sym, ap, ◌∙◌, subst, inl, inr, arith}
+use Rattle.std.proofs.Common.{ℕ, zero, suc, ◌+◌, ◌*◌, ◌≡◌, ◌<◌, ◌≤◌, ◌⊎◌, ◌==◌, Bool, true, false}
+use Rattle.std.proofs.Common.{if◌then◌else◌, List, [], ◌∷◌, refl, sym, ap, ◌∙◌, subst, inl, inr, arith}
 use Rattle.std.proofs.Math.Nat.{add-mul}
 use Rattle.ws_words.specs.Outside.{Outside, ProcState}
-use Rattle.cfg_core.specs.Graph.{Op, Assign, Store, Print, Read, Give, Take, Choose, Tick, TickBy, Exit, Goto, Branch, Call, Return, Send, Stop, Graph, Spot, no_spot, spots, spot_at, block_at}
-use Rattle.cfg_core.specs.Walk.{value_of, OpsOutcome, Done, Out, and_then, spend, run_op, run_ops, Config, At, Over, Going, Frame, leave, passed, step, walk}
+use Rattle.cfg_core.specs.Graph.{Op, Assign, Store, Print, Read, Give, Take, Choose, Tick, TickBy, Exit, Goto}
+use Rattle.cfg_core.specs.Graph.{Branch, Call, Return, Send, Stop, Graph, Spot, no_spot, spots, spot_at}
+use Rattle.cfg_core.specs.Graph.{block_at}
+use Rattle.cfg_core.specs.Walk.{value_of, OpsOutcome, Done, Out, and_then, spend, run_op, run_ops, Config, At}
+use Rattle.cfg_core.specs.Walk.{Over, Going, Frame, leave, passed, step, walk}
 use Rattle.ws_words.specs.Items.{nth, or_else}
 
 -- the most turns of an operation, of operations, and of all blocks together
@@ -42,7 +46,8 @@ spend_paid (suc n) s (suc k) = go (spend n s k) (spend_paid n s k)
     go (Done t l) h = omega (arith, h)
     go (Out o) h = omega (arith, h)
 
-either_paid : (n k : ℕ) (v : Bool) (x y : OpsOutcome) → Paid n k x → Paid n k y → Paid n k (if v then x else y)
+either_paid : (n k : ℕ) (v : Bool) (x y : OpsOutcome) → Paid n k x → Paid n k y
+    → Paid n k (if v then x else y)
 either_paid n k true x y h i = h
 either_paid n k false x y h i = i
 
@@ -55,7 +60,8 @@ op_paid (Give p x) s k = omega arith
 op_paid (Take p t) s k = omega arith
 op_paid (Choose x t a b) s k = either_paid 0 k ((value_of t s).0 == 0) _ _ (omega arith) (omega arith)
 op_paid (Tick n) s k = spend_paid n s k
-op_paid (TickBy t n m) s k = either_paid (n + m) k ((value_of t s).0 == 0) (spend m (value_of t s).1 k) (spend n (value_of t s).1 k)
+op_paid (TickBy t n m) s k = either_paid (n + m) k ((value_of t s).0 == 0) (spend m (value_of t s).1 k)
+    (spend n (value_of t s).1 k)
     (paid_more m (n + m) k (spend m (value_of t s).1 k) (omega arith) (spend_paid m (value_of t s).1 k))
     (paid_more n (n + m) k (spend n (value_of t s).1 k) (omega arith) (spend_paid n (value_of t s).1 k))
 
@@ -63,16 +69,20 @@ pub ops_paid : (ops : List Op) (s : ProcState) (k : ℕ) → Paid (ops_most ops)
 ops_paid [] s k = omega arith
 ops_paid (op ∷ ops) s k = go (run_op op s k) (op_paid op s k) (λ t l. ops_paid ops t l)
   where
-    go : (r : OpsOutcome) → Paid (op_most op) k r → ((t : ProcState) (l : ℕ) → Paid (ops_most ops) l (run_ops ops t l)) → Paid (op_most op + ops_most ops) k (and_then r (run_ops ops))
+    go : (r : OpsOutcome) → Paid (op_most op) k r
+        → ((t : ProcState) (l : ℕ) → Paid (ops_most ops) l (run_ops ops t l))
+        → Paid (op_most op + ops_most ops) k (and_then r (run_ops ops))
     go (Done t l) h ih = paid_both (op_most op) (ops_most ops) k l (run_ops ops t l) h (ih t l)
     go (Out o) h ih = omega (arith, h)
 
 -- an exit takes no turn
 abbrev pub Leaves : Config → ℕ → Type 0
-Leaves c k = ((b : ℕ) × (s : ProcState) × (frames : List Frame) × (c ≡ At b s frames k)) ⊎ ((o : Outside) × (c ≡ Over o k))
+Leaves c k = ((b : ℕ) × (s : ProcState) × (frames : List Frame) × (c ≡ At b s frames k))
+    ⊎ ((o : Outside) × (c ≡ Over o k))
 
 -- where an exit leads to
-pub exit_leaves : (g : Graph) (exit : Exit) (s : ProcState) (frames : List Frame) (k : ℕ) → Leaves (leave g exit s frames k) k
+pub exit_leaves : (g : Graph) (exit : Exit) (s : ProcState) (frames : List Frame) (k : ℕ)
+    → Leaves (leave g exit s frames k) k
 exit_leaves g (Goto b) s frames k = inl (b, s, frames, refl)
 exit_leaves g (Branch t a b) s frames k = go ((value_of t s).0 == 0)
   where
@@ -93,7 +103,8 @@ block_most : (ss : List Spot) (b : ℕ) → ops_most (or_else (nth ss b) no_spot
 unfolding no_spot
 block_most [] b = omega arith
 block_most (s ∷ ss) zero = omega arith
-block_most (s ∷ ss) (suc b) = let h : ops_most (or_else (nth ss b) no_spot).block.ops ≤ spots_most ss = block_most ss b in omega (arith, h)
+block_most (s ∷ ss) (suc b) = let h : ops_most (or_else (nth ss b) no_spot).block.ops ≤ spots_most ss =
+    block_most ss b in omega (arith, h)
 
 module _ (g : Graph) where
   -- more than any block takes
@@ -118,29 +129,59 @@ module _ (g : Graph) where
   grow : (n t : ℕ) → suc n * t ≡ n * t + t
   grow n t = let e = add-mul n 1 t in omega (arith, e)
 
-  pub last_block : (m b : ℕ) (s : ProcState) (frames : List Frame) (k : ℕ) (o : Outside) → walk g m (At b s frames k) ≡ Going o → LastBlock m k (At b s frames k) o
+  pub last_block : (m b : ℕ) (s : ProcState) (frames : List Frame) (k : ℕ) (o : Outside)
+      → walk g m (At b s frames k) ≡ Going o → LastBlock m k (At b s frames k) o
   last_block zero b s frames k o e = absurd (let z : At b s frames k ≡ Going o = e in cc)
-  last_block (suc m) b s frames k o e = go (run_ops (block_at g b).ops s k) refl (ops_paid (block_at g b).ops s k) (λ c t fr l h. last_block m c t fr l o h)
+  last_block (suc m) b s frames k o e = go (run_ops (block_at g b).ops s k) refl
+      (ops_paid (block_at g b).ops s k) (λ c t fr l h. last_block m c t fr l o h)
     where
       going : (n : ℕ) (p : Outside) → walk g n (Going p) ≡ Going p
       going zero p = refl
       going (suc n) p = going n p
 
-      on : (t : ProcState) (l : ℕ) → run_ops (block_at g b).ops s k ≡ Done t l → k ≤ l + ops_most (block_at g b).ops → ((c : ℕ) (u : ProcState) (fr : List Frame) (j : ℕ) → walk g m (At c u fr j) ≡ Going o → LastBlock m j (At c u fr j) o) → Leaves (leave g (block_at g b).exit t frames l) l → LastBlock (suc m) k (At b s frames k) o
+      on : (t : ProcState) (l : ℕ) → run_ops (block_at g b).ops s k ≡ Done t l
+          → k ≤ l + ops_most (block_at g b).ops → ((c : ℕ) (u : ProcState) (fr : List Frame) (j : ℕ)
+          → walk g m (At c u fr j) ≡ Going o → LastBlock m j (At c u fr j) o)
+          → Leaves (leave g (block_at g b).exit t frames l) l → LastBlock (suc m) k (At b s frames k) o
       on t l q h ih (inl (c, u, fr, w)) =
-          let to : step g (At b s frames k) ≡ At c u fr l = ap (λ r. passed g r (block_at g b).exit frames) q ∙ w in
+          let to : step g (At b s frames k) ≡ At c u fr l = ap (λ r. passed g r (block_at g b).exit frames) q
+          ∙ w in
           let i = ih c u fr l (subst (λ z. walk g m z ≡ Going o) to e) in
           let a : l < suc i.place * suc (spots_most (spots g)) = i.late in
           let f = few b in
-          let d : suc (suc i.place) * suc (spots_most (spots g)) ≡ suc i.place * suc (spots_most (spots g)) + suc (spots_most (spots g)) = grow (suc i.place) (suc (spots_most (spots g))) in
-          record { place = suc i.place; block = i.block; state = i.state; frames = i.frames; left = i.left; at = ap (walk g i.place) to ∙ i.at; out = i.out; late = omega (arith, a, f, h, d) }
-      on t l q h ih (inr (p, w)) = absurd (walk_over g m p o l (subst (λ z. walk g m z ≡ Going o) (ap (λ r. passed g r (block_at g b).exit frames) q ∙ w) e))
+          let d : suc (suc i.place) * suc (spots_most (spots g)) ≡ suc i.place * suc (spots_most (spots g))
+          + suc (spots_most (spots g)) = grow (suc i.place) (suc (spots_most (spots g))) in
+          record {
+            place = suc i.place;
+            block = i.block;
+            state = i.state;
+            frames = i.frames;
+            left = i.left;
+            at = ap (walk g i.place) to ∙ i.at;
+            out = i.out;
+            late = omega (arith, a, f, h, d);
+          }
+      on t l q h ih (inr (p, w)) =
+          absurd (walk_over g m p o l (subst (λ z. walk g m z ≡ Going o)
+          (ap (λ r. passed g r (block_at g b).exit frames) q ∙ w) e))
 
-      go : (r : OpsOutcome) → run_ops (block_at g b).ops s k ≡ r → Paid (ops_most (block_at g b).ops) k r → ((c : ℕ) (u : ProcState) (fr : List Frame) (j : ℕ) → walk g m (At c u fr j) ≡ Going o → LastBlock m j (At c u fr j) o) → LastBlock (suc m) k (At b s frames k) o
+      go : (r : OpsOutcome) → run_ops (block_at g b).ops s k ≡ r → Paid (ops_most (block_at g b).ops) k r
+          → ((c : ℕ) (u : ProcState) (fr : List Frame) (j : ℕ) → walk g m (At c u fr j) ≡ Going o
+          → LastBlock m j (At c u fr j) o) → LastBlock (suc m) k (At b s frames k) o
       go (Done t l) q h ih = on t l q h ih (exit_leaves g (block_at g b).exit t frames l)
       go (Out p) q h ih =
-          let to : walk g m (step g (At b s frames k)) ≡ Going p = ap (λ r. walk g m (passed g r (block_at g b).exit frames)) q ∙ going m p in
+          let to : walk g m (step g (At b s frames k)) ≡ Going p =
+          ap (λ r. walk g m (passed g r (block_at g b).exit frames)) q ∙ going m p in
           let z : Going p ≡ Going o = sym to ∙ e in
           let y : p ≡ o = cc in
           let f = few b in
-          record { place = 0; block = b; state = s; frames = frames; left = k; at = refl; out = q ∙ ap (λ r. Out r) y; late = omega (arith, h, f) }
+          record {
+            place = 0;
+            block = b;
+            state = s;
+            frames = frames;
+            left = k;
+            at = refl;
+            out = q ∙ ap (λ r. Out r) y;
+            late = omega (arith, h, f);
+          }

@@ -1,5 +1,6 @@
 -- Where the edges of a graph's plans lead.
-use Rattle.std.proofs.Common.{ℕ, zero, suc, ◌≡◌, ◌<◌, ◌≤◌, ◌⊎◌, Bool, true, false, eqb, List, [], ◌∷◌, length, map, refl, sym, ap, ◌∙◌, subst, inl, inr, arith}
+use Rattle.std.proofs.Common.{ℕ, zero, suc, ◌≡◌, ◌<◌, ◌≤◌, ◌⊎◌, Bool, true, false, eqb, List, [], ◌∷◌, length}
+use Rattle.std.proofs.Common.{map, refl, sym, ap, ◌∙◌, subst, inl, inr, arith}
 use Rattle.std.proofs.lemmas.Bool.{both_ways}
 use Rattle.std.specs.List.{AllByRecursion}
 use Rattle.cfg_core.specs.Graph as graph
@@ -12,7 +13,8 @@ use Rattle.wave_gen.specs.Plans.{Plan, plan_at, pulse, is_among}
 use Rattle.wave_gen.proofs.Planned.{Apart, AllIn, Inner, Outer, PadsFit, EdgesAre, ValuesApart}
 use Rattle.wave_gen.specs.Gen.{gen_term}
 use Rattle.wave_gen.specs.Drawn.{gen_terms, exit_next}
-use Rattle.wave_gen.specs.Listing.{gen_exit, entries_of, landings_of, in_some, has_pads, turned, listing, place_of, index_of, plans_of}
+use Rattle.wave_gen.specs.Listing.{gen_exit, entries_of, landings_of, in_some, has_pads, turned, listing}
+use Rattle.wave_gen.specs.Listing.{place_of, index_of, plans_of}
 use Rattle.wave_gen.specs.Fitting.{Fits}
 use Rattle.wave_gen.proofs.Tied.{all_at}
 use Rattle.wave_gen.proofs.ReadTerms.{next_after}
@@ -26,10 +28,12 @@ use Rattle.ws_words.proofs.Bools.{or_right}
 use Rattle.ws_words.specs.Items.{nth, or_else, In, Distinct}
 use Rattle.cfg_core.specs.Weights.{first_block}
 
-some_in : (f : graph.Exit → List ℕ) (ss : List Spot) (b c : ℕ) → b < length ss → In c (f (or_else (nth ss b) no_spot).block.exit) → in_some f ss c ≡ true
+some_in : (f : graph.Exit → List ℕ) (ss : List Spot) (b c : ℕ) → b < length ss
+    → In c (f (or_else (nth ss b) no_spot).block.exit) → in_some f ss c ≡ true
 some_in f [] b c l h = absurd (omega (arith, l))
 some_in f (s ∷ ss) zero c l h = rw (in_among c (f s.block.exit) h) refl
-some_in f (s ∷ ss) (suc b) c l h = or_right (is_among c (f s.block.exit)) (in_some f ss c) (some_in f ss b c (omega (arith, l)) h)
+some_in f (s ∷ ss) (suc b) c l h = or_right (is_among c (f s.block.exit)) (in_some f ss c)
+    (some_in f ss b c (omega (arith, l)) h)
 
 suc_in : (x : ℕ) (xs : List ℕ) → In x xs → In (suc x) (map suc xs)
 suc_in x [] h = h
@@ -43,10 +47,17 @@ in_suc x (y ∷ ys) (inr h) = let r = in_suc x ys h in (r.0, r.1, inr r.2)
 
 suc_apart : (xs : List ℕ) → Distinct xs → Apart (map suc xs)
 suc_apart [] h = tt
-suc_apart (x ∷ xs) h = ((λ i. (let r = in_suc (suc x) xs i in let e : suc x ≡ suc r.0 = r.1 in let f : r.0 ≡ x = omega (arith, e) in h.0 (to_rules x xs (subst (λ z. In z xs) f r.2)))), suc_apart xs h.1)
+suc_apart (x ∷ xs) h = (
+  (λ i. (let r = in_suc (suc x) xs i in let e : suc x ≡ suc r.0 = r.1 in
+      let f : r.0 ≡ x = omega (arith, e) in h.0 (to_rules x xs (subst (λ z. In z xs) f r.2)))),
+  suc_apart xs h.1,
+)
 
 pub pads_apart : (xs : List ℕ) → Distinct xs → Apart (pulse ∷ map suc xs)
-pads_apart xs h = ((λ i. (let r = in_suc pulse xs i in let e : 0 ≡ suc r.0 = r.1 in omega (arith, e))), suc_apart xs h)
+pads_apart xs h = (
+  (λ i. (let r = in_suc pulse xs i in let e : 0 ≡ suc r.0 = r.1 in omega (arith, e))),
+  suc_apart xs h,
+)
 
 map_length : (xs : List ℕ) → length (map suc xs) ≡ length xs
 map_length [] = refl
@@ -61,7 +72,8 @@ places_length f [] = refl
 places_length f (x ∷ xs) = ap suc (places_length f xs)
 
 -- values have names of their own below the selector's
-pub values_apart : (place : ℕ → ℕ) (exit : graph.Exit) (k : ℕ) → 1 ≤ k → ValuesApart (exit_next k exit) (gen_exit place k exit).exit
+pub values_apart : (place : ℕ → ℕ) (exit : graph.Exit) (k : ℕ) → 1 ≤ k
+    → ValuesApart (exit_next k exit) (gen_exit place k exit).exit
 values_apart place (graph.Goto c) k u = tt
 values_apart place (graph.Branch t a b) k u = tt
 values_apart place (graph.Call r f ts back) k u = tt
@@ -69,8 +81,13 @@ values_apart place (graph.Return t) k u = tt
 values_apart place graph.Stop k u = tt
 values_apart place (graph.Send t ts ls) k u =
     let a : k ≤ (gen_term k t).next = next_after t k in
-    let m : (gen_term k t).next ≤ (gen_terms (gen_term k t).next ts).next = many_next ts (gen_term k t).next in (
-      ((λ i. (let r = many_named ts (gen_term k t).next pulse i in let r0 : (gen_term k t).next ≤ 0 = r.0 in omega (arith, r0, a, u))), many_apart ts (gen_term k t).next),
+    let m : (gen_term k t).next ≤ (gen_terms (gen_term k t).next ts).next =
+    many_next ts (gen_term k t).next in (
+      (
+        (λ i. (let r = many_named ts (gen_term k t).next pulse i in let r0 : (gen_term k t).next ≤ 0 = r.0 in
+            omega (arith, r0, a, u))),
+        many_apart ts (gen_term k t).next,
+      ),
       (omega (arith, a, m, u), many_below ts (gen_term k t).next),
     )
 
@@ -79,46 +96,66 @@ module _ (g : Graph) (live : ℕ → ℕ → Bool) (cut : Cut) (fit : Fits g liv
   ps = plans_of g live cut
 
   pub outer : (c : ℕ) → c < length (spots g) → is_first cut c ≡ true → Outer ps (place_of g cut c)
-  outer c l e = record { some = omega arith; there = place_there g live cut fit c l; first = rw (at_place g live cut fit c l) e }
+  outer c l e = record {
+    some = omega arith;
+    there = place_there g live cut fit c l;
+    first = rw (at_place g live cut fit c l) e;
+  }
 
-  pub inner : (b c : ℕ) → b < length (spots g) → c < length (spots g) → Edge g b c → is_first cut c ≡ false → Inner ps (place_of g cut b) (place_of g cut c)
+  pub inner : (b c : ℕ) → b < length (spots g) → c < length (spots g) → Edge g b c → is_first cut c ≡ false
+      → Inner ps (place_of g cut b) (place_of g cut c)
   inner b c l u d e =
       let i = fit.cuts.inside b c u (d, λ f. both_ways (is_first cut c) e f) in
-      let v : index_of (listing g cut) b < index_of (listing g cut) c = listed_later (length (spots g)) (turned g cut) (is_first cut) (length cut.heads) (waving g live cut fit) b c l u (turned_same g live cut fit b c i.1) i.0 in
+      let v : index_of (listing g cut) b < index_of (listing g cut) c =
+      listed_later (length (spots g)) (turned g cut) (is_first cut) (length cut.heads)
+      (waving g live cut fit) b c l u (turned_same g live cut fit b c i.1) i.0 in
       record {
         later = omega (arith, v);
         there = place_there g live cut fit c u;
         not_first = rw (at_place g live cut fit c u) e;
-        wave = rw (at_place g live cut fit c u, at_place g live cut fit b l) (sym (turned_same g live cut fit b c i.1));
+        wave = rw (at_place g live cut fit c u, at_place g live cut fit b l)
+            (sym (turned_same g live cut fit b c i.1));
       }
 
-  pub pads_are : (b l : ℕ) → b < length (spots g) → In l (landings_of (block_at g b).exit) → has_pads g l ≡ true
+  pub pads_are : (b l : ℕ) → b < length (spots g) → In l (landings_of (block_at g b).exit)
+      → has_pads g l ≡ true
   unfolding spot_at
-  pads_are b l u i = or_right (eqb l (first_block g)) (in_some landings_of (spots g) l) (some_in landings_of (spots g) b l u (from_rules l (landings_of (block_at g b).exit) i))
+  pads_are b l u i = or_right (eqb l (first_block g)) (in_some landings_of (spots g) l)
+      (some_in landings_of (spots g) b l u (from_rules l (landings_of (block_at g b).exit) i))
 
-  pub lands_first : (b l : ℕ) → l < length (spots g) → (t : Term) (ts : List Term) (ls : List ℕ) → (block_at g b).exit ≡ graph.Send t ts ls → In l ls → is_first cut l ≡ true
+  pub lands_first : (b l : ℕ) → l < length (spots g) → (t : Term) (ts : List Term) (ls : List ℕ)
+      → (block_at g b).exit ≡ graph.Send t ts ls → In l ls → is_first cut l ≡ true
   lands_first b l u t ts ls e i = (fit.cuts.rule l u).1 (inl (inr (inr (b, rw e i))))
 
   -- what a block needs where a Send lands is among its pads
-  pub pads_filled : (b l x : ℕ) → l < length (spots g) → In l (landings_of (block_at g b).exit) → In x (entries_of g live l) → In x (pulse ∷ map suc (block_at g l).named)
+  pub pads_filled : (b l x : ℕ) → l < length (spots g) → In l (landings_of (block_at g b).exit)
+      → In x (entries_of g live l) → In x (pulse ∷ map suc (block_at g l).named)
   pads_filled b l zero u i h = inl refl
-  pads_filled b l (suc y) u i h = inr (suc_in y (block_at g l).named (from_rules y (block_at g l).named (fit.brought b l y i (live_of_entry g live cut fit l y u h).1)))
+  pads_filled b l (suc y) u i h =
+      inr (suc_in y (block_at g l).named (from_rules y (block_at g l).named
+      (fit.brought b l y i (live_of_entry g live cut fit l y u h).1)))
 
-  lands : (b : ℕ) (t : Term) (ts : List Term) (all : List ℕ) → b < length (spots g) → (block_at g b).exit ≡ graph.Send t ts all → (k : ℕ) (ls : List ℕ) → ((l : ℕ) → In l ls → In l all) →
-      AllByRecursion (λ l. l < length (spots g)) ls → AllByRecursion (λ l. length (block_at g l).named ≡ length ts) ls →
+  lands : (b : ℕ) (t : Term) (ts : List Term) (all : List ℕ) → b < length (spots g)
+      → (block_at g b).exit ≡ graph.Send t ts all → (k : ℕ) (ls : List ℕ) → ((l : ℕ) → In l ls → In l all) →
+      AllByRecursion (λ l. l < length (spots g)) ls
+      → AllByRecursion (λ l. length (block_at g l).named ≡ length ts) ls →
       AllIn (map (place_of g cut) ls) (λ c. Outer ps c × PadsFit ps (pulse ∷ (gen_terms k ts).names) c)
   lands b t ts all u e k [] sub h f = tt
   lands b t ts all u e k (l ∷ ls) sub h f =
       let i : In l (landings_of (block_at g b).exit) = rw e (sub l (inl refl)) in
       let fl : is_first cut l ≡ true = lands_first b l h.0 t ts all e (sub l (inl refl)) in
-      let p : (planned g live cut fit l).pads ≡ pulse ∷ map suc (block_at g l).named = rw (pads_are b l u i) refl in
-      let q : (plan_at ps (place_of g cut l)).pads ≡ pulse ∷ map suc (block_at g l).named = ap (λ (z : Plan). z.pads) (at_place g live cut fit l h.0) ∙ p in
+      let p : (planned g live cut fit l).pads ≡ pulse ∷ map suc (block_at g l).named =
+      rw (pads_are b l u i) refl in
+      let q : (plan_at ps (place_of g cut l)).pads ≡ pulse ∷ map suc (block_at g l).named =
+      ap (λ (z : Plan). z.pads) (at_place g live cut fit l h.0) ∙ p in
       let n : (planned g live cut fit l).entries ≡ entries_of g live l = rw fl refl in
-      let m : (plan_at ps (place_of g cut l)).entries ≡ entries_of g live l = ap (λ (z : Plan). z.entries) (at_place g live cut fit l h.0) ∙ n in (
+      let m : (plan_at ps (place_of g cut l)).entries ≡ entries_of g live l =
+      ap (λ (z : Plan). z.entries) (at_place g live cut fit l h.0) ∙ n in (
         (
           outer l h.0 fl,
           record {
-            apart = subst (λ z. Apart z) (sym q) (pads_apart (block_at g l).named (numbers g live cut fit l h.0).once);
+            apart = subst (λ z. Apart z) (sym q)
+                (pads_apart (block_at g l).named (numbers g live cut fit l h.0).once);
             as_many = ap length q ∙ ap suc (map_length (block_at g l).named ∙ f.0 ∙ sym (many_length ts k));
             filled = λ x j. subst (λ z. In x z) (sym q) (pads_filled b l x h.0 i (subst (λ z. In x z) m j));
           },
@@ -126,19 +163,25 @@ module _ (g : Graph) (live : ℕ → ℕ → Bool) (cut : Cut) (fit : Fits g liv
         lands b t ts all u e k ls (λ c j. sub c (inr j)) h.1 f.1,
       )
 
-  pub edges_are : (b k : ℕ) → b < length (spots g) → EdgesAre ps (place_of g cut b) (gen_exit (place_of g cut) k (block_at g b).exit).exit
+  pub edges_are : (b k : ℕ) → b < length (spots g) → EdgesAre ps (place_of g cut b)
+      (gen_exit (place_of g cut) k (block_at g b).exit).exit
   unfolding spot_at
-  edges_are b k l = go (block_at g b).exit refl (numbers g live cut fit b l).exit (all_at (λ s. rules.Lands g s.block.exit) (spots g) no_spot b fit.graph.landings l)
+  edges_are b k l = go (block_at g b).exit refl (numbers g live cut fit b l).exit
+      (all_at (λ s. rules.Lands g s.block.exit) (spots g) no_spot b fit.graph.landings l)
     where
-      by_first : (c : ℕ) → c < length (spots g) → Edge g b c → (v : Bool) → is_first cut c ≡ v → Inner ps (place_of g cut b) (place_of g cut c) ⊎ Outer ps (place_of g cut c)
+      by_first : (c : ℕ) → c < length (spots g) → Edge g b c → (v : Bool) → is_first cut c ≡ v
+          → Inner ps (place_of g cut b) (place_of g cut c) ⊎ Outer ps (place_of g cut c)
       by_first c u d true e = inr (outer c u e)
       by_first c u d false e = inl (inner b c l u d e)
 
-      go : (exit : graph.Exit) → (block_at g b).exit ≡ exit → ExitIn g (spot_at g b).home (spot_at g b).vars exit → rules.Lands g exit → EdgesAre ps (place_of g cut b) (gen_exit (place_of g cut) k exit).exit
+      go : (exit : graph.Exit) → (block_at g b).exit ≡ exit → ExitIn g (spot_at g b).home (spot_at g b).vars
+          exit → rules.Lands g exit → EdgesAre ps (place_of g cut b) (gen_exit (place_of g cut) k exit).exit
       go (graph.Goto c) e h n = by_first c h.0 (subst (λ z. Leads z c) (sym e) refl) (is_first cut c) refl
       go (graph.Branch t a c) e h n = (
-        inner b a l h.1.0 (subst (λ z. Leads z a) (sym e) (inl refl)) (arm_inside g live cut fit b t a c a l e (inl refl) h.1.0 h.1.1),
-        inner b c l h.2.0 (subst (λ z. Leads z c) (sym e) (inr refl)) (arm_inside g live cut fit b t a c c l e (inr refl) h.2.0 h.2.1),
+        inner b a l h.1.0 (subst (λ z. Leads z a) (sym e) (inl refl))
+            (arm_inside g live cut fit b t a c a l e (inl refl) h.1.0 h.1.1),
+        inner b c l h.2.0 (subst (λ z. Leads z c) (sym e) (inr refl))
+            (arm_inside g live cut fit b t a c c l e (inr refl) h.2.0 h.2.1),
       )
       go (graph.Call r f ts back) e h n = tt
       go (graph.Return t) e h n = tt

@@ -23,7 +23,8 @@ ground_more R S x f (inr (y, e, r)) = inr (y, e, f y r)
 abbrev pub Beyond : ℕ → ℕ → ℕ → Type 0
 Beyond k n x = k ≤ x → n ≤ x
 
-pub reads_append : (is js : List Item) (P : ℕ → Type 0) (x : ℕ) → Reads (is ++ js) P x → Reads is (Reads js P) x
+pub reads_append : (is js : List Item) (P : ℕ → Type 0) (x : ℕ) → Reads (is ++ js) P x
+    → Reads is (Reads js P) x
 reads_append [] js P x h = h
 reads_append (Make y op from ∷ is) js P x (inl h) = inl h
 reads_append (Make y op from ∷ is) js P x (inr h) = inr (h.0, reads_append is js P x h.1)
@@ -41,10 +42,12 @@ next_after (Flip t) k = let l : k ≤ (gen_term k t).next = next_after t k in om
 next_after (Not t) k = let l : k ≤ (gen_term k t).next = next_after t k in omega arith
 next_after (Neg t) k = let l : k ≤ (gen_term k t).next = next_after t k in omega arith
 next_after (Binary op a b) k =
-    let g = gen_term k a in let l : k ≤ g.next = next_after a k in let m : g.next ≤ (gen_term g.next b).next = next_after b g.next in omega arith
+    let g = gen_term k a in let l : k ≤ g.next = next_after a k in let m : g.next ≤ (gen_term g.next b).next =
+    next_after b g.next in omega arith
 
 -- a term's value has a name of its own, or that of the pulse or of a variable
-pub named : (t : Term) (k : ℕ) → Ground (Mentions t) (gen_term k t).name ⊎ ((k ≤ (gen_term k t).name) × ((gen_term k t).name < (gen_term k t).next))
+pub named : (t : Term) (k : ℕ) → Ground (Mentions t) (gen_term k t).name
+    ⊎ ((k ≤ (gen_term k t).name) × ((gen_term k t).name < (gen_term k t).next))
 named (Number zero) k = inl (inl refl)
 named (Number (suc n)) k = inr (omega arith, omega arith)
 named (Var x) k = inl (inr (x, refl, refl))
@@ -53,18 +56,24 @@ named (Flip t) k = let l : k ≤ (gen_term k t).next = next_after t k in inr (om
 named (Not t) k = let l : k ≤ (gen_term k t).next = next_after t k in inr (omega arith, omega arith)
 named (Neg t) k = let l : k ≤ (gen_term k t).next = next_after t k in inr (omega arith, omega arith)
 named (Binary op a b) k =
-    let g = gen_term k a in let l : k ≤ g.next = next_after a k in let m : g.next ≤ (gen_term g.next b).next = next_after b g.next in inr (omega arith, omega arith)
+    let g = gen_term k a in let l : k ≤ g.next = next_after a k in let m : g.next ≤ (gen_term g.next b).next =
+    next_after b g.next in inr (omega arith, omega arith)
 
 -- the name is none of those that the term's items make, so it is the pulse's or a variable's
-pub from_term : (t : Term) (k x : ℕ) → x ≡ (gen_term k t).name → Beyond k (gen_term k t).next x → Ground (Mentions t) x
+pub from_term : (t : Term) (k x : ℕ) → x ≡ (gen_term k t).name → Beyond k (gen_term k t).next x
+    → Ground (Mentions t) x
 from_term t k x e out = elim (named t k) [
   | inl h ↦ rw e h
-  | inr l ↦ absurd (let l0 : k ≤ (gen_term k t).name = l.0 in let l1 : (gen_term k t).name < (gen_term k t).next = l.1 in let o : (gen_term k t).next ≤ x = out (omega (arith, l0, e)) in omega (arith, e, l1, o))
+  | inr l ↦ absurd (let l0 : k ≤ (gen_term k t).name = l.0 in let l1 : (gen_term k t).name
+      < (gen_term k t).next = l.1 in let o : (gen_term k t).next ≤ x = out (omega (arith, l0, e)) in
+      omega (arith, e, l1, o))
 ]
 
 -- one more instruction
-made : (g : Got) (k : ℕ) (R P : ℕ → Type 0) (op : Op) (from : List ℕ) (x : ℕ) → (In x from → Beyond k g.next x → Ground R x) →
-    (Reads g.items (Reads (Make g.next op from ∷ []) P) x → Ground R x ⊎ (Reads (Make g.next op from ∷ []) P x × Beyond k g.next x)) →
+made : (g : Got) (k : ℕ) (R P : ℕ → Type 0) (op : Op) (from : List ℕ) (x : ℕ)
+    → (In x from → Beyond k g.next x → Ground R x) →
+    (Reads g.items (Reads (Make g.next op from ∷ []) P) x
+    → Ground R x ⊎ (Reads (Make g.next op from ∷ []) P x × Beyond k g.next x)) →
     Reads (then_make g (λ n. Make n op from)).items P x → Ground R x ⊎ (P x × Beyond k (suc g.next) x)
 made g k R P op from x f ih h = elim (ih (reads_append g.items (Make g.next op from ∷ []) P x h)) [
   | inl r ↦ inl r
@@ -77,38 +86,64 @@ made g k R P op from x f ih h = elim (ih (reads_append g.items (Make g.next op f
     ne_above : (n y : ℕ) → (y ≡ n → ⊥) → n ≤ y → suc n ≤ y
     ne_above n y d l = omega (arith, d, l)
 
-pub term_reads : (t : Term) (k : ℕ) (P : ℕ → Type 0) (x : ℕ) → Reads (gen_term k t).items P x → Ground (Mentions t) x ⊎ (P x × Beyond k (gen_term k t).next x)
+pub term_reads : (t : Term) (k : ℕ) (P : ℕ → Type 0) (x : ℕ) → Reads (gen_term k t).items P x
+    → Ground (Mentions t) x ⊎ (P x × Beyond k (gen_term k t).next x)
 term_reads (Number zero) k P x h = inr (h, λ l. l)
 term_reads (Number (suc n)) k P x (inl (inl e)) = inl (inl e)
 term_reads (Number (suc n)) k P x (inl (inr b)) = absurd b
 term_reads (Number (suc n)) k P x (inr h) = inr (h.1, λ l. (let d : x ≡ k → ⊥ = h.0 in omega (arith, d, l)))
 term_reads (Var y) k P x h = inr (h, λ l. l)
 term_reads (Cell a t) k P x h = let g = gen_term k t in
-    made g k (Mentions t) P (Load a) (g.name ∷ []) x (λ i out. elim i [ inl e ↦ from_term t k x e out | inr b ↦ absurd b ]) (term_reads t k (Reads (Make g.next (Load a) (g.name ∷ []) ∷ []) P) x) h
-term_reads (Flip t) k P x h = let g = gen_term k t in let g' = then_make g (λ n. Make n (Const top_word) (g.name ∷ [])) in
+    made g k (Mentions t) P (Load a) (g.name ∷ []) x
+    (λ i out. elim i [ inl e ↦ from_term t k x e out | inr b ↦ absurd b ])
+    (term_reads t k (Reads (Make g.next (Load a) (g.name ∷ []) ∷ []) P) x) h
+term_reads (Flip t) k P x h = let g = gen_term k t in let g' =
+    then_make g (λ n. Make n (Const top_word) (g.name ∷ [])) in
     made g' k (Mentions t) P (Alu Sub) (g.next ∷ g.name ∷ []) x
     (λ i out. elim i [
-      | inl e ↦ absurd (let l : k ≤ g.next = next_after t k in let o : suc g.next ≤ x = out (omega (arith, l, e)) in omega (arith, e, o))
-      | inr j ↦ elim j [ inl e ↦ from_term t k x e (λ l. (let o : suc g.next ≤ x = out l in omega (arith, o))) | inr b ↦ absurd b ]
+      | inl e ↦ absurd (let l : k ≤ g.next = next_after t k in let o : suc g.next ≤ x =
+          out (omega (arith, l, e)) in omega (arith, e, o))
+      | inr j ↦ elim j [
+        | inl e ↦ from_term t k x e (λ l. (let o : suc g.next ≤ x = out l in omega (arith, o)))
+        | inr b ↦ absurd b
+      ]
     ])
-    (made g k (Mentions t) (Reads (Make (suc g.next) (Alu Sub) (g.next ∷ g.name ∷ []) ∷ []) P) (Const top_word) (g.name ∷ []) x (λ i out. elim i [ inl e ↦ from_term t k x e out | inr b ↦ absurd b ])
-    (term_reads t k (Reads (Make g.next (Const top_word) (g.name ∷ []) ∷ []) (Reads (Make (suc g.next) (Alu Sub) (g.next ∷ g.name ∷ []) ∷ []) P)) x))
+    (made g k (Mentions t) (Reads (Make (suc g.next) (Alu Sub) (g.next ∷ g.name ∷ []) ∷ []) P)
+    (Const top_word) (g.name ∷ []) x (λ i out. elim i [
+      | inl e ↦ from_term t k x e out
+      | inr b ↦
+          absurd b
+    ])
+    (term_reads t k (Reads (Make g.next (Const top_word) (g.name ∷ []) ∷ [])
+    (Reads (Make (suc g.next) (Alu Sub) (g.next ∷ g.name ∷ []) ∷ []) P)) x))
     h
 term_reads (Not t) k P x h = let g = gen_term k t in
-    made g k (Mentions t) P (Alu Eq) (g.name ∷ pulse ∷ []) x (λ i out. elim i [ inl e ↦ from_term t k x e out | inr j ↦ elim j [ inl e ↦ inl e | inr b ↦ absurd b ] ])
+    made g k (Mentions t) P (Alu Eq) (g.name ∷ pulse ∷ []) x
+    (λ i out. elim i [
+      | inl e ↦ from_term t k x e out
+      | inr j ↦ elim j [ inl e ↦ inl e | inr b ↦ absurd b ]
+    ])
     (term_reads t k (Reads (Make g.next (Alu Eq) (g.name ∷ pulse ∷ []) ∷ []) P) x) h
 term_reads (Neg t) k P x h = let g = gen_term k t in
-    made g k (Mentions t) P (Alu Sub) (pulse ∷ g.name ∷ []) x (λ i out. elim i [ inl e ↦ inl e | inr j ↦ elim j [ inl e ↦ from_term t k x e out | inr b ↦ absurd b ] ])
+    made g k (Mentions t) P (Alu Sub) (pulse ∷ g.name ∷ []) x
+    (λ i out. elim i [
+      | inl e ↦ inl e
+      | inr j ↦ elim j [ inl e ↦ from_term t k x e out | inr b ↦ absurd b ]
+    ])
     (term_reads t k (Reads (Make g.next (Alu Sub) (pulse ∷ g.name ∷ []) ∷ []) P) x) h
 term_reads (Binary op a b) k P x h = let g = gen_term k a in let m = gen_term g.next b in
-    made (got (g.items ++ m.items) m.name m.next) k (Mentions (Binary op a b)) P (Alu op) (g.name ∷ m.name ∷ []) x
+    made (got (g.items ++ m.items) m.name m.next) k (Mentions (Binary op a b)) P (Alu op)
+    (g.name ∷ m.name ∷ []) x
     (λ i out. elim i [
       | inl e ↦ ground_more (Mentions a) (Mentions (Binary op a b)) x (λ y r. inl r) (elim (named a k) [
         | inl r ↦ rw e r
-        | inr l ↦ absurd (let u : g.next ≤ m.next = next_after b g.next in let l0 : k ≤ g.name = l.0 in let l1 : g.name < g.next = l.1 in let o : m.next ≤ x = out (omega (arith, l0, e)) in omega (arith, e, l1, o, u))
+        | inr l ↦ absurd (let u : g.next ≤ m.next = next_after b g.next in let l0 : k ≤ g.name = l.0 in
+            let l1 : g.name < g.next = l.1 in let o : m.next ≤ x = out (omega (arith, l0, e)) in
+            omega (arith, e, l1, o, u))
       ])
       | inr j ↦ elim j [
-        | inl e ↦ ground_more (Mentions b) (Mentions (Binary op a b)) x (λ y r. inr r) (from_term b g.next x e (λ l. (let u : k ≤ g.next = next_after a k in out (omega (arith, l, u)))))
+        | inl e ↦ ground_more (Mentions b) (Mentions (Binary op a b)) x (λ y r. inr r)
+            (from_term b g.next x e (λ l. (let u : k ≤ g.next = next_after a k in out (omega (arith, l, u)))))
         | inr z ↦ absurd z
       ]
     ])
@@ -118,14 +153,18 @@ term_reads (Binary op a b) k P x h = let g = gen_term k a in let m = gen_term g.
     h
   where
     two_reads : (a b : Term) (k : ℕ) (Q : ℕ → Type 0) (x : ℕ) →
-        (Reads (gen_term k a).items (Reads (gen_term (gen_term k a).next b).items Q) x → Ground (Mentions a) x ⊎ (Reads (gen_term (gen_term k a).next b).items Q x × Beyond k (gen_term k a).next x)) →
-        (Reads (gen_term (gen_term k a).next b).items Q x → Ground (Mentions b) x ⊎ (Q x × Beyond (gen_term k a).next (gen_term (gen_term k a).next b).next x)) →
+        (Reads (gen_term k a).items (Reads (gen_term (gen_term k a).next b).items Q) x
+        → Ground (Mentions a) x ⊎ (Reads (gen_term (gen_term k a).next b).items Q x
+        × Beyond k (gen_term k a).next x)) →
+        (Reads (gen_term (gen_term k a).next b).items Q x → Ground (Mentions b) x
+        ⊎ (Q x × Beyond (gen_term k a).next (gen_term (gen_term k a).next b).next x)) →
         Reads ((gen_term k a).items ++ (gen_term (gen_term k a).next b).items) Q x →
         Ground (λ y. Mentions a y ⊎ Mentions b y) x ⊎ (Q x × Beyond k (gen_term (gen_term k a).next b).next x)
-    two_reads a b k Q x ia ib r = elim (ia (reads_append (gen_term k a).items (gen_term (gen_term k a).next b).items Q x r)) [
-      | inl z ↦ inl (ground_more (Mentions a) (λ y. Mentions a y ⊎ Mentions b y) x (λ y w. inl w) z)
-      | inr q ↦ elim (ib q.0) [
-        | inl z ↦ inl (ground_more (Mentions b) (λ y. Mentions a y ⊎ Mentions b y) x (λ y w. inr w) z)
-        | inr p ↦ inr (p.0, λ l. p.1 (q.1 l))
-      ]
-    ]
+    two_reads a b k Q x ia ib r =
+        elim (ia (reads_append (gen_term k a).items (gen_term (gen_term k a).next b).items Q x r)) [
+          | inl z ↦ inl (ground_more (Mentions a) (λ y. Mentions a y ⊎ Mentions b y) x (λ y w. inl w) z)
+          | inr q ↦ elim (ib q.0) [
+            | inl z ↦ inl (ground_more (Mentions b) (λ y. Mentions a y ⊎ Mentions b y) x (λ y w. inr w) z)
+            | inr p ↦ inr (p.0, λ l. p.1 (q.1 l))
+          ]
+        ]

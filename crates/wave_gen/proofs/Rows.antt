@@ -9,7 +9,8 @@ use Rattle.wave_gen.specs.Listing.{plans_of, graph_draft}
 use Rattle.wave_gen.proofs.Samples.{asks, asks_sets, asks_cut, asks_draft, asks_ops}
 
 -- one steer, that of the pulse: the value of a goes past the branch
-asks_code : asks_ops ≡ Advance ∷ Input ∷ Input ∷ Merge ∷ Steer ∷ Const 1 ∷ Output ∷ Const 2 ∷ Output ∷ Merge ∷ Output ∷ Halt ∷ []
+asks_code : asks_ops ≡ Advance ∷ Input ∷ Input ∷ Merge ∷ Steer ∷ Const 1 ∷ Output ∷ Const 2 ∷ Output ∷ Merge
+    ∷ Output ∷ Halt ∷ []
 unfolding draft_of begins mades made_at starts_at plan_at source_of
 asks_code = refl
 

@@ -1,13 +1,17 @@
 -- The steps of a block run as the items of its plan.
-use Rattle.std.proofs.Common.{ℕ, zero, suc, ◌+◌, ◌≡◌, ◌≤◌, ◌&&◌, not, ltb, Bool, true, false, cond, List, [], ◌∷◌, length, map, refl, sym, ap, ◌∙◌, inl, inr, arith, eq-eqb, ne_eqb}
+use Rattle.std.proofs.Common.{ℕ, zero, suc, ◌+◌, ◌≡◌, ◌≤◌, ◌&&◌, not, ltb, Bool, true, false, cond, List, []}
+use Rattle.std.proofs.Common.{◌∷◌, length, map, refl, sym, ap, ◌∙◌, inl, inr, arith, eq-eqb, ne_eqb}
 use Rattle.std.proofs.lemmas.Bool.{cases_eq, cond-false}
 use Rattle.ws_words.specs.Outside.{Outside}
 use Rattle.ws_isa.specs.declared.instr.Op.{Op}
 use Rattle.ws_isa.specs.declared.instr.Op.TheVariants.{Merge}
 use Rattle.ws_isa.specs.Image.{is_memory_op, after_op, result_of_op}
 use Rattle.wave_gen.specs.Waits.{NameState, set, effect, run_steps}
-use Rattle.wave_gen.specs.Wire.{Wants, Made, emit, skip, gather, with_room, with_rooms, Item, Make, Act, Same, is_nil, make, alias, wire, most}
-use Rattle.wave_gen.specs.Plans.{merges, HowLeft, Onto, Either, Lands, Halts, Plan, pulse, Tail, steers, sends, operands_of, hang, more, chain, selected, tails_of, end_wants, behind_source, exit_made, body_made, block_made, renew, advances, has_front}
+use Rattle.wave_gen.specs.Wire.{Wants, Made, emit, skip, gather, with_room, with_rooms, Item, Make, Act, Same}
+use Rattle.wave_gen.specs.Wire.{is_nil, make, alias, wire, most}
+use Rattle.wave_gen.specs.Plans.{merges, HowLeft, Onto, Either, Lands, Halts, Plan, pulse, Tail, steers}
+use Rattle.wave_gen.specs.Plans.{sends, operands_of, hang, more, chain, selected, tails_of, end_wants}
+use Rattle.wave_gen.specs.Plans.{behind_source, exit_made, body_made, block_made, renew, advances, has_front}
 use Rattle.wave_gen.proofs.Runs.{run_item, run_items, run_choice}
 use Rattle.ws_words.proofs.Bools.{and_right, not_true}
 
@@ -23,49 +27,69 @@ merged s x = ap (λ (f : ℕ → ℕ). record { env = f; out = s.out }) (set_sam
 gather_runs : (b x : ℕ) (s : Made) (n : NameState) → run_steps (gather b x s).steps n ≡ run_steps s.steps n
 gather_runs b x s n = ap (run_steps s.steps) (merged n x)
 
-room_runs : (b k x : ℕ) (s : Made) (n : NameState) → run_steps (with_room b k x s).steps n ≡ run_steps s.steps n
+room_runs : (b k x : ℕ) (s : Made) (n : NameState) → run_steps (with_room b k x s).steps n ≡ run_steps s.steps
+    n
 room_runs b k x s n = go (ltb most (length (s.wants x) + k))
   where
     go : (f : Bool) → run_steps (cond f (gather b x s) s).steps n ≡ run_steps s.steps n
     go true = gather_runs b x s n
     go false = refl
 
-pub rooms_runs : (b k : ℕ) (xs : List ℕ) (s : Made) (n : NameState) → run_steps (with_rooms b k xs s).steps n ≡ run_steps s.steps n
+pub rooms_runs : (b k : ℕ) (xs : List ℕ) (s : Made) (n : NameState) → run_steps (with_rooms b k xs s).steps n
+    ≡ run_steps s.steps n
 rooms_runs b k [] s n = refl
 rooms_runs b k (x ∷ xs) s n = rooms_runs b k xs (with_room b k x s) n ∙ room_runs b k x s n
 
-pub make_runs : (b x : ℕ) (op : Op) (from : List ℕ) (s : Made) (n : NameState) → run_steps (make b x op from s).steps n ≡ run_steps s.steps (run_item (Make x op from) n)
+pub make_runs : (b x : ℕ) (op : Op) (from : List ℕ) (s : Made) (n : NameState)
+    → run_steps (make b x op from s).steps n ≡ run_steps s.steps (run_item (Make x op from) n)
 make_runs b x op from s n = rooms_runs b (length from) from s (run_item (Make x op from) n)
 
-alias_runs : (b x y : ℕ) (s : Made) (n : NameState) → run_steps (alias b x y s).steps n ≡ run_steps s.steps (run_item (Same x y) n)
+alias_runs : (b x y : ℕ) (s : Made) (n : NameState) → run_steps (alias b x y s).steps n ≡ run_steps s.steps
+    (run_item (Same x y) n)
 alias_runs b x y s n = go (ltb most (length (s.wants x) + length (s.wants y)))
   where
-    go : (f : Bool) → run_steps (cond f (gather b y (gather b x s)) s).steps (run_item (Same x y) n) ≡ run_steps s.steps (run_item (Same x y) n)
-    go true = gather_runs b y (gather b x s) (run_item (Same x y) n) ∙ gather_runs b x s (run_item (Same x y) n)
+    go : (f : Bool) → run_steps (cond f (gather b y (gather b x s)) s).steps (run_item (Same x y) n)
+        ≡ run_steps s.steps (run_item (Same x y) n)
+    go true = gather_runs b y (gather b x s) (run_item (Same x y) n) ∙ gather_runs b x s
+        (run_item (Same x y) n)
     go false = refl
 
-skips_value : (x : ℕ) (op : Op) (from : List ℕ) (n : NameState) → is_memory_op op ≡ false → record { env = set n.env x (result_of_op op (map n.env from)); out = n.out } ≡ run_item (Make x op from) n
+skips_value : (x : ℕ) (op : Op) (from : List ℕ) (n : NameState) → is_memory_op op ≡ false
+    → record { env = set n.env x (result_of_op op (map n.env from)); out = n.out } ≡ run_item (Make x op from)
+    n
 skips_value x op from n e = rw e refl
 
-pub wire_runs : (b : ℕ) (is : List Item) (s : Made) (n : NameState) → run_steps (wire b is s).steps n ≡ run_steps s.steps (run_items is n)
+pub wire_runs : (b : ℕ) (is : List Item) (s : Made) (n : NameState) → run_steps (wire b is s).steps n
+    ≡ run_steps s.steps (run_items is n)
 wire_runs b [] s n = refl
-wire_runs b (Make x op from ∷ is) s n = go (is_nil ((wire b is s).wants x) && not (is_memory_op op)) refl (wire_runs b is s (run_item (Make x op from) n))
+wire_runs b (Make x op from ∷ is) s n = go (is_nil ((wire b is s).wants x) && not (is_memory_op op)) refl
+    (wire_runs b is s (run_item (Make x op from) n))
   where
-    go : (f : Bool) → (is_nil ((wire b is s).wants x) && not (is_memory_op op)) ≡ f → run_steps (wire b is s).steps (run_item (Make x op from) n) ≡ run_steps s.steps (run_items is (run_item (Make x op from) n)) →
-        run_steps (cond f (skip x op from (wire b is s)) (make b x op from (wire b is s))).steps n ≡ run_steps s.steps (run_items is (run_item (Make x op from) n))
-    go true e ih = ap (run_steps (wire b is s).steps) (skips_value x op from n (not_true (is_memory_op op) (and_right (is_nil ((wire b is s).wants x)) (not (is_memory_op op)) e))) ∙ ih
+    go : (f : Bool) → (is_nil ((wire b is s).wants x) && not (is_memory_op op)) ≡ f
+        → run_steps (wire b is s).steps (run_item (Make x op from) n) ≡ run_steps s.steps
+        (run_items is (run_item (Make x op from) n)) →
+        run_steps (cond f (skip x op from (wire b is s)) (make b x op from (wire b is s))).steps n ≡ run_steps
+        s.steps (run_items is (run_item (Make x op from) n))
+    go true e ih = ap (run_steps (wire b is s).steps)
+        (skips_value x op from n
+        (not_true (is_memory_op op) (and_right (is_nil ((wire b is s).wants x)) (not (is_memory_op op)) e)))
+        ∙ ih
     go false e ih = make_runs b x op from (wire b is s) n ∙ ih
-wire_runs b (Act op from ∷ is) s n = rooms_runs b (length from) from (wire b is s) (run_item (Act op from) n) ∙ wire_runs b is s (run_item (Act op from) n)
+wire_runs b (Act op from ∷ is) s n = rooms_runs b (length from) from (wire b is s) (run_item (Act op from) n)
+    ∙ wire_runs b is s (run_item (Act op from) n)
 wire_runs b (Same x y ∷ is) s n = alias_runs b x y (wire b is s) n ∙ wire_runs b is s (run_item (Same x y) n)
 
 -- fronts change nothing
-advances_runs : (b : ℕ) (xs : List ℕ) (s : Made) (n : NameState) → run_steps (advances b xs s).steps n ≡ run_steps s.steps n
+advances_runs : (b : ℕ) (xs : List ℕ) (s : Made) (n : NameState) → run_steps (advances b xs s).steps n
+    ≡ run_steps s.steps n
 advances_runs b [] s n = refl
 advances_runs b (x ∷ xs) s n = ap (run_steps (advances b xs s).steps) (merged n x) ∙ advances_runs b xs s n
 
-renew_runs : (b : ℕ) (xs : List ℕ) (s : Made) (n : NameState) → run_steps (renew b xs s).steps n ≡ run_steps s.steps n
+renew_runs : (b : ℕ) (xs : List ℕ) (s : Made) (n : NameState) → run_steps (renew b xs s).steps n ≡ run_steps
+    s.steps n
 renew_runs b [] s n = refl
-renew_runs b (x ∷ xs) s n = renew_runs b xs (cond (has_front b (s.wants x)) (gather b x s) s) n ∙ go (has_front b (s.wants x))
+renew_runs b (x ∷ xs) s n = renew_runs b xs (cond (has_front b (s.wants x)) (gather b x s) s) n
+    ∙ go (has_front b (s.wants x))
   where
     go : (f : Bool) → run_steps (cond f (gather b x s) s).steps n ≡ run_steps s.steps n
     go true = gather_runs b x s n
@@ -79,10 +103,16 @@ abbrev Quiet : List Tail → Type 0
 Quiet [] = Unit {0}
 Quiet (t ∷ ts) = (is_memory_op t.line.op ≡ false) × Quiet ts
 
-hang_runs : (b k z : ℕ) (ts : List Tail) (w : Wants) (n : NameState) → Quiet ts → run_steps (hang b k z ts w).steps n ≡ n
+hang_runs : (b k z : ℕ) (ts : List Tail) (w : Wants) (n : NameState) → Quiet ts
+    → run_steps (hang b k z ts w).steps n ≡ n
 hang_runs b k z [] w n q = refl
-hang_runs b zero z (t ∷ ts) w n q = ap (λ (o : Outside). run_steps (hang b 5 (suc z) ts w).steps (record { env = n.env; out = o })) (quiet_tail t.line.op (map n.env (operands_of t.line.op t.held (suc z))) n.out q.0) ∙ hang_runs b 5 (suc z) ts w n q.1
-hang_runs b (suc k) z (t ∷ ts) w n q = ap (λ (o : Outside). run_steps (hang b k z ts w).steps (record { env = n.env; out = o })) (quiet_tail t.line.op (map n.env (operands_of t.line.op t.held z)) n.out q.0) ∙ hang_runs b k z ts w n q.1
+hang_runs b zero z (t ∷ ts) w n q =
+    ap (λ (o : Outside). run_steps (hang b 5 (suc z) ts w).steps (record { env = n.env; out = o }))
+    (quiet_tail t.line.op (map n.env (operands_of t.line.op t.held (suc z))) n.out q.0)
+    ∙ hang_runs b 5 (suc z) ts w n q.1
+hang_runs b (suc k) z (t ∷ ts) w n q =
+    ap (λ (o : Outside). run_steps (hang b k z ts w).steps (record { env = n.env; out = o }))
+    (quiet_tail t.line.op (map n.env (operands_of t.line.op t.held z)) n.out q.0) ∙ hang_runs b k z ts w n q.1
 
 quiet_steers : (w v : Wants) (xs : List ℕ) → Quiet (steers w v xs)
 quiet_steers w v [] = tt
@@ -94,12 +124,15 @@ quiet_sends p (x ∷ xs) = (refl, quiet_sends (suc p) xs)
 
 quiet_tails : (width : ℕ) (starts : ℕ → Wants) (e : HowLeft) → Quiet (tails_of width starts e)
 quiet_tails width starts (Onto c) = tt
-quiet_tails width starts (Either op from c d) = quiet_steers (starts c) (starts d) (Rattle.wave_gen.specs.Plans.steered width (starts c) (starts d))
+quiet_tails width starts (Either op from c d) = quiet_steers (starts c) (starts d)
+    (Rattle.wave_gen.specs.Plans.steered width (starts c) (starts d))
 quiet_tails width starts (Lands op from values ls) = quiet_sends 0 values
 quiet_tails width starts Halts = tt
 
-selected_runs : (b z : ℕ) (ts : List Tail) (w : Wants) (n : NameState) → Quiet ts → run_steps (selected b z ts w).steps n ≡ run_items (chain z (more 6 ts)) n
-selected_runs b z ts w n q = wire_runs b (chain z (more 6 ts)) (hang b 6 z ts w) n ∙ hang_runs b 6 z ts w (run_items (chain z (more 6 ts)) n) q
+selected_runs : (b z : ℕ) (ts : List Tail) (w : Wants) (n : NameState) → Quiet ts
+    → run_steps (selected b z ts w).steps n ≡ run_items (chain z (more 6 ts)) n
+selected_runs b z ts w n q = wire_runs b (chain z (more 6 ts)) (hang b 6 z ts w) n
+    ∙ hang_runs b 6 z ts w (run_items (chain z (more 6 ts)) n) q
 
 -- a chain of the selector's names
 pub record Chained (z : ℕ) (n m : NameState) : Type 0 where
@@ -115,24 +148,39 @@ chain_runs z y (suc k) n l =
 -- a block
 module _ (width : ℕ) (starts : ℕ → Wants) (b : ℕ) (p : Plan) where
   behind_runs : (n : NameState) → Chained p.test n (run_steps (behind_source width starts b p).steps n)
-  behind_runs n = rw (selected_runs b p.test (tails_of width starts p.exit) (end_wants width starts p.exit) n (quiet_tails width starts p.exit)) (chain_runs p.test p.test (more 6 (tails_of width starts p.exit)) n (omega arith))
+  behind_runs n = rw (selected_runs b p.test (tails_of width starts p.exit) (end_wants width starts p.exit) n
+      (quiet_tails width starts p.exit)) (chain_runs p.test p.test (more 6 (tails_of width starts p.exit)) n
+      (omega arith))
 
-  exit_runs : (e : HowLeft) (n : NameState) → Chained p.test (run_choice p.test e n) (run_steps (exit_made width starts b p e).steps n)
+  exit_runs : (e : HowLeft) (n : NameState) → Chained p.test (run_choice p.test e n)
+      (run_steps (exit_made width starts b p e).steps n)
   exit_runs (Onto c) n = behind_runs n
-  exit_runs (Either op from c d) n = rw (make_runs b p.test op from (behind_source width starts b p) n) (behind_runs (run_item (Make p.test op from) n))
-  exit_runs (Lands op from values ls) n = rw (make_runs b p.test op from (behind_source width starts b p) n) (behind_runs (run_item (Make p.test op from) n))
+  exit_runs (Either op from c d) n = rw (make_runs b p.test op from (behind_source width starts b p) n)
+      (behind_runs (run_item (Make p.test op from) n))
+  exit_runs (Lands op from values ls) n = rw (make_runs b p.test op from (behind_source width starts b p) n)
+      (behind_runs (run_item (Make p.test op from) n))
   exit_runs Halts n = behind_runs n
 
-  pub body_runs : (n : NameState) → Chained p.test (run_choice p.test p.exit (run_items p.items n)) (run_steps (body_made width starts b p).steps n)
-  body_runs n = rw (wire_runs b p.items (exit_made width starts b p p.exit) n) (exit_runs p.exit (run_items p.items n))
+  pub body_runs : (n : NameState) → Chained p.test (run_choice p.test p.exit (run_items p.items n))
+      (run_steps (body_made width starts b p).steps n)
+  body_runs n = rw (wire_runs b p.items (exit_made width starts b p p.exit) n)
+      (exit_runs p.exit (run_items p.items n))
 
-  pub block_runs : (n : NameState) → Chained p.test (run_choice p.test p.exit (run_items p.items n)) (run_steps (block_made width starts b p).steps n)
+  pub block_runs : (n : NameState) → Chained p.test (run_choice p.test p.exit (run_items p.items n))
+      (run_steps (block_made width starts b p).steps n)
   block_runs n = go p.first
     where
-      inner : (j : Bool) → Chained p.test (run_choice p.test p.exit (run_items p.items n)) (run_steps (cond j (emit b pulse Merge (pulse ∷ []) (body_made width starts b p)) (body_made width starts b p)).steps n)
+      inner : (j : Bool) → Chained p.test (run_choice p.test p.exit (run_items p.items n))
+          (run_steps (cond j (emit b pulse Merge (pulse ∷ []) (body_made width starts b p))
+          (body_made width starts b p)).steps n)
       inner true = rw (gather_runs b pulse (body_made width starts b p) n) (body_runs n)
       inner false = body_runs n
 
-      go : (f : Bool) → Chained p.test (run_choice p.test p.exit (run_items p.items n)) (run_steps (cond f (advances b p.entries (renew b p.entries (body_made width starts b p))) (cond (merges p (body_made width starts b p)) (emit b pulse Merge (pulse ∷ []) (body_made width starts b p)) (body_made width starts b p))).steps n)
-      go true = rw (advances_runs b p.entries (renew b p.entries (body_made width starts b p)) n ∙ renew_runs b p.entries (body_made width starts b p) n) (body_runs n)
+      go : (f : Bool) → Chained p.test (run_choice p.test p.exit (run_items p.items n))
+          (run_steps (cond f (advances b p.entries (renew b p.entries (body_made width starts b p)))
+          (cond (merges p (body_made width starts b p))
+          (emit b pulse Merge (pulse ∷ []) (body_made width starts b p)) (body_made width starts b p))).steps
+          n)
+      go true = rw (advances_runs b p.entries (renew b p.entries (body_made width starts b p)) n
+          ∙ renew_runs b p.entries (body_made width starts b p) n) (body_runs n)
       go false = inner (merges p (body_made width starts b p))

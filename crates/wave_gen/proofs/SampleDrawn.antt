@@ -45,7 +45,8 @@ first_entry (suc zero) e = absurd (both_ways false refl e)
 first_entry (suc (suc zero)) e = absurd (both_ways false refl e)
 first_entry (suc (suc (suc x))) e = absurd (both_ways false refl e)
 
-inner : (b c : ℕ) → b < c → c ≤ 4 → (plan_at asks_plans c).first ≡ false → (plan_at asks_plans c).wave ≡ (plan_at asks_plans b).wave → Inner asks_plans b c
+inner : (b c : ℕ) → b < c → c ≤ 4 → (plan_at asks_plans c).first ≡ false
+    → (plan_at asks_plans c).wave ≡ (plan_at asks_plans b).wave → Inner asks_plans b c
 inner b c l u f w = record { later = l; there = u; not_first = f; wave = w }
 
 each : (b : ℕ) → (1 ≤ b) × (b ≤ 4) → PlanIs asks_plans 3 (λ b x. asks_live b x ≡ true) b
@@ -61,7 +62,12 @@ each (suc zero) h = record {
       | inl i ↦ live_pulse 1 x (only x 0 i)
       | inr w ↦ elim w.1 [
         | inl i ↦ absurd (w.0 (only x 1 i))
-        | inr v ↦ elim v.1 [ inl e ↦ live_pulse 1 x e | inr u ↦ elim u [ inl e ↦ before 2 x q.0 e | inr e ↦ before 3 x q.0 e ] ]
+        | inr v ↦
+            elim v.1 [
+              | inl e ↦ live_pulse 1 x e
+              | inr u ↦
+                  elim u [ inl e ↦ before 2 x q.0 e | inr e ↦ before 3 x q.0 e ]
+            ]
       ]
     ]
   ];
@@ -77,7 +83,11 @@ each (suc (suc zero)) h = record {
   items = (((λ ds. refl, refl), refl), ((refl, refl), tt));
   source = tt;
   edges = inl (inner 2 4 (omega arith) (omega arith) refl refl);
-  live = λ x r. elim r [ inl i ↦ live_pulse 2 x (only x 0 i) | inr q ↦ elim q.1 [ inl i ↦ absurd (q.0 (only x 3 i)) | inr e ↦ alike 2 0 x e ] ];
+  live = λ x r. elim r [
+    | inl i ↦ live_pulse 2 x (only x 0 i)
+    | inr q ↦
+        elim q.1 [ inl i ↦ absurd (q.0 (only x 3 i)) | inr e ↦ alike 2 0 x e ]
+  ];
   pulse_live = refl;
   few = few 2;
   test = omega arith;
@@ -90,7 +100,11 @@ each (suc (suc (suc zero))) h = record {
   items = (((λ ds. refl, refl), refl), ((refl, refl), tt));
   source = tt;
   edges = inl (inner 3 4 (omega arith) (omega arith) refl refl);
-  live = λ x r. elim r [ inl i ↦ live_pulse 3 x (only x 0 i) | inr q ↦ elim q.1 [ inl i ↦ absurd (q.0 (only x 3 i)) | inr e ↦ alike 2 1 x e ] ];
+  live = λ x r. elim r [
+    | inl i ↦ live_pulse 3 x (only x 0 i)
+    | inr q ↦
+        elim q.1 [ inl i ↦ absurd (q.0 (only x 3 i)) | inr e ↦ alike 2 1 x e ]
+  ];
   pulse_live = refl;
   few = few 3;
   test = omega arith;
@@ -121,7 +135,8 @@ not_first (suc zero) l e = both_ways false refl e
 not_first (suc (suc zero)) l e = both_ways false refl e
 not_first (suc (suc (suc b))) l e = omega arith
 
-one_wave : (b : ℕ) → suc (suc b) ≤ 4 → (plan_at asks_plans (suc (suc b))).wave ≡ (plan_at asks_plans (suc b)).wave
+one_wave : (b : ℕ) → suc (suc b) ≤ 4 → (plan_at asks_plans (suc (suc b))).wave
+    ≡ (plan_at asks_plans (suc b)).wave
 unfolding plan_at
 one_wave zero l = refl
 one_wave (suc zero) l = refl
@@ -146,13 +161,44 @@ keeps n c e = record { leads = here e; none = refl }
 
 blocks : (b : ℕ) → b < 4 → BlockDrawn asks asks_plans 3 asks_place asks_zeroed b
 unfolding plan_at spot_at
-blocks zero l = record { first = []; items = λ s. refl; exit = (2, 3, refl, refl, keeps 2 1 refl, keeps 3 2 refl); wide = omega arith; test = omega arith }
-blocks (suc zero) l = record { first = []; items = λ s. refl; exit = (4, refl, refl, keeps 4 3 refl); wide = omega arith; test = omega arith }
-blocks (suc (suc zero)) l = record { first = []; items = λ s. refl; exit = (4, refl, refl, keeps 4 3 refl); wide = omega arith; test = omega arith }
-blocks (suc (suc (suc zero))) l = record { first = []; items = λ s. refl; exit = (refl, refl); wide = omega arith; test = omega arith }
+blocks zero l =
+    record {
+      first = [];
+      items = λ s. refl;
+      exit = (2, 3, refl, refl, keeps 2 1 refl, keeps 3 2 refl);
+      wide = omega arith;
+      test = omega arith;
+    }
+blocks (suc zero) l = record {
+  first = [];
+  items = λ s. refl;
+  exit = (4, refl, refl, keeps 4 3 refl);
+  wide = omega arith;
+  test = omega arith;
+}
+blocks (suc (suc zero)) l = record {
+  first = [];
+  items = λ s. refl;
+  exit = (4, refl, refl, keeps 4 3 refl);
+  wide = omega arith;
+  test = omega arith;
+}
+blocks (suc (suc (suc zero))) l = record {
+  first = [];
+  items = λ s. refl;
+  exit = (refl, refl);
+  wide = omega arith;
+  test = omega arith;
+}
 blocks (suc (suc (suc (suc b)))) l = absurd (omega arith)
 
 -- so the law speaks of this draft
 pub asks_drawn : IsGraph asks → IsDrawn asks [] 3 asks_plans asks_live asks_place asks_zeroed
 unfolding entry_of
-asks_drawn rules = record { plans = asks_are; rules = rules; drawn = record { blocks = blocks; start = here refl }; cells = refl }
+asks_drawn rules =
+    record {
+      plans = asks_are;
+      rules = rules;
+      drawn = record { blocks = blocks; start = here refl };
+      cells = refl;
+    }

@@ -1,8 +1,10 @@
 -- What holds of items holds of them with equal constants made once.
-use Rattle.std.proofs.Common.{ℕ, ◌+◌, ◌≡◌, ◌≤◌, ◌⊎◌, true, false, cond, List, [], ◌∷◌, Option, Some, None, refl, sym, ap, ◌∙◌, subst, inl, inr, arith, eq-eqb, ne_eqb}
+use Rattle.std.proofs.Common.{ℕ, ◌+◌, ◌≡◌, ◌≤◌, ◌⊎◌, true, false, cond, List, [], ◌∷◌, Option, Some, None}
+use Rattle.std.proofs.Common.{refl, sym, ap, ◌∙◌, subst, inl, inr, arith, eq-eqb, ne_eqb}
 use Rattle.std.proofs.lemmas.Bool.{cases_eq}
 use Rattle.ws_isa.specs.declared.instr.Op.{Op}
-use Rattle.ws_isa.specs.declared.instr.Op.TheVariants.{Const, Alu, Merge, Advance, Steer, Phi, Send, Load, Store, Input, Output, Give, Take, Nop, Halt}
+use Rattle.ws_isa.specs.declared.instr.Op.TheVariants.{Const, Alu, Merge, Advance, Steer, Phi, Send, Load}
+use Rattle.ws_isa.specs.declared.instr.Op.TheVariants.{Store, Input, Output, Give, Take, Nop, Halt}
 use Rattle.ws_isa.specs.Image.{is_giving_op}
 use Rattle.wave_gen.specs.Waits.{NameState, set}
 use Rattle.wave_gen.specs.Wire.{Item, Make, Act, Same}
@@ -21,7 +23,11 @@ pub data Makes (i : Item) : Type 0 where
 
 pulse_list : (from : List ℕ) → (is_pulse from ≡ false) ⊎ (from ≡ pulse ∷ [])
 pulse_list [] = inl refl
-pulse_list (x ∷ []) = elim (cases_eq x pulse) [ inl e ↦ inr (ap (λ (z : ℕ). z ∷ []) e) | inr d ↦ inl (ne_eqb x pulse d) ]
+pulse_list (x ∷ []) = elim (cases_eq x pulse) [
+  | inl e ↦ inr (ap (λ (z : ℕ). z ∷ []) e)
+  | inr d ↦
+      inl (ne_eqb x pulse d)
+]
 pulse_list (x ∷ y ∷ xs) = inl refl
 
 pub makes : (i : Item) → Makes i
@@ -50,24 +56,28 @@ makes (Same x y) = other refl
 pub data Turns (K : ℕ → ℕ) (i : Item) : Type 0 where
   kept : share K i ≡ i → learn K i ≡ K → Turns K i
   first : (x n : ℕ) → i ≡ Make x (Const n) (pulse ∷ []) → share K i ≡ i → learn K i ≡ set K n x → Turns K i
-  again : (x n : ℕ) → i ≡ Make x (Const n) (pulse ∷ []) → share K i ≡ Same x (K n) → learn K i ≡ K → (K n ≡ pulse → ⊥) → Turns K i
+  again : (x n : ℕ) → i ≡ Make x (Const n) (pulse ∷ []) → share K i ≡ Same x (K n) → learn K i ≡ K
+      → (K n ≡ pulse → ⊥) → Turns K i
 
 pub turns : (K : ℕ → ℕ) (i : Item) → Turns K i
 turns K i = elim (makes i) [
   | other e ↦ kept (ap (share_as K i) e) (ap (learn_of K i) e)
   | number x n e ↦ elim (cases_eq (K n) pulse) [
     | inl z ↦ first x n e
-        (ap (share K) e ∙ ap (λ v. cond v (Make x (Const n) (pulse ∷ [])) (Same x (K n))) (eq-eqb (K n) pulse z) ∙ sym e)
+        (ap (share K) e ∙ ap (λ v. cond v (Make x (Const n) (pulse ∷ [])) (Same x (K n)))
+        (eq-eqb (K n) pulse z) ∙ sym e)
         (ap (learn K) e ∙ ap (λ v. cond v (set K n x) K) (eq-eqb (K n) pulse z))
     | inr d ↦ again x n e
-        (ap (share K) e ∙ ap (λ v. cond v (Make x (Const n) (pulse ∷ [])) (Same x (K n))) (ne_eqb (K n) pulse d))
+        (ap (share K) e ∙ ap (λ v. cond v (Make x (Const n) (pulse ∷ [])) (Same x (K n)))
+        (ne_eqb (K n) pulse d))
         (ap (learn K) e ∙ ap (λ v. cond v (set K n x) K) (ne_eqb (K n) pulse d))
         d
   ]
 ]
 
 -- of each item
-pub item_shared : (P : Item → Type 0) → ((x y : ℕ) → P (Same x y)) → (K : ℕ → ℕ) (i : Item) → P i → P (share K i)
+pub item_shared : (P : Item → Type 0) → ((x y : ℕ) → P (Same x y)) → (K : ℕ → ℕ) (i : Item) → P i
+    → P (share K i)
 item_shared P same K i h = elim (turns K i) [
   | kept e f ↦ subst P (sym e) h
   | first x n g e f ↦ subst P (sym e) h
@@ -103,7 +113,8 @@ pub shared_items : (P : Op → Type 0) (K : ℕ → ℕ) (is : List Item) → It
 shared_items P K [] h = tt
 shared_items P K (i ∷ is) h =
     let f = has_first P i is h in
-    has_cons P (share K i) (shared (learn K i) is) (item_shared (Has P) (same_has P) K i f.0) (shared_items P (learn K i) is f.1)
+    has_cons P (share K i) (shared (learn K i) is) (item_shared (Has P) (same_has P) K i f.0)
+    (shared_items P (learn K i) is f.1)
 
 Gives : Item → Type 0
 Gives (Make x op from) = is_giving_op op ≡ true
@@ -130,13 +141,15 @@ pub shared_give : (K : ℕ → ℕ) (is : List Item) → ItemsGive is → ItemsG
 shared_give K [] h = tt
 shared_give K (i ∷ is) h =
     let f = give_first i is h in
-    give_cons (share K i) (shared (learn K i) is) (item_shared Gives same_gives K i f.0) (shared_give (learn K i) is f.1)
+    give_cons (share K i) (shared (learn K i) is) (item_shared Gives same_gives K i f.0)
+    (shared_give (learn K i) is f.1)
 
 -- what they read
 abbrev Known : (ℕ → ℕ) → ℕ → Type 0
 Known K x = (n : ℕ) × (K n ≡ pulse → ⊥) × (K n ≡ x)
 
-same_item : (i : Item) (xs ys : List Item) (P : ℕ → Type 0) (x : ℕ) (Q : Type 0) → (Reads xs P x → Reads ys P x ⊎ Q) → Reads (i ∷ xs) P x → Reads (i ∷ ys) P x ⊎ Q
+same_item : (i : Item) (xs ys : List Item) (P : ℕ → Type 0) (x : ℕ) (Q : Type 0)
+    → (Reads xs P x → Reads ys P x ⊎ Q) → Reads (i ∷ xs) P x → Reads (i ∷ ys) P x ⊎ Q
 same_item (Make y op from) xs ys P x Q f (inl r) = inl (inl r)
 same_item (Make y op from) xs ys P x Q f (inr r) = elim (f r.1) [ inl q ↦ inl (inr (r.0, q)) | inr q ↦ inr q ]
 same_item (Act op from) xs ys P x Q f (inl r) = inl (inl r)
@@ -150,23 +163,32 @@ set_at f k v = rw (eq-eqb k k refl) refl
 set_off : (f : ℕ → ℕ) (k v j : ℕ) → (j ≡ k → ⊥) → set f k v j ≡ f j
 set_off f k v j n = rw (ne_eqb j k n) refl
 
-shared_reads : (K : ℕ → ℕ) (is : List Item) (P : ℕ → Type 0) (x : ℕ) → Reads (shared K is) P x → Reads is P x ⊎ Known K x
+shared_reads : (K : ℕ → ℕ) (is : List Item) (P : ℕ → Type 0) (x : ℕ) → Reads (shared K is) P x
+    → Reads is P x ⊎ Known K x
 shared_reads K [] P x h = inl h
 shared_reads K (i ∷ is) P x h = elim (turns K i) [
   | kept e f ↦ same_item i (shared K is) is P x (Known K x) (shared_reads K is P x)
-      (subst (λ (k : ℕ → ℕ). Reads (i ∷ shared k is) P x) f (subst (λ (j : Item). Reads (j ∷ shared (learn K i) is) P x) e h))
+      (subst (λ (k : ℕ → ℕ). Reads (i ∷ shared k is) P x) f
+      (subst (λ (j : Item). Reads (j ∷ shared (learn K i) is) P x) e h))
   | first y n g e f ↦
-      (let r : Reads (Make y (Const n) (pulse ∷ []) ∷ shared (set K n y) is) P x = subst (λ (k : ℕ → ℕ). Reads (Make y (Const n) (pulse ∷ []) ∷ shared k is) P x) f (subst (λ (j : Item). Reads (j ∷ shared (learn K i) is) P x) (e ∙ g) h) in
+      (let r : Reads (Make y (Const n) (pulse ∷ []) ∷ shared (set K n y) is) P x =
+      subst (λ (k : ℕ → ℕ). Reads (Make y (Const n) (pulse ∷ []) ∷ shared k is) P x) f
+      (subst (λ (j : Item). Reads (j ∷ shared (learn K i) is) P x) (e ∙ g) h) in
       back i y n g (made y n (shared_reads (set K n y) is P x) r))
   | again y n g e f d ↦
-      (let r : Reads (Same y (K n) ∷ shared K is) P x = subst (λ (k : ℕ → ℕ). Reads (Same y (K n) ∷ shared k is) P x) f (subst (λ (j : Item). Reads (j ∷ shared (learn K i) is) P x) e h) in
+      (let r : Reads (Same y (K n) ∷ shared K is) P x =
+      subst (λ (k : ℕ → ℕ). Reads (Same y (K n) ∷ shared k is) P x) f
+      (subst (λ (j : Item). Reads (j ∷ shared (learn K i) is) P x) e h) in
       back i y n g (took y n d (shared_reads K is P x) r))
 ]
   where
-    back : (i : Item) (y n : ℕ) → i ≡ Make y (Const n) (pulse ∷ []) → Reads (Make y (Const n) (pulse ∷ []) ∷ is) P x ⊎ Known K x → Reads (i ∷ is) P x ⊎ Known K x
+    back : (i : Item) (y n : ℕ) → i ≡ Make y (Const n) (pulse ∷ [])
+        → Reads (Make y (Const n) (pulse ∷ []) ∷ is) P x ⊎ Known K x → Reads (i ∷ is) P x ⊎ Known K x
     back i y n g h = subst (λ (j : Item). Reads (j ∷ is) P x ⊎ Known K x) (sym g) h
 
-    made : (y n : ℕ) → (Reads (shared (set K n y) is) P x → Reads is P x ⊎ Known (set K n y) x) → Reads (Make y (Const n) (pulse ∷ []) ∷ shared (set K n y) is) P x → Reads (Make y (Const n) (pulse ∷ []) ∷ is) P x ⊎ Known K x
+    made : (y n : ℕ) → (Reads (shared (set K n y) is) P x → Reads is P x ⊎ Known (set K n y) x)
+        → Reads (Make y (Const n) (pulse ∷ []) ∷ shared (set K n y) is) P x
+        → Reads (Make y (Const n) (pulse ∷ []) ∷ is) P x ⊎ Known K x
     made y n ih (inl r) = inl (inl r)
     made y n ih (inr r) = elim (ih r.1) [
       | inl q ↦ inl (inr (r.0, q))
@@ -179,7 +201,8 @@ shared_reads K (i ∷ is) P x h = elim (turns K i) [
           | inr f ↦ inr (m, (λ w. z (set_off K n y m f ∙ w)), sym (set_off K n y m f) ∙ e)
         ]
 
-    took : (y n : ℕ) → (K n ≡ pulse → ⊥) → (Reads (shared K is) P x → Reads is P x ⊎ Known K x) → Reads (Same y (K n) ∷ shared K is) P x → Reads (Make y (Const n) (pulse ∷ []) ∷ is) P x ⊎ Known K x
+    took : (y n : ℕ) → (K n ≡ pulse → ⊥) → (Reads (shared K is) P x → Reads is P x ⊎ Known K x)
+        → Reads (Same y (K n) ∷ shared K is) P x → Reads (Make y (Const n) (pulse ∷ []) ∷ is) P x ⊎ Known K x
     took y n d ih (inl r) = inr (n, d, sym r)
     took y n d ih (inr r) = elim (ih r.1) [ inl q ↦ inl (inr (r.0, q)) | inr q ↦ inr q ]
 
@@ -209,10 +232,13 @@ spared y (Same x z) s h = set_off s.env x _ y (λ e. h (sym e))
 abbrev pub Sure : (ℕ → ℕ) → List Item → NameState → Type 0
 Sure K is s = (n : ℕ) → (K n ≡ pulse → ⊥) → (s.env (K n) ≡ n) × AllSpare (K n) is
 
-sure_on : (K : ℕ → ℕ) (i : Item) (is : List Item) (s : NameState) → Sure K (i ∷ is) s → Sure K is (run_item i s)
+sure_on : (K : ℕ → ℕ) (i : Item) (is : List Item) (s : NameState) → Sure K (i ∷ is) s
+    → Sure K is (run_item i s)
 sure_on K i is s h n d = (spared (K n) i s (h n d).1.0 ∙ (h n d).0, (h n d).1.1)
 
-sure_more : (K : ℕ → ℕ) (x n : ℕ) (is : List Item) (s : NameState) → AllSpare x is → Sure K (Make x (Const n) (pulse ∷ []) ∷ is) s → Sure (set K n x) is (run_item (Make x (Const n) (pulse ∷ [])) s)
+sure_more : (K : ℕ → ℕ) (x n : ℕ) (is : List Item) (s : NameState) → AllSpare x is
+    → Sure K (Make x (Const n) (pulse ∷ []) ∷ is) s
+    → Sure (set K n x) is (run_item (Make x (Const n) (pulse ∷ [])) s)
 sure_more K x n is s a h m d = elim (cases_eq m n) [
   | inl f ↦ (let e : set K n x m ≡ x = ap (set K n x) f ∙ set_at K n x in
       (ap (set s.env x n) e ∙ set_at s.env x n ∙ sym f, subst (λ y. AllSpare y is) (sym e) a))
@@ -221,22 +247,31 @@ sure_more K x n is s a h m d = elim (cases_eq m n) [
       (ap (set s.env x n) e ∙ r.0, subst (λ y. AllSpare y is) (sym e) r.1))
 ]
 
-pub shared_runs : (K : ℕ → ℕ) (is : List Item) (s : NameState) → Once is → Sure K is s → run_items (shared K is) s ≡ run_items is s
+pub shared_runs : (K : ℕ → ℕ) (is : List Item) (s : NameState) → Once is → Sure K is s
+    → run_items (shared K is) s ≡ run_items is s
 shared_runs K [] s o h = refl
 shared_runs K (i ∷ is) s o h = elim (turns K i) [
-  | kept e f ↦ ap (λ (j : Item). run_items (shared (learn K i) is) (run_item j s)) e ∙ ap (λ (k : ℕ → ℕ). run_items (shared k is) (run_item i s)) f
+  | kept e f ↦ ap (λ (j : Item). run_items (shared (learn K i) is) (run_item j s)) e
+      ∙ ap (λ (k : ℕ → ℕ). run_items (shared k is) (run_item i s)) f
       ∙ shared_runs K is (run_item i s) o.1 (sure_on K i is s h)
-  | first x n g e f ↦ ap (λ (j : Item). run_items (shared (learn K i) is) (run_item j s)) e ∙ ap (λ (k : ℕ → ℕ). run_items (shared k is) (run_item i s)) f
+  | first x n g e f ↦ ap (λ (j : Item). run_items (shared (learn K i) is) (run_item j s)) e
+      ∙ ap (λ (k : ℕ → ℕ). run_items (shared k is) (run_item i s)) f
       ∙ shared_runs (set K n x) is (run_item i s) o.1
-      (subst (λ (j : Item). Sure (set K n x) is (run_item j s)) (sym g) (sure_more K x n is s (o.0 x n g) (subst (λ (j : Item). Sure K (j ∷ is) s) g h)))
-  | again x n g e f d ↦ ap (λ (j : Item). run_items (shared (learn K i) is) (run_item j s)) e ∙ ap (λ (k : ℕ → ℕ). run_items (shared k is) (run_item (Same x (K n)) s)) f
-      ∙ ap (λ (r : NameState). run_items (shared K is) r) (taken x n d g) ∙ shared_runs K is (run_item i s) o.1 (sure_on K i is s h)
+      (subst (λ (j : Item). Sure (set K n x) is (run_item j s)) (sym g)
+      (sure_more K x n is s (o.0 x n g) (subst (λ (j : Item). Sure K (j ∷ is) s) g h)))
+  | again x n g e f d ↦ ap (λ (j : Item). run_items (shared (learn K i) is) (run_item j s)) e
+      ∙ ap (λ (k : ℕ → ℕ). run_items (shared k is) (run_item (Same x (K n)) s)) f
+      ∙ ap (λ (r : NameState). run_items (shared K is) r) (taken x n d g)
+      ∙ shared_runs K is (run_item i s) o.1 (sure_on K i is s h)
 ]
   where
-    taken : (x n : ℕ) → (K n ≡ pulse → ⊥) → i ≡ Make x (Const n) (pulse ∷ []) → run_item (Same x (K n)) s ≡ run_item i s
-    taken x n d g = ap (λ v. record { env = set s.env x v; out = s.out }) (h n d).0 ∙ ap (λ (j : Item). run_item j s) (sym g)
+    taken : (x n : ℕ) → (K n ≡ pulse → ⊥) → i ≡ Make x (Const n) (pulse ∷ [])
+        → run_item (Same x (K n)) s ≡ run_item i s
+    taken x n d g = ap (λ v. record { env = set s.env x v; out = s.out }) (h n d).0
+        ∙ ap (λ (j : Item). run_item j s) (sym g)
 
-pub shared_run : (is : List Item) → Once is → (s : NameState) → run_items (shared none_known is) s ≡ run_items is s
+pub shared_run : (is : List Item) → Once is → (s : NameState) → run_items (shared none_known is) s ≡ run_items
+    is s
 shared_run is o s = shared_runs none_known is s o (λ n d. absurd (d refl))
 
 -- what they weigh: a copy weighs more than a constant by 1
@@ -256,5 +291,6 @@ shared_weigh K (i ∷ is) =
       | kept e f ↦ (let g : weight (share K i) ≡ weight i = ap weight e in omega (arith, g, h))
       | first x n q e f ↦ (let g : weight (share K i) ≡ weight i = ap weight e in omega (arith, g, h))
       | again x n q e f d ↦ (let g : weight (share K i) ≡ 5 = ap weight e in
-          let u : weight i ≡ 4 = ap weight q in let v : extra_of (const_of i) ≡ 1 = ap (λ (j : Item). extra_of (const_of j)) q in omega (arith, g, u, v, h))
+          let u : weight i ≡ 4 = ap weight q in let v : extra_of (const_of i) ≡ 1 =
+          ap (λ (j : Item). extra_of (const_of j)) q in omega (arith, g, u, v, h))
     ]

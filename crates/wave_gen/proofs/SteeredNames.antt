@@ -1,5 +1,7 @@
--- The names that a branch steers: those that its arms want in different places, and the pulse where there is no other.
-use Rattle.std.proofs.Common.{ℕ, ◌≡◌, ◌≤◌, ◌⊎◌, true, false, List, [], ◌∷◌, length, Some, refl, inl, inr, arith}
+-- The names that a branch steers: those that its arms want in different places, and the pulse where there is
+-- no other.
+use Rattle.std.proofs.Common.{ℕ, ◌≡◌, ◌≤◌, ◌⊎◌, true, false, List, [], ◌∷◌, length, Some, refl, inl, inr}
+use Rattle.std.proofs.Common.{arith}
 use Rattle.wave_gen.specs.Wire.{Wants}
 use Rattle.wave_gen.specs.Plans.{pulse, or_pulse, is_among, steer_of, steers}
 use Rattle.wave_gen.proofs.Planned.{Apart}

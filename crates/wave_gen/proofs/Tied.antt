@@ -1,5 +1,7 @@
 -- The walk of a graph and the run of a draft that is drawn from it.
-use Rattle.std.proofs.Common.{ℕ, zero, suc, ◌+◌, ◌-◌, ◌≡◌, ◌<◌, ◌≤◌, ◌⊎◌, ◌==◌, Bool, true, false, cond, eqb, List, [], ◌∷◌, ◌++◌, length, map, min, Some, None, if◌then◌else◌, slice_index, slice_set, refl, sym, ap, ◌∙◌, subst, inl, inr, arith, eq-eqb, ne_eqb}
+use Rattle.std.proofs.Common.{ℕ, zero, suc, ◌+◌, ◌-◌, ◌≡◌, ◌<◌, ◌≤◌, ◌⊎◌, ◌==◌, Bool, true, false, cond, eqb}
+use Rattle.std.proofs.Common.{List, [], ◌∷◌, ◌++◌, length, map, min, Some, None, if◌then◌else◌, slice_index}
+use Rattle.std.proofs.Common.{slice_set, refl, sym, ap, ◌∙◌, subst, inl, inr, arith, eq-eqb, ne_eqb}
 use Rattle.std.proofs.lemmas.Bool.{cases_eq, cond-true, cond-false}
 use Rattle.std.specs.List.{AllByRecursion}
 use Rattle.ws_words.specs.Outside.{Outside, ProcState, World, zeros, opening_out}
@@ -11,15 +13,18 @@ use Rattle.cfg_core.specs.Graph.{Graph, Spot, spots, spot_at, no_spot}
 use Rattle.cfg_core.specs.Rules as rules
 use Rattle.cfg_core.specs.Rules.{IsGraph, BlockNumbers, TermIn, StaysIn, ExitIn, ChoosesBare}
 use Rattle.cfg_core.specs.Walk as walks
-use Rattle.cfg_core.specs.Walk.{OpsOutcome, Done, Out, run_ops, Config, At, Over, Going, value, value_of, leave, passed, step, walk}
+use Rattle.cfg_core.specs.Walk.{OpsOutcome, Done, Out, run_ops, Config, At, Over, Going, value, value_of}
+use Rattle.cfg_core.specs.Walk.{leave, passed, step, walk}
 use Rattle.wave_gen.specs.Waits.{NameState, set, Code, RunPlace, names_at, pass, places}
 use Rattle.wave_gen.specs.Wire.{Item, Make, Same}
-use Rattle.wave_gen.specs.Plans.{HowLeft, Onto, Either, Lands, Halts, Plan, plan_at, pulse, draft_of, code_of, filled}
+use Rattle.wave_gen.specs.Plans.{HowLeft, Onto, Either, Lands, Halts, Plan, plan_at, pulse, draft_of, code_of}
+use Rattle.wave_gen.specs.Plans.{filled}
 use Rattle.wave_gen.proofs.Planned.{PlansAre, Inner, Outer, EdgesAre}
 use Rattle.wave_gen.proofs.Runs.{run_item, run_items, run_choice}
 use Rattle.wave_gen.specs.Gen.{gen_term, gen_ops, Agrees, FlipsWords}
 use Rattle.wave_gen.specs.Drawn.{Source, gen_source, gen_terms}
-use Rattle.wave_gen.proofs.DrawnPlans.{zero_items, Leads, here, zeroed_at, Keeps, LandsAt, LandsAll, ExitDrawn, BlockDrawn, Drawn, ExitFine, BlockFine, WalkFine}
+use Rattle.wave_gen.proofs.DrawnPlans.{zero_items, Leads, here, zeroed_at, Keeps, LandsAt, LandsAll}
+use Rattle.wave_gen.proofs.DrawnPlans.{ExitDrawn, BlockDrawn, Drawn, ExitFine, BlockFine, WalkFine}
 use Rattle.wave_gen.proofs.Terms.{run_append, agrees_on, set_here, set_other}
 use Rattle.wave_gen.proofs.Ops.{IsState, Left, ops_left, get_set, get_other}
 use Rattle.wave_gen.proofs.Sources.{Last, source_last, GiveMany, terms_give}
@@ -33,15 +38,19 @@ use Rattle.cfg_core.proofs.Spots.{landed_count as landed_length}
 use Rattle.ws_words.specs.Items.{nth, or_else, In, Distinct}
 use Rattle.ws_words.proofs.Acts.{with_more}
 
-pub all_at : {A : Type 0} (P : A → Type 0) (xs : List A) (d : A) (i : ℕ) → AllByRecursion P xs → i < length xs → P (or_else (nth xs i) d)
+pub all_at : {A : Type 0} (P : A → Type 0) (xs : List A) (d : A) (i : ℕ) → AllByRecursion P xs → i < length xs
+    → P (or_else (nth xs i) d)
 all_at P [] d i h l = absurd (omega arith)
 all_at P (x ∷ xs) d zero h l = h.0
 all_at P (x ∷ xs) d (suc i) h l = all_at P xs d i h.1 (omega arith)
 
 -- blocks of one procedure have as many variables
-in_proc : (h v : ℕ) (bs : List graph.Block) (rest : List Spot) (i : ℕ) (s : Spot) → nth (graph.spots_in h v bs ++ rest) i ≡ Some s → ((s.home ≡ h) × (s.vars ≡ v)) ⊎ ((j : ℕ) × (nth rest j ≡ Some s))
+in_proc : (h v : ℕ) (bs : List graph.Block) (rest : List Spot) (i : ℕ) (s : Spot)
+    → nth (graph.spots_in h v bs ++ rest) i ≡ Some s → ((s.home ≡ h) × (s.vars ≡ v))
+    ⊎ ((j : ℕ) × (nth rest j ≡ Some s))
 in_proc h v [] rest i s e = inr (i, e)
-in_proc h v (b ∷ bs) rest zero s e = let f : record { home = h; vars = v; block = b } ≡ s = cc in inl (sym (ap (λ (x : Spot). x.home) f), sym (ap (λ (x : Spot). x.vars) f))
+in_proc h v (b ∷ bs) rest zero s e = let f : record { home = h; vars = v; block = b } ≡ s = cc in
+    inl (sym (ap (λ (x : Spot). x.home) f), sym (ap (λ (x : Spot). x.vars) f))
 in_proc h v (b ∷ bs) rest (suc i) s e = in_proc h v bs rest i s e
 
 record HomeOf (h : ℕ) (procs : List graph.GraphProc) (s : Spot) : Type 0 where
@@ -50,20 +59,28 @@ record HomeOf (h : ℕ) (procs : List graph.GraphProc) (s : Spot) : Type 0 where
   pub is : nth procs (s.home - h) ≡ Some proc
   pub vars : proc.vars ≡ s.vars
 
-home_of : (h : ℕ) (procs : List graph.GraphProc) (i : ℕ) (s : Spot) → nth (graph.spots_from h procs) i ≡ Some s → HomeOf h procs s
+home_of : (h : ℕ) (procs : List graph.GraphProc) (i : ℕ) (s : Spot) → nth (graph.spots_from h procs) i
+    ≡ Some s → HomeOf h procs s
 home_of h [] i s e = absurd (let a : None ≡ Some s = e in cc)
-home_of h (p ∷ procs) i s e = go (in_proc h p.vars p.blocks (graph.spots_from (suc h) procs) i s e) (λ j f. home_of (suc h) procs j s f)
+home_of h (p ∷ procs) i s e = go (in_proc h p.vars p.blocks (graph.spots_from (suc h) procs) i s e)
+    (λ j f. home_of (suc h) procs j s f)
   where
-    go : ((s.home ≡ h) × (s.vars ≡ p.vars)) ⊎ ((j : ℕ) × (nth (graph.spots_from (suc h) procs) j ≡ Some s)) → ((j : ℕ) → nth (graph.spots_from (suc h) procs) j ≡ Some s → HomeOf (suc h) procs s) → HomeOf h (p ∷ procs) s
-    go (inl a) ih = let z : s.home - h ≡ 0 = omega (arith, a.0) in record { proc = p; low = omega (arith, a.0); is = rw z refl; vars = sym a.1 }
-    go (inr a) ih = let r = ih a.0 a.1 in let l : suc h ≤ s.home = r.low in let z : s.home - h ≡ suc (s.home - suc h) = omega arith in record { proc = r.proc; low = omega arith; is = rw z r.is; vars = r.vars }
+    go : ((s.home ≡ h) × (s.vars ≡ p.vars)) ⊎ ((j : ℕ) × (nth (graph.spots_from (suc h) procs) j ≡ Some s))
+        → ((j : ℕ) → nth (graph.spots_from (suc h) procs) j ≡ Some s → HomeOf (suc h) procs s)
+        → HomeOf h (p ∷ procs) s
+    go (inl a) ih = let z : s.home - h ≡ 0 = omega (arith, a.0) in
+        record { proc = p; low = omega (arith, a.0); is = rw z refl; vars = sym a.1 }
+    go (inr a) ih = let r = ih a.0 a.1 in let l : suc h ≤ s.home = r.low in
+        let z : s.home - h ≡ suc (s.home - suc h) = omega arith in
+        record { proc = r.proc; low = omega arith; is = rw z r.is; vars = r.vars }
 
 pub spot_nth : (xs : List Spot) (i : ℕ) → i < length xs → nth xs i ≡ Some (or_else (nth xs i) no_spot)
 spot_nth [] i l = absurd (omega arith)
 spot_nth (x ∷ xs) zero l = refl
 spot_nth (x ∷ xs) (suc i) l = spot_nth xs i (omega arith)
 
-pub same_home : (g : Graph) (b c : ℕ) → b < length (spots g) → c < length (spots g) → (spot_at g c).home ≡ (spot_at g b).home → (spot_at g c).vars ≡ (spot_at g b).vars
+pub same_home : (g : Graph) (b c : ℕ) → b < length (spots g) → c < length (spots g)
+    → (spot_at g c).home ≡ (spot_at g b).home → (spot_at g c).vars ≡ (spot_at g b).vars
 unfolding spot_at
 same_home g b c l m e =
     let x = home_of 0 g.procs b (spot_at g b) (spot_nth (spots g) b l) in
@@ -73,29 +90,39 @@ same_home g b c l m e =
     sym y.vars ∙ ap (λ (p : graph.GraphProc). p.vars) q ∙ x.vars
 
 -- what a Send leaves in a landing's variables
-landed_other : (xs vs vars : List ℕ) (y : ℕ) → (In y xs → ⊥) → slice_index (walks.landed xs vs vars) y ≡ slice_index vars y
+landed_other : (xs vs vars : List ℕ) (y : ℕ) → (In y xs → ⊥) → slice_index (walks.landed xs vs vars) y
+    ≡ slice_index vars y
 landed_other [] vs vars y n = refl
 landed_other (x ∷ xs) [] vars y n = refl
-landed_other (x ∷ xs) (v ∷ vs) vars y n = landed_other xs vs (slice_set vars x v) y (λ h. n (inr h)) ∙ get_other vars x y v (λ e. n (inl e))
+landed_other (x ∷ xs) (v ∷ vs) vars y n = landed_other xs vs (slice_set vars x v) y (λ h. n (inr h))
+    ∙ get_other vars x y v (λ e. n (inl e))
 
 -- as names: the pads' names have the values, all others 0
-fills : (xs names vs vars : List ℕ) (env : ℕ → ℕ) (y : ℕ) → Distinct xs → map env names ≡ vs → y < length vars → slice_index vars y ≡ 0 → length names ≡ length xs →
+fills : (xs names vs vars : List ℕ) (env : ℕ → ℕ) (y : ℕ) → Distinct xs → map env names ≡ vs → y < length vars
+    → slice_index vars y ≡ 0 → length names ≡ length xs →
     filled (map suc xs) names env (suc y) ≡ slice_index (walks.landed xs vs vars) y
 fills [] names vs vars env y a e l z n = sym z
 fills (x ∷ xs) [] vs vars env y a e l z n = absurd (omega (arith, n))
-fills (x ∷ xs) (m ∷ names) [] vars env y a e l z n = absurd (let q : length (env m ∷ map env names) ≡ length {A = ℕ} [] = ap length e in omega arith)
+fills (x ∷ xs) (m ∷ names) [] vars env y a e l z n =
+    absurd (let q : length (env m ∷ map env names) ≡ length {A = ℕ} [] = ap length e in omega arith)
 fills (x ∷ xs) (m ∷ names) (v ∷ vs) vars env y a e l z n =
     let q : env m ∷ map env names ≡ v ∷ vs = e in
     let hd : env m ≡ v = cc in
     let tl : map env names ≡ vs = cc in
     elim (cases_eq y x) [
-      | inl f ↦ rw (eq-eqb (suc y) (suc x) (ap suc f)) (hd ∙ sym (landed_other xs vs (slice_set vars x v) y (λ h. a.0 (subst (λ (w : ℕ). In w xs) f h)) ∙ ap (slice_index (slice_set vars x v)) f ∙ get_set vars x v (omega (arith, f, l))))
+      | inl f ↦ rw (eq-eqb (suc y) (suc x) (ap suc f))
+          (hd ∙ sym (landed_other xs vs (slice_set vars x v) y (λ h. a.0 (subst (λ (w : ℕ). In w xs) f h))
+          ∙ ap (slice_index (slice_set vars x v)) f ∙ get_set vars x v (omega (arith, f, l))))
       | inr f ↦ rw (ne_eqb (suc y) (suc x) (λ h. f (let w : y ≡ x = omega arith in w)))
-          (fills xs names vs (slice_set vars x v) env y a.1 tl (let u : length (slice_set vars x v) ≡ length vars = set_length vars x v in omega (arith, l)) (get_other vars x y v f ∙ z) (omega (arith, n)))
+          (fills xs names vs (slice_set vars x v) env y a.1 tl
+          (let u : length (slice_set vars x v) ≡ length vars = set_length vars x v in omega (arith, l))
+          (get_other vars x y v f ∙ z) (omega (arith, n)))
     ]
 
 -- the landing that is chosen
-landing_pair : (g : Graph) (ps : List Plan) (place : ℕ → ℕ) (zeroed : ℕ → List ℕ) (ns cs : List ℕ) (a : ℕ) → 1 ≤ length cs → LandsAll g ps place zeroed ns cs → LandsAt g ps place zeroed (image.landing_of ns a) (walks.landing a cs)
+landing_pair : (g : Graph) (ps : List Plan) (place : ℕ → ℕ) (zeroed : ℕ → List ℕ) (ns cs : List ℕ) (a : ℕ)
+    → 1 ≤ length cs → LandsAll g ps place zeroed ns cs → LandsAt g ps place zeroed (image.landing_of ns a)
+    (walks.landing a cs)
 landing_pair g ps place zeroed [] [] a l h = absurd (omega arith)
 landing_pair g ps place zeroed [] (c ∷ cs) a l h = absurd h
 landing_pair g ps place zeroed (n ∷ ns) [] a l h = absurd h
@@ -105,12 +132,14 @@ landing_pair g ps place zeroed (n ∷ []) (c ∷ []) a l h = rw (only a) h.0
     only a = let z : min a 0 ≡ 0 = omega arith in rw z refl
 landing_pair g ps place zeroed (n ∷ []) (c ∷ d ∷ cs) a l h = absurd h.1
 landing_pair g ps place zeroed (n ∷ m ∷ ns) (c ∷ []) a l h = absurd h.1
-landing_pair g ps place zeroed (n ∷ m ∷ ns) (c ∷ d ∷ cs) zero l h = let z : min 0 (suc (suc (length cs)) - 1) ≡ 0 = omega arith in rw z h.0
+landing_pair g ps place zeroed (n ∷ m ∷ ns) (c ∷ d ∷ cs) zero l h = let z : min 0 (suc (suc (length cs)) - 1)
+    ≡ 0 = omega arith in rw z h.0
 landing_pair g ps place zeroed (n ∷ m ∷ ns) (c ∷ d ∷ cs) (suc a) l h =
     let z : min (suc a) (suc (suc (length cs)) - 1) ≡ suc (min a (suc (length cs) - 1)) = omega arith in
     rw z (landing_pair g ps place zeroed (m ∷ ns) (d ∷ cs) a (omega arith) h.1)
 
-landing_in : (cs : List ℕ) (a : ℕ) (P : ℕ → Type 0) → 1 ≤ length cs → AllByRecursion P cs → P (walks.landing a cs)
+landing_in : (cs : List ℕ) (a : ℕ) (P : ℕ → Type 0) → 1 ≤ length cs → AllByRecursion P cs
+    → P (walks.landing a cs)
 landing_in [] a P l h = absurd (omega arith)
 landing_in (c ∷ []) a P l h = let z : min a (1 - 1) ≡ 0 = omega arith in rw z h.0
 landing_in (c ∷ d ∷ cs) zero P l h = let z : min 0 (suc (suc (length cs)) - 1) ≡ 0 = omega arith in rw z h.0
@@ -130,40 +159,56 @@ term_next k (graph.Cell a t) = let l : k ≤ (gen_term k t).next = term_next k t
 term_next k (graph.Flip t) = let l : k ≤ (gen_term k t).next = term_next k t in omega arith
 term_next k (graph.Not t) = let l : k ≤ (gen_term k t).next = term_next k t in omega arith
 term_next k (graph.Neg t) = let l : k ≤ (gen_term k t).next = term_next k t in omega arith
-term_next k (graph.Binary op a b) = let l : k ≤ (gen_term k a).next = term_next k a in let m : (gen_term k a).next ≤ (gen_term (gen_term k a).next b).next = term_next (gen_term k a).next b in omega arith
+term_next k (graph.Binary op a b) = let l : k ≤ (gen_term k a).next = term_next k a in
+    let m : (gen_term k a).next ≤ (gen_term (gen_term k a).next b).next = term_next (gen_term k a).next b in
+    omega arith
 
 terms_next : (k : ℕ) (ts : List graph.Term) → k ≤ (gen_terms k ts).next
 terms_next k [] = omega arith
-terms_next k (t ∷ ts) = let l : k ≤ (gen_term k t).next = term_next k t in let m : suc (gen_term k t).next ≤ (gen_terms (suc (gen_term k t).next) ts).next = terms_next (suc (gen_term k t).next) ts in omega arith
+terms_next k (t ∷ ts) = let l : k ≤ (gen_term k t).next = term_next k t in
+    let m : suc (gen_term k t).next ≤ (gen_terms (suc (gen_term k t).next) ts).next =
+    terms_next (suc (gen_term k t).next) ts in omega arith
 
 -- the names of values are below the next free one
-map_below : (k : ℕ) (ts : List graph.Term) (f h : ℕ → ℕ) → ((y : ℕ) → y < (gen_terms k ts).next → f y ≡ h y) → map f (gen_terms k ts).names ≡ map h (gen_terms k ts).names
+map_below : (k : ℕ) (ts : List graph.Term) (f h : ℕ → ℕ) → ((y : ℕ) → y < (gen_terms k ts).next → f y ≡ h y)
+    → map f (gen_terms k ts).names ≡ map h (gen_terms k ts).names
 map_below k [] f h e = refl
 map_below k (t ∷ ts) f h e =
-    let m : suc (gen_term k t).next ≤ (gen_terms (suc (gen_term k t).next) ts).next = terms_next (suc (gen_term k t).next) ts in
-    ap (λ (v : ℕ). v ∷ map f (gen_terms (suc (gen_term k t).next) ts).names) (e (gen_term k t).next (omega arith)) ∙ ap (λ (vs : List ℕ). h (gen_term k t).next ∷ vs) (map_below (suc (gen_term k t).next) ts f h e)
+    let m : suc (gen_term k t).next ≤ (gen_terms (suc (gen_term k t).next) ts).next =
+    terms_next (suc (gen_term k t).next) ts in
+    ap (λ (v : ℕ). v ∷ map f (gen_terms (suc (gen_term k t).next) ts).names)
+    (e (gen_term k t).next (omega arith)) ∙ ap (λ (vs : List ℕ). h (gen_term k t).next ∷ vs)
+    (map_below (suc (gen_term k t).next) ts f h e)
 
-landing_outer : (ps : List Plan) (values ls : List ℕ) (r : ℕ) → 1 ≤ length ls → Rattle.wave_gen.proofs.Planned.AllIn ls (λ c. Outer ps c × Rattle.wave_gen.proofs.Planned.PadsFit ps values c) → Outer ps (image.landing_of ls r)
+landing_outer : (ps : List Plan) (values ls : List ℕ) (r : ℕ) → 1 ≤ length ls
+    → Rattle.wave_gen.proofs.Planned.AllIn ls (λ c. Outer ps c × Rattle.wave_gen.proofs.Planned.PadsFit ps
+    values c) → Outer ps (image.landing_of ls r)
 landing_outer ps values [] r l a = absurd (omega arith)
 landing_outer ps values (c ∷ []) r l a = a.0.0
 landing_outer ps values (c ∷ d ∷ ls) zero l a = a.0.0
 landing_outer ps values (c ∷ d ∷ ls) (suc r) l a = landing_outer ps values (d ∷ ls) r (omega arith) a.1
 
-agrees_zero : (vars : List ℕ) (env : ℕ → ℕ) (x : ℕ) → slice_index vars x ≡ 0 → Agrees vars env → Agrees vars (set env (suc x) (env pulse))
+agrees_zero : (vars : List ℕ) (env : ℕ → ℕ) (x : ℕ) → slice_index vars x ≡ 0 → Agrees vars env
+    → Agrees vars (set env (suc x) (env pulse))
 agrees_zero vars env x z a = record {
   zero_pulse = set_other env (suc x) (env pulse) pulse (λ e. omega arith) ∙ a.zero_pulse;
   var = λ y l. elim (cases_eq y x) [
-    | inl e ↦ ap (set env (suc x) (env pulse)) (ap suc e) ∙ set_here env (suc x) (env pulse) ∙ a.zero_pulse ∙ sym z ∙ ap (slice_index vars) (sym e)
-    | inr m ↦ set_other env (suc x) (env pulse) (suc y) (λ e. m (let f : y ≡ x = omega arith in f)) ∙ a.var y l
+    | inl e ↦ ap (set env (suc x) (env pulse)) (ap suc e) ∙ set_here env (suc x) (env pulse) ∙ a.zero_pulse
+        ∙ sym z ∙ ap (slice_index vars) (sym e)
+    | inr m ↦ set_other env (suc x) (env pulse) (suc y) (λ e. m (let f : y ≡ x = omega arith in f))
+        ∙ a.var y l
   ];
 }
 
 -- zeroing variables that are 0
-zeroes : (zs : List ℕ) (st : ProcState) (s : NameState) → ((x : ℕ) → In x zs → slice_index st.vars x ≡ 0) → IsState st s → IsState st (run_items (zero_items zs) s)
+zeroes : (zs : List ℕ) (st : ProcState) (s : NameState) → ((x : ℕ) → In x zs → slice_index st.vars x ≡ 0)
+    → IsState st s → IsState st (run_items (zero_items zs) s)
 zeroes [] st s z i = i
-zeroes (x ∷ xs) st s z i = zeroes xs st (run_item (Same (suc x) pulse) s) (λ y h. z y (inr h)) (record { agrees = agrees_zero st.vars s.env x (z x (inl refl)) i.agrees; out = i.out })
+zeroes (x ∷ xs) st s z i = zeroes xs st (run_item (Same (suc x) pulse) s) (λ y h. z y (inr h))
+    (record { agrees = agrees_zero st.vars s.env x (z x (inl refl)) i.agrees; out = i.out })
 
-module _ (arrays : List Array) (width : ℕ) (ps : List Plan) (Live : ℕ → ℕ → Type 0) (plans : PlansAre ps width Live) (g : Graph) (is_graph : IsGraph g)
+module _ (arrays : List Array) (width : ℕ) (ps : List Plan) (Live : ℕ → ℕ → Type 0)
+    (plans : PlansAre ps width Live) (g : Graph) (is_graph : IsGraph g)
     (place : ℕ → ℕ) (zeroed : ℕ → List ℕ) (drawn : Drawn g ps width place zeroed) where
   abbrev I : Image
   I = draft_of arrays width ps
@@ -181,7 +226,8 @@ module _ (arrays : List Array) (width : ℕ) (ps : List Plan) (Live : ℕ → �
   nexts zero p = p
   nexts (suc i) p = nexts i (next p)
 
-  -- the draft stands at the start of the plan with this number, with the values of a state, some of which are 0
+  -- the draft stands at the start of the plan with this number, with the values of a state, some of which are
+  -- 0
   pub record Stands (n : ℕ) (zs : List ℕ) (st : ProcState) (p : RunPlace) : Type 0 where
     pub over : p.over ≡ false
     pub there : There n
@@ -203,13 +249,17 @@ module _ (arrays : List Array) (width : ℕ) (ps : List Plan) (Live : ℕ → �
   one_next p o = cond-false p.over p (pass I C p) o
 
   -- a state that holds at a block's end holds behind the edge
-  state_on : (p : RunPlace) (n : ℕ) (h : There n) (b : p.block ≡ n) (st : ProcState) → IsState st (ending arrays width ps Live plans p n h b) → length st.vars < width →
-      ((x : ℕ) → (pass I C p).env x ≡ (names_at C p).env x) → (pass I C p).out ≡ (ending arrays width ps Live plans p n h b).out → IsState st (record { env = (pass I C p).env; out = (pass I C p).out })
+  state_on : (p : RunPlace) (n : ℕ) (h : There n) (b : p.block ≡ n) (st : ProcState)
+      → IsState st (ending arrays width ps Live plans p n h b) → length st.vars < width →
+      ((x : ℕ) → (pass I C p).env x ≡ (names_at C p).env x) → (pass I C p).out
+      ≡ (ending arrays width ps Live plans p n h b).out
+      → IsState st (record { env = (pass I C p).env; out = (pass I C p).out })
   state_on p n h b st i w e o =
       let t : width ≤ (plan_at ps n).test = wide_test n h in
       let c = left arrays width ps Live plans p n h b in
       record {
-        agrees = agrees_on st.vars width (length st.vars) (ending arrays width ps Live plans p n h b).env (pass I C p).env (omega arith) w (λ y l. e y ∙ c.env y (omega arith)) i.agrees;
+        agrees = agrees_on st.vars width (length st.vars) (ending arrays width ps Live plans p n h b).env
+            (pass I C p).env (omega arith) w (λ y l. e y ∙ c.env y (omega arith)) i.agrees;
         out = o ∙ i.out;
       }
 
@@ -217,12 +267,25 @@ module _ (arrays : List Array) (width : ℕ) (ps : List Plan) (Live : ℕ → �
   target_of n c h e q = subst (λ (l : HowLeft). EdgesAre ps n l) q (plans.each n h).edges
 
   -- the draft stands at the block
-  arrives : (n c : ℕ) (leads : Leads ps place zeroed n c) (st : ProcState) (p : RunPlace) → c < length (spots g) → (spot_at g c).vars ≡ length st.vars → Stands n (zeroed_at leads) st p → AtBlock c st p
-  arrives n c (here e) st p l v s = record { there = l; vars = v; stands = subst (λ (m : ℕ). Stands m (zeroed c) st p) e s }
+  arrives : (n c : ℕ) (leads : Leads ps place zeroed n c) (st : ProcState) (p : RunPlace)
+      → c < length (spots g) → (spot_at g c).vars ≡ length st.vars → Stands n (zeroed_at leads) st p
+      → AtBlock c st p
+  arrives n c (here e) st p l v s =
+      record { there = l; vars = v; stands = subst (λ (m : ℕ). Stands m (zeroed c) st p) e s }
 
   -- an edge that keeps the variables
-  keeps_on : (n c : ℕ) → Keeps ps place zeroed n c → (st : ProcState) (p : RunPlace) → c < length (spots g) → (spot_at g c).vars ≡ length st.vars → p.over ≡ false → There n → p.block ≡ n → IsState st (record { env = p.env; out = p.out }) → length st.vars < width → AtBlock c st p
-  keeps_on n c k st p l v o h b s w = arrives n c k.leads st p l v (record { over = o; there = h; block = b; state = s; wide = w; zero = λ x y. absurd (subst (λ (ys : List ℕ). In x ys) k.none y) })
+  keeps_on : (n c : ℕ) → Keeps ps place zeroed n c → (st : ProcState) (p : RunPlace) → c < length (spots g)
+      → (spot_at g c).vars ≡ length st.vars → p.over ≡ false → There n → p.block ≡ n
+      → IsState st (record { env = p.env; out = p.out }) → length st.vars < width → AtBlock c st p
+  keeps_on n c k st p l v o h b s w =
+      arrives n c k.leads st p l v (record {
+        over = o;
+        there = h;
+        block = b;
+        state = s;
+        wide = w;
+        zero = λ x y. absurd (subst (λ (ys : List ℕ). In x ys) k.none y);
+      })
 
   -- the draft's place says of the graph's walk
   pub data Tied (p : RunPlace) : Config → Type 0 where
@@ -267,16 +330,25 @@ module _ (arrays : List Array) (width : ℕ) (ps : List Plan) (Live : ℕ → �
     state1 = zeroes (zeroed b) st s0 a.stands.zero a.stands.state
 
     items_run : run_items (plan_at ps (place b)).items s0 ≡ run_items d.first s2
-    items_run = d.items s0 ∙ run_append (zero_items (zeroed b)) ((gen_ops width (graph.block_at g b).ops).items ++ d.first) s0 ∙ run_append (gen_ops width (graph.block_at g b).ops).items d.first s1
+    items_run = d.items s0 ∙ run_append (zero_items (zeroed b))
+        ((gen_ops width (graph.block_at g b).ops).items ++ d.first) s0 ∙ run_append
+        (gen_ops width (graph.block_at g b).ops).items d.first s1
 
-    ops_done : (st' : ProcState) (k l : ℕ) → run_ops (graph.block_at g b).ops st k ≡ Done st' l → Left width st st' (gen_ops width (graph.block_at g b).ops).items (gen_ops width (graph.block_at g b).ops).next s1
-    ops_done st' k l e = ops_left g (graph.block_at g b).ops width (spot_at g b).vars st st' s1 k l spot.ops bare a.vars d.wide fine.ops state1 e
+    ops_done : (st' : ProcState) (k l : ℕ) → run_ops (graph.block_at g b).ops st k ≡ Done st' l
+        → Left width st st' (gen_ops width (graph.block_at g b).ops).items
+        (gen_ops width (graph.block_at g b).ops).next s1
+    ops_done st' k l e = ops_left g (graph.block_at g b).ops width (spot_at g b).vars st st' s1 k l spot.ops
+        bare a.vars d.wide fine.ops state1 e
 
     abbrev E : NameState
     E = ending arrays width ps Live plans p (place b) a.stands.there a.stands.block
 
-    ending_is : (e : HowLeft) → (plan_at ps (place b)).exit ≡ e → E ≡ run_choice (plan_at ps (place b)).test e (run_items d.first s2)
-    ending_is e q = ap (λ (x : HowLeft). run_choice (plan_at ps (place b)).test x (run_items (plan_at ps (place b)).items s0)) q ∙ ap (run_choice (plan_at ps (place b)).test e) items_run
+    ending_is : (e : HowLeft) → (plan_at ps (place b)).exit ≡ e → E ≡ run_choice (plan_at ps (place b)).test e
+        (run_items d.first s2)
+    ending_is e q =
+        ap (λ (x : HowLeft). run_choice (plan_at ps (place b)).test x
+        (run_items (plan_at ps (place b)).items s0)) q ∙ ap (run_choice (plan_at ps (place b)).test e)
+        items_run
 
     -- one more plan, and the draft's place says of the graph's walk
     abbrev pub More : Config → Type 0
@@ -294,17 +366,20 @@ module _ (arrays : List Array) (width : ℕ) (ps : List Plan) (Live : ℕ → �
 
     -- the exits
     module _ (st' : ProcState) (k l : ℕ) (e : run_ops (graph.block_at g b).ops st k ≡ Done st' l) where
-      z : Left width st st' (gen_ops width (graph.block_at g b).ops).items (gen_ops width (graph.block_at g b).ops).next s1
+      z : Left width st st' (gen_ops width (graph.block_at g b).ops).items
+          (gen_ops width (graph.block_at g b).ops).next s1
       z = ops_done st' k l e
 
       len : (spot_at g b).vars ≡ length st'.vars
       len = a.vars ∙ sym z.length_same
 
       small : length st'.vars < width
-      small = let x : (spot_at g b).vars < width = d.wide in let y : (spot_at g b).vars ≡ length st'.vars = len in omega arith
+      small = let x : (spot_at g b).vars < width = d.wide in let y : (spot_at g b).vars ≡ length st'.vars =
+          len in omega arith
 
       high : (spot_at g b).vars < (gen_ops width (graph.block_at g b).ops).next
-      high = let x : (spot_at g b).vars < width = d.wide in let y : width ≤ (gen_ops width (graph.block_at g b).ops).next = z.next in omega arith
+      high = let x : (spot_at g b).vars < width = d.wide in
+          let y : width ≤ (gen_ops width (graph.block_at g b).ops).next = z.next in omega arith
 
       fine' : ExitFine (graph.block_at g b).exit st'
       fine' = fine.exit st' k l e
@@ -315,23 +390,36 @@ module _ (arrays : List Array) (width : ℕ) (ps : List Plan) (Live : ℕ → �
       there_of : (m : ℕ) → Inner ps (place b) m ⊎ Outer ps m → There m
       there_of m x = target_there arrays width ps Live plans (place b) m a.stands.there x
 
-      go_goto : (c : ℕ) → StaysIn g (spot_at g b).home c → (m : ℕ) → d.first ≡ [] → (plan_at ps (place b)).exit ≡ Onto m → Keeps ps place zeroed m c → More (At c st' [] l)
+      go_goto : (c : ℕ) → StaysIn g (spot_at g b).home c → (m : ℕ) → d.first ≡ []
+          → (plan_at ps (place b)).exit ≡ Onto m → Keeps ps place zeroed m c → More (At c st' [] l)
       go_goto c h m f q keep =
           let t = onto arrays width ps Live plans p (place b) a.stands.there a.stands.block m q in
           let s : E ≡ s2 = ending_is (Onto m) q ∙ ap (λ (x : List Item). run_items x s2) f in
           let i : IsState st' E = subst (λ (x : NameState). IsState st' x) (sym s) z.is in
-          tie_at c st' l (keeps_on m c keep st' (pass I C p) h.0 (same_vars c h) t.over (there_of m (target_of (place b) m a.stands.there (Onto m) q)) t.block (state_on p (place b) a.stands.there a.stands.block st' i small t.env_is t.out) small)
+          tie_at c st' l (keeps_on m c keep st' (pass I C p) h.0 (same_vars c h) t.over
+          (there_of m (target_of (place b) m a.stands.there (Onto m) q)) t.block
+          (state_on p (place b) a.stands.there a.stands.block st' i small t.env_is t.out) small)
 
-      go_halt : (o : Outside) → (plan_at ps (place b)).exit ≡ Halts → (run_items d.first s2).out ≡ o → More (Over o l)
+      go_halt : (o : Outside) → (plan_at ps (place b)).exit ≡ Halts → (run_items d.first s2).out ≡ o
+          → More (Over o l)
       go_halt o q f =
           let t = stopped arrays width ps Live plans p (place b) a.stands.there a.stands.block q in
           tie_over o l t.0 (t.1 ∙ ap (λ (x : NameState). x.out) (ending_is Halts q) ∙ f)
 
-      go_return : (t : graph.Term) → TermIn (length g.arrays) (spot_at g b).vars t → FlipsWords t st'.vars st'.out.cells → d.first ≡ (gen_term (gen_ops width (graph.block_at g b).ops).next t).items → (plan_at ps (place b)).exit ≡ Halts → More (Over (value_of t st').1.out l)
-      go_return t i f u q = go_halt (value_of t st').1.out q (ap (λ (x : List Item). (run_items x s2).out) u ∙ (Rattle.wave_gen.proofs.Ops.behind_term g t (gen_ops width (graph.block_at g b).ops).next (spot_at g b).vars st' s2 i len high z.is f).out)
+      go_return : (t : graph.Term) → TermIn (length g.arrays) (spot_at g b).vars t
+          → FlipsWords t st'.vars st'.out.cells
+          → d.first ≡ (gen_term (gen_ops width (graph.block_at g b).ops).next t).items
+          → (plan_at ps (place b)).exit ≡ Halts → More (Over (value_of t st').1.out l)
+      go_return t i f u q = go_halt (value_of t st').1.out q (ap (λ (x : List Item). (run_items x s2).out) u
+          ∙ (Rattle.wave_gen.proofs.Ops.behind_term g t (gen_ops width (graph.block_at g b).ops).next
+          (spot_at g b).vars st' s2 i len high z.is f).out)
 
-      go_branch : (t : graph.Term) (x y : ℕ) → ExitIn g (spot_at g b).home (spot_at g b).vars (graph.Branch t x y) → FlipsWords t st'.vars st'.out.cells → (m n : ℕ) → d.first ≡ (gen_source (gen_ops width (graph.block_at g b).ops).next t).items →
-          (plan_at ps (place b)).exit ≡ Either (gen_source (gen_ops width (graph.block_at g b).ops).next t).op (gen_source (gen_ops width (graph.block_at g b).ops).next t).from m n → Keeps ps place zeroed m x → Keeps ps place zeroed n y →
+      go_branch : (t : graph.Term) (x y : ℕ) → ExitIn g (spot_at g b).home (spot_at g b).vars
+          (graph.Branch t x y) → FlipsWords t st'.vars st'.out.cells → (m n : ℕ)
+          → d.first ≡ (gen_source (gen_ops width (graph.block_at g b).ops).next t).items →
+          (plan_at ps (place b)).exit ≡ Either (gen_source (gen_ops width (graph.block_at g b).ops).next t).op
+          (gen_source (gen_ops width (graph.block_at g b).ops).next t).from m n
+          → Keeps ps place zeroed m x → Keeps ps place zeroed n y →
           More (leave g (graph.Branch t x y) st' [] l)
       go_branch t x y i f m n u q kx ky = go (value t st'.vars st'.out.cells == 0) refl
         where
@@ -347,43 +435,72 @@ module _ (arrays : List Array) (width : ℕ) (ps : List Plan) (Live : ℕ → �
           cells : s2.out.cells ≡ st'.out.cells
           cells = ap (λ (o : Outside). o.cells) z.is.out
 
-          w : Last (gen_ops width (graph.block_at g b).ops).next s2 (gen_source (gen_ops width (graph.block_at g b).ops).next t) (value t st'.vars st'.out.cells) (walks.loads_of t st'.vars st'.out.cells)
-          w = subst (λ (cs : List (List ℕ)). Last (gen_ops width (graph.block_at g b).ops).next s2 (gen_source (gen_ops width (graph.block_at g b).ops).next t) (value t st'.vars cs) (walks.loads_of t st'.vars cs)) cells
-              (source_last g t (gen_ops width (graph.block_at g b).ops).next (spot_at g b).vars st'.vars s2 i.0 len high z.is.agrees (subst (λ (cs : List (List ℕ)). FlipsWords t st'.vars cs) (sym cells) f))
+          w : Last (gen_ops width (graph.block_at g b).ops).next s2
+              (gen_source (gen_ops width (graph.block_at g b).ops).next t) (value t st'.vars st'.out.cells)
+              (walks.loads_of t st'.vars st'.out.cells)
+          w = subst (λ (cs : List (List ℕ)). Last (gen_ops width (graph.block_at g b).ops).next s2
+              (gen_source (gen_ops width (graph.block_at g b).ops).next t) (value t st'.vars cs)
+              (walks.loads_of t st'.vars cs)) cells
+              (source_last g t (gen_ops width (graph.block_at g b).ops).next (spot_at g b).vars st'.vars s2
+              i.0 len high z.is.agrees (subst (λ (cs : List (List ℕ)). FlipsWords t st'.vars cs)
+              (sym cells) f))
 
           E_is : E ≡ run_item (Make (plan_at ps (place b)).test src.op src.from) (run_items src.items s2)
-          E_is = ending_is (Either src.op src.from m n) q ∙ ap (λ (r : List Item). run_item (Make (plan_at ps (place b)).test src.op src.from) (run_items r s2)) u
+          E_is = ending_is (Either src.op src.from m n) q
+              ∙ ap (λ (r : List Item). run_item (Make (plan_at ps (place b)).test src.op src.from)
+              (run_items r s2)) u
 
           test_value : E.env (plan_at ps (place b)).test ≡ value t st'.vars st'.out.cells
-          test_value = ap (λ (r : NameState). r.env (plan_at ps (place b)).test) E_is ∙ set_here (run_items src.items s2).env (plan_at ps (place b)).test _ ∙ w.value
+          test_value = ap (λ (r : NameState). r.env (plan_at ps (place b)).test) E_is
+              ∙ set_here (run_items src.items s2).env (plan_at ps (place b)).test _ ∙ w.value
 
           end_state : IsState (value_of t st').1 E
           end_state = record {
             agrees = agrees_on st'.vars width (length st'.vars) s2.env E.env (omega arith) small
-                (λ r v. ap (λ (x : NameState). x.env r) E_is ∙ set_other (run_items src.items s2).env (plan_at ps (place b)).test _ r (λ e'. (let lt : width ≤ (plan_at ps (place b)).test = wide_test (place b) a.stands.there in omega arith))
-                ∙ w.keeps r (let lt : width ≤ (gen_ops width (graph.block_at g b).ops).next = z.next in omega arith)) z.is.agrees;
-            out = ap (λ (r : NameState). r.out) E_is ∙ w.out ∙ ap (λ (o : Outside). with_more o (walks.loads_of t st'.vars st'.out.cells)) z.is.out;
+                (λ r v. ap (λ (x : NameState). x.env r) E_is ∙ set_other (run_items src.items s2).env
+                (plan_at ps (place b)).test _ r
+                (λ e'. (let lt : width ≤ (plan_at ps (place b)).test = wide_test (place b)
+                a.stands.there in omega arith))
+                ∙ w.keeps r (let lt : width ≤ (gen_ops width (graph.block_at g b).ops).next = z.next in
+                omega arith)) z.is.agrees;
+            out = ap (λ (r : NameState). r.out) E_is ∙ w.out
+                ∙ ap (λ (o : Outside). with_more o (walks.loads_of t st'.vars st'.out.cells)) z.is.out;
           }
 
-          t0 : To arrays width ps Live plans p (place b) a.stands.there a.stands.block (cond (eqb (E.env (plan_at ps (place b)).test) 0) n m) (names_at C p).env
-          t0 = either arrays width ps Live plans p (place b) a.stands.there a.stands.block src.op src.from m n q
+          t0 : To arrays width ps Live plans p (place b) a.stands.there a.stands.block
+              (cond (eqb (E.env (plan_at ps (place b)).test) 0) n m) (names_at C p).env
+          t0 = either arrays width ps Live plans p (place b) a.stands.there a.stands.block src.op src.from m n
+              q
 
-          to : (c r : ℕ) → StaysIn g (spot_at g b).home c → Inner ps (place b) r → Keeps ps place zeroed r c → cond (eqb (E.env (plan_at ps (place b)).test) 0) n m ≡ r → More (At c (value_of t st').1 [] l)
-          to c r h inn keep e' = tie_at c (value_of t st').1 l (keeps_on r c keep (value_of t st').1 (pass I C p) h.0 (same_vars c h) t0.over (there_of r (inl inn)) (t0.block ∙ e')
-              (state_on p (place b) a.stands.there a.stands.block (value_of t st').1 end_state small t0.env_is t0.out) small)
+          to : (c r : ℕ) → StaysIn g (spot_at g b).home c → Inner ps (place b) r → Keeps ps place zeroed r c
+              → cond (eqb (E.env (plan_at ps (place b)).test) 0) n m ≡ r → More (At c (value_of t st').1 [] l)
+          to c r h inn keep e' =
+              tie_at c (value_of t st').1 l (keeps_on r c keep (value_of t st').1 (pass I C p) h.0
+              (same_vars c h) t0.over (there_of r (inl inn)) (t0.block ∙ e')
+              (state_on p (place b) a.stands.there a.stands.block (value_of t st').1 end_state small t0.env_is
+              t0.out) small)
 
           edges : Inner ps (place b) m × Inner ps (place b) n
           edges = target_of (place b) m a.stands.there (Either src.op src.from m n) q
 
-          go : (v : Bool) → (value t st'.vars st'.out.cells == 0) ≡ v → More (if v then At y (value_of t st').1 [] l else At x (value_of t st').1 [] l)
-          go true v = to y n i.2 edges.1 ky (ap (λ (r : ℕ). cond (eqb r 0) n m) test_value ∙ ap (λ (c : Bool). cond c n m) v)
-          go false v = to x m i.1 edges.0 kx (ap (λ (r : ℕ). cond (eqb r 0) n m) test_value ∙ ap (λ (c : Bool). cond c n m) v)
+          go : (v : Bool) → (value t st'.vars st'.out.cells == 0) ≡ v
+              → More (if v then At y (value_of t st').1 [] l else At x (value_of t st').1 [] l)
+          go true v = to y n i.2 edges.1 ky (ap (λ (r : ℕ). cond (eqb r 0) n m) test_value
+              ∙ ap (λ (c : Bool). cond c n m) v)
+          go false v = to x m i.1 edges.0 kx (ap (λ (r : ℕ). cond (eqb r 0) n m) test_value
+              ∙ ap (λ (c : Bool). cond c n m) v)
 
-      go_send : (t : graph.Term) (ts : List graph.Term) (ls : List ℕ) → (gen_terms (gen_term (gen_ops width (graph.block_at g b).ops).next t).next ts).next ≤ (plan_at ps (place b)).test → ExitIn g (spot_at g b).home (spot_at g b).vars (graph.Send t ts ls) → rules.Lands g (graph.Send t ts ls) →
+      go_send : (t : graph.Term) (ts : List graph.Term) (ls : List ℕ)
+          → (gen_terms (gen_term (gen_ops width (graph.block_at g b).ops).next t).next ts).next
+          ≤ (plan_at ps (place b)).test → ExitIn g (spot_at g b).home (spot_at g b).vars (graph.Send t ts ls)
+          → rules.Lands g (graph.Send t ts ls) →
           FlipsWords t st'.vars st'.out.cells × AllByRecursion (λ u. FlipsWords u st'.vars st'.out.cells) ts →
           (let A = gen_term (gen_ops width (graph.block_at g b).ops).next t in let M = gen_terms A.next ts in
-          (ns : List ℕ) → d.first ≡ A.items ++ M.items → (plan_at ps (place b)).exit ≡ Lands Merge (A.name ∷ []) (pulse ∷ M.names) ns → LandsAll g ps place zeroed ns ls → More (leave g (graph.Send t ts ls) st' [] l))
-      go_send t ts ls high_test i lands' f ns u q all = tie_at c' land l (arrives (image.landing_of ns v) c' at.leads land (pass I C p) c_there c_vars standing)
+          (ns : List ℕ) → d.first ≡ A.items ++ M.items → (plan_at ps (place b)).exit ≡ Lands Merge
+          (A.name ∷ []) (pulse ∷ M.names) ns → LandsAll g ps place zeroed ns ls
+          → More (leave g (graph.Send t ts ls) st' [] l))
+      go_send t ts ls high_test i lands' f ns u q all = tie_at c' land l
+          (arrives (image.landing_of ns v) c' at.leads land (pass I C p) c_there c_vars standing)
         where
           K : ℕ
           K = (gen_ops width (graph.block_at g b).ops).next
@@ -403,14 +520,19 @@ module _ (arrays : List Array) (width : ℕ) (ps : List Plan) (Live : ℕ → �
           cells : s2.out.cells ≡ st'.out.cells
           cells = ap (λ (o : Outside). o.cells) z.is.out
 
-          hA : Rattle.wave_gen.proofs.Terms.Gives (gen_ops width (graph.block_at g b).ops).next s2 (gen_term (gen_ops width (graph.block_at g b).ops).next t) (value t st'.vars st'.out.cells) (walks.loads_of t st'.vars st'.out.cells)
-          hA = Rattle.wave_gen.proofs.Ops.on_state g t (gen_ops width (graph.block_at g b).ops).next (spot_at g b).vars st' s2 i.0 len high z.is f.0
+          hA : Rattle.wave_gen.proofs.Terms.Gives (gen_ops width (graph.block_at g b).ops).next s2
+              (gen_term (gen_ops width (graph.block_at g b).ops).next t) (value t st'.vars st'.out.cells)
+              (walks.loads_of t st'.vars st'.out.cells)
+          hA = Rattle.wave_gen.proofs.Ops.on_state g t (gen_ops width (graph.block_at g b).ops).next
+              (spot_at g b).vars st' s2 i.0 len high z.is f.0
 
           sA : NameState
           sA = run_items (gen_term (gen_ops width (graph.block_at g b).ops).next t).items s2
 
-          iA : IsState (value_of t st').1 (run_items (gen_term (gen_ops width (graph.block_at g b).ops).next t).items s2)
-          iA = Rattle.wave_gen.proofs.Ops.behind_term g t (gen_ops width (graph.block_at g b).ops).next (spot_at g b).vars st' s2 i.0 len high z.is f.0
+          iA : IsState (value_of t st').1
+              (run_items (gen_term (gen_ops width (graph.block_at g b).ops).next t).items s2)
+          iA = Rattle.wave_gen.proofs.Ops.behind_term g t (gen_ops width (graph.block_at g b).ops).next
+              (spot_at g b).vars st' s2 i.0 len high z.is f.0
 
           highA : (spot_at g b).vars < A.next
           highA = let x : K ≤ A.next = hA.next in omega (arith, high)
@@ -418,25 +540,38 @@ module _ (arrays : List Array) (width : ℕ) (ps : List Plan) (Live : ℕ → �
           cA : sA.out.cells ≡ st'.out.cells
           cA = ap (λ (o : Outside). o.cells) iA.out
 
-          hM : GiveMany g A.next sA M.items M.names (walks.values ts st'.vars st'.out.cells) (walks.all_loads ts st'.vars st'.out.cells)
-          hM = subst (λ (cs : List (List ℕ)). GiveMany g A.next sA M.items M.names (walks.values ts st'.vars cs) (walks.all_loads ts st'.vars cs)) cA
-              (terms_give g ts A.next (spot_at g b).vars st'.vars sA i.1 len highA iA.agrees (subst (λ (cs : List (List ℕ)). AllByRecursion (λ u. FlipsWords u st'.vars cs) ts) (sym cA) f.1))
+          hM : GiveMany g A.next sA M.items M.names (walks.values ts st'.vars st'.out.cells)
+              (walks.all_loads ts st'.vars st'.out.cells)
+          hM = subst (λ (cs : List (List ℕ)). GiveMany g A.next sA M.items M.names
+              (walks.values ts st'.vars cs) (walks.all_loads ts st'.vars cs)) cA
+              (terms_give g ts A.next (spot_at g b).vars st'.vars sA i.1 len highA iA.agrees
+              (subst (λ (cs : List (List ℕ)). AllByRecursion (λ u. FlipsWords u st'.vars cs) ts) (sym cA)
+              f.1))
 
           sM : NameState
           sM = run_items M.items sA
 
           E_is : E ≡ run_item (Make (plan_at ps (place b)).test Merge (A.name ∷ [])) (run_items M.items sA)
-          E_is = ending_is (Lands Merge (A.name ∷ []) (pulse ∷ M.names) ns) q ∙ ap (λ (r : List Item). run_item (Make (plan_at ps (place b)).test Merge (A.name ∷ [])) (run_items r s2)) u
-              ∙ ap (run_item (Make (plan_at ps (place b)).test Merge (A.name ∷ []))) (run_append A.items M.items s2)
+          E_is = ending_is (Lands Merge (A.name ∷ []) (pulse ∷ M.names) ns) q
+              ∙ ap (λ (r : List Item). run_item (Make (plan_at ps (place b)).test Merge (A.name ∷ []))
+              (run_items r s2)) u
+              ∙ ap (run_item (Make (plan_at ps (place b)).test Merge (A.name ∷ [])))
+              (run_append A.items M.items s2)
 
           test_value : E.env (plan_at ps (place b)).test ≡ value t st'.vars st'.out.cells
-          test_value = ap (λ (r : NameState). r.env (plan_at ps (place b)).test) E_is ∙ set_here (run_items M.items sA).env (plan_at ps (place b)).test ((run_items M.items sA).env A.name) ∙ hM.keeps A.name hA.named ∙ hA.value
+          test_value = ap (λ (r : NameState). r.env (plan_at ps (place b)).test) E_is
+              ∙ set_here (run_items M.items sA).env (plan_at ps (place b)).test
+              ((run_items M.items sA).env A.name) ∙ hM.keeps A.name hA.named ∙ hA.value
 
           c' : ℕ
           c' = walks.landing (value t st'.vars st'.out.cells) ls
 
           land : ProcState
-          land = record { vars = walks.landed (graph.block_at g c').named (walks.values ts stA.vars stA.out.cells) (zeros (spot_at g c').vars); out = (walks.values_of ts stA).1.out }
+          land = record {
+            vars = walks.landed (graph.block_at g c').named
+                (walks.values ts stA.vars stA.out.cells) (zeros (spot_at g c').vars);
+            out = (walks.values_of ts stA).1.out;
+          }
 
           at : LandsAt g ps place zeroed (image.landing_of ns (value t st'.vars st'.out.cells)) c'
           at = landing_pair g ps place zeroed ns ls (value t st'.vars st'.out.cells) lands'.0 all
@@ -445,90 +580,133 @@ module _ (arrays : List Array) (width : ℕ) (ps : List Plan) (Live : ℕ → �
           c_there = landing_in ls (value t st'.vars st'.out.cells) (λ r. r < length (spots g)) lands'.0 i.2
 
           c_vars : (spot_at g c').vars ≡ length land.vars
-          c_vars = sym (landed_length (graph.block_at g c').named (walks.values ts stA.vars stA.out.cells) (zeros (spot_at g c').vars) ∙ zeros_length (spot_at g c').vars)
+          c_vars = sym (landed_length (graph.block_at g c').named (walks.values ts stA.vars stA.out.cells)
+              (zeros (spot_at g c').vars) ∙ zeros_length (spot_at g c').vars)
 
-          standing : Stands (image.landing_of ns (value t st'.vars st'.out.cells)) (zeroed_at at.leads) land (pass I C p)
+          standing : Stands (image.landing_of ns (value t st'.vars st'.out.cells)) (zeroed_at at.leads) land
+              (pass I C p)
           standing = record {
             over = t0.over;
             there = (out_of.some, out_of.there);
             block = t0.block ∙ ap (image.landing_of ns) test_value;
-            state = record { agrees = record { zero_pulse = pass_zero; var = pass_var }; out = t0.out ∙ ap (λ (r : NameState). r.out) E_is ∙ hM.out ∙ ap (λ (o : Outside). with_more o (walks.all_loads ts st'.vars st'.out.cells)) iA.out };
-            wide = (let x : (spot_at g c').vars < width = (drawn.blocks c' c_there).wide in let y : (spot_at g c').vars ≡ length land.vars = c_vars in omega arith);
-            zero = λ x h. landed_other (graph.block_at g c').named (walks.values ts stA.vars stA.out.cells) (zeros (spot_at g c').vars) x (at.apart x h) ∙ zeros_at (spot_at g c').vars x;
+            state = record {
+              agrees = record { zero_pulse = pass_zero; var = pass_var };
+              out = t0.out ∙ ap (λ (r : NameState). r.out) E_is ∙ hM.out
+                  ∙ ap (λ (o : Outside). with_more o (walks.all_loads ts st'.vars st'.out.cells)) iA.out;
+            };
+            wide = (let x : (spot_at g c').vars < width = (drawn.blocks c' c_there).wide in
+                let y : (spot_at g c').vars ≡ length land.vars = c_vars in omega arith);
+            zero = λ x h. landed_other (graph.block_at g c').named (walks.values ts stA.vars stA.out.cells)
+                (zeros (spot_at g c').vars) x (at.apart x h) ∙ zeros_at (spot_at g c').vars x;
           }
             where
-              t0 : To arrays width ps Live plans p (place b) a.stands.there a.stands.block (image.landing_of ns (E.env (plan_at ps (place b)).test)) (filled (plan_at ps (image.landing_of ns (E.env (plan_at ps (place b)).test))).pads (pulse ∷ M.names) (names_at C p).env)
-              t0 = lands arrays width ps Live plans p (place b) a.stands.there a.stands.block Merge (A.name ∷ []) (pulse ∷ M.names) ns q
+              t0 : To arrays width ps Live plans p (place b) a.stands.there a.stands.block
+                  (image.landing_of ns (E.env (plan_at ps (place b)).test))
+                  (filled (plan_at ps (image.landing_of ns (E.env (plan_at ps (place b)).test))).pads
+                  (pulse ∷ M.names) (names_at C p).env)
+              t0 = lands arrays width ps Live plans p (place b) a.stands.there a.stands.block Merge
+                  (A.name ∷ []) (pulse ∷ M.names) ns q
 
               out_of : Outer ps (image.landing_of ns (value t st'.vars st'.out.cells))
-              out_of = let x = target_of (place b) 0 a.stands.there (Lands Merge (A.name ∷ []) (pulse ∷ M.names) ns) q in landing_outer ps (pulse ∷ M.names) ns (value t st'.vars st'.out.cells) x.0 x.1
+              out_of = let x = target_of (place b) 0 a.stands.there
+                  (Lands Merge (A.name ∷ []) (pulse ∷ M.names) ns) q in
+                  landing_outer ps (pulse ∷ M.names) ns (value t st'.vars st'.out.cells) x.0 x.1
 
-              pads_are : (plan_at ps (image.landing_of ns (E.env (plan_at ps (place b)).test))).pads ≡ pulse ∷ map suc (graph.block_at g c').named
+              pads_are : (plan_at ps (image.landing_of ns (E.env (plan_at ps (place b)).test))).pads ≡ pulse
+                  ∷ map suc (graph.block_at g c').named
               pads_are = ap (λ (r : ℕ). (plan_at ps (image.landing_of ns r)).pads) test_value ∙ at.pads
 
               chain : Chained (plan_at ps (place b)).test E (names_at C p)
               chain = left arrays width ps Live plans p (place b) a.stands.there a.stands.block
 
-              pass_env : (x : ℕ) → (pass I C p).env x ≡ filled (pulse ∷ map suc (graph.block_at g c').named) (pulse ∷ M.names) (names_at C p).env x
-              pass_env x = t0.env_is x ∙ ap (λ (r : List ℕ). filled r (pulse ∷ M.names) (names_at C p).env x) pads_are
+              pass_env : (x : ℕ) → (pass I C p).env x ≡ filled (pulse ∷ map suc (graph.block_at g c').named)
+                  (pulse ∷ M.names) (names_at C p).env x
+              pass_env x = t0.env_is x ∙ ap (λ (r : List ℕ). filled r (pulse ∷ M.names) (names_at C p).env x)
+                  pads_are
 
               below_test : (y : ℕ) → y < (plan_at ps (place b)).test → (names_at C p).env y ≡ sM.env y
-              below_test y u = chain.env y (omega arith) ∙ ap (λ (r : NameState). r.env y) E_is ∙ set_other (run_items M.items sA).env (plan_at ps (place b)).test ((run_items M.items sA).env A.name) y (λ r. omega arith)
+              below_test y u = chain.env y (omega arith) ∙ ap (λ (r : NameState). r.env y) E_is
+                  ∙ set_other (run_items M.items sA).env (plan_at ps (place b)).test
+                  ((run_items M.items sA).env A.name) y (λ r. omega arith)
 
               values_are : map (names_at C p).env M.names ≡ walks.values ts st'.vars st'.out.cells
-              values_are = map_below A.next ts (names_at C p).env sM.env (λ y u. below_test y (let x : M.next ≤ (plan_at ps (place b)).test = high_test in omega arith)) ∙ hM.values
+              values_are = map_below A.next ts (names_at C p).env sM.env
+                  (λ y u. below_test y (let x : M.next ≤ (plan_at ps (place b)).test = high_test in
+                  omega arith)) ∙ hM.values
 
               pass_zero : (pass I C p).env pulse ≡ 0
-              pass_zero = pass_env pulse ∙ below_test pulse (let x : width ≤ (plan_at ps (place b)).test = wide_test (place b) a.stands.there in omega arith) ∙ hM.keeps pulse (let x : K ≤ A.next = hA.next in let y : (spot_at g b).vars < K = high in omega arith) ∙ iA.agrees.zero_pulse
+              pass_zero = pass_env pulse ∙ below_test pulse (let x : width ≤ (plan_at ps (place b)).test =
+                  wide_test (place b) a.stands.there in omega arith) ∙ hM.keeps pulse
+                  (let x : K ≤ A.next = hA.next in let y : (spot_at g b).vars < K = high in omega arith)
+                  ∙ iA.agrees.zero_pulse
 
               named_as_many : length M.names ≡ length (graph.block_at g c').named
-              named_as_many = names_count A.next ts ∙ sym (landing_in ls (value t st'.vars st'.out.cells) (λ r. length (graph.block_at g r).named ≡ length ts) lands'.0 lands'.1)
+              named_as_many = names_count A.next ts
+                  ∙ sym (landing_in ls (value t st'.vars st'.out.cells)
+                  (λ r. length (graph.block_at g r).named ≡ length ts) lands'.0 lands'.1)
 
               numbers : BlockNumbers g (spot_at g c')
               numbers = spot_numbers c' c_there
 
               pass_var : (x : ℕ) → x < length land.vars → (pass I C p).env (suc x) ≡ slice_index land.vars x
               pass_var x u = pass_env (suc x)
-                  ∙ rw (ne_eqb (suc x) pulse (λ r. omega arith)) (fills (graph.block_at g c').named M.names (walks.values ts st'.vars st'.out.cells) (zeros (spot_at g c').vars) (names_at C p).env x numbers.once values_are
-                  (let y : (spot_at g c').vars ≡ length land.vars = c_vars in let w : length (zeros (spot_at g c').vars) ≡ (spot_at g c').vars = zeros_length (spot_at g c').vars in omega arith) (zeros_at (spot_at g c').vars x) named_as_many)
+                  ∙ rw (ne_eqb (suc x) pulse (λ r. omega arith))
+                  (fills (graph.block_at g c').named M.names (walks.values ts st'.vars st'.out.cells)
+                  (zeros (spot_at g c').vars) (names_at C p).env x numbers.once values_are
+                  (let y : (spot_at g c').vars ≡ length land.vars = c_vars in
+                  let w : length (zeros (spot_at g c').vars) ≡ (spot_at g c').vars =
+                  zeros_length (spot_at g c').vars in omega arith) (zeros_at (spot_at g c').vars x)
+                  named_as_many)
 
     -- a block, with its exit
-    leaves_so : (st' : ProcState) (k l : ℕ) → run_ops (graph.block_at g b).ops st k ≡ Done st' l → (x : graph.Exit) → (graph.block_at g b).exit ≡ x → More (leave g x st' [] l)
-    leaves_so st' k l e x q = go x q (subst (λ (y : graph.Exit). ExitDrawn g ps place zeroed (gen_ops width (graph.block_at g b).ops).next y d.first (plan_at ps (place b)).exit) q d.exit)
+    leaves_so : (st' : ProcState) (k l : ℕ) → run_ops (graph.block_at g b).ops st k ≡ Done st' l
+        → (x : graph.Exit) → (graph.block_at g b).exit ≡ x → More (leave g x st' [] l)
+    leaves_so st' k l e x q =
+        go x q (subst (λ (y : graph.Exit). ExitDrawn g ps place zeroed
+        (gen_ops width (graph.block_at g b).ops).next y d.first (plan_at ps (place b)).exit) q d.exit)
         (subst (λ (y : graph.Exit). ExitIn g (spot_at g b).home (spot_at g b).vars y) q spot.exit)
         (subst (λ (y : graph.Exit). ExitFine y st') q (fine.exit st' k l e))
         (subst (λ (y : graph.Exit). rules.Lands g y) q lands_rule)
-        (subst (λ (y : graph.Exit). Rattle.wave_gen.specs.Drawn.exit_next (gen_ops width (graph.block_at g b).ops).next y ≤ (plan_at ps (place b)).test) q d.test)
+        (subst (λ (y : graph.Exit). Rattle.wave_gen.specs.Drawn.exit_next
+        (gen_ops width (graph.block_at g b).ops).next y ≤ (plan_at ps (place b)).test) q d.test)
       where
         lands_rule : rules.Lands g (graph.block_at g b).exit
         lands_rule = lands_at b a.there
 
-        go : (x : graph.Exit) → (graph.block_at g b).exit ≡ x → ExitDrawn g ps place zeroed (gen_ops width (graph.block_at g b).ops).next x d.first (plan_at ps (place b)).exit → ExitIn g (spot_at g b).home (spot_at g b).vars x → ExitFine x st' → rules.Lands g x →
-            Rattle.wave_gen.specs.Drawn.exit_next (gen_ops width (graph.block_at g b).ops).next x ≤ (plan_at ps (place b)).test → More (leave g x st' [] l)
+        go : (x : graph.Exit) → (graph.block_at g b).exit ≡ x → ExitDrawn g ps place zeroed
+            (gen_ops width (graph.block_at g b).ops).next x d.first (plan_at ps (place b)).exit
+            → ExitIn g (spot_at g b).home (spot_at g b).vars x → ExitFine x st' → rules.Lands g x →
+            Rattle.wave_gen.specs.Drawn.exit_next (gen_ops width (graph.block_at g b).ops).next x
+            ≤ (plan_at ps (place b)).test → More (leave g x st' [] l)
         go (graph.Goto c) r w i f m t = go_goto st' k l e c i w.0 w.1 w.2 w.3
         go (graph.Branch u x y) r w i f m t = go_branch st' k l e u x y i f w.0 w.1 w.2 w.3 w.4 w.5
         go (graph.Call v f' ts back) r w i f m t = absurd w
         go (graph.Return u) r w i f m t = go_return st' k l e u i f w.0 w.1
         go (graph.Send u ts ls) r w i f m t = go_send st' k l e u ts ls t i m f w.0 w.1 w.2 w.3
-        go graph.Stop r w i f m t = go_halt st' k l e st'.out w.1 (ap (λ (x : List Item). (run_items x s2).out) w.0 ∙ (z st' k l e).is.out)
+        go graph.Stop r w i f m t =
+            go_halt st' k l e st'.out w.1 (ap (λ (x : List Item). (run_items x s2).out) w.0
+            ∙ (z st' k l e).is.out)
 
     pub block_step : (k : ℕ) → More (step g (At b st [] k))
     block_step k = go (run_ops (graph.block_at g b).ops st k) refl
       where
-        go : (r : OpsOutcome) → run_ops (graph.block_at g b).ops st k ≡ r → More (passed g r (graph.block_at g b).exit [])
+        go : (r : OpsOutcome) → run_ops (graph.block_at g b).ops st k ≡ r
+            → More (passed g r (graph.block_at g b).exit [])
         go (Out o) e = out_of_turns o
         go (Done st' l) e = leaves_so st' k l e (graph.block_at g b).exit refl
 
   -- one block
   pub one_more : (p : RunPlace) (c : Config) → Tied p c → WalkFine g c → Tied (next p) (step g c)
   one_more p c (at_block b st k a) f = block_step b st p a (f 0 b st [] k refl) k
-  one_more p c (at_end o k x y) f = subst (λ (q : RunPlace). Tied q (Over o k)) (sym (cond-true p.over p (pass I C p) x)) (at_end o k x y)
+  one_more p c (at_end o k x y) f = subst (λ (q : RunPlace). Tied q (Over o k))
+      (sym (cond-true p.over p (pass I C p) x)) (at_end o k x y)
   one_more p c (out_of_turns o) f = out_of_turns o
 
   -- after m blocks of the graph, as many plans
   pub follows : (m : ℕ) (p : RunPlace) (c : Config) → Tied p c → WalkFine g c → Tied (nexts m p) (walk g m c)
   follows zero p c t f = t
-  follows (suc m) p c t f = follows m (next p) (step g c) (one_more p c t f) (λ n b st fr k e. f (suc n) b st fr k e)
+  follows (suc m) p c t f = follows m (next p) (step g c) (one_more p c t f)
+      (λ n b st fr k e. f (suc n) b st fr k e)
 
   pub next_place : (o : Outside) (m i : ℕ) → nexts i (places I C o m) ≡ places I C o (m + i)
   next_place o m zero = let z : m + 0 ≡ m = omega arith in rw z refl
@@ -542,17 +720,34 @@ module _ (arrays : List Array) (width : ℕ) (ps : List Plan) (Live : ℕ → �
     pub main_there : Type 0
     main_there = graph.entry_of g (length g.procs - 1) < length (spots g)
 
-    pub begins_so : graph.entry_of g (length g.procs - 1) < length (spots g) → (spot_at g (graph.entry_of g (length g.procs - 1))).vars ≡ (graph.proc_at g (length g.procs - 1)).vars → Tied (places I C (Rattle.ws_isa.specs.Walk.opening_memory I world) 0) (walks.opening g world turns)
+    pub begins_so : graph.entry_of g (length g.procs - 1) < length (spots g)
+        → (spot_at g (graph.entry_of g (length g.procs - 1))).vars
+        ≡ (graph.proc_at g (length g.procs - 1)).vars
+        → Tied (places I C (Rattle.ws_isa.specs.Walk.opening_memory I world) 0) (walks.opening g world turns)
     unfolding Rattle.ws_isa.specs.Walk.opening_memory draft_of
     begins_so l v =
-        let w : (spot_at g (graph.entry_of g (length g.procs - 1))).vars < width = (drawn.blocks (graph.entry_of g (length g.procs - 1)) l).wide in
-        let n : length (zeros (graph.proc_at g (length g.procs - 1)).vars) ≡ (graph.proc_at g (length g.procs - 1)).vars = zeros_length (graph.proc_at g (length g.procs - 1)).vars in
-        let st : ProcState = record { vars = zeros (graph.proc_at g (length g.procs - 1)).vars; out = opening_out (walks.cells_of g.arrays) world } in
-        let r = arrives 1 (graph.entry_of g (length g.procs - 1)) drawn.start st (places I C (opening_out (image.cells_of arrays) world) 0) l (v ∙ sym n) (record {
+        let w : (spot_at g (graph.entry_of g (length g.procs - 1))).vars < width =
+        (drawn.blocks (graph.entry_of g (length g.procs - 1)) l).wide in
+        let n : length (zeros (graph.proc_at g (length g.procs - 1)).vars)
+        ≡ (graph.proc_at g (length g.procs - 1)).vars =
+        zeros_length (graph.proc_at g (length g.procs - 1)).vars in
+        let st : ProcState = record {
+          vars = zeros (graph.proc_at g (length g.procs - 1)).vars;
+          out = opening_out (walks.cells_of g.arrays) world;
+        } in
+        let r = arrives 1 (graph.entry_of g (length g.procs - 1)) drawn.start st
+        (places I C (opening_out (image.cells_of arrays) world) 0) l (v ∙ sym n) (record {
           over = refl;
           there = (omega arith, plans.some);
           block = refl;
-          state = record { agrees = record { zero_pulse = refl; var = λ x u. sym (zeros_at (graph.proc_at g (length g.procs - 1)).vars x) }; out = ap (λ (cs : List (List ℕ)). opening_out cs world) cells };
+          state = record {
+            agrees = record {
+              zero_pulse = refl;
+              var = λ x u.
+                  sym (zeros_at (graph.proc_at g (length g.procs - 1)).vars x);
+            };
+            out = ap (λ (cs : List (List ℕ)). opening_out cs world) cells;
+          };
           wide = omega arith;
           zero = λ x h. zeros_at (graph.proc_at g (length g.procs - 1)).vars x;
         }) in

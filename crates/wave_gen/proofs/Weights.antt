@@ -13,7 +13,8 @@ total w (suc n) = length (w n) + total w n
 abbrev pub charge : ℕ → Made → ℕ
 charge n s = 4 * length s.code + total s.wants n
 
--- An instruction weighs 4, and 1 more for each operand; one that is there only because its value is wanted weighs 1 less. A copy weighs at most 5, where lists are too long to be joined.
+-- An instruction weighs 4, and 1 more for each operand; one that is there only because its value is wanted
+-- weighs 1 less. A copy weighs at most 5, where lists are too long to be joined.
 abbrev pub weight : Item → ℕ
 weight (Make x op from) = cond (is_memory_op op) (4 + length from) (3 + length from)
 weight (Act op from) = 4 + length from

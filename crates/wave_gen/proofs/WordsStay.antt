@@ -1,15 +1,23 @@
 -- The walk of a graph of words in a world of words has words alone.
-use Rattle.std.proofs.Common.{ℕ, zero, suc, ◌+◌, ◌-◌, ◌*◌, ◌/◌, ◌%◌, ◌^◌, ◌<◌, ◌≤◌, ◌==◌, Bool, true, false, if◌then◌else◌, List, [], ◌∷◌, ◌++◌, Option, Some, None, slice_index, slice_set, subst, arith}
+use Rattle.std.proofs.Common.{ℕ, zero, suc, ◌+◌, ◌-◌, ◌*◌, ◌/◌, ◌%◌, ◌^◌, ◌<◌, ◌≤◌, ◌==◌, Bool, true, false}
+use Rattle.std.proofs.Common.{if◌then◌else◌, List, [], ◌∷◌, ◌++◌, Option, Some, None, slice_index, slice_set}
+use Rattle.std.proofs.Common.{subst, arith}
 use Rattle.std.proofs.Math.Nat.{mod-lt, mod-le, div-le_self}
 use Rattle.std.proofs.lemmas.Nat.{or_lt, xor_lt}
 use Rattle.std.specs.Int.Bits.{and_lt}
 use Rattle.std.specs.List.{AllByRecursion}
 use Rattle.ws_words.specs.declared.alu.Alu.{Alu}
-use Rattle.ws_words.specs.declared.alu.Alu.TheVariants.{Add, Sub, Mul, Div, Rem, And, Or, Xor, Shl, Shr, Eq, Ne, Lt, Le, Gt, Ge}
+use Rattle.ws_words.specs.declared.alu.Alu.TheVariants.{Add, Sub, Mul, Div, Rem, And, Or, Xor, Shl, Shr, Eq}
+use Rattle.ws_words.specs.declared.alu.Alu.TheVariants.{Ne, Lt, Le, Gt, Ge}
 use Rattle.ws_words.specs.Operators.{applied, flag}
 use Rattle.ws_words.specs.Outside.{ProcState, World, row, with_row, head_or_zero, rest_of, zeros}
-use Rattle.cfg_core.specs.Graph.{Term, Number, Var, Cell, Flip, Not, Neg, Binary, Op, Assign, Store, Print, Read, Give, Take, Choose, Tick, TickBy, Exit, Goto, Branch, Call, Return, Send, Stop, Graph, GraphArray, Spot, no_spot, spots, spot_at, block_at, proc_at}
-use Rattle.cfg_core.specs.Walk.{value, values, value_of, OpsOutcome, Done, Out, and_then, spend, run_op, run_ops, Config, At, Over, Going, Frame, landed, with_result, leave, passed, step, walk, cells_of, opening}
+use Rattle.cfg_core.specs.Graph.{Term, Number, Var, Cell, Flip, Not, Neg, Binary, Op, Assign, Store, Print}
+use Rattle.cfg_core.specs.Graph.{Read, Give, Take, Choose, Tick, TickBy, Exit, Goto, Branch, Call, Return}
+use Rattle.cfg_core.specs.Graph.{Send, Stop, Graph, GraphArray, Spot, no_spot, spots, spot_at, block_at}
+use Rattle.cfg_core.specs.Graph.{proc_at}
+use Rattle.cfg_core.specs.Walk.{value, values, value_of, OpsOutcome, Done, Out, and_then, spend, run_op}
+use Rattle.cfg_core.specs.Walk.{run_ops, Config, At, Over, Going, Frame, landed, with_result, leave, passed}
+use Rattle.cfg_core.specs.Walk.{step, walk, cells_of, opening}
 use Rattle.wave_gen.specs.Gen.{FlipsWords, OpFine}
 use Rattle.wave_gen.proofs.DrawnPlans.{OpsFine, ExitFine, BlockFine, WalkFine}
 use Rattle.wave_gen.specs.Words.{TermOfWords, OpOfWords, ExitOfWords, GraphOfWords, WorldOfWords}
@@ -110,7 +118,8 @@ module _ (vars : List ℕ) (cells : List (List ℕ)) (v : Words vars) (c : Rows 
   value_word (Flip t) h = omega arith
   value_word (Not t) h = flag_word (value t vars cells == 0)
   value_word (Neg t) h = applied_word Sub 0 (value t vars cells) some (value_word t h)
-  value_word (Binary op a b) h = applied_word op (value a vars cells) (value b vars cells) (value_word a h.0) (value_word b h.1)
+  value_word (Binary op a b) h = applied_word op (value a vars cells) (value b vars cells) (value_word a h.0)
+      (value_word b h.1)
 
   values_words : (ts : List Term) → AllByRecursion TermOfWords ts → Words (values ts vars cells)
   values_words [] h = tt
@@ -125,7 +134,8 @@ module _ (vars : List ℕ) (cells : List (List ℕ)) (v : Words vars) (c : Rows 
   flips_words (Neg t) h = flips_words t h
   flips_words (Binary op a b) h = (flips_words a h.0, flips_words b h.1)
 
-  all_flips : (ts : List Term) → AllByRecursion TermOfWords ts → AllByRecursion (λ u. FlipsWords u vars cells) ts
+  all_flips : (ts : List Term) → AllByRecursion TermOfWords ts → AllByRecursion (λ u. FlipsWords u vars cells)
+      ts
   all_flips [] h = tt
   all_flips (t ∷ ts) h = (flips_words t h.0, all_flips ts h.1)
 
@@ -161,49 +171,97 @@ either_kept true x y h i = h
 either_kept false x y h i = i
 
 op_kept : (op : Op) (s : ProcState) (k : ℕ) → OpOfWords op → Held s → Kept (run_op op s k)
-op_kept (Assign x t) s k w h = record { vars = set_words s.vars x (value t s.vars s.out.cells) h.vars (value_word s.vars s.out.cells h.vars h.cells t w); cells = h.cells; input = h.input; left = h.left }
+op_kept (Assign x t) s k w h =
+    record {
+      vars = set_words s.vars x (value t s.vars s.out.cells) h.vars
+          (value_word s.vars s.out.cells h.vars h.cells t w);
+      cells = h.cells;
+      input = h.input;
+      left = h.left;
+    }
 op_kept (Store a t u) s k w h = record {
   vars = h.vars;
-  cells = with_rows s.out.cells (a - 1) (slice_set (row s.out.cells (a - 1)) (value t s.vars s.out.cells) (value u s.vars s.out.cells)) h.cells
-      (set_words (row s.out.cells (a - 1)) (value t s.vars s.out.cells) (value u s.vars s.out.cells) (row_words s.out.cells (a - 1) h.cells) (value_word s.vars s.out.cells h.vars h.cells u w.1));
+  cells = with_rows s.out.cells (a - 1) (slice_set (row s.out.cells (a - 1)) (value t s.vars s.out.cells)
+      (value u s.vars s.out.cells)) h.cells
+      (set_words (row s.out.cells (a - 1)) (value t s.vars s.out.cells) (value u s.vars s.out.cells)
+      (row_words s.out.cells (a - 1) h.cells) (value_word s.vars s.out.cells h.vars h.cells u w.1));
   input = h.input;
   left = h.left;
 }
 op_kept (Print t) s k w h = record { vars = h.vars; cells = h.cells; input = h.input; left = h.left }
-op_kept (Read x) s k w h = record { vars = set_words s.vars x (head_or_zero s.out.input) h.vars (head_word s.out.input h.input); cells = h.cells; input = rest_words s.out.input h.input; left = h.left }
+op_kept (Read x) s k w h =
+    record {
+      vars = set_words s.vars x (head_or_zero s.out.input) h.vars (head_word s.out.input h.input);
+      cells = h.cells;
+      input = rest_words s.out.input h.input;
+      left = h.left;
+    }
 op_kept (Give p x) s k w h = record {
-  vars = set_words s.vars x (head_or_zero (row s.out.left (p - 1))) h.vars (head_word (row s.out.left (p - 1)) (row_words s.out.left (p - 1) h.left));
+  vars = set_words s.vars x (head_or_zero (row s.out.left (p - 1))) h.vars
+      (head_word (row s.out.left (p - 1)) (row_words s.out.left (p - 1) h.left));
   cells = h.cells;
   input = h.input;
-  left = with_rows s.out.left (p - 1) (rest_of (row s.out.left (p - 1))) h.left (rest_words (row s.out.left (p - 1)) (row_words s.out.left (p - 1) h.left));
+  left = with_rows s.out.left (p - 1) (rest_of (row s.out.left (p - 1))) h.left
+      (rest_words (row s.out.left (p - 1)) (row_words s.out.left (p - 1) h.left));
 }
 op_kept (Take p t) s k w h = record { vars = h.vars; cells = h.cells; input = h.input; left = h.left }
 op_kept (Choose x t a b) s k w h = either_kept (value t s.vars s.out.cells == 0) _ _
-    (record { vars = set_words s.vars x (value b s.vars s.out.cells) h.vars (value_word s.vars s.out.cells h.vars h.cells b w.2); cells = h.cells; input = h.input; left = h.left })
-    (record { vars = set_words s.vars x (value a s.vars s.out.cells) h.vars (value_word s.vars s.out.cells h.vars h.cells a w.1); cells = h.cells; input = h.input; left = h.left })
+    (record {
+      vars = set_words s.vars x (value b s.vars s.out.cells) h.vars
+          (value_word s.vars s.out.cells h.vars h.cells b w.2);
+      cells = h.cells;
+      input = h.input;
+      left = h.left;
+    })
+    (record {
+      vars = set_words s.vars x (value a s.vars s.out.cells) h.vars
+          (value_word s.vars s.out.cells h.vars h.cells a w.1);
+      cells = h.cells;
+      input = h.input;
+      left = h.left;
+    })
 op_kept (Tick n) s k w h = spend_kept n s k h
-op_kept (TickBy t n m) s k w h = either_kept (value t s.vars s.out.cells == 0) (spend m (value_of t s).1 k) (spend n (value_of t s).1 k)
-    (spend_kept m (value_of t s).1 k (record { vars = h.vars; cells = h.cells; input = h.input; left = h.left }))
-    (spend_kept n (value_of t s).1 k (record { vars = h.vars; cells = h.cells; input = h.input; left = h.left }))
+op_kept (TickBy t n m) s k w h = either_kept (value t s.vars s.out.cells == 0) (spend m (value_of t s).1 k)
+    (spend n (value_of t s).1 k)
+    (spend_kept m (value_of t s).1 k (record {
+      vars = h.vars;
+      cells = h.cells;
+      input = h.input;
+      left = h.left;
+    }))
+    (spend_kept n (value_of t s).1 k (record {
+      vars = h.vars;
+      cells = h.cells;
+      input = h.input;
+      left = h.left;
+    }))
 
-ops_kept : (ops : List Op) (s : ProcState) (k : ℕ) → AllByRecursion OpOfWords ops → Held s → Kept (run_ops ops s k)
+ops_kept : (ops : List Op) (s : ProcState) (k : ℕ) → AllByRecursion OpOfWords ops → Held s
+    → Kept (run_ops ops s k)
 ops_kept [] s k w h = h
 ops_kept (op ∷ ops) s k w h = go (run_op op s k) (op_kept op s k w.0 h) (λ t l i. ops_kept ops t l w.1 i)
   where
-    go : (r : OpsOutcome) → Kept r → ((t : ProcState) (l : ℕ) → Held t → Kept (run_ops ops t l)) → Kept (and_then r (run_ops ops))
+    go : (r : OpsOutcome) → Kept r → ((t : ProcState) (l : ℕ) → Held t → Kept (run_ops ops t l))
+        → Kept (and_then r (run_ops ops))
     go (Done t l) i ih = ih t l i
     go (Out o) i ih = tt
 
 ops_fine : (ops : List Op) (s : ProcState) → AllByRecursion OpOfWords ops → Held s → OpsFine ops s
 ops_fine [] s w h = tt
-ops_fine (op ∷ ops) s w h = (op_fine s.vars s.out.cells h.vars h.cells op w.0, λ t k l e. ops_fine ops t w.1 (subst Kept e (op_kept op s k w.0 h)))
+ops_fine (op ∷ ops) s w h = (
+  op_fine s.vars s.out.cells h.vars h.cells op w.0,
+  λ t k l e. ops_fine ops t w.1 (subst Kept e (op_kept op s k w.0 h)),
+)
 
 exit_fine : (exit : Exit) (s : ProcState) → ExitOfWords exit → Held s → ExitFine exit s
 exit_fine (Goto b) s w h = tt
 exit_fine (Branch t a b) s w h = flips_words s.vars s.out.cells h.vars h.cells t w
 exit_fine (Call x f ts back) s w h = tt
 exit_fine (Return t) s w h = flips_words s.vars s.out.cells h.vars h.cells t w
-exit_fine (Send t ts ls) s w h = (flips_words s.vars s.out.cells h.vars h.cells t w.0, all_flips s.vars s.out.cells h.vars h.cells ts w.1)
+exit_fine (Send t ts ls) s w h = (
+  flips_words s.vars s.out.cells h.vars h.cells t w.0,
+  all_flips s.vars s.out.cells h.vars h.cells ts w.1,
+)
 exit_fine Stop s w h = tt
 
 -- configurations, with the frames of calls
@@ -218,7 +276,8 @@ Holds (Going o) = Unit {0}
 landed_words : (xs vs vars : List ℕ) → Words vs → Words vars → Words (landed xs vs vars)
 landed_words [] vs vars h i = i
 landed_words (x ∷ xs) [] vars h i = i
-landed_words (x ∷ xs) (v ∷ vs) vars h i = landed_words xs vs (slice_set vars x v) h.1 (set_words vars x v i h.0)
+landed_words (x ∷ xs) (v ∷ vs) vars h i = landed_words xs vs (slice_set vars x v) h.1
+    (set_words vars x v i h.0)
 
 result_words : (x : Option ℕ) (v : ℕ) (vars : List ℕ) → Word v → Words vars → Words (with_result x v vars)
 result_words None v vars w h = h
@@ -228,7 +287,8 @@ loaded : (t : Term) (s : ProcState) → Held s → Held (value_of t s).1
 loaded t s h = record { vars = h.vars; cells = h.cells; input = h.input; left = h.left }
 
 module _ (g : Graph) (words : GraphOfWords g) where
-  exit_holds : (exit : Exit) (s : ProcState) (frames : List Frame) (k : ℕ) → ExitOfWords exit → Held s → Frames frames → Holds (leave g exit s frames k)
+  exit_holds : (exit : Exit) (s : ProcState) (frames : List Frame) (k : ℕ) → ExitOfWords exit → Held s
+      → Frames frames → Holds (leave g exit s frames k)
   exit_holds (Goto b) s frames k w h f = (h, f)
   exit_holds (Branch t a b) s frames k w h f = go (value t s.vars s.out.cells == 0)
     where
@@ -237,7 +297,9 @@ module _ (g : Graph) (words : GraphOfWords g) where
       go false = (loaded t s h, f)
   exit_holds (Call x c ts back) s frames k w h f = (
     record {
-      vars = append_words (values ts s.vars s.out.cells) (zeros ((proc_at g c).vars - (proc_at g c).params)) (values_words s.vars s.out.cells h.vars h.cells ts w) (zeros_words ((proc_at g c).vars - (proc_at g c).params));
+      vars = append_words (values ts s.vars s.out.cells) (zeros ((proc_at g c).vars - (proc_at g c).params))
+          (values_words s.vars s.out.cells h.vars h.cells ts w)
+          (zeros_words ((proc_at g c).vars - (proc_at g c).params));
       cells = h.cells;
       input = h.input;
       left = h.left;
@@ -247,7 +309,8 @@ module _ (g : Graph) (words : GraphOfWords g) where
   exit_holds (Return t) s [] k w h f = tt
   exit_holds (Return t) s (r ∷ frames) k w h f = (
     record {
-      vars = result_words r.result (value t s.vars s.out.cells) r.vars (value_word s.vars s.out.cells h.vars h.cells t w) f.0;
+      vars = result_words r.result (value t s.vars s.out.cells) r.vars
+          (value_word s.vars s.out.cells h.vars h.cells t w) f.0;
       cells = h.cells;
       input = h.input;
       left = h.left;
@@ -256,7 +319,8 @@ module _ (g : Graph) (words : GraphOfWords g) where
   )
   exit_holds (Send t ts ls) s frames k w h f = (
     record {
-      vars = landed_words _ (values ts s.vars s.out.cells) (zeros _) (values_words s.vars s.out.cells h.vars h.cells ts w.1) (zeros_words _);
+      vars = landed_words _ (values ts s.vars s.out.cells) (zeros _)
+          (values_words s.vars s.out.cells h.vars h.cells ts w.1) (zeros_words _);
       cells = h.cells;
       input = h.input;
       left = h.left;
@@ -265,7 +329,9 @@ module _ (g : Graph) (words : GraphOfWords g) where
   )
   exit_holds Stop s frames k w h f = tt
 
-  at_spot : (ss : List Spot) (b : ℕ) → AllByRecursion (λ s. AllByRecursion OpOfWords s.block.ops × ExitOfWords s.block.exit) ss → (let s = or_else (nth ss b) no_spot in AllByRecursion OpOfWords s.block.ops × ExitOfWords s.block.exit)
+  at_spot : (ss : List Spot) (b : ℕ) → AllByRecursion (λ s. AllByRecursion OpOfWords s.block.ops
+      × ExitOfWords s.block.exit) ss → (let s = or_else (nth ss b) no_spot in
+      AllByRecursion OpOfWords s.block.ops × ExitOfWords s.block.exit)
   unfolding no_spot
   at_spot [] b h = (tt, tt)
   at_spot (s ∷ ss) zero h = h.0
@@ -277,7 +343,8 @@ module _ (g : Graph) (words : GraphOfWords g) where
   block_words b = at_spot (spots g) b words
 
   step_holds : (c : Config) → Holds c → Holds (step g c)
-  step_holds (At b s frames k) h = go (run_ops (block_at g b).ops s k) (ops_kept (block_at g b).ops s k (block_words b).0 h.0)
+  step_holds (At b s frames k) h = go (run_ops (block_at g b).ops s k)
+      (ops_kept (block_at g b).ops s k (block_words b).0 h.0)
     where
       go : (r : OpsOutcome) → Kept r → Holds (passed g r (block_at g b).exit frames)
       go (Done t l) i = exit_holds (block_at g b).exit t frames l (block_words b).1 i h.1
@@ -292,11 +359,21 @@ module _ (g : Graph) (words : GraphOfWords g) where
   block_fine : (b : ℕ) (s : ProcState) → Held s → BlockFine g b s
   block_fine b s h = record {
     ops = ops_fine (block_at g b).ops s (block_words b).0 h;
-    exit = λ t k l e. exit_fine (block_at g b).exit t (block_words b).1 (subst Kept e (ops_kept (block_at g b).ops s k (block_words b).0 h));
+    exit = λ t k l e. exit_fine (block_at g b).exit t (block_words b).1
+        (subst Kept e (ops_kept (block_at g b).ops s k (block_words b).0 h));
   }
 
   -- every complement is of a word
   pub words_fine : (world : World) (turns : ℕ) → WorldOfWords world → WalkFine g (opening g world turns)
   words_fine world turns w m b s frames k e =
-      let h = subst Holds e (walk_holds m (opening g world turns) (record { vars = zeros_words _; cells = cells_words g.arrays; input = w.0; left = w.1 }, tt)) in
+      let h = subst Holds e
+      (walk_holds m (opening g world turns) (
+        record {
+          vars = zeros_words _;
+          cells = cells_words g.arrays;
+          input = w.0;
+          left = w.1;
+        },
+        tt,
+      )) in
       block_fine b s h.0

@@ -1,5 +1,8 @@
--- How large the numbers of notes are: none is larger than there are operations, but for the numbers within a block.
-use Rattle.std.proofs.Common.{ℕ, zero, suc, ◌+◌, ◌≡◌, ◌≤◌, ◌⊎◌, Bool, true, false, cond, eqb, ltb, List, [], ◌∷◌, length, length-append, get_or, set, replicate, Option, Some, None, refl, sym, ap, inl, inr, subst, arith, eq-eqb, ne_eqb}
+-- How large the numbers of notes are: none is larger than there are operations, but for the numbers within a
+-- block.
+use Rattle.std.proofs.Common.{ℕ, zero, suc, ◌+◌, ◌≡◌, ◌≤◌, ◌⊎◌, Bool, true, false, cond, eqb, ltb, List, []}
+use Rattle.std.proofs.Common.{◌∷◌, length, length-append, get_or, set, replicate, Option, Some, None, refl}
+use Rattle.std.proofs.Common.{sym, ap, inl, inr, subst, arith, eq-eqb, ne_eqb}
 use Rattle.std.proofs.lemmas.Bool.{cases_Bool, cases_eq}
 use Rattle.ws_isa.specs.declared.instr.Op.{Op}
 use Rattle.ws_isa.specs.declared.instr.Link.{Link}
@@ -10,8 +13,11 @@ use Rattle.wave_link.specs.declared.outline.Way.TheVariants.{Out, On, Fork}
 use Rattle.wave_link.specs.declared.outline.Outline.{Outline}
 use Rattle.wave_link.specs.declared.links.Behind.{Behind}
 use Rattle.wave_link.specs.declared.links.Passage.{Passage}
-use Rattle.wave_link.specs.Notes.{both, low_at, lows_from, head_at, out_link, head_link, heads_from, joined, begin, behind_in, behind_out, hand_on, hand_way, hand_all, unreached, places_from, lows_of, heads_of, places_of, writer_next}
-use Rattle.wave_link.specs.Outlines.{one_more_op, ops_from, writer_from, outline_of, outlines_from, outlines_of, with_nop, with_nops_from, with_nops}
+use Rattle.wave_link.specs.Notes.{both, low_at, lows_from, head_at, out_link, head_link, heads_from, joined}
+use Rattle.wave_link.specs.Notes.{begin, behind_in, behind_out, hand_on, hand_way, hand_all, unreached}
+use Rattle.wave_link.specs.Notes.{places_from, lows_of, heads_of, places_of, writer_next}
+use Rattle.wave_link.specs.Outlines.{one_more_op, ops_from, writer_from, outline_of, outlines_from}
+use Rattle.wave_link.specs.Outlines.{outlines_of, with_nop, with_nops_from, with_nops}
 use Rattle.wave_link.specs.Grown.{seq_next, no_place, added_in}
 use Rattle.wave_link.proofs.Numbers.{seq_in, writer_in, place_of}
 use Rattle.ws_isa.proofs.Images.{writing_memory_op as writes_memory}
@@ -24,7 +30,8 @@ UpTo t Nothing = Unit {0}
 UpTo t Unknown = Unit {0}
 
 -- an entry of a table after one was set
-after_set : {A : Type 0} (P : A → Type 0) (l : List A) (i : ℕ) (a d : A) → P a → ((j : ℕ) → P (get_or l j d)) → (j : ℕ) → P (get_or (set l i a) j d)
+after_set : {A : Type 0} (P : A → Type 0) (l : List A) (i : ℕ) (a d : A) → P a → ((j : ℕ) → P (get_or l j d))
+    → (j : ℕ) → P (get_or (set l i a) j d)
 after_set P [] i a d h g j = g j
 after_set P (x ∷ l) zero a d h g zero = h
 after_set P (x ∷ l) zero a d h g (suc j) = g (suc j)
@@ -57,9 +64,11 @@ low_le x n = go x.first
 abbrev pub LowsFit : ℕ → List Outline → List ℕ → ℕ → Type 0
 LowsFit t xs lows b = (i j : ℕ) (o : Outline) → nth xs i ≡ Some o → j ≡ b + i → get_or lows j 0 + o.ops ≤ t
 
-lows_fit : (xs : List Outline) (n i : ℕ) (o : Outline) → nth xs i ≡ Some o → get_or (lows_from xs n) i 0 + o.ops ≤ n + total_ops xs
+lows_fit : (xs : List Outline) (n i : ℕ) (o : Outline) → nth xs i ≡ Some o
+    → get_or (lows_from xs n) i 0 + o.ops ≤ n + total_ops xs
 lows_fit [] n i o e = absurd (cc)
-lows_fit (x ∷ xs) n zero o e = let f : x.ops ≡ o.ops = ap (λ (y : Outline). y.ops) (some_same e) in omega (arith, low_le x n)
+lows_fit (x ∷ xs) n zero o e = let f : x.ops ≡ o.ops = ap (λ (y : Outline). y.ops) (some_same e) in
+    omega (arith, low_le x n)
   where
     some_same : {a b : Outline} → Some a ≡ Some b → a ≡ b
     some_same e = cc
@@ -68,7 +77,8 @@ lows_fit (x ∷ xs) n (suc i) o e = omega (arith, low_le x n, lows_fit xs (low_a
 lows_in_table : (xs : List Outline) → LowsFit (total_ops xs) xs (lows_of xs) 1
 lows_in_table xs i j o e f = let g : j ≡ suc i = omega arith in rw g (omega (arith, lows_fit xs 0 i o e))
 
-fit_rest : (t : ℕ) (x : Outline) (xs : List Outline) (lows : List ℕ) (b : ℕ) → LowsFit t (x ∷ xs) lows b → LowsFit t xs lows (suc b)
+fit_rest : (t : ℕ) (x : Outline) (xs : List Outline) (lows : List ℕ) (b : ℕ) → LowsFit t (x ∷ xs) lows b
+    → LowsFit t xs lows (suc b)
 fit_rest t x xs lows b h i j o e f = h (suc i) j o e (omega arith)
 
 -- Links.
@@ -90,22 +100,28 @@ out_up t Out heads h = tt
 out_up t (On b) heads h = h b
 out_up t (Fork b c) heads h = both_up t (head_at heads b) (head_at heads c) (h b) (h c)
 
-head_up : (t : ℕ) (x : Outline) (low : ℕ) (heads : List Link) → low + x.ops ≤ t → LinksUpTo t heads → UpTo t (head_link x low heads)
+head_up : (t : ℕ) (x : Outline) (low : ℕ) (heads : List Link) → low + x.ops ≤ t → LinksUpTo t heads
+    → UpTo t (head_link x low heads)
 head_up t x low heads l h = go (cases_eq x.ops 0)
   where
     go : (x.ops ≡ 0) ⊎ (x.ops ≡ 0 → ⊥) → UpTo t (head_link x low heads)
-    go (inl e) = subst (λ (v : Bool). UpTo t (cond v (out_link x.way heads) (Is (low + 1)))) (sym (eq-eqb x.ops 0 e)) (out_up t x.way heads h)
-    go (inr n) = subst (λ (v : Bool). UpTo t (cond v (out_link x.way heads) (Is (low + 1)))) (sym (ne_eqb x.ops 0 n)) (one low x.ops n l)
+    go (inl e) = subst (λ (v : Bool). UpTo t (cond v (out_link x.way heads) (Is (low + 1))))
+        (sym (eq-eqb x.ops 0 e)) (out_up t x.way heads h)
+    go (inr n) = subst (λ (v : Bool). UpTo t (cond v (out_link x.way heads) (Is (low + 1))))
+        (sym (ne_eqb x.ops 0 n)) (one low x.ops n l)
       where
         one : (low ops : ℕ) → (ops ≡ 0 → ⊥) → low + ops ≤ t → low + 1 ≤ t
         one low zero n l = absurd (n refl)
         one low (suc ops) n l = omega arith
 
-heads_up : (t : ℕ) (xs : List Outline) (lows : List ℕ) (b : ℕ) (heads : List Link) → LowsFit t xs lows b → LinksUpTo t heads → LinksUpTo t (heads_from xs lows b heads)
+heads_up : (t : ℕ) (xs : List Outline) (lows : List ℕ) (b : ℕ) (heads : List Link) → LowsFit t xs lows b
+    → LinksUpTo t heads → LinksUpTo t (heads_from xs lows b heads)
 heads_up t [] lows b heads f h = h
 heads_up t (x ∷ xs) lows b heads f h =
-    let r : LinksUpTo t (heads_from xs lows (suc b) heads) = heads_up t xs lows (suc b) heads (fit_rest t x xs lows b f) h in
-    after_set (UpTo t) (heads_from xs lows (suc b) heads) b (head_link x (get_or lows b 0) (heads_from xs lows (suc b) heads)) Unknown
+    let r : LinksUpTo t (heads_from xs lows (suc b) heads) = heads_up t xs lows (suc b) heads
+    (fit_rest t x xs lows b f) h in
+    after_set (UpTo t) (heads_from xs lows (suc b) heads) b
+    (head_link x (get_or lows b 0) (heads_from xs lows (suc b) heads)) Unknown
     (head_up t x (get_or lows b 0) (heads_from xs lows (suc b) heads) (f 0 b x refl (omega arith)) r) r
 
 -- Who came before.
@@ -121,7 +137,8 @@ EntryUpTo t (Some y) = BehindUpTo t y
 abbrev pub EntriesUpTo : ℕ → List (Option Behind) → Type 0
 EntriesUpTo t table = (j : ℕ) → EntryUpTo t (get_or table j None)
 
-joined_up : (t : ℕ) (o : Option Behind) (y : Behind) → EntryUpTo t o → BehindUpTo t y → BehindUpTo t (joined o y)
+joined_up : (t : ℕ) (o : Option Behind) (y : Behind) → EntryUpTo t o → BehindUpTo t y
+    → BehindUpTo t (joined o y)
 joined_up t None y h g = g
 joined_up t (Some x) y h g = record {
   pred = both_up t x.pred y.pred h.pred g.pred;
@@ -131,26 +148,33 @@ joined_up t (Some x) y h g = record {
 begin_up : (t : ℕ) → BehindUpTo t begin
 begin_up t = record { pred = tt; writer = omega arith }
 
-in_up : (t : ℕ) (x : Outline) (b : ℕ) (table : List (Option Behind)) → EntriesUpTo t table → EntryUpTo t (behind_in x b table)
+in_up : (t : ℕ) (x : Outline) (b : ℕ) (table : List (Option Behind)) → EntriesUpTo t table
+    → EntryUpTo t (behind_in x b table)
 in_up t x b table h = cond_both (EntryUpTo t) x.first (Some begin) (get_or table b None) (begin_up t) (h b)
 
-out_behind_up : (t : ℕ) (x : Outline) (low : ℕ) (y : Behind) → low + x.ops ≤ t → x.writer ≤ x.ops → BehindUpTo t y → BehindUpTo t (behind_out x low y)
+out_behind_up : (t : ℕ) (x : Outline) (low : ℕ) (y : Behind) → low + x.ops ≤ t → x.writer ≤ x.ops
+    → BehindUpTo t y → BehindUpTo t (behind_out x low y)
 out_behind_up t x low y l w h = record {
   pred = cond_both (UpTo t) (eqb x.ops 0) y.pred (Is (low + x.ops)) h.pred l;
   writer = cond_both (λ (n : ℕ). n ≤ t) (eqb x.writer 0) y.writer (low + x.writer) h.writer (omega arith);
 }
 
-hand_up : (t b : ℕ) (y : Behind) (table : List (Option Behind)) → BehindUpTo t y → EntriesUpTo t table → EntriesUpTo t (hand_on y b table)
-hand_up t b y table h g = after_set (EntryUpTo t) table b (Some (joined (get_or table b None) y)) None (joined_up t (get_or table b None) y (g b) h) g
+hand_up : (t b : ℕ) (y : Behind) (table : List (Option Behind)) → BehindUpTo t y → EntriesUpTo t table
+    → EntriesUpTo t (hand_on y b table)
+hand_up t b y table h g = after_set (EntryUpTo t) table b (Some (joined (get_or table b None) y)) None
+    (joined_up t (get_or table b None) y (g b) h) g
 
-way_up : (t : ℕ) (w : Way) (y : Behind) (table : List (Option Behind)) → BehindUpTo t y → EntriesUpTo t table → EntriesUpTo t (hand_way w y table)
+way_up : (t : ℕ) (w : Way) (y : Behind) (table : List (Option Behind)) → BehindUpTo t y → EntriesUpTo t table
+    → EntriesUpTo t (hand_way w y table)
 way_up t Out y table h g = g
 way_up t (On b) y table h g = hand_up t b y table h g
 way_up t (Fork b c) y table h g = hand_up t c y (hand_on y b table) h (hand_up t b y table h g)
 
-all_up : (t : ℕ) (x : Outline) (low : ℕ) (o : Option Behind) (table : List (Option Behind)) → low + x.ops ≤ t → x.writer ≤ x.ops → EntryUpTo t o → EntriesUpTo t table → EntriesUpTo t (hand_all x low o table)
+all_up : (t : ℕ) (x : Outline) (low : ℕ) (o : Option Behind) (table : List (Option Behind)) → low + x.ops ≤ t
+    → x.writer ≤ x.ops → EntryUpTo t o → EntriesUpTo t table → EntriesUpTo t (hand_all x low o table)
 all_up t x low None table l w h g = g
-all_up t x low (Some y) table l w h g = way_up t x.way (behind_out x low y) table (out_behind_up t x low y l w h) g
+all_up t x low (Some y) table l w h g = way_up t x.way (behind_out x low y) table
+    (out_behind_up t x low y l w h) g
 
 -- Places.
 
@@ -168,22 +192,34 @@ reached_up : (t : ℕ) (o : Option Behind) → EntryUpTo t o → BehindUpTo t (o
 reached_up t None h = record { pred = tt; writer = omega arith }
 reached_up t (Some y) h = h
 
-places_up : (t : ℕ) (xs : List Outline) (b : ℕ) (lows : List ℕ) (heads : List Link) (table : List (Option Behind)) → LowsFit t xs lows b → WritersFit xs → LinksUpTo t heads → EntriesUpTo t table →
+places_up : (t : ℕ) (xs : List Outline) (b : ℕ) (lows : List ℕ) (heads : List Link)
+    (table : List (Option Behind)) → LowsFit t xs lows b → WritersFit xs → LinksUpTo t heads
+    → EntriesUpTo t table →
     (n : ℕ) → PlaceUpTo t (get_or (places_from xs b lows heads table) n no_place)
-places_up t [] b lows heads table f w h g n = record { low = omega arith; pred = tt; succ = tt; writer = omega arith }
+places_up t [] b lows heads table f w h g n = record {
+  low = omega arith;
+  pred = tt;
+  succ = tt;
+  writer = omega arith;
+}
 places_up t (x ∷ xs) b lows heads table f w h g zero =
     let i : EntryUpTo t (behind_in x b table) = in_up t x b table g in
     let r : BehindUpTo t (or_else (behind_in x b table) unreached) = reached_up t (behind_in x b table) i in
     let l : get_or lows b 0 + x.ops ≤ t = f 0 b x refl (omega arith) in
     record { low = omega arith; pred = r.pred; succ = out_up t x.way heads h; writer = r.writer }
 places_up t (x ∷ xs) b lows heads table f w h g (suc n) =
-    places_up t xs (suc b) lows heads (hand_all x (get_or lows b 0) (behind_in x b table) table) (fit_rest t x xs lows b f) (λ i o e. w (suc i) o e) h
-    (all_up t x (get_or lows b 0) (behind_in x b table) table (f 0 b x refl (omega arith)) (w 0 x refl) (in_up t x b table g) g) n
+    places_up t xs (suc b) lows heads (hand_all x (get_or lows b 0) (behind_in x b table) table)
+    (fit_rest t x xs lows b f) (λ i o e. w (suc i) o e) h
+    (all_up t x (get_or lows b 0) (behind_in x b table) table (f 0 b x refl (omega arith)) (w 0 x refl)
+    (in_up t x b table g) g) n
 
-all_places_up : (xs : List Outline) → WritersFit xs → (n : ℕ) → PlaceUpTo (total_ops xs) (get_or (places_of xs) n no_place)
+all_places_up : (xs : List Outline) → WritersFit xs → (n : ℕ)
+    → PlaceUpTo (total_ops xs) (get_or (places_of xs) n no_place)
 all_places_up xs w n =
-    places_up (total_ops xs) xs 1 (lows_of xs) (heads_of xs) (replicate (length xs + 1) None) (lows_in_table xs) w
-    (heads_up (total_ops xs) xs (lows_of xs) 1 (replicate (length xs + 1) Unknown) (lows_in_table xs) (in_replicate (UpTo (total_ops xs)) (length xs + 1) Unknown tt))
+    places_up (total_ops xs) xs 1 (lows_of xs) (heads_of xs) (replicate (length xs + 1) None)
+    (lows_in_table xs) w
+    (heads_up (total_ops xs) xs (lows_of xs) 1 (replicate (length xs + 1) Unknown) (lows_in_table xs)
+    (in_replicate (UpTo (total_ops xs)) (length xs + 1) Unknown tt))
     (in_replicate (EntryUpTo (total_ops xs)) (length xs + 1) None tt) n
 
 -- The outlines of a draft.
@@ -197,22 +233,36 @@ few_ops (i ∷ is) n = omega (arith, one_op i n, few_ops is (one_more_op i n))
 
 writer_fits : (is : List Instr) (n w : ℕ) → w ≤ n → writer_from is n w ≤ ops_from is n
 writer_fits [] n w l = l
-writer_fits (i ∷ is) n w l = writer_fits is (one_more_op i n) (cond (is_writing_op i.op) (n + 1) w) (go (cases_Bool (is_writing_op i.op)))
+writer_fits (i ∷ is) n w l = writer_fits is (one_more_op i n) (cond (is_writing_op i.op) (n + 1) w)
+    (go (cases_Bool (is_writing_op i.op)))
   where
-    go : (is_writing_op i.op ≡ true) ⊎ (is_writing_op i.op ≡ false) → cond (is_writing_op i.op) (n + 1) w ≤ one_more_op i n
-    go (inl e) = let f : one_more_op i n ≡ n + 1 = ap (λ (v : Bool). cond v (n + 1) n) (writes_memory i.op e) in let g : cond (is_writing_op i.op) (n + 1) w ≡ n + 1 = ap (λ (v : Bool). cond v (n + 1) w) e in omega arith
-    go (inr e) = let g : cond (is_writing_op i.op) (n + 1) w ≡ w = ap (λ (v : Bool). cond v (n + 1) w) e in let f : n ≤ one_more_op i n = cond_both (λ (m : ℕ). n ≤ m) (is_memory_op i.op) (n + 1) n (omega arith) (omega arith) in omega arith
+    go : (is_writing_op i.op ≡ true) ⊎ (is_writing_op i.op ≡ false) → cond (is_writing_op i.op) (n + 1) w
+        ≤ one_more_op i n
+    go (inl e) = let f : one_more_op i n ≡ n + 1 = ap (λ (v : Bool). cond v (n + 1) n)
+        (writes_memory i.op e) in let g : cond (is_writing_op i.op) (n + 1) w ≡ n + 1 =
+        ap (λ (v : Bool). cond v (n + 1) w) e in omega arith
+    go (inr e) = let g : cond (is_writing_op i.op) (n + 1) w ≡ w = ap (λ (v : Bool). cond v (n + 1) w) e in
+        let f : n ≤ one_more_op i n = cond_both (λ (m : ℕ). n ≤ m) (is_memory_op i.op) (n + 1) n (omega arith)
+        (omega arith) in omega arith
 
 outlines_writers : (xs : List Block) (b : ℕ) (firsts : List Bool) → WritersFit (outlines_from xs b firsts)
 outlines_writers [] b firsts i o e = absurd (cc)
-outlines_writers (x ∷ xs) b firsts zero o e = let f : outline_of x b firsts ≡ o = cc in subst (λ (y : Outline). y.writer ≤ y.ops) f (writer_fits x.instrs 0 0 (omega arith))
+outlines_writers (x ∷ xs) b firsts zero o e = let f : outline_of x b firsts ≡ o = cc in
+    subst (λ (y : Outline). y.writer ≤ y.ops) f (writer_fits x.instrs 0 0 (omega arith))
 outlines_writers (x ∷ xs) b firsts (suc i) o e = outlines_writers xs (b + 1) firsts i o e
 
-outlines_ops : (xs : List Block) (b : ℕ) (firsts : List Bool) → total_ops (outlines_from xs b firsts) ≤ length (flat xs)
+outlines_ops : (xs : List Block) (b : ℕ) (firsts : List Bool) → total_ops (outlines_from xs b firsts)
+    ≤ length (flat xs)
 outlines_ops [] b firsts = omega arith
-outlines_ops (x ∷ xs) b firsts = omega (arith, few_ops x.instrs 0, outlines_ops xs (b + 1) firsts, length-append x.instrs (flat xs))
+outlines_ops (x ∷ xs) b firsts = omega (
+  arith,
+  few_ops x.instrs 0,
+  outlines_ops xs (b + 1) firsts,
+  length-append x.instrs (flat xs),
+)
 
-outlines_count : (xs : List Block) (b : ℕ) (firsts : List Bool) → length (outlines_from xs b firsts) ≡ length xs
+outlines_count : (xs : List Block) (b : ℕ) (firsts : List Bool) → length (outlines_from xs b firsts)
+    ≡ length xs
 outlines_count [] b firsts = refl
 outlines_count (x ∷ xs) b firsts = ap suc (outlines_count xs (b + 1) firsts)
 
@@ -220,19 +270,31 @@ more_ops : (v : Bool) (n : ℕ) → (n ≤ cond v (n + 1) n) × (cond v (n + 1) 
 more_ops true n = (omega arith, omega arith)
 more_ops false n = (omega arith, omega arith)
 
-nops_writers : (xs : List Outline) (b : ℕ) (added : List Bool) → WritersFit xs → WritersFit (with_nops_from xs b added)
+nops_writers : (xs : List Outline) (b : ℕ) (added : List Bool) → WritersFit xs
+    → WritersFit (with_nops_from xs b added)
 nops_writers [] b added w i o e = absurd (cc)
 nops_writers (x ∷ xs) b added w zero o e =
     let f : with_nop x (get_or added b false) ≡ o = cc in
-    subst (λ (y : Outline). y.writer ≤ y.ops) f (omega (arith, w 0 x refl, (more_ops (get_or added b false) x.ops).0))
+    subst (λ (y : Outline). y.writer ≤ y.ops) f
+    (omega (arith, w 0 x refl, (more_ops (get_or added b false) x.ops).0))
 nops_writers (x ∷ xs) b added w (suc i) o e = nops_writers xs (b + 1) added (λ j p f. w (suc j) p f) i o e
 
-nops_ops : (xs : List Outline) (b : ℕ) (added : List Bool) → total_ops (with_nops_from xs b added) ≤ total_ops xs + length xs
+nops_ops : (xs : List Outline) (b : ℕ) (added : List Bool) → total_ops (with_nops_from xs b added) ≤ total_ops
+    xs + length xs
 nops_ops [] b added = omega arith
-nops_ops (x ∷ xs) b added = omega (arith, (more_ops (get_or added b false) x.ops).1, nops_ops xs (b + 1) added)
+nops_ops (x ∷ xs) b added = omega (
+  arith,
+  (more_ops (get_or added b false) x.ops).1,
+  nops_ops xs (b + 1) added,
+)
 
 place_more : (t u : ℕ) (p : Passage) → t ≤ u → PlaceUpTo t p → PlaceUpTo u p
-place_more t u p l h = record { low = omega (arith, h.low); pred = link_more p.pred h.pred; succ = link_more p.succ h.succ; writer = omega (arith, h.writer) }
+place_more t u p l h = record {
+  low = omega (arith, h.low);
+  pred = link_more p.pred h.pred;
+  succ = link_more p.succ h.succ;
+  writer = omega (arith, h.writer);
+}
   where
     link_more : (k : Link) → UpTo t k → UpTo u k
     link_more (Is n) h = omega arith
@@ -248,11 +310,13 @@ unfolding place_of
 place_up draft zero = record { low = omega arith; pred = tt; succ = tt; writer = omega arith }
 place_up draft (suc n) =
     let outs : List Outline = outlines_of draft.blocks in
-    let w : WritersFit (with_nops outs (added_in draft.blocks)) = nops_writers outs 0 (added_in draft.blocks) (outlines_writers draft.blocks 1 _) in
+    let w : WritersFit (with_nops outs (added_in draft.blocks)) = nops_writers outs 0 (added_in draft.blocks)
+    (outlines_writers draft.blocks 1 _) in
     let a = nops_ops outs 0 (added_in draft.blocks) in
     let c : total_ops outs ≤ length (flat draft.blocks) = outlines_ops draft.blocks 1 _ in
     let d : length outs ≡ length draft.blocks = outlines_count draft.blocks 1 _ in
-    place_more (total_ops (with_nops outs (added_in draft.blocks))) (most_ops draft) (get_or (places_of (with_nops outs (added_in draft.blocks))) n no_place) (omega arith)
+    place_more (total_ops (with_nops outs (added_in draft.blocks))) (most_ops draft)
+    (get_or (places_of (with_nops outs (added_in draft.blocks))) n no_place) (omega arith)
     (all_places_up (with_nops outs (added_in draft.blocks)) w n)
 
 -- Within a block.
@@ -273,4 +337,6 @@ pub writer_up : (is : List Instr) (i s w t : ℕ) → w ≤ t → s + i ≤ t �
 writer_up [] i s w t l h = l
 writer_up (x ∷ is) zero s w t l h = l
 writer_up (x ∷ is) (suc i) s w t l h =
-    writer_up is i (seq_next x.op s) (writer_next x.op s w) t (cond_both (λ (n : ℕ). n ≤ t) (is_writing_op x.op) s w (omega arith) l) (omega (arith, (seq_step x.op s).1))
+    writer_up is i (seq_next x.op s) (writer_next x.op s w) t
+    (cond_both (λ (n : ℕ). n ≤ t) (is_writing_op x.op) s w (omega arith) l)
+    (omega (arith, (seq_step x.op s).1))

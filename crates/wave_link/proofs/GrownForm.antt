@@ -1,10 +1,13 @@
 -- An image that is a draft with no-ops added.
-use Rattle.std.proofs.Common.{ℕ, suc, ◌+◌, ◌≡◌, Bool, true, false, cond, List, [], ◌∷◌, ◌++◌, Option, Some, None, ltb, eqb}
+use Rattle.std.proofs.Common.{ℕ, suc, ◌+◌, ◌≡◌, Bool, true, false, cond, List, [], ◌∷◌, ◌++◌, Option, Some}
+use Rattle.std.proofs.Common.{None, ltb, eqb}
 use Rattle.ws_isa.specs.declared.instr.Dest.{Dest}
-use Rattle.ws_isa.specs.Image.{Image, first_number, ports, is_advance, stops, target, now_dests, is_first, start_dests, IsIn, IsBlock}
+use Rattle.ws_isa.specs.Image.{Image, first_number, ports, is_advance, stops, target, now_dests, is_first}
+use Rattle.ws_isa.specs.Image.{start_dests, IsIn, IsBlock}
 use Rattle.ws_isa.specs.Sound.{OpenSlots, HasDest, all_opened, Fresh, opens_at}
 
--- what triggers a block's no-op: nothing, if it has none; an instruction of the block; a steer of the block before
+-- what triggers a block's no-op: nothing, if it has none; an instruction of the block; a steer of the block
+-- before
 pub data Trigger : Type 0 where
   Whole : Trigger
   Own : ℕ → Trigger
@@ -55,7 +58,8 @@ pub record Grown (draft image : Image) : Type 0 where
   pub edges : (b r : ℕ) → IsBlock draft b → stops draft b ≡ false → IsBlock draft (target draft b r)
   -- numbers
   pub first : (b : ℕ) → IsBlock draft b → first_number image b ≡ first_number draft b + shift b
-  pub ends : (b : ℕ) → IsBlock draft b → first_number image (suc b) ≡ extra (trigger b) + (first_number draft (suc b) + shift b)
+  pub ends : (b : ℕ) → IsBlock draft b → first_number image (suc b) ≡ extra (trigger b)
+      + (first_number draft (suc b) + shift b)
   pub nop_is : (b : ℕ) → IsBlock draft b → nop b ≡ first_number draft (suc b) + shift b
   pub new_is : (b k : ℕ) → IsBlock draft b → IsIn draft b k → new k ≡ k + shift b
   pub origin_real : (b k : ℕ) → IsBlock draft b → IsIn draft b k → origin (new k) ≡ Some k
@@ -66,12 +70,15 @@ pub record Grown (draft image : Image) : Type 0 where
   pub before_inside : (b : ℕ) → IsBlock draft b → trigger b ≡ Before → is_first draft b ≡ false
   -- instructions
   pub ports_are : (b k : ℕ) → IsBlock draft b → IsIn draft b k → ports image (k + shift b) ≡ ports draft k
-  pub advance_are : (b k : ℕ) → IsBlock draft b → IsIn draft b k → is_advance image (k + shift b) ≡ is_advance draft k
+  pub advance_are : (b k : ℕ) → IsBlock draft b → IsIn draft b k → is_advance image (k + shift b) ≡ is_advance
+      draft k
   pub nop_ports : (b : ℕ) → IsBlock draft b → extra (trigger b) ≡ 1 → ports image (nop b) ≡ 1
   pub nop_advance : (b : ℕ) → IsBlock draft b → extra (trigger b) ≡ 1 → is_advance image (nop b) ≡ false
   pub nop_now : (b : ℕ) → IsBlock draft b → extra (trigger b) ≡ 1 → now_dests image (nop b) ≡ []
-  pub now : (b k : ℕ) → IsBlock draft b → IsIn draft b k → now_dests image (k + shift b) ≡ renamed new (now_dests draft k) ++ own_slot (trigger b) (nop b) k
-  pub now_real : (b k j q : ℕ) → IsBlock draft b → IsIn draft b k → HasDest (now_dests draft k) j q → origin (new j) ≡ Some j
+  pub now : (b k : ℕ) → IsBlock draft b → IsIn draft b k → now_dests image (k + shift b) ≡ renamed new
+      (now_dests draft k) ++ own_slot (trigger b) (nop b) k
+  pub now_real : (b k j q : ℕ) → IsBlock draft b → IsIn draft b k → HasDest (now_dests draft k) j q
+      → origin (new j) ≡ Some j
   pub start : start_dests image ≡ renamed new (start_dests draft)
   pub start_real : (j q : ℕ) → HasDest (start_dests draft) j q → origin (new j) ≡ Some j
   -- edges
@@ -80,6 +87,8 @@ pub record Grown (draft image : Image) : Type 0 where
   pub firsts_are : (b : ℕ) → is_first image b ≡ is_first draft b
   pub edge_real : (b r j q : ℕ) → IsBlock draft b → HasDest (opens_at draft b r) j q → origin (new j) ≡ Some j
   pub edge_opens : (b r : ℕ) (o : OpenSlots) → IsBlock draft b → stops draft b ≡ false →
-      all_opened (opens_at image b r) o ≡ all_opened (renamed new (opens_at draft b r) ++ before_slot (trigger (target draft b r)) (nop (target draft b r))) o
+      all_opened (opens_at image b r) o ≡ all_opened (renamed new (opens_at draft b r) ++ before_slot
+      (trigger (target draft b r)) (nop (target draft b r))) o
   pub edge_fresh : (b r : ℕ) (o : OpenSlots) → IsBlock draft b → stops draft b ≡ false →
-      Fresh (renamed new (opens_at draft b r) ++ before_slot (trigger (target draft b r)) (nop (target draft b r))) o → Fresh (opens_at image b r) o
+      Fresh (renamed new (opens_at draft b r) ++ before_slot (trigger (target draft b r))
+      (nop (target draft b r))) o → Fresh (opens_at image b r) o

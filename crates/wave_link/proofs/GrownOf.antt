@@ -1,11 +1,15 @@
 -- The image of a draft that is open to notes is the draft with no-ops added.
-use Rattle.std.proofs.Common.{ℕ, zero, suc, ◌+◌, ◌-◌, ◌≡◌, ◌<◌, ◌≤◌, ◌⊎◌, Bool, true, false, cond, eqb, List, [], ◌∷◌, ◌++◌, Some, None, refl, sym, ap, ap₂, ◌∙◌, inl, inr, subst, arith}
+use Rattle.std.proofs.Common.{ℕ, zero, suc, ◌+◌, ◌-◌, ◌≡◌, ◌<◌, ◌≤◌, ◌⊎◌, Bool, true, false, cond, eqb, List}
+use Rattle.std.proofs.Common.{[], ◌∷◌, ◌++◌, Some, None, refl, sym, ap, ap₂, ◌∙◌, inl, inr, subst, arith}
 use Rattle.std.proofs.lemmas.Bool.{cases_Bool, cases_eq}
 use Rattle.ws_words.specs.Outside.{World}
 use Rattle.ws_isa.specs.declared.instr.Op.{Op}
 use Rattle.ws_isa.specs.declared.instr.Op.TheVariants.{Steer, Nop, Halt}
 use Rattle.ws_isa.specs.declared.instr.Dest.{Dest}
-use Rattle.ws_isa.specs.Image.{Instr, Exit, Goto, Branch, Landings, Stop, Image, instr_at, block_at, first_number, size_of, ports, ports_of, is_memory, is_memory_op, is_advance, is_advance_op, is_giving, stops, is_stop, target, is_first, edges_of, leave_to, now_of, now_dests, edge_of, edge_dests, IsIn, IsBlock, IsInstr, is_steer_op}
+use Rattle.ws_isa.specs.Image.{Instr, Exit, Goto, Branch, Landings, Stop, Image, instr_at, block_at}
+use Rattle.ws_isa.specs.Image.{first_number, size_of, ports, ports_of, is_memory, is_memory_op, is_advance}
+use Rattle.ws_isa.specs.Image.{is_advance_op, is_giving, stops, is_stop, target, is_first, edges_of, leave_to}
+use Rattle.ws_isa.specs.Image.{now_of, now_dests, edge_of, edge_dests, IsIn, IsBlock, IsInstr, is_steer_op}
 use Rattle.ws_isa.specs.Formed.{References}
 use Rattle.ws_isa.specs.Sound.{OpenSlots, HasDest, all_opened, Fresh, edge_all, opens_at, ShapeRules}
 use Rattle.ws_isa.specs.Open.{EnteredBySteer, OpenToNotes}
@@ -16,13 +20,17 @@ use Rattle.wave_link.specs.Grown.{grown_exit, annotated}
 use Rattle.wave_link.specs.Adds.{adds}
 use Rattle.wave_link.proofs.Parts.{tables_in}
 use Rattle.wave_link.proofs.Edges.{exit_kept, target_kept, stops_kept, first_kept, count_kept}
-use Rattle.wave_link.proofs.Numbers.{one_if, shift, new, nop, first_is, ends_are, new_is, instr_is_grown, nop_is_there}
+use Rattle.wave_link.proofs.Numbers.{one_if, shift, new, nop, first_is, ends_are, new_is, instr_is_grown}
+use Rattle.wave_link.proofs.Numbers.{nop_is_there}
 use Rattle.wave_link.proofs.GrownRows.{Located, located, instr_positive, no_memory}
 use Rattle.wave_link.proofs.GrownOrigin.{origin, is_instr, origin_new, origin_is, origin_none}
 use Rattle.wave_link.proofs.GrownTables.{NoneIn, OneIn, giver, steer_in, giver_cases, steer_cases}
 use Rattle.wave_link.proofs.GrownForm.{Trigger, Whole, Own, Before, renamed, before_slot, extra, Grown}
-use Rattle.wave_link.proofs.GrownEdges.{gather, gather_none, gather_one, all_alike, fresh_alike, edge_all_more}
-use Rattle.wave_link.proofs.GrownTriggers.{trigger, whole, before, own, trigger_case, extra_is, added_if, not_added_if, now_grown, start_grown, extras_at, edge_grown, extras_steer, extras_else}
+use Rattle.wave_link.proofs.GrownEdges.{gather, gather_none, gather_one, all_alike, fresh_alike}
+use Rattle.wave_link.proofs.GrownEdges.{edge_all_more}
+use Rattle.wave_link.proofs.GrownTriggers.{trigger, whole, before, own, trigger_case, extra_is, added_if}
+use Rattle.wave_link.proofs.GrownTriggers.{not_added_if, now_grown, start_grown, extras_at, edge_grown}
+use Rattle.wave_link.proofs.GrownTriggers.{extras_steer, extras_else}
 use Rattle.wave_link.proofs.WalksForm.{ResultsLike, choice_at, WalksAlike}
 use Rattle.ws_words.specs.Items.{nth}
 
@@ -30,7 +38,8 @@ pub steer_is : (op : Op) → is_steer_op op ≡ true → op ≡ Steer
 steer_is Steer e = refl
 steer_is _ e = absurd (cc)
 
-two_edges : (x y c place : ℕ) → nth (x ∷ y ∷ []) place ≡ Some c → ((place ≡ 0) × (x ≡ c)) ⊎ ((place ≡ 1) × (y ≡ c))
+two_edges : (x y c place : ℕ) → nth (x ∷ y ∷ []) place ≡ Some c → ((place ≡ 0) × (x ≡ c))
+    ⊎ ((place ≡ 1) × (y ≡ c))
 two_edges x y c zero e = let f : x ≡ c = cc in inl (refl, f)
 two_edges x y c (suc zero) e = let f : y ≡ c = cc in inr (refl, f)
 two_edges x y c (suc (suc n)) e = absurd (cc)
@@ -41,7 +50,8 @@ before_none (Own k) n h = refl
 before_none Before n h = absurd (h refl)
 
 -- the edge that an exit takes where its instruction's result is r is one of its edges
-edge_place : (exit : Exit) (r : ℕ) → is_stop exit ≡ false → ((s : ℕ) (ls : List ℕ) → exit ≡ Landings s ls → ⊥) → (place : ℕ) × (nth (edges_of exit) place ≡ Some (leave_to exit r))
+edge_place : (exit : Exit) (r : ℕ) → is_stop exit ≡ false → ((s : ℕ) (ls : List ℕ) → exit ≡ Landings s ls → ⊥)
+    → (place : ℕ) × (nth (edges_of exit) place ≡ Some (leave_to exit r))
 edge_place (Goto b) r s l = (0, refl)
 edge_place (Branch t x y) r s l = go (eqb r 0)
   where
@@ -53,71 +63,91 @@ edge_place Stop r s l = absurd (cc)
 
 -- The image's no-ops.
 
-nop_op : (draft : Image) (b : ℕ) → IsBlock draft b → adds draft b ≡ true → (instr_at (annotated draft) (nop draft b)).op ≡ Nop
+nop_op : (draft : Image) (b : ℕ) → IsBlock draft b → adds draft b ≡ true
+    → (instr_at (annotated draft) (nop draft b)).op ≡ Nop
 nop_op draft b h a = ap (λ (x : Instr). x.op) (nop_is_there draft b h a)
 
-pub nop_ports : (draft : Image) (b : ℕ) → IsBlock draft b → adds draft b ≡ true → ports (annotated draft) (nop draft b) ≡ 1
+pub nop_ports : (draft : Image) (b : ℕ) → IsBlock draft b → adds draft b ≡ true
+    → ports (annotated draft) (nop draft b) ≡ 1
 unfolding ports
 nop_ports draft b h a = ap ports_of (nop_op draft b h a)
 
-pub nop_advance : (draft : Image) (b : ℕ) → IsBlock draft b → adds draft b ≡ true → is_advance (annotated draft) (nop draft b) ≡ false
+pub nop_advance : (draft : Image) (b : ℕ) → IsBlock draft b → adds draft b ≡ true
+    → is_advance (annotated draft) (nop draft b) ≡ false
 unfolding is_advance
 nop_advance draft b h a = ap is_advance_op (nop_op draft b h a)
 
-pub nop_now : (draft : Image) (b : ℕ) → IsBlock draft b → adds draft b ≡ true → now_dests (annotated draft) (nop draft b) ≡ []
+pub nop_now : (draft : Image) (b : ℕ) → IsBlock draft b → adds draft b ≡ true
+    → now_dests (annotated draft) (nop draft b) ≡ []
 unfolding now_dests
 nop_now draft b h a = ap (λ (x : Instr). now_of x.op x.dests) (nop_is_there draft b h a)
 
-pub nop_edge : (draft : Image) (b r : ℕ) → IsBlock draft b → adds draft b ≡ true → edge_dests (annotated draft) b r (nop draft b) ≡ []
+pub nop_edge : (draft : Image) (b r : ℕ) → IsBlock draft b → adds draft b ≡ true
+    → edge_dests (annotated draft) b r (nop draft b) ≡ []
 unfolding edge_dests
 nop_edge draft b r h a = ap (λ (x : Instr). edge_of (annotated draft) b r x x.op) (nop_is_there draft b h a)
 
-pub op_kept : (draft : Image) (b k : ℕ) → IsBlock draft b → IsIn draft b k → (instr_at (annotated draft) (k + shift draft b)).op ≡ (instr_at draft k).op
+pub op_kept : (draft : Image) (b k : ℕ) → IsBlock draft b → IsIn draft b k
+    → (instr_at (annotated draft) (k + shift draft b)).op ≡ (instr_at draft k).op
 op_kept draft b k h i = ap (λ (x : Instr). x.op) (instr_is_grown draft b k h i)
 
-pub ports_kept : (draft : Image) (b k : ℕ) → IsBlock draft b → IsIn draft b k → ports (annotated draft) (k + shift draft b) ≡ ports draft k
+pub ports_kept : (draft : Image) (b k : ℕ) → IsBlock draft b → IsIn draft b k
+    → ports (annotated draft) (k + shift draft b) ≡ ports draft k
 unfolding ports
 ports_kept draft b k h i = ap ports_of (op_kept draft b k h i)
 
-pub advance_kept : (draft : Image) (b k : ℕ) → IsBlock draft b → IsIn draft b k → is_advance (annotated draft) (k + shift draft b) ≡ is_advance draft k
+pub advance_kept : (draft : Image) (b k : ℕ) → IsBlock draft b → IsIn draft b k
+    → is_advance (annotated draft) (k + shift draft b) ≡ is_advance draft k
 unfolding is_advance
 advance_kept draft b k h i = ap is_advance_op (op_kept draft b k h i)
 
-end_of : (draft : Image) (b : ℕ) → first_number draft b ≤ first_number draft (suc b) → first_number draft b + size_of draft b ≡ first_number draft (suc b)
+end_of : (draft : Image) (b : ℕ) → first_number draft b ≤ first_number draft (suc b)
+    → first_number draft b + size_of draft b ≡ first_number draft (suc b)
 unfolding size_of
 end_of draft b l = omega arith
 
-size_grown : (draft : Image) (b : ℕ) → IsBlock draft b → first_number draft b ≤ first_number draft (suc b) → size_of (annotated draft) b ≡ one_if (adds draft b) + size_of draft b
+size_grown : (draft : Image) (b : ℕ) → IsBlock draft b → first_number draft b ≤ first_number draft (suc b)
+    → size_of (annotated draft) b ≡ one_if (adds draft b) + size_of draft b
 unfolding size_of
 size_grown draft b h l = omega (arith, first_is draft b h, ends_are draft b h)
 
-pub sizes : (draft : Image) (b : ℕ) → IsBlock draft b → size_of (annotated draft) b - size_of draft b ≡ one_if (adds draft b)
+pub sizes : (draft : Image) (b : ℕ) → IsBlock draft b → size_of (annotated draft) b - size_of draft b
+    ≡ one_if (adds draft b)
 sizes draft b h = omega (arith, size_grown draft b h (first_le draft b (suc b) (omega arith)))
 
-nop_at_end : (draft : Image) (b : ℕ) → first_number draft b ≤ first_number draft (suc b) → (first_number draft b + shift draft b) + size_of draft b ≡ nop draft b
+nop_at_end : (draft : Image) (b : ℕ) → first_number draft b ≤ first_number draft (suc b)
+    → (first_number draft b + shift draft b) + size_of draft b ≡ nop draft b
 unfolding size_of nop
 nop_at_end draft b l = omega arith
 
 -- what an edge opens, without the no-op of the block that it leaves
-opens_same : (draft : Image) (b r : ℕ) → IsBlock draft b → opens_at (annotated draft) b r ≡ edge_all (annotated draft) b r (first_number draft b + shift draft b) (size_of draft b)
+opens_same : (draft : Image) (b r : ℕ) → IsBlock draft b → opens_at (annotated draft) b r ≡ edge_all
+    (annotated draft) b r (first_number draft b + shift draft b) (size_of draft b)
 unfolding opens_at
-opens_same draft b r h = ap₂ (λ (k n : ℕ). edge_all (annotated draft) b r k n) (first_is draft b h) (size_grown draft b h l) ∙ go (cases_Bool (adds draft b))
+opens_same draft b r h = ap₂ (λ (k n : ℕ). edge_all (annotated draft) b r k n) (first_is draft b h)
+    (size_grown draft b h l) ∙ go (cases_Bool (adds draft b))
   where
     l : first_number draft b ≤ first_number draft (suc b)
     l = first_le draft b (suc b) (omega arith)
 
-    go : (adds draft b ≡ true) ⊎ (adds draft b ≡ false) → edge_all (annotated draft) b r (first_number draft b + shift draft b) (one_if (adds draft b) + size_of draft b) ≡ edge_all (annotated draft) b r (first_number draft b + shift draft b) (size_of draft b)
-    go (inl a) = ap (λ (n : ℕ). edge_all (annotated draft) b r (first_number draft b + shift draft b) n) (ap (λ (v : Bool). one_if v + size_of draft b) a ∙ plus (size_of draft b))
-        ∙ edge_all_more (annotated draft) b r (first_number draft b + shift draft b) (size_of draft b) (ap (edge_dests (annotated draft) b r) (nop_at_end draft b l) ∙ nop_edge draft b r h a)
+    go : (adds draft b ≡ true) ⊎ (adds draft b ≡ false) → edge_all (annotated draft) b r
+        (first_number draft b + shift draft b) (one_if (adds draft b) + size_of draft b) ≡ edge_all
+        (annotated draft) b r (first_number draft b + shift draft b) (size_of draft b)
+    go (inl a) = ap (λ (n : ℕ). edge_all (annotated draft) b r (first_number draft b + shift draft b) n)
+        (ap (λ (v : Bool). one_if v + size_of draft b) a ∙ plus (size_of draft b))
+        ∙ edge_all_more (annotated draft) b r (first_number draft b + shift draft b) (size_of draft b)
+        (ap (edge_dests (annotated draft) b r) (nop_at_end draft b l) ∙ nop_edge draft b r h a)
       where
         plus : (n : ℕ) → 1 + n ≡ suc n
         plus n = omega arith
-    go (inr a) = ap (λ (n : ℕ). edge_all (annotated draft) b r (first_number draft b + shift draft b) n) (ap (λ (v : Bool). one_if v + size_of draft b) a ∙ plus (size_of draft b))
+    go (inr a) = ap (λ (n : ℕ). edge_all (annotated draft) b r (first_number draft b + shift draft b) n)
+        (ap (λ (v : Bool). one_if v + size_of draft b) a ∙ plus (size_of draft b))
       where
         plus : (n : ℕ) → 0 + n ≡ n
         plus n = omega arith
 
-opens_draft : (draft : Image) (b r : ℕ) → opens_at draft b r ≡ edge_all draft b r (first_number draft b) (size_of draft b)
+opens_draft : (draft : Image) (b r : ℕ) → opens_at draft b r ≡ edge_all draft b r (first_number draft b)
+    (size_of draft b)
 unfolding opens_at
 opens_draft draft b r = refl
 
@@ -164,13 +194,16 @@ module _ (draft : Image) (ok : OpenToNotes draft) where
       ]
 
   -- the block before it holds a steer
-  before_steered : (b r : ℕ) → IsBlock draft b → stops draft b ≡ false → trigger draft (target draft b r) ≡ Before → OneIn is_steer_op draft b (steer_in draft b)
+  before_steered : (b r : ℕ) → IsBlock draft b → stops draft b ≡ false → trigger draft (target draft b r)
+      ≡ Before → OneIn is_steer_op draft b (steer_in draft b)
   unfolding target stops
   before_steered b r h s t =
       let c : ℕ = target draft b r in
       let hc : IsBlock draft c = (shape.blocks b h).edges.there r s in
       let e : EnteredBySteer draft c = entered c hc (case_before c t) in
-      let p = edge_place (block_at draft b).exit r s (λ i ls q. clash (is_first draft c) ((shape.blocks b h).hang.landing_first i r ls q) (before_first c hc t)) in
+      let p = edge_place (block_at draft b).exit r s
+      (λ i ls q. clash (is_first draft c) ((shape.blocks b h).hang.landing_first i r ls q)
+      (before_first c hc t)) in
       let o = e.edge.only b p.0 h p.1 in
       let i : IsIn draft b e.instr = subst (λ (n : ℕ). IsIn draft n e.instr) (sym o.0) e.inside in
       elim (steer_cases draft b h) [
@@ -182,46 +215,74 @@ module _ (draft : Image) (ok : OpenToNotes draft) where
       clash v e f = cc
 
   -- what the steers of a block open besides is what the block behind the edge waits for
-  gathered : (b r : ℕ) → IsBlock draft b → stops draft b ≡ false → gather (extras_at draft r) (first_number draft b) (size_of draft b) ≡ before_slot (trigger draft (target draft b r)) (nop draft (target draft b r))
+  gathered : (b r : ℕ) → IsBlock draft b → stops draft b ≡ false
+      → gather (extras_at draft r) (first_number draft b) (size_of draft b) ≡ before_slot
+      (trigger draft (target draft b r)) (nop draft (target draft b r))
   gathered b r h s = elim (steer_cases draft b h) [
-    | inr x ↦ (let e = (shape.blocks b h).hang.steers (steer_in draft b) x.inside (steer_is (instr_at draft (steer_in draft b)).op x.is_one) in
-        gather_one (extras_at draft r) (before_slot (trigger draft (target draft b r)) (nop draft (target draft b r))) (steer_in draft b) (first_number draft b) (size_of draft b)
+    | inr x ↦
+        (let e = (shape.blocks b h).hang.steers (steer_in draft b) x.inside
+        (steer_is (instr_at draft (steer_in draft b)).op x.is_one) in
+        gather_one (extras_at draft r) (before_slot (trigger draft (target draft b r))
+        (nop draft (target draft b r))) (steer_in draft b) (first_number draft b) (size_of draft b)
         x.inside.0 (omega (arith, x.inside.1, end_of draft b l))
-        (extras_steer draft b r (steer_in draft b) e.0 e.1 e.2 h x.inside ((shape.blocks b h).edges.there r s) e.3 (steer_is (instr_at draft (steer_in draft b)).op x.is_one) refl)
+        (extras_steer draft b r (steer_in draft b) e.0 e.1 e.2 h x.inside ((shape.blocks b h).edges.there r s)
+        e.3 (steer_is (instr_at draft (steer_in draft b)).op x.is_one) refl)
         (λ j p q n. extras_else draft b r j h (p, omega (arith, q, end_of draft b l)) (λ m. n (sym m))))
     | inl n ↦ gather_none (extras_at draft r) (first_number draft b) (size_of draft b)
-        (λ j p q. extras_else draft b r j h (p, omega (arith, q, end_of draft b l)) (λ m. omega (arith, m, n.zero_is, instr_positive draft b j h (p, omega (arith, q, end_of draft b l)))))
-        ∙ sym (before_none (trigger draft (target draft b r)) (nop draft (target draft b r)) (λ t. none_one n (before_steered b r h s t)))
+        (λ j p q. extras_else draft b r j h (p, omega (arith, q, end_of draft b l))
+        (λ m. omega (
+          arith,
+          m,
+          n.zero_is,
+          instr_positive draft b j h
+              (p, omega (arith, q, end_of draft b l)),
+        )))
+        ∙ sym (before_none (trigger draft (target draft b r)) (nop draft (target draft b r))
+        (λ t. none_one n (before_steered b r h s t)))
   ]
     where
       l : first_number draft b ≤ first_number draft (suc b)
       l = first_le draft b (suc b) (omega arith)
 
-      none_one : NoneIn is_steer_op draft b (steer_in draft b) → OneIn is_steer_op draft b (steer_in draft b) → ⊥
+      none_one : NoneIn is_steer_op draft b (steer_in draft b) → OneIn is_steer_op draft b (steer_in draft b)
+          → ⊥
       none_one n o = omega (arith, n.zero_is, instr_positive draft b (steer_in draft b) h o.inside)
 
-  each_edge : (b r : ℕ) → IsBlock draft b → (k : ℕ) → first_number draft b ≤ k → k < first_number draft (suc b) →
-      edge_dests (annotated draft) b r (k + shift draft b) ≡ renamed (new draft) (edge_dests draft b r k) ++ extras_at draft r k
+  each_edge : (b r : ℕ) → IsBlock draft b → (k : ℕ) → first_number draft b ≤ k
+      → k < first_number draft (suc b) →
+      edge_dests (annotated draft) b r (k + shift draft b) ≡ renamed (new draft) (edge_dests draft b r k)
+      ++ extras_at draft r k
   each_edge b r h k p q = edge_grown draft b r k h (p, q)
 
   edge_opens : (b r : ℕ) (o : OpenSlots) → IsBlock draft b → stops draft b ≡ false →
-      all_opened (opens_at (annotated draft) b r) o ≡ all_opened (renamed (new draft) (opens_at draft b r) ++ before_slot (trigger draft (target draft b r)) (nop draft (target draft b r))) o
+      all_opened (opens_at (annotated draft) b r) o ≡ all_opened
+      (renamed (new draft) (opens_at draft b r) ++ before_slot (trigger draft (target draft b r))
+      (nop draft (target draft b r))) o
   edge_opens b r o h s =
       ap (λ (ds : List Dest). all_opened ds o) (opens_same draft b r h)
-      ∙ (all_alike draft (annotated draft) (new draft) b r (shift draft b) (first_number draft b) (first_number draft (suc b)) (extras_at draft r) (each_edge b r h) (first_number draft b) (size_of draft b) o (omega arith)
+      ∙ (all_alike draft (annotated draft) (new draft) b r (shift draft b) (first_number draft b)
+      (first_number draft (suc b)) (extras_at draft r) (each_edge b r h) (first_number draft b)
+      (size_of draft b) o (omega arith)
       (omega (arith, end_of draft b (first_le draft b (suc b) (omega arith))))
-      ∙ ap₂ (λ (u v : List Dest). all_opened (renamed (new draft) u ++ v) o) (sym (opens_draft draft b r)) (gathered b r h s))
+      ∙ ap₂ (λ (u v : List Dest). all_opened (renamed (new draft) u ++ v) o) (sym (opens_draft draft b r))
+      (gathered b r h s))
 
   edge_fresh : (b r : ℕ) (o : OpenSlots) → IsBlock draft b → stops draft b ≡ false →
-      Fresh (renamed (new draft) (opens_at draft b r) ++ before_slot (trigger draft (target draft b r)) (nop draft (target draft b r))) o → Fresh (opens_at (annotated draft) b r) o
+      Fresh (renamed (new draft) (opens_at draft b r) ++ before_slot (trigger draft (target draft b r))
+      (nop draft (target draft b r))) o → Fresh (opens_at (annotated draft) b r) o
   edge_fresh b r o h s f =
       subst (λ (ds : List Dest). Fresh ds o) (sym (opens_same draft b r h))
-      (fresh_alike draft (annotated draft) (new draft) b r (shift draft b) (first_number draft b) (first_number draft (suc b)) (extras_at draft r) (each_edge b r h) (first_number draft b) (size_of draft b) o (omega arith)
+      (fresh_alike draft (annotated draft) (new draft) b r (shift draft b) (first_number draft b)
+      (first_number draft (suc b)) (extras_at draft r) (each_edge b r h) (first_number draft b)
+      (size_of draft b) o (omega arith)
       (omega (arith, end_of draft b (first_le draft b (suc b) (omega arith))))
-      (subst (λ (ds : List Dest). Fresh ds o) (ap₂ (λ (u v : List Dest). renamed (new draft) u ++ v) (opens_draft draft b r) (sym (gathered b r h s))) f))
+      (subst (λ (ds : List Dest). Fresh ds o) (ap₂ (λ (u v : List Dest). renamed (new draft) u ++ v)
+      (opens_draft draft b r) (sym (gathered b r h s))) f))
 
-  ends_grown : (b : ℕ) → IsBlock draft b → first_number (annotated draft) (suc b) ≡ extra (trigger draft b) + (first_number draft (suc b) + shift draft b)
-  ends_grown b h = ends_are draft b h ∙ ap (λ (n : ℕ). n + (first_number draft (suc b) + shift draft b)) (sym (extra_is draft b))
+  ends_grown : (b : ℕ) → IsBlock draft b → first_number (annotated draft) (suc b) ≡ extra (trigger draft b)
+      + (first_number draft (suc b) + shift draft b)
+  ends_grown b h = ends_are draft b h ∙ ap (λ (n : ℕ). n + (first_number draft (suc b) + shift draft b))
+      (sym (extra_is draft b))
 
   nop_number : (b : ℕ) → nop draft b ≡ first_number draft (suc b) + shift draft b
   unfolding nop
@@ -238,7 +299,9 @@ module _ (draft : Image) (ok : OpenToNotes draft) where
   ]
 
   opens_real : (b r j q : ℕ) → HasDest (opens_at draft b r) j q → IsInstr draft j
-  opens_real b r j q x = (edges_there draft refs b r (first_number draft b) (size_of draft b) j q (subst (λ (ds : List Dest). HasDest ds j q) (opens_draft draft b r) x)).0
+  opens_real b r j q x =
+      (edges_there draft refs b r (first_number draft b) (size_of draft b) j q
+      (subst (λ (ds : List Dest). HasDest ds j q) (opens_draft draft b r) x)).0
 
   pub grown : Grown draft (annotated draft)
   grown = record {
@@ -256,7 +319,8 @@ module _ (draft : Image) (ok : OpenToNotes draft) where
     new_is = new_is draft;
     origin_real = λ b k h i. origin_new draft k (is_instr draft b k h i);
     origin_only = λ m k e. (origin_is draft m k e).0;
-    origin_in = λ m k e. (let x : Located draft k = located draft k (origin_is draft m k e).1 in (x.block, x.there, x.inside));
+    origin_in = λ m k e. (let x : Located draft k = located draft k (origin_is draft m k e).1 in
+        (x.block, x.there, x.inside));
     origin_nop = λ b h x. origin_none draft b h (added_if draft b x);
     own_in = own_inside;
     before_inside = before_first;
@@ -287,15 +351,22 @@ module _ (draft : Image) (ok : OpenToNotes draft) where
   unfolding opening_memory annotated
   same_memory world = refl
 
-  same_choice : (b : ℕ) (new_results old : ℕ → ℕ) → IsBlock draft b → ResultsLike (origin draft) new_results old → choice_at (annotated draft) b new_results ≡ choice_at draft b old
+  same_choice : (b : ℕ) (new_results old : ℕ → ℕ) → IsBlock draft b → ResultsLike (origin draft) new_results
+      old → choice_at (annotated draft) b new_results ≡ choice_at draft b old
   unfolding choice_at new
-  same_choice b new_results old h like = ap (λ (x : Exit). choice_of x new_results) (exit_kept draft b) ∙ go (block_at draft b).exit refl
+  same_choice b new_results old h like = ap (λ (x : Exit). choice_of x new_results) (exit_kept draft b)
+      ∙ go (block_at draft b).exit refl
     where
-      go : (x : Exit) → (block_at draft b).exit ≡ x → choice_of (grown_exit (tables_in draft.blocks) x) new_results ≡ choice_of x old
+      go : (x : Exit) → (block_at draft b).exit ≡ x → choice_of (grown_exit (tables_in draft.blocks) x)
+          new_results ≡ choice_of x old
       go (Goto c) e = refl
       go Stop e = refl
-      go (Branch s x y) e = like (new draft s) s (origin_new draft s (is_instr draft b s h ((shape.blocks b h).exit.source s x y e)))
-      go (Landings s ls) e = like (new draft s) s (origin_new draft s (is_instr draft b s h ((shape.blocks b h).exit.address s ls e)))
+      go (Branch s x y) e =
+          like (new draft s) s
+          (origin_new draft s (is_instr draft b s h ((shape.blocks b h).exit.source s x y e)))
+      go (Landings s ls) e =
+          like (new draft s) s
+          (origin_new draft s (is_instr draft b s h ((shape.blocks b h).exit.address s ls e)))
 
   not_stop : (b s x y : ℕ) → (block_at draft b).exit ≡ Branch s x y → stops draft b ≡ false
   unfolding stops
@@ -305,31 +376,37 @@ module _ (draft : Image) (ok : OpenToNotes draft) where
   stop_whole : (b : ℕ) → IsBlock draft b → stops draft b ≡ true → extra (trigger draft b) ≡ 0
   stop_whole b h s = elim (cases_Bool (adds draft b)) [
     | inr a ↦ not_added_if draft b a
-    | inl a ↦ (let x = (shape.blocks b h).halt.stop_halts s in absurd (halt_not x.0 x.2 (no_memory draft b x.0 h a x.1)))
+    | inl a ↦ (let x = (shape.blocks b h).halt.stop_halts s in
+        absurd (halt_not x.0 x.2 (no_memory draft b x.0 h a x.1)))
   ]
     where
       halt_not : (k : ℕ) → (instr_at draft k).op ≡ Halt → is_memory draft k ≡ false → ⊥
       halt_not k e f = memory_of draft k e f
 
-  extras_hidden : (b r k j q : ℕ) → IsBlock draft b → IsIn draft b k → HasDest (extras_at draft r k) j q → origin draft j ≡ None
+  extras_hidden : (b r k j q : ℕ) → IsBlock draft b → IsIn draft b k → HasDest (extras_at draft r k) j q
+      → origin draft j ≡ None
   extras_hidden b r k j q h i x = go (cases_eq (steer_in draft b) k)
     where
-      none_here : (t : Trigger) (c : ℕ) → IsBlock draft c → trigger draft c ≡ t → HasDest (before_slot t (nop draft c)) j q → origin draft j ≡ None
+      none_here : (t : Trigger) (c : ℕ) → IsBlock draft c → trigger draft c ≡ t
+          → HasDest (before_slot t (nop draft c)) j q → origin draft j ≡ None
       none_here Whole c hc e z = absurd z
       none_here (Own n) c hc e z = absurd z
-      none_here Before c hc e (inl z) = ap (origin draft) (sym z.0) ∙ origin_none draft c hc (added_if draft c (ap extra e))
+      none_here Before c hc e (inl z) = ap (origin draft) (sym z.0) ∙ origin_none draft c hc
+          (added_if draft c (ap extra e))
       none_here Before c hc e (inr z) = absurd z
 
       go : (steer_in draft b ≡ k) ⊎ (steer_in draft b ≡ k → ⊥) → origin draft j ≡ None
       go (inr n) = absurd (subst (λ (ds : List Dest). HasDest ds j q) (extras_else draft b r k h i n) x)
       go (inl f) = elim (steer_cases draft b h) [
         | inl n ↦ absurd (omega (arith, n.zero_is, f, instr_positive draft b k h i))
-        | inr o ↦ (let op : (instr_at draft k).op ≡ Steer = ap (λ (n : ℕ). (instr_at draft n).op) (sym f) ∙ steer_is (instr_at draft (steer_in draft b)).op o.is_one in
+        | inr o ↦ (let op : (instr_at draft k).op ≡ Steer = ap (λ (n : ℕ). (instr_at draft n).op) (sym f)
+            ∙ steer_is (instr_at draft (steer_in draft b)).op o.is_one in
             let e = (shape.blocks b h).hang.steers k i op in
             let s : stops draft b ≡ false = not_stop b e.0 e.1 e.2 e.3 in
             let c : IsBlock draft (target draft b r) = (shape.blocks b h).edges.there r s in
             none_here (trigger draft (target draft b r)) (target draft b r) c refl
-            (subst (λ (ds : List Dest). HasDest ds j q) (extras_steer draft b r k e.0 e.1 e.2 h i c e.3 op f) x))
+            (subst (λ (ds : List Dest). HasDest ds j q) (extras_steer draft b r k e.0 e.1 e.2 h i c e.3 op f)
+            x))
       ]
 
   pub alike : WalksAlike draft (annotated draft) grown

@@ -1,7 +1,11 @@
--- Instructions by their block and their place in it; blocks without an operation are the only ones that get a no-op.
-use Rattle.std.proofs.Common.{ℕ, zero, suc, ◌+◌, ◌-◌, ◌≡◌, ◌<◌, ◌≤◌, ◌⊎◌, Bool, true, false, cond, not, eqb, ◌&&◌, List, [], ◌∷◌, length, length-append, get_or, Some, refl, sym, ap, ◌∙◌, inl, inr, subst, arith, ne_eqb}
+-- Instructions by their block and their place in it; blocks without an operation are the only ones that get a
+-- no-op.
+use Rattle.std.proofs.Common.{ℕ, zero, suc, ◌+◌, ◌-◌, ◌≡◌, ◌<◌, ◌≤◌, ◌⊎◌, Bool, true, false, cond, not, eqb}
+use Rattle.std.proofs.Common.{◌&&◌, List, [], ◌∷◌, length, length-append, get_or, Some, refl, sym, ap, ◌∙◌}
+use Rattle.std.proofs.Common.{inl, inr, subst, arith, ne_eqb}
 use Rattle.std.proofs.lemmas.Bool.{cases_Bool, cases_eq, cases_lt}
-use Rattle.ws_isa.specs.Image.{Instr, Block, Image, no_instr, no_block, flat, instr_at, block_at, first_of, first_number, is_memory, is_memory_op, IsIn, IsBlock, IsInstr}
+use Rattle.ws_isa.specs.Image.{Instr, Block, Image, no_instr, no_block, flat, instr_at, block_at, first_of}
+use Rattle.ws_isa.specs.Image.{first_number, is_memory, is_memory_op, IsIn, IsBlock, IsInstr}
 use Rattle.ws_isa.proofs.Blocks.{block_is, instr_is, number_next}
 use Rattle.ws_isa.proofs.Steps.{first_le, first_zero}
 use Rattle.wave_link.specs.declared.outline.Outline.{Outline}
@@ -20,15 +24,19 @@ pub record InBlock (image : Image) (b k : ℕ) : Type 0 where
   pub number : k ≡ first_number image b + place
   pub is : instr_at image k ≡ or_else (nth (block_at image b).instrs place) no_instr
 
-pub block_size : (image : Image) (b : ℕ) → IsBlock image b → first_number image (suc b) ≡ first_number image b + length (block_at image b).instrs
+pub block_size : (image : Image) (b : ℕ) → IsBlock image b → first_number image (suc b) ≡ first_number image b
+    + length (block_at image b).instrs
 block_size image zero h = absurd (omega (arith, h.0))
-block_size image (suc n) h = number_next image n (omega (arith, h.1)) ∙ ap (λ (y : Block). first_number image (suc n) + length y.instrs) (sym (block_is image n))
+block_size image (suc n) h = number_next image n (omega (arith, h.1))
+    ∙ ap (λ (y : Block). first_number image (suc n) + length y.instrs) (sym (block_is image n))
 
 -- the instruction at a place of a block
-pub instr_at_place : (image : Image) (b i k : ℕ) → IsBlock image b → i < length (block_at image b).instrs → k ≡ first_number image b + i → instr_at image k ≡ or_else (nth (block_at image b).instrs i) no_instr
+pub instr_at_place : (image : Image) (b i k : ℕ) → IsBlock image b → i < length (block_at image b).instrs
+    → k ≡ first_number image b + i → instr_at image k ≡ or_else (nth (block_at image b).instrs i) no_instr
 instr_at_place image zero i k h l e = absurd (omega (arith, h.0))
 instr_at_place image (suc n) i k h l e =
-    instr_is image n i k (omega (arith, h.1)) (subst (λ (y : Block). i < length y.instrs) (block_is image n) l) e
+    instr_is image n i k (omega (arith, h.1)) (subst (λ (y : Block). i < length y.instrs) (block_is image n)
+    l) e
     ∙ ap (λ (y : Block). or_else (nth y.instrs i) no_instr) (sym (block_is image n))
 
 pub in_block : (image : Image) (b k : ℕ) → IsBlock image b → IsIn image b k → InBlock image b k
@@ -38,7 +46,12 @@ in_block image b k h i =
     let c : k < first_number image (suc b) = i.1 in
     let l : k - first_number image b < length (block_at image b).instrs = omega arith in
     let n : k ≡ first_number image b + (k - first_number image b) = omega arith in
-    record { place = k - first_number image b; within = l; number = n; is = instr_at_place image b (k - first_number image b) k h l n }
+    record {
+      place = k - first_number image b;
+      within = l;
+      number = n;
+      is = instr_at_place image b (k - first_number image b) k h l n;
+    }
 
 -- the block of an instruction
 pub record Located (image : Image) (k : ℕ) : Type 0 where
@@ -59,7 +72,9 @@ placed (b ∷ bs) k l h =
     let e : length (flat (b ∷ bs)) ≡ length b.instrs + length (flat bs) = length-append b.instrs (flat bs) in
     go (λ m l h. placed bs m l h) (cases_lt (length b.instrs) k) z e
   where
-    go : ((m : ℕ) → 1 ≤ m → m ≤ length (flat bs) → Placed bs m) → (length b.instrs < k) ⊎ (k ≤ length b.instrs) → first_of bs zero ≡ 1 → length (flat (b ∷ bs)) ≡ length b.instrs + length (flat bs) → Placed (b ∷ bs) k
+    go : ((m : ℕ) → 1 ≤ m → m ≤ length (flat bs) → Placed bs m) → (length b.instrs < k)
+        ⊎ (k ≤ length b.instrs) → first_of bs zero ≡ 1 → length (flat (b ∷ bs)) ≡ length b.instrs + length
+        (flat bs) → Placed (b ∷ bs) k
     go rest (inr a) z e = record { place = 0; within = omega arith; low = l; high = omega arith }
     go rest (inl a) z e =
         let p : Placed bs (k - length b.instrs) = rest (k - length b.instrs) (omega arith) (omega arith) in
@@ -87,17 +102,24 @@ middle false b c e = absurd (cc)
 is_zero : (n : ℕ) → eqb n 0 ≡ true → n ≡ 0
 is_zero n e = elim (cases_eq n 0) [ inl f ↦ f | inr f ↦ absurd (cc (ne_eqb n 0 f, e)) ]
 
-states_idle : (os : List Outline) (b : ℕ) (ways : List Ways) (states : List LastOps) (n : ℕ) (o : Outline) → get_or (states_from os b ways states) n false ≡ true → nth os n ≡ Some o → o.ops ≡ 0
+states_idle : (os : List Outline) (b : ℕ) (ways : List Ways) (states : List LastOps) (n : ℕ) (o : Outline)
+    → get_or (states_from os b ways states) n false ≡ true → nth os n ≡ Some o → o.ops ≡ 0
 states_idle [] b ways states n o e f = absurd (cc)
 states_idle (x ∷ os) b ways states zero o e f =
     let g : x ≡ o = cc in
-    subst (λ (y : Outline). y.ops ≡ 0) g (is_zero x.ops (middle (reached x b ways) (eqb x.ops 0) (not (is_vain x.way ways (state_in x b ways states))) e))
-states_idle (x ∷ os) b ways states (suc n) o e f = states_idle os (suc b) ways (states_step x b ways states) n o e f
+    subst (λ (y : Outline). y.ops ≡ 0) g
+    (is_zero x.ops
+    (middle (reached x b ways) (eqb x.ops 0) (not (is_vain x.way ways (state_in x b ways states))) e))
+states_idle (x ∷ os) b ways states (suc n) o e f = states_idle os (suc b) ways (states_step x b ways states) n
+    o e f
 
-pub outline_there : (xs : List Block) (b : ℕ) (firsts : List Bool) (n m : ℕ) → n < length xs → m ≡ b + n → nth (outlines_from xs b firsts) n ≡ Some (outline_of (or_else (nth xs n) no_block) m firsts)
+pub outline_there : (xs : List Block) (b : ℕ) (firsts : List Bool) (n m : ℕ) → n < length xs → m ≡ b + n
+    → nth (outlines_from xs b firsts) n ≡ Some (outline_of (or_else (nth xs n) no_block) m firsts)
 outline_there [] b firsts n m l e = absurd (omega arith)
-outline_there (x ∷ xs) b firsts zero m l e = let f : b ≡ m = omega arith in ap (λ (k : ℕ). Some (outline_of x k firsts)) f
-outline_there (x ∷ xs) b firsts (suc n) m l e = outline_there xs (b + 1) firsts n m (omega arith) (omega arith)
+outline_there (x ∷ xs) b firsts zero m l e = let f : b ≡ m = omega arith in
+    ap (λ (k : ℕ). Some (outline_of x k firsts)) f
+outline_there (x ∷ xs) b firsts (suc n) m l e = outline_there xs (b + 1) firsts n m (omega arith)
+    (omega arith)
 
 more_up : (i : Instr) (n : ℕ) → n ≤ one_more_op i n
 more_up i n = go (is_memory_op i.op)
@@ -110,26 +132,38 @@ ops_up : (is : List Instr) (n : ℕ) → n ≤ ops_from is n
 ops_up [] n = omega arith
 ops_up (i ∷ is) n = omega (arith, more_up i n, ops_up is (one_more_op i n))
 
-ops_some : (is : List Instr) (i n : ℕ) → i < length is → is_memory_op (or_else (nth is i) no_instr).op ≡ true → n < ops_from is n
+ops_some : (is : List Instr) (i n : ℕ) → i < length is → is_memory_op (or_else (nth is i) no_instr).op ≡ true
+    → n < ops_from is n
 ops_some [] i n l e = absurd (omega arith)
-ops_some (x ∷ is) zero n l e = let f : one_more_op x n ≡ n + 1 = ap (λ (v : Bool). cond v (n + 1) n) e in omega (arith, f, ops_up is (one_more_op x n))
+ops_some (x ∷ is) zero n l e = let f : one_more_op x n ≡ n + 1 = ap (λ (v : Bool). cond v (n + 1) n) e in
+    omega (arith, f, ops_up is (one_more_op x n))
 ops_some (x ∷ is) (suc i) n l e = omega (arith, more_up x n, ops_some is i (one_more_op x n) (omega arith) e)
 
 -- a block that gets a no-op has no operation
-pub idle_ops : (draft : Image) (b : ℕ) → IsBlock draft b → adds draft b ≡ true → ops_from (block_at draft b).instrs 0 ≡ 0
+pub idle_ops : (draft : Image) (b : ℕ) → IsBlock draft b → adds draft b ≡ true
+    → ops_from (block_at draft b).instrs 0 ≡ 0
 unfolding adds
 idle_ops draft zero h a = absurd (omega (arith, h.0))
 idle_ops draft (suc n) h a =
     ap (λ (y : Block). ops_from y.instrs 0) (block_is draft n)
-    ∙ states_idle (outlines_of draft.blocks) 1 _ _ n _ a (outline_there draft.blocks 1 (firsts_of draft.blocks) n (suc n) (omega (arith, h.1)) (omega arith))
+    ∙ states_idle (outlines_of draft.blocks) 1 _ _ n _ a
+    (outline_there draft.blocks 1 (firsts_of draft.blocks) n (suc n) (omega (arith, h.1)) (omega arith))
 
-pub no_memory : (draft : Image) (b k : ℕ) → IsBlock draft b → adds draft b ≡ true → IsIn draft b k → is_memory draft k ≡ false
+pub no_memory : (draft : Image) (b k : ℕ) → IsBlock draft b → adds draft b ≡ true → IsIn draft b k
+    → is_memory draft k ≡ false
 unfolding is_memory
 no_memory draft b k h a i = go (cases_Bool (is_memory_op (instr_at draft k).op))
   where
     x : InBlock draft b k
     x = in_block draft b k h i
 
-    go : (is_memory_op (instr_at draft k).op ≡ true) ⊎ (is_memory_op (instr_at draft k).op ≡ false) → is_memory_op (instr_at draft k).op ≡ false
+    go : (is_memory_op (instr_at draft k).op ≡ true) ⊎ (is_memory_op (instr_at draft k).op ≡ false)
+        → is_memory_op (instr_at draft k).op ≡ false
     go (inr e) = e
-    go (inl e) = absurd (omega (arith, idle_ops draft b h a, ops_some (block_at draft b).instrs x.place 0 x.within (ap (λ (y : Instr). is_memory_op y.op) (sym x.is) ∙ e)))
+    go (inl e) =
+        absurd (omega (
+          arith,
+          idle_ops draft b h a,
+          ops_some (block_at draft b).instrs x.place 0 x.within
+              (ap (λ (y : Instr). is_memory_op y.op) (sym x.is) ∙ e),
+        ))

@@ -1,12 +1,17 @@
 -- The trigger of each no-op, and the lists of an image's instructions.
-use Rattle.std.proofs.Common.{ℕ, zero, suc, ◌+◌, ◌≡◌, ◌<◌, ◌≤◌, ◌⊎◌, Bool, true, false, cond, eqb, List, [], ◌∷◌, ◌++◌, length, map, get_or, set, refl, sym, ap, ap₂, ◌∙◌, inl, inr, arith, eq-eqb, ne_eqb}
+use Rattle.std.proofs.Common.{ℕ, zero, suc, ◌+◌, ◌≡◌, ◌<◌, ◌≤◌, ◌⊎◌, Bool, true, false, cond, eqb, List, []}
+use Rattle.std.proofs.Common.{◌∷◌, ◌++◌, length, map, get_or, set, refl, sym, ap, ap₂, ◌∙◌, inl, inr, arith}
+use Rattle.std.proofs.Common.{eq-eqb, ne_eqb}
 use Rattle.std.proofs.lemmas.Bool.{cases_Bool, cases_eq}
 use Rattle.std.proofs.lemmas.List.{get_or-set_same, get_or-set_other}
 use Rattle.std.proofs.Math.ListN.{length-set}
 use Rattle.ws_isa.specs.declared.instr.Op.{Op}
-use Rattle.ws_isa.specs.declared.instr.Op.TheVariants.{Const, Alu, Merge, Advance, Steer, Phi, Send, Load, Store, Input, Output, Give, Take, Nop, Halt}
+use Rattle.ws_isa.specs.declared.instr.Op.TheVariants.{Const, Alu, Merge, Advance, Steer, Phi, Send, Load}
+use Rattle.ws_isa.specs.declared.instr.Op.TheVariants.{Store, Input, Output, Give, Take, Nop, Halt}
 use Rattle.ws_isa.specs.declared.instr.Dest.{Dest}
-use Rattle.ws_isa.specs.Image.{Instr, Exit, Goto, Branch, Landings, Stop, Pad, Block, Image, no_block, instr_at, block_at, pad_of, is_giving_op, target, leave_to, now_of, now_dests, edge_of, edge_dests, start_dests, IsIn, IsBlock, is_steer_op}
+use Rattle.ws_isa.specs.Image.{Instr, Exit, Goto, Branch, Landings, Stop, Pad, Block, Image, no_block}
+use Rattle.ws_isa.specs.Image.{instr_at, block_at, pad_of, is_giving_op, target, leave_to, now_of, now_dests}
+use Rattle.ws_isa.specs.Image.{edge_of, edge_dests, start_dests, IsIn, IsBlock, is_steer_op}
 use Rattle.wave_link.specs.declared.links.Passage.{Passage}
 use Rattle.wave_link.specs.Layout.{Tables, Extras, steered, extras_step}
 use Rattle.wave_link.specs.Grown.{number_in, extra_dest, grown_instr, grown_pad, grown_from, annotated}
@@ -16,8 +21,10 @@ use Rattle.wave_link.proofs.Parts.{tables_in, places_in}
 use Rattle.wave_link.proofs.Edges.{target_kept}
 use Rattle.wave_link.proofs.Numbers.{one_if, shift, new, nop, nops_are, nop_positive, note_in, instr_is_grown}
 use Rattle.wave_link.proofs.GrownRows.{instr_positive}
-use Rattle.wave_link.proofs.GrownTables.{giver, steer_in, giver_cases, steer_cases, nops_in, givings_in, steers_in, now_table, other_table, writes}
-use Rattle.wave_link.proofs.GrownForm.{Trigger, Whole, Own, Before, renamed, nop_slot, own_slot, before_slot, extra}
+use Rattle.wave_link.proofs.GrownTables.{giver, steer_in, giver_cases, steer_cases, nops_in, givings_in}
+use Rattle.wave_link.proofs.GrownTables.{steers_in, now_table, other_table, writes}
+use Rattle.wave_link.proofs.GrownForm.{Trigger, Whole, Own, Before, renamed, nop_slot, own_slot, before_slot}
+use Rattle.wave_link.proofs.GrownForm.{extra}
 use Rattle.ws_words.specs.Items.{nth, or_else}
 
 -- what triggers the no-op of block b
@@ -27,13 +34,15 @@ trigger draft b = cond (adds draft b) (cond (eqb (giver draft b) 0) Before (Own 
 pub data TriggerCase (draft : Image) (b : ℕ) : Type 0 where
   whole : adds draft b ≡ false → trigger draft b ≡ Whole → TriggerCase draft b
   before : adds draft b ≡ true → giver draft b ≡ 0 → trigger draft b ≡ Before → TriggerCase draft b
-  own : adds draft b ≡ true → (giver draft b ≡ 0 → ⊥) → trigger draft b ≡ Own (giver draft b) → TriggerCase draft b
+  own : adds draft b ≡ true → (giver draft b ≡ 0 → ⊥) → trigger draft b ≡ Own (giver draft b)
+      → TriggerCase draft b
 
 pub trigger_case : (draft : Image) (b : ℕ) → TriggerCase draft b
 unfolding trigger
 trigger_case draft b = go (cases_Bool (adds draft b)) (cases_eq (giver draft b) 0)
   where
-    go : (adds draft b ≡ true) ⊎ (adds draft b ≡ false) → (giver draft b ≡ 0) ⊎ (giver draft b ≡ 0 → ⊥) → TriggerCase draft b
+    go : (adds draft b ≡ true) ⊎ (adds draft b ≡ false) → (giver draft b ≡ 0) ⊎ (giver draft b ≡ 0 → ⊥)
+        → TriggerCase draft b
     go (inr e) f = whole e (rw e refl)
     go (inl e) (inl f) = before e f (rw (e, eq-eqb (giver draft b) 0 f) refl)
     go (inl e) (inr f) = own e f (rw (e, ne_eqb (giver draft b) 0 f) refl)
@@ -57,71 +66,100 @@ not_added_if draft b a = extra_is draft b ∙ ap one_if a
 
 -- The tables.
 
-step_now_giver : (exit : Exit) (b : ℕ) (nops givings steers : List ℕ) (e : Extras) (k : ℕ) → get_or givings b 0 ≡ k → (get_or steers b 0 ≡ k → ⊥) → k < length e.now → get_or (extras_step exit b nops givings steers e).now k 0 ≡ get_or nops b 0
+step_now_giver : (exit : Exit) (b : ℕ) (nops givings steers : List ℕ) (e : Extras) (k : ℕ)
+    → get_or givings b 0 ≡ k → (get_or steers b 0 ≡ k → ⊥) → k < length e.now
+    → get_or (extras_step exit b nops givings steers e).now k 0 ≡ get_or nops b 0
 step_now_giver (Goto c) b nops givings steers e k g s l = rw g (get_or-set_same e.now k (get_or nops b 0) 0 l)
 step_now_giver Stop b nops givings steers e k g s l = rw g (get_or-set_same e.now k (get_or nops b 0) 0 l)
-step_now_giver (Landings t ls) b nops givings steers e k g s l = rw g (get_or-set_same e.now k (get_or nops b 0) 0 l)
+step_now_giver (Landings t ls) b nops givings steers e k g s l =
+    rw g (get_or-set_same e.now k (get_or nops b 0) 0 l)
 step_now_giver (Branch t x y) b nops givings steers e k g s l =
-    get_or-set_other (set e.now (get_or givings b 0) (get_or nops b 0)) (get_or steers b 0) k (steered nops givings x) 0 (λ f. s (sym f))
-    ∙ (ap (λ (i : ℕ). get_or (set e.now i (get_or nops b 0)) k 0) g ∙ get_or-set_same e.now k (get_or nops b 0) 0 l)
+    get_or-set_other (set e.now (get_or givings b 0) (get_or nops b 0)) (get_or steers b 0) k
+    (steered nops givings x) 0 (λ f. s (sym f))
+    ∙ (ap (λ (i : ℕ). get_or (set e.now i (get_or nops b 0)) k 0) g ∙ get_or-set_same e.now k
+    (get_or nops b 0) 0 l)
 
-step_now_none : (exit : Exit) (b : ℕ) (nops givings steers : List ℕ) (e : Extras) (k : ℕ) → (get_or givings b 0 ≡ k → ⊥) → (get_or steers b 0 ≡ k → ⊥) → get_or (extras_step exit b nops givings steers e).now k 0 ≡ get_or e.now k 0
-step_now_none (Goto c) b nops givings steers e k g s = get_or-set_other e.now (get_or givings b 0) k (get_or nops b 0) 0 (λ f. g (sym f))
-step_now_none Stop b nops givings steers e k g s = get_or-set_other e.now (get_or givings b 0) k (get_or nops b 0) 0 (λ f. g (sym f))
-step_now_none (Landings t ls) b nops givings steers e k g s = get_or-set_other e.now (get_or givings b 0) k (get_or nops b 0) 0 (λ f. g (sym f))
+step_now_none : (exit : Exit) (b : ℕ) (nops givings steers : List ℕ) (e : Extras) (k : ℕ)
+    → (get_or givings b 0 ≡ k → ⊥) → (get_or steers b 0 ≡ k → ⊥)
+    → get_or (extras_step exit b nops givings steers e).now k 0 ≡ get_or e.now k 0
+step_now_none (Goto c) b nops givings steers e k g s = get_or-set_other e.now (get_or givings b 0) k
+    (get_or nops b 0) 0 (λ f. g (sym f))
+step_now_none Stop b nops givings steers e k g s = get_or-set_other e.now (get_or givings b 0) k
+    (get_or nops b 0) 0 (λ f. g (sym f))
+step_now_none (Landings t ls) b nops givings steers e k g s = get_or-set_other e.now (get_or givings b 0) k
+    (get_or nops b 0) 0 (λ f. g (sym f))
 step_now_none (Branch t x y) b nops givings steers e k g s =
-    get_or-set_other (set e.now (get_or givings b 0) (get_or nops b 0)) (get_or steers b 0) k (steered nops givings x) 0 (λ f. s (sym f))
+    get_or-set_other (set e.now (get_or givings b 0) (get_or nops b 0)) (get_or steers b 0) k
+    (steered nops givings x) 0 (λ f. s (sym f))
     ∙ get_or-set_other e.now (get_or givings b 0) k (get_or nops b 0) 0 (λ f. g (sym f))
 
-step_other_none : (exit : Exit) (b : ℕ) (nops givings steers : List ℕ) (e : Extras) (k : ℕ) → (get_or steers b 0 ≡ k → ⊥) → get_or (extras_step exit b nops givings steers e).other k 0 ≡ get_or e.other k 0
+step_other_none : (exit : Exit) (b : ℕ) (nops givings steers : List ℕ) (e : Extras) (k : ℕ)
+    → (get_or steers b 0 ≡ k → ⊥) → get_or (extras_step exit b nops givings steers e).other k 0
+    ≡ get_or e.other k 0
 step_other_none (Goto c) b nops givings steers e k s = refl
 step_other_none Stop b nops givings steers e k s = refl
 step_other_none (Landings t ls) b nops givings steers e k s = refl
-step_other_none (Branch t x y) b nops givings steers e k s = get_or-set_other e.other (get_or steers b 0) k (steered nops givings y) 0 (λ f. s (sym f))
+step_other_none (Branch t x y) b nops givings steers e k s = get_or-set_other e.other (get_or steers b 0) k
+    (steered nops givings y) 0 (λ f. s (sym f))
 
 -- the giver triggers the no-op of its block
-pub now_giver : (draft : Image) (b k : ℕ) → IsBlock draft b → IsIn draft b k → giver draft b ≡ k → (steer_in draft b ≡ k → ⊥) → get_or (tables_in draft.blocks).now k 0 ≡ cond (adds draft b) (nop draft b) 0
+pub now_giver : (draft : Image) (b k : ℕ) → IsBlock draft b → IsIn draft b k → giver draft b ≡ k
+    → (steer_in draft b ≡ k → ⊥) → get_or (tables_in draft.blocks).now k 0 ≡ cond (adds draft b) (nop draft b)
+    0
 unfolding giver steer_in
 now_giver draft b k h i g s =
     let w = writes draft b k h i in
     ap (λ (l : List ℕ). get_or l k 0) (now_table draft) ∙ (w.now_is
-    ∙ (step_now_giver (block_at draft b).exit b (nops_in draft) (givings_in draft) (steers_in draft) w.before k g s w.blank.now_fits ∙ nops_are draft b h))
+    ∙ (step_now_giver (block_at draft b).exit b (nops_in draft) (givings_in draft) (steers_in draft) w.before
+    k g s w.blank.now_fits ∙ nops_are draft b h))
 
-pub now_none : (draft : Image) (b k : ℕ) → IsBlock draft b → IsIn draft b k → (giver draft b ≡ k → ⊥) → (steer_in draft b ≡ k → ⊥) → get_or (tables_in draft.blocks).now k 0 ≡ 0
+pub now_none : (draft : Image) (b k : ℕ) → IsBlock draft b → IsIn draft b k → (giver draft b ≡ k → ⊥)
+    → (steer_in draft b ≡ k → ⊥) → get_or (tables_in draft.blocks).now k 0 ≡ 0
 unfolding giver steer_in
 now_none draft b k h i g s =
     let w = writes draft b k h i in
     ap (λ (l : List ℕ). get_or l k 0) (now_table draft) ∙ (w.now_is
-    ∙ (step_now_none (block_at draft b).exit b (nops_in draft) (givings_in draft) (steers_in draft) w.before k g s ∙ w.blank.now_zero))
+    ∙ (step_now_none (block_at draft b).exit b (nops_in draft) (givings_in draft) (steers_in draft) w.before k
+    g s ∙ w.blank.now_zero))
 
-pub other_none : (draft : Image) (b k : ℕ) → IsBlock draft b → IsIn draft b k → (steer_in draft b ≡ k → ⊥) → get_or (tables_in draft.blocks).other k 0 ≡ 0
+pub other_none : (draft : Image) (b k : ℕ) → IsBlock draft b → IsIn draft b k → (steer_in draft b ≡ k → ⊥)
+    → get_or (tables_in draft.blocks).other k 0 ≡ 0
 unfolding steer_in
 other_none draft b k h i s =
     let w = writes draft b k h i in
     ap (λ (l : List ℕ). get_or l k 0) (other_table draft) ∙ (w.other_is
-    ∙ (step_other_none (block_at draft b).exit b (nops_in draft) (givings_in draft) (steers_in draft) w.before k s ∙ w.blank.other_zero))
+    ∙ (step_other_none (block_at draft b).exit b (nops_in draft) (givings_in draft) (steers_in draft) w.before
+    k s ∙ w.blank.other_zero))
 
 -- the no-op of block c, if a steer before it triggers it
 unfoldable pub steered_by : Image → ℕ → ℕ
 steered_by draft c = steered (nops_in draft) (givings_in draft) c
 
-pub now_steer : (draft : Image) (b k s x y : ℕ) → IsBlock draft b → IsIn draft b k → (block_at draft b).exit ≡ Branch s x y → steer_in draft b ≡ k → get_or (tables_in draft.blocks).now k 0 ≡ steered_by draft x
+pub now_steer : (draft : Image) (b k s x y : ℕ) → IsBlock draft b → IsIn draft b k
+    → (block_at draft b).exit ≡ Branch s x y → steer_in draft b ≡ k → get_or (tables_in draft.blocks).now k 0
+    ≡ steered_by draft x
 unfolding steer_in steered_by
 now_steer draft b k s x y h i e f =
     let w = writes draft b k h i in
     let m : ℕ = get_or (givings_in draft) b 0 in
     let v : ℕ = get_or (nops_in draft) b 0 in
     ap (λ (l : List ℕ). get_or l k 0) (now_table draft) ∙ (w.now_is
-    ∙ (ap (λ (z : Exit). get_or (extras_step z b (nops_in draft) (givings_in draft) (steers_in draft) w.before).now k 0) e
-    ∙ (ap (λ (j : ℕ). get_or (set (set w.before.now m v) j (steered (nops_in draft) (givings_in draft) x)) k 0) f
-    ∙ get_or-set_same (set w.before.now m v) k (steered (nops_in draft) (givings_in draft) x) 0 (omega (arith, length-set w.before.now m v, w.blank.now_fits)))))
+    ∙ (ap (λ (z : Exit). get_or (extras_step z b (nops_in draft) (givings_in draft) (steers_in draft)
+    w.before).now k 0) e
+    ∙ (ap (λ (j : ℕ). get_or (set (set w.before.now m v) j (steered (nops_in draft) (givings_in draft) x)) k
+    0) f
+    ∙ get_or-set_same (set w.before.now m v) k (steered (nops_in draft) (givings_in draft) x) 0
+    (omega (arith, length-set w.before.now m v, w.blank.now_fits)))))
 
-pub other_steer : (draft : Image) (b k s x y : ℕ) → IsBlock draft b → IsIn draft b k → (block_at draft b).exit ≡ Branch s x y → steer_in draft b ≡ k → get_or (tables_in draft.blocks).other k 0 ≡ steered_by draft y
+pub other_steer : (draft : Image) (b k s x y : ℕ) → IsBlock draft b → IsIn draft b k
+    → (block_at draft b).exit ≡ Branch s x y → steer_in draft b ≡ k → get_or (tables_in draft.blocks).other k
+    0 ≡ steered_by draft y
 unfolding steer_in steered_by
 other_steer draft b k s x y h i e f =
     let w = writes draft b k h i in
     ap (λ (l : List ℕ). get_or l k 0) (other_table draft) ∙ (w.other_is
-    ∙ (ap (λ (z : Exit). get_or (extras_step z b (nops_in draft) (givings_in draft) (steers_in draft) w.before).other k 0) e
+    ∙ (ap (λ (z : Exit). get_or (extras_step z b (nops_in draft) (givings_in draft) (steers_in draft)
+    w.before).other k 0) e
     ∙ (ap (λ (j : ℕ). get_or (set w.before.other j (steered (nops_in draft) (givings_in draft) y)) k 0) f
     ∙ get_or-set_same w.before.other k (steered (nops_in draft) (givings_in draft) y) 0 w.blank.other_fits)))
 
@@ -131,12 +169,23 @@ some_dest n l = rw (ne_eqb n 0 (λ e. omega arith)) refl
 no_dest : (n : ℕ) → n ≡ 0 → extra_dest n ≡ []
 no_dest n e = rw e refl
 
-pub steered_is : (draft : Image) (c : ℕ) → IsBlock draft c → extra_dest (steered_by draft c) ≡ before_slot (trigger draft c) (nop draft c)
+pub steered_is : (draft : Image) (c : ℕ) → IsBlock draft c → extra_dest (steered_by draft c) ≡ before_slot
+    (trigger draft c) (nop draft c)
 unfolding steered_by giver
 steered_is draft c h = elim (trigger_case draft c) [
-  | whole a t ↦ no_dest (steered (nops_in draft) (givings_in draft) c) (zero_both (eqb (get_or (givings_in draft) c 0) 0) (nops_are draft c h ∙ ap (λ (v : Bool). cond v (nop draft c) 0) a)) ∙ sym (ap (λ (z : Trigger). before_slot z (nop draft c)) t)
-  | before a g t ↦ ap extra_dest (ap (λ (v : Bool). cond v (get_or (nops_in draft) c 0) 0) (eq-eqb (get_or (givings_in draft) c 0) 0 g) ∙ (nops_are draft c h ∙ ap (λ (v : Bool). cond v (nop draft c) 0) a)) ∙ (some_dest (nop draft c) (nop_positive draft c) ∙ sym (ap (λ (z : Trigger). before_slot z (nop draft c)) t))
-  | own a g t ↦ no_dest (steered (nops_in draft) (givings_in draft) c) (ap (λ (v : Bool). cond v (get_or (nops_in draft) c 0) 0) (ne_eqb (get_or (givings_in draft) c 0) 0 g)) ∙ sym (ap (λ (z : Trigger). before_slot z (nop draft c)) t)
+  | whole a t ↦ no_dest (steered (nops_in draft) (givings_in draft) c)
+      (zero_both (eqb (get_or (givings_in draft) c 0) 0) (nops_are draft c h
+      ∙ ap (λ (v : Bool). cond v (nop draft c) 0) a))
+      ∙ sym (ap (λ (z : Trigger). before_slot z (nop draft c)) t)
+  | before a g t ↦
+      ap extra_dest (ap (λ (v : Bool). cond v (get_or (nops_in draft) c 0) 0)
+      (eq-eqb (get_or (givings_in draft) c 0) 0 g)
+      ∙ (nops_are draft c h ∙ ap (λ (v : Bool). cond v (nop draft c) 0) a))
+      ∙ (some_dest (nop draft c) (nop_positive draft c)
+      ∙ sym (ap (λ (z : Trigger). before_slot z (nop draft c)) t))
+  | own a g t ↦ no_dest (steered (nops_in draft) (givings_in draft) c)
+      (ap (λ (v : Bool). cond v (get_or (nops_in draft) c 0) 0) (ne_eqb (get_or (givings_in draft) c 0) 0 g))
+      ∙ sym (ap (λ (z : Trigger). before_slot z (nop draft c)) t)
 ]
   where
     zero_both : (v : Bool) → get_or (nops_in draft) c 0 ≡ 0 → cond v (get_or (nops_in draft) c 0) 0 ≡ 0
@@ -144,19 +193,25 @@ steered_is draft c h = elim (trigger_case draft c) [
     zero_both false e = refl
 
 -- what an instruction opens for the no-op of its block
-pub own_is : (draft : Image) (b k : ℕ) → 1 ≤ k → giver draft b ≡ k → own_slot (trigger draft b) (nop draft b) k ≡ extra_dest (cond (adds draft b) (nop draft b) 0)
+pub own_is : (draft : Image) (b k : ℕ) → 1 ≤ k → giver draft b ≡ k → own_slot (trigger draft b) (nop draft b)
+    k ≡ extra_dest (cond (adds draft b) (nop draft b) 0)
 own_is draft b k l g = elim (trigger_case draft b) [
-  | whole a t ↦ ap (λ (z : Trigger). own_slot z (nop draft b) k) t ∙ sym (no_dest (cond (adds draft b) (nop draft b) 0) (ap (λ (v : Bool). cond v (nop draft b) 0) a))
+  | whole a t ↦ ap (λ (z : Trigger). own_slot z (nop draft b) k) t
+      ∙ sym (no_dest (cond (adds draft b) (nop draft b) 0) (ap (λ (v : Bool). cond v (nop draft b) 0) a))
   | before a f t ↦ absurd (omega (arith, f, g))
-  | own a f t ↦ ap (λ (z : Trigger). own_slot z (nop draft b) k) t ∙ (ap (λ (v : Bool). cond v (nop_slot (nop draft b)) []) (eq-eqb (giver draft b) k g)
-      ∙ sym (ap extra_dest (ap (λ (v : Bool). cond v (nop draft b) 0) a) ∙ some_dest (nop draft b) (nop_positive draft b)))
+  | own a f t ↦ ap (λ (z : Trigger). own_slot z (nop draft b) k) t
+      ∙ (ap (λ (v : Bool). cond v (nop_slot (nop draft b)) []) (eq-eqb (giver draft b) k g)
+      ∙ sym (ap extra_dest (ap (λ (v : Bool). cond v (nop draft b) 0) a)
+      ∙ some_dest (nop draft b) (nop_positive draft b)))
 ]
 
-pub own_else : (draft : Image) (b k : ℕ) → (giver draft b ≡ k → ⊥) → own_slot (trigger draft b) (nop draft b) k ≡ []
+pub own_else : (draft : Image) (b k : ℕ) → (giver draft b ≡ k → ⊥) → own_slot (trigger draft b) (nop draft b)
+    k ≡ []
 own_else draft b k g = elim (trigger_case draft b) [
   | whole a t ↦ ap (λ (z : Trigger). own_slot z (nop draft b) k) t
   | before a f t ↦ ap (λ (z : Trigger). own_slot z (nop draft b) k) t
-  | own a f t ↦ ap (λ (z : Trigger). own_slot z (nop draft b) k) t ∙ ap (λ (v : Bool). cond v (nop_slot (nop draft b)) []) (ne_eqb (giver draft b) k g)
+  | own a f t ↦ ap (λ (z : Trigger). own_slot z (nop draft b) k) t
+      ∙ ap (λ (v : Bool). cond v (nop_slot (nop draft b)) []) (ne_eqb (giver draft b) k g)
 ]
 
 -- The kinds of operations.
@@ -164,7 +219,8 @@ own_else draft b k g = elim (trigger_case draft b) [
 pub data OpCase (op : Op) : Type 0 where
   steers : op ≡ Steer → OpCase op
   sends : (p : ℕ) → op ≡ Send p → OpCase op
-  plain : is_steer_op op ≡ false → ((ds : List Dest) → now_of op ds ≡ ds) → ((image : Image) (b r : ℕ) (i : Instr) → edge_of image b r i op ≡ []) → OpCase op
+  plain : is_steer_op op ≡ false → ((ds : List Dest) → now_of op ds ≡ ds)
+      → ((image : Image) (b r : ℕ) (i : Instr) → edge_of image b r i op ≡ []) → OpCase op
 
 pub op_case : (op : Op) → OpCase op
 op_case Steer = steers refl
@@ -184,31 +240,38 @@ op_case Nop = plain refl (λ ds. refl) (λ i b r x. refl)
 op_case Halt = plain refl (λ ds. refl) (λ i b r x. refl)
 
 -- an instruction that gives is no steer and no send
-pub giver_gives : (draft : Image) (b k : ℕ) → IsBlock draft b → 1 ≤ k → is_giving_op (instr_at draft k).op ≡ false → giver draft b ≡ k → ⊥
+pub giver_gives : (draft : Image) (b k : ℕ) → IsBlock draft b → 1 ≤ k → is_giving_op (instr_at draft k).op
+    ≡ false → giver draft b ≡ k → ⊥
 giver_gives draft b k h l e g = elim (giver_cases draft b h) [
   | inl r ↦ omega (arith, r.zero_is, g)
   | inr r ↦ cc (ap (λ (j : ℕ). is_giving_op (instr_at draft j).op) g, r.is_one, e)
 ]
 
 -- an instruction that is no steer isn't the block's
-pub steer_steers : (draft : Image) (b k : ℕ) → IsBlock draft b → 1 ≤ k → is_steer_op (instr_at draft k).op ≡ false → steer_in draft b ≡ k → ⊥
+pub steer_steers : (draft : Image) (b k : ℕ) → IsBlock draft b → 1 ≤ k → is_steer_op (instr_at draft k).op
+    ≡ false → steer_in draft b ≡ k → ⊥
 steer_steers draft b k h l e g = elim (steer_cases draft b h) [
   | inl r ↦ omega (arith, r.zero_is, g)
   | inr r ↦ cc (ap (λ (j : ℕ). is_steer_op (instr_at draft j).op) g, r.is_one, e)
 ]
 
-pub same_renamed : (draft : Image) (ds : List Dest) → table_renamed (tables_in draft.blocks) ds ≡ renamed (new draft) ds
+pub same_renamed : (draft : Image) (ds : List Dest) → table_renamed (tables_in draft.blocks) ds
+    ≡ renamed (new draft) ds
 unfolding new
 same_renamed draft [] = refl
-same_renamed draft (d ∷ ds) = ap (λ (l : List Dest). record { instr = number_in (tables_in draft.blocks) d.instr; port = d.port } ∷ l) (same_renamed draft ds)
+same_renamed draft (d ∷ ds) =
+    ap (λ (l : List Dest). record { instr = number_in (tables_in draft.blocks) d.instr; port = d.port } ∷ l)
+    (same_renamed draft ds)
 
 abbrev pub grown_at : Image → ℕ → ℕ → Instr
 grown_at draft b k = grown_instr (tables_in draft.blocks) k (note_in draft b k) (instr_at draft k)
 
 pub now_grown : (draft : Image) (b k : ℕ) → IsBlock draft b → IsIn draft b k →
-    now_dests (annotated draft) (k + shift draft b) ≡ renamed (new draft) (now_dests draft k) ++ own_slot (trigger draft b) (nop draft b) k
+    now_dests (annotated draft) (k + shift draft b) ≡ renamed (new draft) (now_dests draft k) ++ own_slot
+    (trigger draft b) (nop draft b) k
 unfolding now_dests
-now_grown draft b k h i = ap (λ (x : Instr). now_of x.op x.dests) (instr_is_grown draft b k h i) ∙ go (op_case (instr_at draft k).op)
+now_grown draft b k h i = ap (λ (x : Instr). now_of x.op x.dests) (instr_is_grown draft b k h i)
+    ∙ go (op_case (instr_at draft k).op)
   where
     l : 1 ≤ k
     l = instr_positive draft b k h i
@@ -224,42 +287,57 @@ now_grown draft b k h i = ap (λ (x : Instr). now_of x.op x.dests) (instr_is_gro
 
     extra_own : is_steer_op op ≡ false → extra_dest n ≡ own_slot (trigger draft b) (nop draft b) k
     extra_own e = elim (cases_eq (giver draft b) k) [
-      | inl g ↦ ap extra_dest (now_giver draft b k h i g (steer_steers draft b k h l e)) ∙ sym (own_is draft b k l g)
-      | inr g ↦ no_dest n (now_none draft b k h i g (steer_steers draft b k h l e)) ∙ sym (own_else draft b k g)
+      | inl g ↦ ap extra_dest (now_giver draft b k h i g (steer_steers draft b k h l e))
+          ∙ sym (own_is draft b k l g)
+      | inr g ↦ no_dest n (now_none draft b k h i g (steer_steers draft b k h l e))
+          ∙ sym (own_else draft b k g)
     ]
 
-    go : OpCase op → now_of op (table_renamed (tables_in draft.blocks) ds ++ extra_dest n) ≡ renamed (new draft) (now_of op ds) ++ own_slot (trigger draft b) (nop draft b) k
+    go : OpCase op → now_of op (table_renamed (tables_in draft.blocks) ds ++ extra_dest n)
+        ≡ renamed (new draft) (now_of op ds) ++ own_slot (trigger draft b) (nop draft b) k
     go (steers e) = ap (λ (o : Op). now_of o (table_renamed (tables_in draft.blocks) ds ++ extra_dest n)) e
-        ∙ sym (ap₂ (λ (o : Op) (u : List Dest). renamed (new draft) (now_of o ds) ++ u) e (own_else draft b k (giver_gives draft b k h l (ap is_giving_op e))))
+        ∙ sym (ap₂ (λ (o : Op) (u : List Dest). renamed (new draft) (now_of o ds) ++ u) e
+        (own_else draft b k (giver_gives draft b k h l (ap is_giving_op e))))
     go (sends p e) = ap (λ (o : Op). now_of o (table_renamed (tables_in draft.blocks) ds ++ extra_dest n)) e
-        ∙ sym (ap₂ (λ (o : Op) (u : List Dest). renamed (new draft) (now_of o ds) ++ u) e (own_else draft b k (giver_gives draft b k h l (ap is_giving_op e))))
+        ∙ sym (ap₂ (λ (o : Op) (u : List Dest). renamed (new draft) (now_of o ds) ++ u) e
+        (own_else draft b k (giver_gives draft b k h l (ap is_giving_op e))))
     go (plain e f g) = f (table_renamed (tables_in draft.blocks) ds ++ extra_dest n)
         ∙ (ap₂ (λ (u v : List Dest). u ++ v) (same_renamed draft ds) (extra_own e)
-        ∙ sym (ap (λ (u : List Dest). renamed (new draft) u ++ own_slot (trigger draft b) (nop draft b) k) (f ds)))
+        ∙ sym (ap (λ (u : List Dest). renamed (new draft) u ++ own_slot (trigger draft b) (nop draft b) k)
+        (f ds)))
 
 -- Pads.
 
-pads_there : (t : Tables) (ps : List Passage) (b k : ℕ) (xs : List Block) (n : ℕ) → (or_else (nth (grown_from t ps b k xs) n) no_block).pads ≡ map (grown_pad t) (or_else (nth xs n) no_block).pads
+pads_there : (t : Tables) (ps : List Passage) (b k : ℕ) (xs : List Block) (n : ℕ)
+    → (or_else (nth (grown_from t ps b k xs) n) no_block).pads ≡ map (grown_pad t)
+    (or_else (nth xs n) no_block).pads
 unfolding no_block
 pads_there t ps b k [] n = refl
 pads_there t ps b k (x ∷ xs) zero = refl
 pads_there t ps b k (x ∷ xs) (suc n) = pads_there t ps (b + 1) (k + length x.instrs) xs n
 
-pub pads_kept : (draft : Image) (b : ℕ) → (block_at (annotated draft) b).pads ≡ map (grown_pad (tables_in draft.blocks)) (block_at draft b).pads
+pub pads_kept : (draft : Image) (b : ℕ) → (block_at (annotated draft) b).pads
+    ≡ map (grown_pad (tables_in draft.blocks)) (block_at draft b).pads
 unfolding annotated block_at no_block
 pads_kept draft zero = refl
 pads_kept draft (suc b) = pads_there (tables_in draft.blocks) (places_in draft.blocks) 1 1 draft.blocks b
 
-pad_renamed : (t : Tables) (pads : List Pad) (k : ℕ) → pad_of (map (grown_pad t) pads) k ≡ table_renamed t (pad_of pads k)
+pad_renamed : (t : Tables) (pads : List Pad) (k : ℕ) → pad_of (map (grown_pad t) pads) k ≡ table_renamed t
+    (pad_of pads k)
 pad_renamed t [] k = refl
 pad_renamed t (p ∷ pads) k = go (pad_renamed t pads k) (eqb p.number k)
   where
-    go : pad_of (map (grown_pad t) pads) k ≡ table_renamed t (pad_of pads k) → (v : Bool) → cond v (table_renamed t p.dests) (pad_of (map (grown_pad t) pads) k) ≡ table_renamed t (cond v p.dests (pad_of pads k))
+    go : pad_of (map (grown_pad t) pads) k ≡ table_renamed t (pad_of pads k) → (v : Bool)
+        → cond v (table_renamed t p.dests) (pad_of (map (grown_pad t) pads) k) ≡ table_renamed t
+        (cond v p.dests (pad_of pads k))
     go rest true = refl
     go rest false = rest
 
-pub pad_grown : (draft : Image) (b k : ℕ) → pad_of (block_at (annotated draft) b).pads k ≡ renamed (new draft) (pad_of (block_at draft b).pads k)
-pad_grown draft b k = ap (λ (ps : List Pad). pad_of ps k) (pads_kept draft b) ∙ (pad_renamed (tables_in draft.blocks) (block_at draft b).pads k ∙ same_renamed draft (pad_of (block_at draft b).pads k))
+pub pad_grown : (draft : Image) (b k : ℕ) → pad_of (block_at (annotated draft) b).pads k ≡ renamed (new draft)
+    (pad_of (block_at draft b).pads k)
+pad_grown draft b k = ap (λ (ps : List Pad). pad_of ps k) (pads_kept draft b)
+    ∙ (pad_renamed (tables_in draft.blocks) (block_at draft b).pads k ∙ same_renamed draft
+    (pad_of (block_at draft b).pads k))
 
 pub start_grown : (draft : Image) → start_dests (annotated draft) ≡ renamed (new draft) (start_dests draft)
 unfolding start_dests
@@ -269,12 +347,16 @@ start_grown draft = pad_grown draft 1 0
 
 -- what an instruction opens besides on the edge at r
 unfoldable pub extras_at : Image → ℕ → ℕ → List Dest
-extras_at draft r k = cond (is_steer_op (instr_at draft k).op) (cond (eqb r 0) (extra_dest (get_or (tables_in draft.blocks).other k 0)) (extra_dest (get_or (tables_in draft.blocks).now k 0))) []
+extras_at draft r k = cond (is_steer_op (instr_at draft k).op)
+    (cond (eqb r 0) (extra_dest (get_or (tables_in draft.blocks).other k 0))
+    (extra_dest (get_or (tables_in draft.blocks).now k 0))) []
 
 pub edge_grown : (draft : Image) (b r k : ℕ) → IsBlock draft b → IsIn draft b k →
-    edge_dests (annotated draft) b r (k + shift draft b) ≡ renamed (new draft) (edge_dests draft b r k) ++ extras_at draft r k
+    edge_dests (annotated draft) b r (k + shift draft b) ≡ renamed (new draft) (edge_dests draft b r k)
+    ++ extras_at draft r k
 unfolding edge_dests extras_at
-edge_grown draft b r k h i = ap (λ (x : Instr). edge_of (annotated draft) b r x x.op) (instr_is_grown draft b k h i) ∙ go (op_case x.op)
+edge_grown draft b r k h i = ap (λ (x : Instr). edge_of (annotated draft) b r x x.op)
+    (instr_is_grown draft b k h i) ∙ go (op_case x.op)
   where
     x : Instr
     x = instr_at draft k
@@ -288,7 +370,9 @@ edge_grown draft b r k h i = ap (λ (x : Instr). edge_of (annotated draft) b r x
     n : ℕ
     n = get_or t.now k 0
 
-    both : (v : Bool) → cond v (table_renamed t x.others ++ extra_dest o) (table_renamed t x.dests ++ extra_dest n) ≡ renamed (new draft) (cond v x.others x.dests) ++ cond v (extra_dest o) (extra_dest n)
+    both : (v : Bool) → cond v (table_renamed t x.others ++ extra_dest o)
+        (table_renamed t x.dests ++ extra_dest n) ≡ renamed (new draft) (cond v x.others x.dests) ++ cond v
+        (extra_dest o) (extra_dest n)
     both true = ap (λ (u : List Dest). u ++ extra_dest o) (same_renamed draft x.others)
     both false = ap (λ (u : List Dest). u ++ extra_dest n) (same_renamed draft x.dests)
 
@@ -296,33 +380,46 @@ edge_grown draft b r k h i = ap (λ (x : Instr). edge_of (annotated draft) b r x
     nil [] = refl
     nil (y ∷ ys) = ap (λ (l : List Dest). y ∷ l) (nil ys)
 
-    go : OpCase x.op → edge_of (annotated draft) b r (grown_at draft b k) x.op ≡ renamed (new draft) (edge_of draft b r x x.op) ++ cond (is_steer_op x.op) (cond (eqb r 0) (extra_dest o) (extra_dest n)) []
+    go : OpCase x.op → edge_of (annotated draft) b r (grown_at draft b k) x.op ≡ renamed (new draft)
+        (edge_of draft b r x x.op) ++ cond (is_steer_op x.op) (cond (eqb r 0) (extra_dest o) (extra_dest n))
+        []
     go (steers e) = ap (edge_of (annotated draft) b r (grown_at draft b k)) e
-        ∙ (both (eqb r 0) ∙ sym (ap (λ (p : Op). renamed (new draft) (edge_of draft b r x p) ++ cond (is_steer_op p) (cond (eqb r 0) (extra_dest o) (extra_dest n)) []) e))
+        ∙ (both (eqb r 0)
+        ∙ sym (ap (λ (p : Op). renamed (new draft) (edge_of draft b r x p) ++ cond (is_steer_op p)
+        (cond (eqb r 0) (extra_dest o) (extra_dest n)) []) e))
     go (sends p e) = ap (edge_of (annotated draft) b r (grown_at draft b k)) e
         ∙ (ap (λ (c : ℕ). pad_of (block_at (annotated draft) c).pads p) (target_kept draft b r)
         ∙ (pad_grown draft (target draft b r) p
         ∙ (nil (renamed (new draft) (pad_of (block_at draft (target draft b r)).pads p))
-        ∙ sym (ap (λ (q : Op). renamed (new draft) (edge_of draft b r x q) ++ cond (is_steer_op q) (cond (eqb r 0) (extra_dest o) (extra_dest n)) []) e))))
+        ∙ sym (ap (λ (q : Op). renamed (new draft) (edge_of draft b r x q) ++ cond (is_steer_op q)
+        (cond (eqb r 0) (extra_dest o) (extra_dest n)) []) e))))
     go (plain e f g) = g (annotated draft) b r (grown_at draft b k)
-        ∙ sym (ap₂ (λ (u : List Dest) (v : Bool). renamed (new draft) u ++ cond v (cond (eqb r 0) (extra_dest o) (extra_dest n)) []) (g draft b r x) e)
+        ∙ sym (ap₂ (λ (u : List Dest) (v : Bool). renamed (new draft) u ++ cond v
+        (cond (eqb r 0) (extra_dest o) (extra_dest n)) []) (g draft b r x) e)
 
 -- those of the block's first steer are what the block behind the edge waits for, and there are no others
-pub extras_steer : (draft : Image) (b r k s x y : ℕ) → IsBlock draft b → IsIn draft b k → IsBlock draft (target draft b r) → (block_at draft b).exit ≡ Branch s x y → (instr_at draft k).op ≡ Steer → steer_in draft b ≡ k →
+pub extras_steer : (draft : Image) (b r k s x y : ℕ) → IsBlock draft b → IsIn draft b k
+    → IsBlock draft (target draft b r) → (block_at draft b).exit ≡ Branch s x y
+    → (instr_at draft k).op ≡ Steer → steer_in draft b ≡ k →
     extras_at draft r k ≡ before_slot (trigger draft (target draft b r)) (nop draft (target draft b r))
 unfolding extras_at target
 extras_steer draft b r k s x y h i c e o f =
-    ap (λ (p : Op). cond (is_steer_op p) (cond (eqb r 0) (extra_dest (get_or (tables_in draft.blocks).other k 0)) (extra_dest (get_or (tables_in draft.blocks).now k 0))) []) o
-    ∙ (ap₂ (λ (n m : ℕ). cond (eqb r 0) (extra_dest n) (extra_dest m)) (other_steer draft b k s x y h i e f) (now_steer draft b k s x y h i e f)
+    ap (λ (p : Op). cond (is_steer_op p)
+    (cond (eqb r 0) (extra_dest (get_or (tables_in draft.blocks).other k 0))
+    (extra_dest (get_or (tables_in draft.blocks).now k 0))) []) o
+    ∙ (ap₂ (λ (n m : ℕ). cond (eqb r 0) (extra_dest n) (extra_dest m)) (other_steer draft b k s x y h i e f)
+    (now_steer draft b k s x y h i e f)
     ∙ (pick (eqb r 0)
     ∙ (ap (λ (z : Exit). extra_dest (steered_by draft (leave_to z r))) (sym e)
     ∙ steered_is draft (leave_to (block_at draft b).exit r) c)))
   where
-    pick : (v : Bool) → cond v (extra_dest (steered_by draft y)) (extra_dest (steered_by draft x)) ≡ extra_dest (steered_by draft (cond v y x))
+    pick : (v : Bool) → cond v (extra_dest (steered_by draft y)) (extra_dest (steered_by draft x))
+        ≡ extra_dest (steered_by draft (cond v y x))
     pick true = refl
     pick false = refl
 
-pub extras_else : (draft : Image) (b r k : ℕ) → IsBlock draft b → IsIn draft b k → (steer_in draft b ≡ k → ⊥) → extras_at draft r k ≡ []
+pub extras_else : (draft : Image) (b r k : ℕ) → IsBlock draft b → IsIn draft b k → (steer_in draft b ≡ k → ⊥)
+    → extras_at draft r k ≡ []
 unfolding extras_at
 extras_else draft b r k h i f = go (op_case (instr_at draft k).op)
   where
@@ -333,9 +430,20 @@ extras_else draft b r k h i f = go (op_case (instr_at draft k).op)
     pick true = refl
     pick false = refl
 
-    go : OpCase (instr_at draft k).op → cond (is_steer_op (instr_at draft k).op) (cond (eqb r 0) (extra_dest (get_or (tables_in draft.blocks).other k 0)) (extra_dest (get_or (tables_in draft.blocks).now k 0))) [] ≡ []
-    go (steers e) = ap (λ (p : Op). cond (is_steer_op p) (cond (eqb r 0) (extra_dest (get_or (tables_in draft.blocks).other k 0)) (extra_dest (get_or (tables_in draft.blocks).now k 0))) []) e
-        ∙ (ap₂ (λ (n m : ℕ). cond (eqb r 0) (extra_dest n) (extra_dest m)) (other_none draft b k h i f) (now_none draft b k h i (giver_gives draft b k h l (ap is_giving_op e)) f)
+    go : OpCase (instr_at draft k).op → cond (is_steer_op (instr_at draft k).op)
+        (cond (eqb r 0) (extra_dest (get_or (tables_in draft.blocks).other k 0))
+        (extra_dest (get_or (tables_in draft.blocks).now k 0))) [] ≡ []
+    go (steers e) =
+        ap (λ (p : Op). cond (is_steer_op p)
+        (cond (eqb r 0) (extra_dest (get_or (tables_in draft.blocks).other k 0))
+        (extra_dest (get_or (tables_in draft.blocks).now k 0))) []) e
+        ∙ (ap₂ (λ (n m : ℕ). cond (eqb r 0) (extra_dest n) (extra_dest m)) (other_none draft b k h i f)
+        (now_none draft b k h i (giver_gives draft b k h l (ap is_giving_op e)) f)
         ∙ pick (eqb r 0))
-    go (sends p e) = ap (λ (p : Op). cond (is_steer_op p) (cond (eqb r 0) (extra_dest (get_or (tables_in draft.blocks).other k 0)) (extra_dest (get_or (tables_in draft.blocks).now k 0))) []) e
-    go (plain e g j) = ap (λ (v : Bool). cond v (cond (eqb r 0) (extra_dest (get_or (tables_in draft.blocks).other k 0)) (extra_dest (get_or (tables_in draft.blocks).now k 0))) []) e
+    go (sends p e) =
+        ap (λ (p : Op). cond (is_steer_op p)
+        (cond (eqb r 0) (extra_dest (get_or (tables_in draft.blocks).other k 0))
+        (extra_dest (get_or (tables_in draft.blocks).now k 0))) []) e
+    go (plain e g j) =
+        ap (λ (v : Bool). cond v (cond (eqb r 0) (extra_dest (get_or (tables_in draft.blocks).other k 0))
+        (extra_dest (get_or (tables_in draft.blocks).now k 0))) []) e

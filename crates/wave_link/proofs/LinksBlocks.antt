@@ -1,14 +1,18 @@
 -- What the outlines of a draft say of its blocks and edges.
-use Rattle.std.proofs.Common.{ℕ, zero, suc, ◌+◌, ◌-◌, ◌≡◌, ◌<◌, ◌≤◌, ◌⊎◌, Bool, true, false, cond, not, List, [], ◌∷◌, length, get_or, Some, refl, sym, ap, ◌∙◌, inl, inr, subst, arith, eqb, eq-eqb}
+use Rattle.std.proofs.Common.{ℕ, zero, suc, ◌+◌, ◌-◌, ◌≡◌, ◌<◌, ◌≤◌, ◌⊎◌, Bool, true, false, cond, not, List}
+use Rattle.std.proofs.Common.{[], ◌∷◌, length, get_or, Some, refl, sym, ap, ◌∙◌, inl, inr, subst, arith, eqb}
+use Rattle.std.proofs.Common.{eq-eqb}
 use Rattle.std.proofs.lemmas.Bool.{cases_eq}
-use Rattle.ws_isa.specs.Image.{Exit, Goto, Branch, Landings, Stop, Block, Image, no_block, block_at, leave_to, is_stop, stops, target, is_first, edges_of, IsBlock}
+use Rattle.ws_isa.specs.Image.{Exit, Goto, Branch, Landings, Stop, Block, Image, no_block, block_at, leave_to}
+use Rattle.ws_isa.specs.Image.{is_stop, stops, target, is_first, edges_of, IsBlock}
 use Rattle.ws_isa.specs.Formed.{WavesFrom, WavesInOrder}
 use Rattle.ws_isa.specs.Sound.{ShapeRules}
 use Rattle.ws_isa.specs.Open.{IsArm}
 use Rattle.wave_link.specs.declared.outline.Way.{Way}
 use Rattle.wave_link.specs.declared.outline.Way.TheVariants.{Out, On, Fork}
 use Rattle.wave_link.specs.declared.outline.Outline.{Outline}
-use Rattle.wave_link.specs.Outlines.{firsts_from, firsts_of, way_of, outline_of, outlines_from, outlines_of, with_nop, with_nops_from, with_nops}
+use Rattle.wave_link.specs.Outlines.{firsts_from, firsts_of, way_of, outline_of, outlines_from, outlines_of}
+use Rattle.wave_link.specs.Outlines.{with_nop, with_nops_from, with_nops}
 use Rattle.wave_link.specs.Grown.{added_in}
 use Rattle.wave_link.specs.Adds.{adds}
 use Rattle.wave_link.proofs.LinksTables.{no_outline, outline_in, Leads, Parts}
@@ -17,7 +21,8 @@ use Rattle.ws_words.specs.Items.{nth, or_else}
 
 -- Outlines.
 
-outlines_length : (xs : List Block) (b : ℕ) (firsts : List Bool) → length (outlines_from xs b firsts) ≡ length xs
+outlines_length : (xs : List Block) (b : ℕ) (firsts : List Bool) → length (outlines_from xs b firsts)
+    ≡ length xs
 outlines_length [] b firsts = refl
 outlines_length (x ∷ xs) b firsts = ap suc (outlines_length xs (b + 1) firsts)
 
@@ -25,14 +30,19 @@ nops_length : (xs : List Outline) (b : ℕ) (added : List Bool) → length (with
 nops_length [] b added = refl
 nops_length (x ∷ xs) b added = ap suc (nops_length xs (b + 1) added)
 
-outline_there : (xs : List Block) (b n m : ℕ) (firsts : List Bool) → n < length xs → m ≡ b + n → outline_in (outlines_from xs b firsts) n ≡ outline_of (or_else (nth xs n) no_block) m firsts
+outline_there : (xs : List Block) (b n m : ℕ) (firsts : List Bool) → n < length xs → m ≡ b + n
+    → outline_in (outlines_from xs b firsts) n ≡ outline_of (or_else (nth xs n) no_block) m firsts
 outline_there [] b n m firsts l e = absurd (omega arith)
-outline_there (x ∷ xs) b zero m firsts l e = let g : b ≡ m = omega arith in ap (λ (k : ℕ). outline_of x k firsts) g
-outline_there (x ∷ xs) b (suc n) m firsts l e = outline_there xs (b + 1) n m firsts (omega arith) (omega arith)
+outline_there (x ∷ xs) b zero m firsts l e = let g : b ≡ m = omega arith in
+    ap (λ (k : ℕ). outline_of x k firsts) g
+outline_there (x ∷ xs) b (suc n) m firsts l e = outline_there xs (b + 1) n m firsts (omega arith)
+    (omega arith)
 
-nop_there : (xs : List Outline) (b n m : ℕ) (added : List Bool) → n < length xs → m ≡ b + n → outline_in (with_nops_from xs b added) n ≡ with_nop (outline_in xs n) (get_or added m false)
+nop_there : (xs : List Outline) (b n m : ℕ) (added : List Bool) → n < length xs → m ≡ b + n
+    → outline_in (with_nops_from xs b added) n ≡ with_nop (outline_in xs n) (get_or added m false)
 nop_there [] b n m added l e = absurd (omega arith)
-nop_there (x ∷ xs) b zero m added l e = let g : b ≡ m = omega arith in ap (λ (k : ℕ). with_nop x (get_or added k false)) g
+nop_there (x ∷ xs) b zero m added l e = let g : b ≡ m = omega arith in
+    ap (λ (k : ℕ). with_nop x (get_or added k false)) g
 nop_there (x ∷ xs) b (suc n) m added l e = nop_there xs (b + 1) n m added (omega arith) (omega arith)
 
 -- the outlines of a draft, before and after no-ops are added
@@ -48,23 +58,29 @@ bare_length draft = outlines_length draft.blocks 1 (firsts_of draft.blocks)
 pub grown_length : (draft : Image) → length (grown_of draft) ≡ length draft.blocks
 grown_length draft = nops_length (bare_of draft) 0 (added_in draft.blocks) ∙ bare_length draft
 
-pub bare_is : (draft : Image) (n : ℕ) → n < length draft.blocks → outline_in (bare_of draft) n ≡ outline_of (block_at draft (suc n)) (suc n) (firsts_of draft.blocks)
+pub bare_is : (draft : Image) (n : ℕ) → n < length draft.blocks → outline_in (bare_of draft) n ≡ outline_of
+    (block_at draft (suc n)) (suc n) (firsts_of draft.blocks)
 unfolding block_at
 bare_is draft n l = outline_there draft.blocks 1 n (suc n) (firsts_of draft.blocks) l (omega arith)
 
-pub grown_is : (draft : Image) (n : ℕ) → n < length draft.blocks → outline_in (grown_of draft) n ≡ with_nop (outline_in (bare_of draft) n) (adds draft (suc n))
+pub grown_is : (draft : Image) (n : ℕ) → n < length draft.blocks → outline_in (grown_of draft) n ≡ with_nop
+    (outline_in (bare_of draft) n) (adds draft (suc n))
 unfolding adds
-grown_is draft n l = nop_there (bare_of draft) 0 n n (added_in draft.blocks) (omega (arith, bare_length draft)) (omega arith)
+grown_is draft n l = nop_there (bare_of draft) 0 n n (added_in draft.blocks)
+    (omega (arith, bare_length draft)) (omega arith)
 
 abbrev pub outline_at : Image → ℕ → Outline
 outline_at draft zero = no_outline
 outline_at draft (suc n) = outline_in (grown_of draft) n
 
-pub outline_is : (draft : Image) (b : ℕ) → IsBlock draft b → outline_at draft b ≡ with_nop (outline_of (block_at draft b) b (firsts_of draft.blocks)) (adds draft b)
+pub outline_is : (draft : Image) (b : ℕ) → IsBlock draft b → outline_at draft b ≡ with_nop
+    (outline_of (block_at draft b) b (firsts_of draft.blocks)) (adds draft b)
 outline_is draft zero h = absurd (omega (arith, h.0))
-outline_is draft (suc n) h = grown_is draft n (omega (arith, h.1)) ∙ ap (λ (o : Outline). with_nop o (adds draft (suc n))) (bare_is draft n (omega (arith, h.1)))
+outline_is draft (suc n) h = grown_is draft n (omega (arith, h.1))
+    ∙ ap (λ (o : Outline). with_nop o (adds draft (suc n))) (bare_is draft n (omega (arith, h.1)))
 
-pub way_is : (draft : Image) (b : ℕ) → IsBlock draft b → (outline_at draft b).way ≡ way_of (block_at draft b).exit (firsts_of draft.blocks)
+pub way_is : (draft : Image) (b : ℕ) → IsBlock draft b → (outline_at draft b).way
+    ≡ way_of (block_at draft b).exit (firsts_of draft.blocks)
 way_is draft b h = ap (λ (o : Outline). o.way) (outline_is draft b h)
 
 -- First blocks.
@@ -73,7 +89,8 @@ firsts_length : (xs : List Block) (w : ℕ) → length (firsts_from xs w) ≡ le
 firsts_length [] w = refl
 firsts_length (x ∷ xs) w = ap suc (firsts_length xs x.wave)
 
-first_there : (xs : List Block) (w n : ℕ) → suc n < length xs → get_or (firsts_from xs w) (suc n) false ≡ not (eqb (or_else (nth xs (suc n)) no_block).wave (or_else (nth xs n) no_block).wave)
+first_there : (xs : List Block) (w n : ℕ) → suc n < length xs → get_or (firsts_from xs w) (suc n) false
+    ≡ not (eqb (or_else (nth xs (suc n)) no_block).wave (or_else (nth xs n) no_block).wave)
 first_there [] w n l = absurd (omega arith)
 first_there (x ∷ []) w n l = absurd (omega arith)
 first_there (x ∷ y ∷ xs) w zero l = refl
@@ -83,70 +100,89 @@ first_wave : (xs : List Block) → WavesInOrder xs → get_or (firsts_from xs 0)
 first_wave [] w = absurd w
 first_wave (x ∷ xs) w = ap (λ (k : ℕ). not (eqb k 0)) w.0
 
-pub first_said : (draft : Image) (b : ℕ) → WavesInOrder draft.blocks → IsBlock draft b → get_or (firsts_of draft.blocks) b false ≡ is_first draft b
+pub first_said : (draft : Image) (b : ℕ) → WavesInOrder draft.blocks → IsBlock draft b
+    → get_or (firsts_of draft.blocks) b false ≡ is_first draft b
 unfolding is_first block_at
 first_said draft zero w h = absurd (omega (arith, h.0))
 first_said draft (suc zero) w h = first_wave draft.blocks w
 first_said draft (suc (suc n)) w h = first_there draft.blocks 0 n (omega (arith, h.1))
 
-pub first_told : (draft : Image) (b : ℕ) → WavesInOrder draft.blocks → IsBlock draft b → get_or (firsts_of draft.blocks) b true ≡ is_first draft b
-first_told draft b w h = any_default (firsts_of draft.blocks) b true false (omega (arith, h.1, firsts_length draft.blocks 0)) ∙ first_said draft b w h
+pub first_told : (draft : Image) (b : ℕ) → WavesInOrder draft.blocks → IsBlock draft b
+    → get_or (firsts_of draft.blocks) b true ≡ is_first draft b
+first_told draft b w h = any_default (firsts_of draft.blocks) b true false
+    (omega (arith, h.1, firsts_length draft.blocks 0)) ∙ first_said draft b w h
 
-pub first_is : (draft : Image) (b : ℕ) → WavesInOrder draft.blocks → IsBlock draft b → (outline_at draft b).first ≡ is_first draft b
+pub first_is : (draft : Image) (b : ℕ) → WavesInOrder draft.blocks → IsBlock draft b
+    → (outline_at draft b).first ≡ is_first draft b
 first_is draft b w h = ap (λ (o : Outline). o.first) (outline_is draft b h) ∙ first_said draft b w h
 
 -- Waves stand one after the other.
 
-wave_next : (xs : List Block) (w n : ℕ) → WavesFrom w xs → suc n < length xs → (or_else (nth xs n) no_block).wave ≤ (or_else (nth xs (suc n)) no_block).wave
+wave_next : (xs : List Block) (w n : ℕ) → WavesFrom w xs → suc n < length xs
+    → (or_else (nth xs n) no_block).wave ≤ (or_else (nth xs (suc n)) no_block).wave
 wave_next [] w n h l = absurd (omega arith)
 wave_next (x ∷ []) w n h l = absurd (omega arith)
 wave_next (x ∷ y ∷ xs) w zero h l = elim h.1.0 [ inl e ↦ omega arith | inr e ↦ omega arith ]
 wave_next (x ∷ y ∷ xs) w (suc n) h l = wave_next (y ∷ xs) x.wave n h.1 (omega arith)
 
-waves_next : (xs : List Block) (n : ℕ) → WavesInOrder xs → suc n < length xs → (or_else (nth xs n) no_block).wave ≤ (or_else (nth xs (suc n)) no_block).wave
+waves_next : (xs : List Block) (n : ℕ) → WavesInOrder xs → suc n < length xs
+    → (or_else (nth xs n) no_block).wave ≤ (or_else (nth xs (suc n)) no_block).wave
 waves_next [] n h l = absurd (omega arith)
 waves_next (x ∷ []) n h l = absurd (omega arith)
-waves_next (x ∷ y ∷ xs) zero h l = let e : x.wave ≡ 1 = h.0 in elim h.1.0 [ inl f ↦ omega arith | inr f ↦ omega arith ]
+waves_next (x ∷ y ∷ xs) zero h l = let e : x.wave ≡ 1 = h.0 in
+    elim h.1.0 [ inl f ↦ omega arith | inr f ↦ omega arith ]
 waves_next (x ∷ y ∷ xs) (suc n) h l = wave_next (y ∷ xs) 1 n h.1 (omega arith)
 
-wave_step : (draft : Image) (b : ℕ) → WavesInOrder draft.blocks → 1 ≤ b → b < length draft.blocks → (block_at draft b).wave ≤ (block_at draft (suc b)).wave
+wave_step : (draft : Image) (b : ℕ) → WavesInOrder draft.blocks → 1 ≤ b → b < length draft.blocks
+    → (block_at draft b).wave ≤ (block_at draft (suc b)).wave
 unfolding block_at
 wave_step draft zero w l h = absurd (omega arith)
 wave_step draft (suc n) w l h = waves_next draft.blocks n w h
 
-pub waves_rise : (draft : Image) (b c : ℕ) → WavesInOrder draft.blocks → 1 ≤ b → b ≤ c → c ≤ length draft.blocks → (block_at draft b).wave ≤ (block_at draft c).wave
+pub waves_rise : (draft : Image) (b c : ℕ) → WavesInOrder draft.blocks → 1 ≤ b → b ≤ c
+    → c ≤ length draft.blocks → (block_at draft b).wave ≤ (block_at draft c).wave
 waves_rise draft b zero w l h k = absurd (omega arith)
 waves_rise draft b (suc c) w l h k = go (cases_eq b (suc c)) (λ q. waves_rise draft b c w l q (omega arith))
   where
-    go : (b ≡ suc c) ⊎ (b ≡ suc c → ⊥) → (b ≤ c → (block_at draft b).wave ≤ (block_at draft c).wave) → (block_at draft b).wave ≤ (block_at draft (suc c)).wave
+    go : (b ≡ suc c) ⊎ (b ≡ suc c → ⊥) → (b ≤ c → (block_at draft b).wave ≤ (block_at draft c).wave)
+        → (block_at draft b).wave ≤ (block_at draft (suc c)).wave
     go (inl e) rec = rw e (omega arith)
     go (inr d) rec = omega (arith, rec (omega arith), wave_step draft c w (omega arith) k)
 
-not_first : (draft : Image) (b : ℕ) → 2 ≤ b → (block_at draft b).wave ≡ (block_at draft (b - 1)).wave → is_first draft b ≡ false
+not_first : (draft : Image) (b : ℕ) → 2 ≤ b → (block_at draft b).wave ≡ (block_at draft (b - 1)).wave
+    → is_first draft b ≡ false
 unfolding is_first
 not_first draft zero l e = absurd (omega arith)
 not_first draft (suc zero) l e = absurd (omega arith)
 not_first draft (suc (suc b)) l e =
     let f : suc (suc b) - 1 ≡ suc b = omega arith in
-    rw (eq-eqb (block_at draft (suc (suc b))).wave (block_at draft (suc b)).wave (e ∙ ap (λ (k : ℕ). (block_at draft k).wave) f)) refl
+    rw (eq-eqb (block_at draft (suc (suc b))).wave (block_at draft (suc b)).wave
+    (e ∙ ap (λ (k : ℕ). (block_at draft k).wave) f)) refl
 
-pub in_wave : (draft : Image) (b c m : ℕ) → WavesInOrder draft.blocks → IsBlock draft b → IsBlock draft c → (block_at draft b).wave ≡ (block_at draft c).wave → b < m → m ≤ c → (outline_at draft m).first ≡ false
+pub in_wave : (draft : Image) (b c m : ℕ) → WavesInOrder draft.blocks → IsBlock draft b → IsBlock draft c
+    → (block_at draft b).wave ≡ (block_at draft c).wave → b < m → m ≤ c → (outline_at draft m).first ≡ false
 in_wave draft b c m w hb hc e l k =
-    let p : (block_at draft b).wave ≤ (block_at draft (m - 1)).wave = waves_rise draft b (m - 1) w hb.0 (omega arith) (omega (arith, hc.1)) in
-    let q : (block_at draft (m - 1)).wave ≤ (block_at draft m).wave = waves_rise draft (m - 1) m w (omega (arith, hb.0)) (omega arith) (omega (arith, hc.1)) in
+    let p : (block_at draft b).wave ≤ (block_at draft (m - 1)).wave = waves_rise draft b (m - 1) w hb.0
+    (omega arith) (omega (arith, hc.1)) in
+    let q : (block_at draft (m - 1)).wave ≤ (block_at draft m).wave = waves_rise draft (m - 1) m w
+    (omega (arith, hb.0)) (omega arith) (omega (arith, hc.1)) in
     let r : (block_at draft m).wave ≤ (block_at draft c).wave = waves_rise draft m c w (omega arith) k hc.1 in
-    first_is draft m w (omega arith, omega (arith, hc.1)) ∙ not_first draft m (omega (arith, hb.0)) (omega arith)
+    first_is draft m w (omega arith, omega (arith, hc.1)) ∙ not_first draft m (omega (arith, hb.0))
+    (omega arith)
 
 -- Edges.
 
-module _ (draft : Image) (shape : ShapeRules draft) (arms : (b s x y : ℕ) → IsBlock draft b → (block_at draft b).exit ≡ Branch s x y → IsArm draft b 0 x × IsArm draft b 1 y) where
+module _ (draft : Image) (shape : ShapeRules draft) (arms : (b s x y : ℕ) → IsBlock draft b
+    → (block_at draft b).exit ≡ Branch s x y → IsArm draft b 0 x × IsArm draft b 1 y) where
   abbrev firsts : List Bool
   firsts = firsts_of draft.blocks
 
   told : (t : ℕ) → IsBlock draft t → get_or firsts t true ≡ is_first draft t
   told t h = first_told draft t shape.waves h
 
-  leads_by : (e : Exit) (r : ℕ) → is_stop e ≡ false → is_first draft (leave_to e r) ≡ false → IsBlock draft (leave_to e r) → ((s : ℕ) (ls : List ℕ) → e ≡ Landings s ls → is_first draft (leave_to e r) ≡ true) → Leads (way_of e firsts) (leave_to e r)
+  leads_by : (e : Exit) (r : ℕ) → is_stop e ≡ false → is_first draft (leave_to e r) ≡ false
+      → IsBlock draft (leave_to e r) → ((s : ℕ) (ls : List ℕ) → e ≡ Landings s ls
+      → is_first draft (leave_to e r) ≡ true) → Leads (way_of e firsts) (leave_to e r)
   leads_by (Goto t) r s f h m = rw (told t h ∙ f) refl
   leads_by (Branch i p q) r s f h m = go (eqb r 0)
     where
@@ -156,10 +192,12 @@ module _ (draft : Image) (shape : ShapeRules draft) (arms : (b s x y : ℕ) → 
   leads_by (Landings i ls) r s f h m = absurd (cc (sym f ∙ m i ls refl))
   leads_by Stop r s f h m = absurd (cc)
 
-  pub edge_leads : (b r : ℕ) → IsBlock draft b → stops draft b ≡ false → is_first draft (target draft b r) ≡ false → Leads (outline_at draft b).way (target draft b r)
+  pub edge_leads : (b r : ℕ) → IsBlock draft b → stops draft b ≡ false → is_first draft (target draft b r)
+      ≡ false → Leads (outline_at draft b).way (target draft b r)
   unfolding target stops
   edge_leads b r h s f = subst (λ (w : Way). Leads w (target draft b r)) (sym (way_is draft b h))
-      (leads_by (block_at draft b).exit r s f ((shape.blocks b h).edges.there r s) (λ i ls e. (shape.blocks b h).hang.landing_first i r ls e))
+      (leads_by (block_at draft b).exit r s f ((shape.blocks b h).edges.there r s)
+      (λ i ls e. (shape.blocks b h).hang.landing_first i r ls e))
 
   pub record Back (b c : ℕ) : Type 0 where
     pub goes : stops draft b ≡ false
@@ -167,7 +205,8 @@ module _ (draft : Image) (shape : ShapeRules draft) (arms : (b s x y : ℕ) → 
     pub target_is : target draft b r ≡ c
     pub inside : is_first draft c ≡ false
 
-  back_by : (b : ℕ) (e : Exit) (c : ℕ) → IsBlock draft b → (block_at draft b).exit ≡ e → Leads (way_of e firsts) c → Back b c
+  back_by : (b : ℕ) (e : Exit) (c : ℕ) → IsBlock draft b → (block_at draft b).exit ≡ e
+      → Leads (way_of e firsts) c → Back b c
   unfolding target stops
   back_by b (Goto t) c h e k = go (get_or firsts t true) refl k
     where
@@ -182,14 +221,33 @@ module _ (draft : Image) (shape : ShapeRules draft) (arms : (b s x y : ℕ) → 
 
       go : (v : Bool) → get_or firsts t true ≡ v → Leads (cond v Out (On t)) c → Back b c
       go true f k = absurd k
-      go false f k = record { goes = s; r = 0; target_is = at 0 ∙ sym k; inside = ap (is_first draft) k ∙ (sym (told t block) ∙ f) }
-  back_by b (Branch i p q) c h e (inl k) = record { goes = ap is_stop e; r = 1; target_is = ap (λ (x : Exit). leave_to x 1) e ∙ sym k; inside = ap (is_first draft) k ∙ (arms b i p q h e).0.not_first }
-  back_by b (Branch i p q) c h e (inr k) = record { goes = ap is_stop e; r = 0; target_is = ap (λ (x : Exit). leave_to x 0) e ∙ sym k; inside = ap (is_first draft) k ∙ (arms b i p q h e).1.not_first }
+      go false f k = record {
+        goes = s;
+        r = 0;
+        target_is = at 0 ∙ sym k;
+        inside = ap (is_first draft) k
+            ∙ (sym (told t block) ∙ f);
+      }
+  back_by b (Branch i p q) c h e (inl k) = record {
+    goes = ap is_stop e;
+    r = 1;
+    target_is = ap (λ (x : Exit). leave_to x 1) e ∙ sym k;
+    inside = ap (is_first draft) k
+        ∙ (arms b i p q h e).0.not_first;
+  }
+  back_by b (Branch i p q) c h e (inr k) = record {
+    goes = ap is_stop e;
+    r = 0;
+    target_is = ap (λ (x : Exit). leave_to x 0) e ∙ sym k;
+    inside = ap (is_first draft) k
+        ∙ (arms b i p q h e).1.not_first;
+  }
   back_by b (Landings i ls) c h e k = absurd k
   back_by b Stop c h e k = absurd k
 
   pub back : (b c : ℕ) → IsBlock draft b → Leads (outline_at draft b).way c → Back b c
-  back b c h k = back_by b (block_at draft b).exit c h refl (subst (λ (w : Way). Leads w c) (way_is draft b h) k)
+  back b c h k = back_by b (block_at draft b).exit c h refl (subst (λ (w : Way). Leads w c) (way_is draft b h)
+      k)
 
   -- an edge inside a wave leads on in it
   pub record On_in (b c : ℕ) : Type 0 where
@@ -200,14 +258,19 @@ module _ (draft : Image) (shape : ShapeRules draft) (arms : (b s x y : ℕ) → 
   pub on_in : (b c : ℕ) → IsBlock draft b → Leads (outline_at draft b).way c → On_in b c
   on_in b c h k =
       let q : Back b c = back b c h k in
-      let l : (b < target draft b q.r) × ((block_at draft (target draft b q.r)).wave ≡ (block_at draft b).wave) = (shape.blocks b h).edges.later q.r q.goes (ap (is_first draft) q.target_is ∙ q.inside) in
+      let l : (b < target draft b q.r)
+      × ((block_at draft (target draft b q.r)).wave ≡ (block_at draft b).wave) =
+      (shape.blocks b h).edges.later q.r q.goes (ap (is_first draft) q.target_is ∙ q.inside) in
       record {
         later = subst (λ (i : ℕ). b < i) q.target_is l.0;
         most = (subst (IsBlock draft) q.target_is ((shape.blocks b h).edges.there q.r q.goes)).1;
         wave = ap (λ (i : ℕ). (block_at draft i).wave) (sym q.target_is) ∙ l.1;
       }
 
-  out_by : (b : ℕ) (e : Exit) → IsBlock draft b → (block_at draft b).exit ≡ e → (stops draft b ≡ true) ⊎ ((stops draft b ≡ false) × ((r : ℕ) × (is_first draft (target draft b r) ≡ true))) → way_of e firsts ≡ Out
+  out_by : (b : ℕ) (e : Exit) → IsBlock draft b → (block_at draft b).exit ≡ e
+      → (stops draft b ≡ true)
+      ⊎ ((stops draft b ≡ false) × ((r : ℕ) × (is_first draft (target draft b r) ≡ true)))
+      → way_of e firsts ≡ Out
   unfolding target stops
   out_by b (Goto t) h e (inl s) = absurd (cc (sym s ∙ ap is_stop e))
   out_by b (Goto t) h e (inr s) =
@@ -215,7 +278,8 @@ module _ (draft : Image) (shape : ShapeRules draft) (arms : (b s x y : ℕ) → 
       let block : IsBlock draft t = subst (IsBlock draft) at ((shape.blocks b h).edges.there s.1.0 s.0) in
       ap (λ (v : Bool). cond v Out (On t)) (told t block ∙ (ap (is_first draft) (sym at) ∙ s.1.1))
   out_by b (Branch i p q) h e (inl s) = absurd (cc (sym s ∙ ap is_stop e))
-  out_by b (Branch i p q) h e (inr s) = absurd (go (eqb s.1.0 0) (ap (λ (x : Exit). is_first draft (leave_to x s.1.0)) (sym e) ∙ s.1.1))
+  out_by b (Branch i p q) h e (inr s) =
+      absurd (go (eqb s.1.0 0) (ap (λ (x : Exit). is_first draft (leave_to x s.1.0)) (sym e) ∙ s.1.1))
     where
       go : (v : Bool) → is_first draft (cond v q p) ≡ true → ⊥
       go true f = cc (sym f ∙ (arms b i p q h e).1.not_first)
@@ -223,11 +287,15 @@ module _ (draft : Image) (shape : ShapeRules draft) (arms : (b s x y : ℕ) → 
   out_by b (Landings i ls) h e s = refl
   out_by b Stop h e s = refl
 
-  pub way_out : (b : ℕ) → IsBlock draft b → (stops draft b ≡ true) ⊎ ((stops draft b ≡ false) × ((r : ℕ) × (is_first draft (target draft b r) ≡ true))) → (outline_at draft b).way ≡ Out
+  pub way_out : (b : ℕ) → IsBlock draft b → (stops draft b ≡ true)
+      ⊎ ((stops draft b ≡ false) × ((r : ℕ) × (is_first draft (target draft b r) ≡ true)))
+      → (outline_at draft b).way ≡ Out
   way_out b h s = way_is draft b h ∙ out_by b (block_at draft b).exit h refl s
 
   -- and where nothing leads on, a wave ends
-  ends_by : (b : ℕ) (e : Exit) → IsBlock draft b → (block_at draft b).exit ≡ e → way_of e firsts ≡ Out → (stops draft b ≡ true) ⊎ ((stops draft b ≡ false) × ((r : ℕ) × (is_first draft (target draft b r) ≡ true)))
+  ends_by : (b : ℕ) (e : Exit) → IsBlock draft b → (block_at draft b).exit ≡ e → way_of e firsts ≡ Out
+      → (stops draft b ≡ true)
+      ⊎ ((stops draft b ≡ false) × ((r : ℕ) × (is_first draft (target draft b r) ≡ true)))
   unfolding target stops
   ends_by b (Goto t) h e w = go (get_or firsts t true) refl w
     where
@@ -240,14 +308,18 @@ module _ (draft : Image) (shape : ShapeRules draft) (arms : (b s x y : ℕ) → 
       block : IsBlock draft t
       block = subst (IsBlock draft) at ((shape.blocks b h).edges.there 0 s)
 
-      go : (v : Bool) → get_or firsts t true ≡ v → cond v Out (On t) ≡ Out → (stops draft b ≡ true) ⊎ ((stops draft b ≡ false) × ((r : ℕ) × (is_first draft (target draft b r) ≡ true)))
+      go : (v : Bool) → get_or firsts t true ≡ v → cond v Out (On t) ≡ Out
+          → (stops draft b ≡ true)
+          ⊎ ((stops draft b ≡ false) × ((r : ℕ) × (is_first draft (target draft b r) ≡ true)))
       go true f w = inr (s, (0, ap (is_first draft) at ∙ (sym (told t block) ∙ f)))
       go false f w = absurd (cc)
   ends_by b (Branch i p q) h e w = absurd (cc)
   ends_by b (Landings i ls) h e w = inr (ap is_stop e, (0, (shape.blocks b h).hang.landing_first i 0 ls e))
   ends_by b Stop h e w = inl (ap is_stop e)
 
-  pub out_ends : (b : ℕ) → IsBlock draft b → (outline_at draft b).way ≡ Out → (stops draft b ≡ true) ⊎ ((stops draft b ≡ false) × ((r : ℕ) × (is_first draft (target draft b r) ≡ true)))
+  pub out_ends : (b : ℕ) → IsBlock draft b → (outline_at draft b).way ≡ Out
+      → (stops draft b ≡ true)
+      ⊎ ((stops draft b ≡ false) × ((r : ℕ) × (is_first draft (target draft b r) ≡ true)))
   out_ends b h w = ends_by b (block_at draft b).exit h refl (sym (way_is draft b h) ∙ w)
 
   -- the edges that lead to a block
@@ -276,12 +348,15 @@ module _ (draft : Image) (shape : ShapeRules draft) (arms : (b s x y : ℕ) → 
   fork_by (Landings s ls) p q f = absurd (cc)
   fork_by Stop p q f = absurd (cc)
 
-  pub forks : (b p q : ℕ) → IsBlock draft b → (outline_at draft b).way ≡ Fork p q → IsArm draft b 0 p × IsArm draft b 1 q
+  pub forks : (b p q : ℕ) → IsBlock draft b → (outline_at draft b).way ≡ Fork p q
+      → IsArm draft b 0 p × IsArm draft b 1 q
   forks b p q h f =
-      let e : (s : ℕ) × ((block_at draft b).exit ≡ Branch s p q) = fork_by (block_at draft b).exit p q (sym (way_is draft b h) ∙ f) in
+      let e : (s : ℕ) × ((block_at draft b).exit ≡ Branch s p q) = fork_by (block_at draft b).exit p q
+      (sym (way_is draft b h) ∙ f) in
       arms b e.0 p q h e.1
 
-  pub leads_edge : (b c : ℕ) → IsBlock draft b → Leads (outline_at draft b).way c → (i : ℕ) × (nth (edges_of (block_at draft b).exit) i ≡ Some c)
+  pub leads_edge : (b c : ℕ) → IsBlock draft b → Leads (outline_at draft b).way c
+      → (i : ℕ) × (nth (edges_of (block_at draft b).exit) i ≡ Some c)
   leads_edge b c h k = edge_of (block_at draft b).exit c (subst (λ (w : Way). Leads w c) (way_is draft b h) k)
 
   parts_by : (b : ℕ) (w : Way) → IsBlock draft b → (outline_at draft b).way ≡ w → Parts w
@@ -295,7 +370,8 @@ module _ (draft : Image) (shape : ShapeRules draft) (arms : (b s x y : ℕ) → 
   pub parts : (b : ℕ) → IsBlock draft b → Parts (outline_at draft b).way
   parts b h = parts_by b (outline_at draft b).way h refl
 
-  pub alone : (b p q a c : ℕ) → IsBlock draft b → IsBlock draft a → (outline_at draft b).way ≡ Fork p q → Leads (outline_at draft b).way c → Leads (outline_at draft a).way c → a ≡ b
+  pub alone : (b p q a c : ℕ) → IsBlock draft b → IsBlock draft a → (outline_at draft b).way ≡ Fork p q
+      → Leads (outline_at draft b).way c → Leads (outline_at draft a).way c → a ≡ b
   alone b p q a c h g f k l = go (subst (λ (w : Way). Leads w c) f k) (leads_edge a c g l)
     where
       arm : IsArm draft b 0 p × IsArm draft b 1 q

@@ -1,8 +1,11 @@
 -- The operations of each wave are numbered in listing order, from 1 on.
-use Rattle.std.proofs.Common.{ℕ, zero, suc, ◌+◌, ◌≡◌, ◌<◌, ◌≤◌, ◌⊎◌, ◌&&◌, Bool, true, false, cond, not, List, [], ◌∷◌, length, get_or, refl, sym, ap, ◌∙◌, inl, inr, arith, eqb, eq-eqb, ne_eqb}
+use Rattle.std.proofs.Common.{ℕ, zero, suc, ◌+◌, ◌≡◌, ◌<◌, ◌≤◌, ◌⊎◌, ◌&&◌, Bool, true, false, cond, not, List}
+use Rattle.std.proofs.Common.{[], ◌∷◌, length, get_or, refl, sym, ap, ◌∙◌, inl, inr, arith, eqb, eq-eqb}
+use Rattle.std.proofs.Common.{ne_eqb}
 use Rattle.std.proofs.lemmas.Bool.{cases_eq, cases_Bool, cases_lt}
 use Rattle.ws_isa.specs.declared.instr.Note.{Note}
-use Rattle.ws_isa.specs.Image.{Block, Image, no_block, instr_at, block_at, block_of, first_number, is_memory, is_memory_op, note_of, is_first, IsIn, IsBlock}
+use Rattle.ws_isa.specs.Image.{Block, Image, no_block, instr_at, block_at, block_of, first_number, is_memory}
+use Rattle.ws_isa.specs.Image.{is_memory_op, note_of, is_first, IsIn, IsBlock}
 use Rattle.ws_isa.specs.Formed.{WavesInOrder}
 use Rattle.ws_isa.specs.Open.{OpenToNotes}
 use Rattle.ws_isa.proofs.Blocks.{number_one}
@@ -30,18 +33,24 @@ unfolding block_of block_at no_block
 outside_block image = refl
 
 -- a block that isn't its wave's first has the wave of the one before
-not_first_wave : (draft : Image) (b : ℕ) → 1 ≤ b → is_first draft (suc b) ≡ false → (block_at draft (suc b)).wave ≡ (block_at draft b).wave
+not_first_wave : (draft : Image) (b : ℕ) → 1 ≤ b → is_first draft (suc b) ≡ false
+    → (block_at draft (suc b)).wave ≡ (block_at draft b).wave
 unfolding is_first
 not_first_wave draft zero l f = absurd (omega arith)
-not_first_wave draft (suc b) l f = elim (cases_eq (block_at draft (suc (suc b))).wave (block_at draft (suc b)).wave) [
-  | inl e ↦ e
-  | inr d ↦ absurd (cc (sym f ∙ ap not (ne_eqb (block_at draft (suc (suc b))).wave (block_at draft (suc b)).wave d)))
-]
+not_first_wave draft (suc b) l f =
+    elim (cases_eq (block_at draft (suc (suc b))).wave (block_at draft (suc b)).wave) [
+      | inl e ↦ e
+      | inr d ↦
+          absurd (cc
+          (sym f ∙ ap not (ne_eqb (block_at draft (suc (suc b))).wave (block_at draft (suc b)).wave d)))
+    ]
 
-first_wave_new : (draft : Image) (b : ℕ) → 1 ≤ b → is_first draft (suc b) ≡ true → (block_at draft (suc b)).wave ≡ (block_at draft b).wave → ⊥
+first_wave_new : (draft : Image) (b : ℕ) → 1 ≤ b → is_first draft (suc b) ≡ true
+    → (block_at draft (suc b)).wave ≡ (block_at draft b).wave → ⊥
 unfolding is_first
 first_wave_new draft zero l f e = omega arith
-first_wave_new draft (suc b) l f e = cc (sym f ∙ ap not (eq-eqb (block_at draft (suc (suc b))).wave (block_at draft (suc b)).wave e))
+first_wave_new draft (suc b) l f e =
+    cc (sym f ∙ ap not (eq-eqb (block_at draft (suc (suc b))).wave (block_at draft (suc b)).wave e))
 
 abbrev one_of : Bool → ℕ
 one_of v = cond v 1 0
@@ -71,7 +80,8 @@ module _ (draft : Image) (open_to : OpenToNotes draft) where
   order = open_to.walkable.shape.waves
 
   waves_up : (b c : ℕ) → 1 ≤ b → b ≤ c → c ≤ length draft.blocks → wave b ≤ wave c
-  waves_up b c l h k = let r : (block_at draft b).wave ≤ (block_at draft c).wave = waves_rise draft b c order l h k in omega (arith, wave_kept draft b, wave_kept draft c)
+  waves_up b c l h k = let r : (block_at draft b).wave ≤ (block_at draft c).wave =
+      waves_rise draft b c order l h k in omega (arith, wave_kept draft b, wave_kept draft c)
 
   waves_one : (b : ℕ) → 1 ≤ b → b ≤ length draft.blocks → 1 ≤ wave b
   waves_one b l h =
@@ -93,38 +103,52 @@ module _ (draft : Image) (open_to : OpenToNotes draft) where
 
   -- before instruction 1 there is none
   none_first : (w : ℕ) → 1 ≤ w → before w 1 ≡ 0
-  none_first w l = ap (λ (n : ℕ). 0 + n) (not_counted (eqb (block_at image (block_of image 0)).wave w) (is_memory image 0) (ne_eqb (block_at image (block_of image 0)).wave w (λ e. absurd (omega (arith, outside_block image, e)))))
+  none_first w l = ap (λ (n : ℕ). 0 + n) (not_counted (eqb (block_at image (block_of image 0)).wave w)
+      (is_memory image 0) (ne_eqb (block_at image (block_of image 0)).wave w
+      (λ e. absurd (omega (arith, outside_block image, e)))))
 
   -- an instruction of another wave isn't counted
-  other_wave : (w b k : ℕ) → IsBlock image b → IsIn image b k → (wave b ≡ w → ⊥) → before w (suc k) ≡ before w k
+  other_wave : (w b k : ℕ) → IsBlock image b → IsIn image b k → (wave b ≡ w → ⊥)
+      → before w (suc k) ≡ before w k
   other_wave w b k h i d =
       let e : (block_at image (block_of image k)).wave ≡ wave b = ap wave (block_of_is image b k h i) in
-      let c : cond (is_memory image k && eqb (block_at image (block_of image k)).wave w) 1 0 ≡ 0 = not_counted (eqb (block_at image (block_of image k)).wave w) (is_memory image k) (ne_eqb (block_at image (block_of image k)).wave w (λ f. d (sym e ∙ f))) in
+      let c : cond (is_memory image k && eqb (block_at image (block_of image k)).wave w) 1 0 ≡ 0 =
+      not_counted (eqb (block_at image (block_of image k)).wave w) (is_memory image k)
+      (ne_eqb (block_at image (block_of image k)).wave w (λ f. d (sym e ∙ f))) in
       omega (arith, c)
 
-  same_wave : (w b k : ℕ) → IsBlock image b → IsIn image b k → wave b ≡ w → before w (suc k) ≡ before w k + cond (is_memory image k) 1 0
+  same_wave : (w b k : ℕ) → IsBlock image b → IsIn image b k → wave b ≡ w
+      → before w (suc k) ≡ before w k + cond (is_memory image k) 1 0
   same_wave w b k h i d =
       let e : (block_at image (block_of image k)).wave ≡ w = ap wave (block_of_is image b k h i) ∙ d in
-      ap (λ (n : ℕ). before w k + n) (counted (eqb (block_at image (block_of image k)).wave w) (is_memory image k) (eq-eqb (block_at image (block_of image k)).wave w e))
+      ap (λ (n : ℕ). before w k + n) (counted (eqb (block_at image (block_of image k)).wave w)
+      (is_memory image k) (eq-eqb (block_at image (block_of image k)).wave w e))
 
   -- along a block of another wave, and of this one
-  along_other : (w b k : ℕ) → IsBlock image b → (wave b ≡ w → ⊥) → first_number image b ≤ k → k ≤ first_number image (suc b) → before w k ≡ before w (first_number image b)
+  along_other : (w b k : ℕ) → IsBlock image b → (wave b ≡ w → ⊥) → first_number image b ≤ k
+      → k ≤ first_number image (suc b) → before w k ≡ before w (first_number image b)
   along_other w b zero h d l m = let e : zero ≡ first_number image b = omega arith in ap (before w) e
-  along_other w b (suc k) h d l m = go (cases_eq (suc k) (first_number image b)) (λ q. along_other w b k h d q (omega arith))
+  along_other w b (suc k) h d l m = go (cases_eq (suc k) (first_number image b))
+      (λ q. along_other w b k h d q (omega arith))
     where
-      go : (suc k ≡ first_number image b) ⊎ (suc k ≡ first_number image b → ⊥) → (first_number image b ≤ k → before w k ≡ before w (first_number image b)) → before w (suc k) ≡ before w (first_number image b)
+      go : (suc k ≡ first_number image b) ⊎ (suc k ≡ first_number image b → ⊥)
+          → (first_number image b ≤ k → before w k ≡ before w (first_number image b))
+          → before w (suc k) ≡ before w (first_number image b)
       go (inl e) rec = ap (before w) e
       go (inr n) rec = let q : first_number image b ≤ k = omega arith in other_wave w b k h (q, m) d ∙ rec q
 
-  seq_step : (b k : ℕ) → IsBlock image b → IsIn image b k → sq draft b (suc k) ≡ sq draft b k + cond (is_memory image k) 1 0
+  seq_step : (b k : ℕ) → IsBlock image b → IsIn image b k → sq draft b (suc k) ≡ sq draft b k + cond
+      (is_memory image k) 1 0
   unfolding is_memory
-  seq_step b k h i = (marked draft open_to).sq_next b k h i ∙ go (is_memory_op (instr_at image k).op) (sq draft b k)
+  seq_step b k h i = (marked draft open_to).sq_next b k h i ∙ go (is_memory_op (instr_at image k).op)
+      (sq draft b k)
     where
       go : (v : Bool) (s : ℕ) → cond v (s + 1) s ≡ s + cond v 1 0
       go true s = refl
       go false s = omega arith
 
-  along : (b k : ℕ) → IsBlock image b → before (wave b) (first_number image b) ≡ low_of draft b → first_number image b ≤ k → k ≤ first_number image (suc b) → before (wave b) k + 1 ≡ sq draft b k
+  along : (b k : ℕ) → IsBlock image b → before (wave b) (first_number image b) ≡ low_of draft b
+      → first_number image b ≤ k → k ≤ first_number image (suc b) → before (wave b) k + 1 ≡ sq draft b k
   along b zero h s l m =
       let e : zero ≡ first_number image b = omega arith in
       let f : sq draft b (first_number image b) ≡ low_of draft b + 1 = (marked draft open_to).sq_first b h in
@@ -134,21 +158,29 @@ module _ (draft : Image) (open_to : OpenToNotes draft) where
       f : sq draft b (first_number image b) ≡ low_of draft b + 1
       f = (marked draft open_to).sq_first b h
 
-      go : (suc k ≡ first_number image b) ⊎ (suc k ≡ first_number image b → ⊥) → (first_number image b ≤ k → before (wave b) k + 1 ≡ sq draft b k) → before (wave b) (suc k) + 1 ≡ sq draft b (suc k)
-      go (inl e) rec = ap (λ (n : ℕ). before (wave b) n + 1) e ∙ (ap (λ (n : ℕ). n + 1) s ∙ (sym f ∙ ap (sq draft b) (sym e)))
+      go : (suc k ≡ first_number image b) ⊎ (suc k ≡ first_number image b → ⊥)
+          → (first_number image b ≤ k → before (wave b) k + 1 ≡ sq draft b k)
+          → before (wave b) (suc k) + 1 ≡ sq draft b (suc k)
+      go (inl e) rec = ap (λ (n : ℕ). before (wave b) n + 1) e
+          ∙ (ap (λ (n : ℕ). n + 1) s ∙ (sym f ∙ ap (sq draft b) (sym e)))
       go (inr d) rec =
           let q : first_number image b ≤ k = omega arith in
           let r : before (wave b) k + 1 ≡ sq draft b k = rec q in
-          let u : before (wave b) (suc k) ≡ before (wave b) k + cond (is_memory image k) 1 0 = same_wave (wave b) b k h (q, m) refl in
+          let u : before (wave b) (suc k) ≡ before (wave b) k + cond (is_memory image k) 1 0 =
+          same_wave (wave b) b k h (q, m) refl in
           let v : sq draft b (suc k) ≡ sq draft b k + cond (is_memory image k) 1 0 = seq_step b k h (q, m) in
           omega (arith, r, u, v)
 
   -- no operation of a later wave comes before a block's end
-  none_early : (b w : ℕ) → 1 ≤ b → b ≤ length draft.blocks → wave b < w → before w (first_number image (suc b)) ≡ 0
+  none_early : (b w : ℕ) → 1 ≤ b → b ≤ length draft.blocks → wave b < w
+      → before w (first_number image (suc b)) ≡ 0
   none_early zero w l h k = absurd (omega arith)
   none_early (suc b) w l h k =
-      along_other w (suc b) (first_number image (suc (suc b))) hb (λ e. absurd (omega (arith, k, e))) ((marked draft open_to).grows (suc b) hb) (omega arith)
-      ∙ start (cases_eq b 0) (λ o. none_early b w o (omega arith) (let u : wave b ≤ wave (suc b) = waves_up b (suc b) o (omega arith) h in omega (arith, k)))
+      along_other w (suc b) (first_number image (suc (suc b))) hb (λ e. absurd (omega (arith, k, e)))
+      ((marked draft open_to).grows (suc b) hb) (omega arith)
+      ∙ start (cases_eq b 0)
+      (λ o. none_early b w o (omega arith) (let u : wave b ≤ wave (suc b) = waves_up b (suc b) o
+      (omega arith) h in omega (arith, k)))
     where
       hb : IsBlock image (suc b)
       hb = block (suc b) (omega arith) h
@@ -156,47 +188,66 @@ module _ (draft : Image) (open_to : OpenToNotes draft) where
       at_first : before w 1 ≡ 0
       at_first = none_first w (omega (arith, k))
 
-      start : (b ≡ 0) ⊎ (b ≡ 0 → ⊥) → (1 ≤ b → before w (first_number image (suc b)) ≡ 0) → before w (first_number image (suc b)) ≡ 0
+      start : (b ≡ 0) ⊎ (b ≡ 0 → ⊥) → (1 ≤ b → before w (first_number image (suc b)) ≡ 0)
+          → before w (first_number image (suc b)) ≡ 0
       start (inr d) rec = rec (omega arith)
-      start (inl z) rec = ap (λ (n : ℕ). before w (first_number image (suc n))) z ∙ (ap (before w) (number_one image) ∙ at_first)
+      start (inl z) rec = ap (λ (n : ℕ). before w (first_number image (suc n))) z
+          ∙ (ap (before w) (number_one image) ∙ at_first)
 
   -- each block begins with the number of operations of its wave before it
   lows : (b : ℕ) → 1 ≤ b → b ≤ length draft.blocks → before (wave b) (first_number image b) ≡ low_of draft b
   lows zero l h = absurd (omega arith)
-  lows (suc zero) l h = ap (before (wave 1)) (number_one image) ∙ (none_first (wave 1) (waves_one 1 l h) ∙ sym low_one)
+  lows (suc zero) l h = ap (before (wave 1)) (number_one image)
+      ∙ (none_first (wave 1) (waves_one 1 l h) ∙ sym low_one)
     where
       low_one : low_of draft 1 ≡ 0
       low_one = low_start (grown_of draft)
-  lows (suc (suc b)) l h = go (cases_Bool (is_first draft (suc (suc b)))) (lows (suc b) (omega arith) (omega arith))
+  lows (suc (suc b)) l h = go (cases_Bool (is_first draft (suc (suc b))))
+      (lows (suc b) (omega arith) (omega arith))
     where
       hb : IsBlock image (suc b)
       hb = block (suc b) (omega arith) (omega arith)
 
-      next : low_of draft (suc (suc b)) ≡ low_at (outline_at draft (suc (suc b))) (low_of draft (suc b) + (outline_at draft (suc b)).ops)
+      next : low_of draft (suc (suc b)) ≡ low_at (outline_at draft (suc (suc b)))
+          (low_of draft (suc b) + (outline_at draft (suc b)).ops)
       next = (run draft open_to).low_next (suc b) (omega arith) h
 
       f : (outline_at draft (suc (suc b))).first ≡ is_first draft (suc (suc b))
       f = first_is draft (suc (suc b)) order (omega arith, h)
 
-      go : (is_first draft (suc (suc b)) ≡ true) ⊎ (is_first draft (suc (suc b)) ≡ false) → before (wave (suc b)) (first_number image (suc b)) ≡ low_of draft (suc b) → before (wave (suc (suc b))) (first_number image (suc (suc b))) ≡ low_of draft (suc (suc b))
+      go : (is_first draft (suc (suc b)) ≡ true) ⊎ (is_first draft (suc (suc b)) ≡ false)
+          → before (wave (suc b)) (first_number image (suc b)) ≡ low_of draft (suc b)
+          → before (wave (suc (suc b))) (first_number image (suc (suc b))) ≡ low_of draft (suc (suc b))
       go (inl e) rec =
-          let u : wave (suc b) ≤ wave (suc (suc b)) = waves_up (suc b) (suc (suc b)) (omega arith) (omega arith) h in
+          let u : wave (suc b) ≤ wave (suc (suc b)) = waves_up (suc b) (suc (suc b)) (omega arith)
+          (omega arith) h in
           let lt : wave (suc b) < wave (suc (suc b)) = elim (cases_lt (wave (suc b)) (wave (suc (suc b)))) [
             | inl q ↦ q
-            | inr q ↦ absurd (first_wave_new draft (suc b) (omega arith) e (omega (arith, u, q, wave_kept draft (suc b), wave_kept draft (suc (suc b)))))
+            | inr q ↦
+                absurd (first_wave_new draft (suc b) (omega arith) e
+                (omega (arith, u, q, wave_kept draft (suc b), wave_kept draft (suc (suc b)))))
           ] in
           none_early (suc b) (wave (suc (suc b))) (omega arith) (omega arith) lt
-          ∙ sym (next ∙ ap (λ (v : Bool). cond v 0 (low_of draft (suc b) + (outline_at draft (suc b)).ops)) (f ∙ e))
+          ∙ sym (next ∙ ap (λ (v : Bool). cond v 0 (low_of draft (suc b) + (outline_at draft (suc b)).ops))
+          (f ∙ e))
       go (inr e) rec =
-          let w : wave (suc (suc b)) ≡ wave (suc b) = wave_kept draft (suc (suc b)) ∙ (not_first_wave draft (suc b) (omega arith) e ∙ sym (wave_kept draft (suc b))) in
-          let r : before (wave (suc b)) (first_number image (suc (suc b))) + 1 ≡ sq draft (suc b) (first_number image (suc (suc b))) = along (suc b) (first_number image (suc (suc b))) hb rec ((marked draft open_to).grows (suc b) hb) (omega arith) in
-          let t : sq draft (suc b) (first_number image (suc (suc b))) ≡ low_of draft (suc b) + (outline_at draft (suc b)).ops + 1 = (marked draft open_to).sq_end (suc b) hb in
-          let n : low_of draft (suc (suc b)) ≡ low_of draft (suc b) + (outline_at draft (suc b)).ops = next ∙ ap (λ (v : Bool). cond v 0 (low_of draft (suc b) + (outline_at draft (suc b)).ops)) (f ∙ e) in
+          let w : wave (suc (suc b)) ≡ wave (suc b) = wave_kept draft (suc (suc b))
+          ∙ (not_first_wave draft (suc b) (omega arith) e ∙ sym (wave_kept draft (suc b))) in
+          let r : before (wave (suc b)) (first_number image (suc (suc b))) + 1 ≡ sq draft (suc b)
+          (first_number image (suc (suc b))) = along (suc b) (first_number image (suc (suc b))) hb rec
+          ((marked draft open_to).grows (suc b) hb) (omega arith) in
+          let t : sq draft (suc b) (first_number image (suc (suc b))) ≡ low_of draft (suc b)
+          + (outline_at draft (suc b)).ops + 1 = (marked draft open_to).sq_end (suc b) hb in
+          let n : low_of draft (suc (suc b)) ≡ low_of draft (suc b) + (outline_at draft (suc b)).ops =
+          next ∙ ap (λ (v : Bool). cond v 0 (low_of draft (suc b) + (outline_at draft (suc b)).ops))
+          (f ∙ e) in
           ap (λ (v : ℕ). before v (first_number image (suc (suc b)))) w ∙ omega (arith, r, t, n)
 
   pub numbered : NumberedInOrder image
   numbered b k h i m =
       let hd : b ≤ length draft.blocks = omega (arith, h.1, count_kept draft) in
-      let s : before (wave b) k + 1 ≡ sq draft b k = along b k h (lows b h.0 hd) i.0 (let u : k < first_number image (suc b) = i.1 in omega arith) in
-      let e : (note_of image k).seq ≡ sq draft b k = ap (λ (v : Note). v.seq) ((marked draft open_to).note b k h i m) in
+      let s : before (wave b) k + 1 ≡ sq draft b k = along b k h (lows b h.0 hd) i.0
+      (let u : k < first_number image (suc b) = i.1 in omega arith) in
+      let e : (note_of image k).seq ≡ sq draft b k = ap (λ (v : Note). v.seq)
+      ((marked draft open_to).note b k h i m) in
       omega (arith, s, e)

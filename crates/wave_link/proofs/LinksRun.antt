@@ -1,5 +1,7 @@
 -- What the tables say of the paths inside a wave: who was last before each block, and who comes next.
-use Rattle.std.proofs.Common.{ℕ, zero, suc, ◌+◌, ◌≡◌, ◌<◌, ◌≤◌, ◌⊎◌, ◌||◌, ◌&&◌, Bool, true, false, cond, not, List, length, get_or, Option, Some, None, refl, sym, ap, ◌∙◌, inl, inr, subst, arith, eqb, eq-eqb, ne_eqb}
+use Rattle.std.proofs.Common.{ℕ, zero, suc, ◌+◌, ◌≡◌, ◌<◌, ◌≤◌, ◌⊎◌, ◌||◌, ◌&&◌, Bool, true, false, cond, not}
+use Rattle.std.proofs.Common.{List, length, get_or, Option, Some, None, refl, sym, ap, ◌∙◌, inl, inr, subst}
+use Rattle.std.proofs.Common.{arith, eqb, eq-eqb, ne_eqb}
 use Rattle.std.proofs.lemmas.Bool.{cases_eq, cases_Bool, cases_lt, lt-ltb, le-ltb}
 use Rattle.ws_isa.specs.declared.instr.Link.{Link}
 use Rattle.ws_isa.specs.declared.instr.Link.TheVariants.{Unknown, Nothing, Is}
@@ -11,17 +13,23 @@ use Rattle.wave_link.specs.declared.states.Ways.{Ways}
 use Rattle.wave_link.specs.declared.states.Ways.TheVariants.{Zero, One, Several}
 use Rattle.wave_link.specs.declared.states.LastOps.{LastOps}
 use Rattle.wave_link.specs.declared.states.LastOps.TheVariants.{Shared, Sole, Many}
-use Rattle.wave_link.specs.States.{more, has_way, is_several, reached, enter_way, ways_step, is_shared, is_many, state_in, is_vain, spread_state}
-use Rattle.wave_link.specs.Notes.{low_at, head_at, out_link, head_link, larger, joined, begin, behind_in, behind_out, hand_all}
-use Rattle.wave_link.proofs.LinksTables.{Leads, leads, Parts, handed, hit_ways, miss_ways, ways_length, hit_states, miss_states, states_length, hit_behind, miss_behind, behind_length, exact, both_says}
+use Rattle.wave_link.specs.States.{more, has_way, is_several, reached, enter_way, ways_step, is_shared}
+use Rattle.wave_link.specs.States.{is_many, state_in, is_vain, spread_state}
+use Rattle.wave_link.specs.Notes.{low_at, head_at, out_link, head_link, larger, joined, begin, behind_in}
+use Rattle.wave_link.specs.Notes.{behind_out, hand_all}
+use Rattle.wave_link.proofs.LinksTables.{Leads, leads, Parts, handed, hit_ways, miss_ways, ways_length}
+use Rattle.wave_link.proofs.LinksTables.{hit_states, miss_states, states_length, hit_behind, miss_behind}
+use Rattle.wave_link.proofs.LinksTables.{behind_length, exact, both_says}
 use Rattle.ws_words.proofs.Bools.{or_none, plain_of as or_right}
 
 -- the tables before each of n blocks, and after the last one
-pub record Run (n : ℕ) (x : ℕ → Outline) (low : ℕ → ℕ) (heads : List Link) (ways : ℕ → List Ways) (states : ℕ → List LastOps) (behind : ℕ → List (Option Behind)) : Type 0 where
+pub record Run (n : ℕ) (x : ℕ → Outline) (low : ℕ → ℕ) (heads : List Link) (ways : ℕ → List Ways)
+    (states : ℕ → List LastOps) (behind : ℕ → List (Option Behind)) : Type 0 where
   pub later : (b c : ℕ) → 1 ≤ b → b ≤ n → Leads (x b).way c → (b < c) × (c ≤ n)
   pub inner : (b c m : ℕ) → 1 ≤ b → b ≤ n → Leads (x b).way c → b < m → m ≤ c → (x m).first ≡ false
   pub parts : (b : ℕ) → 1 ≤ b → b ≤ n → Parts (x b).way
-  pub alone : (b p q a c : ℕ) → 1 ≤ b → b ≤ n → (x b).way ≡ Fork p q → Leads (x b).way c → 1 ≤ a → a ≤ n → Leads (x a).way c → a ≡ b
+  pub alone : (b p q a c : ℕ) → 1 ≤ b → b ≤ n → (x b).way ≡ Fork p q → Leads (x b).way c → 1 ≤ a → a ≤ n
+      → Leads (x a).way c → a ≡ b
   pub writer_in : (b : ℕ) → 1 ≤ b → b ≤ n → (x b).writer ≤ (x b).ops
   pub low_next : (b : ℕ) → 1 ≤ b → b < n → low (suc b) ≡ low_at (x (suc b)) (low b + (x b).ops)
   pub head_is : (b : ℕ) → 1 ≤ b → b ≤ n → head_at heads b ≡ head_link (x b) (low b) heads
@@ -31,10 +39,14 @@ pub record Run (n : ℕ) (x : ℕ → Outline) (low : ℕ → ℕ) (heads : List
   pub ways_start : (c : ℕ) → get_or (ways 1) c Zero ≡ Zero
   pub behind_start : (c : ℕ) → get_or (behind 1) c None ≡ None
   pub ways_next : (b : ℕ) → 1 ≤ b → b ≤ n → ways (suc b) ≡ ways_step (x b) b (ways b)
-  pub states_next : (b : ℕ) → 1 ≤ b → b ≤ n → states (suc b) ≡ cond (reached (x b) b (ways (suc n))) (spread_state (x b).way (not (eqb (x b).ops 0)) (state_in (x b) b (ways (suc n)) (states b)) (states b)) (states b)
-  pub behind_next : (b : ℕ) → 1 ≤ b → b ≤ n → behind (suc b) ≡ hand_all (x b) (low b) (behind_in (x b) b (behind b)) (behind b)
+  pub states_next : (b : ℕ) → 1 ≤ b → b ≤ n → states (suc b) ≡ cond (reached (x b) b (ways (suc n)))
+      (spread_state (x b).way (not (eqb (x b).ops 0)) (state_in (x b) b (ways (suc n)) (states b)) (states b))
+      (states b)
+  pub behind_next : (b : ℕ) → 1 ≤ b → b ≤ n → behind (suc b) ≡ hand_all (x b) (low b)
+      (behind_in (x b) b (behind b)) (behind b)
   -- what is left without an operation needs none
-  pub none_vain : (b : ℕ) → 1 ≤ b → b ≤ n → reached (x b) b (ways (suc n)) ≡ true → (x b).ops ≡ 0 → is_vain (x b).way (ways (suc n)) (state_in (x b) b (ways (suc n)) (states b)) ≡ true
+  pub none_vain : (b : ℕ) → 1 ≤ b → b ≤ n → reached (x b) b (ways (suc n)) ≡ true → (x b).ops ≡ 0
+      → is_vain (x b).way (ways (suc n)) (state_in (x b) b (ways (suc n)) (states b)) ≡ true
 
 -- z says no more than y
 pub record Under (y z : Behind) : Type 0 where
@@ -42,21 +54,38 @@ pub record Under (y z : Behind) : Type 0 where
   pub writer : y.writer ≤ z.writer
 
 larger_left : (n m : ℕ) → n ≤ larger n m
-larger_left n m = elim (cases_lt n m) [ inl l ↦ rw (lt-ltb n m l) (omega (arith, l)) | inr l ↦ rw (le-ltb n m l) (omega arith) ]
+larger_left n m = elim (cases_lt n m) [
+  | inl l ↦ rw (lt-ltb n m l) (omega (arith, l))
+  | inr l ↦
+      rw (le-ltb n m l) (omega arith)
+]
 
 larger_right : (n m : ℕ) → m ≤ larger n m
-larger_right n m = elim (cases_lt n m) [ inl l ↦ rw (lt-ltb n m l) (omega arith) | inr l ↦ rw (le-ltb n m l) l ]
+larger_right n m = elim (cases_lt n m) [
+  | inl l ↦ rw (lt-ltb n m l) (omega arith)
+  | inr l ↦
+      rw (le-ltb n m l) l
+]
 
 larger_is : (n m : ℕ) → (larger n m ≡ n) ⊎ (larger n m ≡ m)
-larger_is n m = elim (cases_lt n m) [ inl l ↦ inr (rw (lt-ltb n m l) refl) | inr l ↦ inl (rw (le-ltb n m l) refl) ]
+larger_is n m = elim (cases_lt n m) [
+  | inl l ↦ inr (rw (lt-ltb n m l) refl)
+  | inr l ↦
+      inl (rw (le-ltb n m l) refl)
+]
 
 under_self : (y : Behind) → Under y y
 under_self y = record { pred = inr refl; writer = omega arith }
 
 under_on : (u z v : Behind) → Under u z → Under u (joined (Some z) v)
 under_on u z v h = record {
-  pred = elim (both_says z.pred v.pred) [ inl e ↦ inl e | inr e ↦ elim h.pred [ inl f ↦ inl (e.0 ∙ f) | inr f ↦ inr (e.0 ∙ f) ] ];
-  writer = (let l : z.writer ≤ larger z.writer v.writer = larger_left z.writer v.writer in omega (arith, h.writer, l));
+  pred = elim (both_says z.pred v.pred) [
+    | inl e ↦ inl e
+    | inr e ↦
+        elim h.pred [ inl f ↦ inl (e.0 ∙ f) | inr f ↦ inr (e.0 ∙ f) ]
+  ];
+  writer = (let l : z.writer ≤ larger z.writer v.writer = larger_left z.writer v.writer in
+      omega (arith, h.writer, l));
 }
 
 under_new : (z v : Behind) → Under v (joined (Some z) v)
@@ -70,7 +99,9 @@ on_or_fork Out c h = absurd h
 on_or_fork (On b) c h = inl (ap On (sym h))
 on_or_fork (Fork p q) c h = inr (p, q, refl)
 
-module _ (n : ℕ) (x : ℕ → Outline) (low : ℕ → ℕ) (heads : List Link) (ways : ℕ → List Ways) (states : ℕ → List LastOps) (behind : ℕ → List (Option Behind)) (run : Run n x low heads ways states behind) where
+module _ (n : ℕ) (x : ℕ → Outline) (low : ℕ → ℕ) (heads : List Link) (ways : ℕ → List Ways)
+    (states : ℕ → List LastOps) (behind : ℕ → List (Option Behind))
+    (run : Run n x low heads ways states behind) where
   abbrev pub seen : ℕ → ℕ → Ways
   seen m c = get_or (ways m) c Zero
 
@@ -96,16 +127,20 @@ module _ (n : ℕ) (x : ℕ → Outline) (low : ℕ → ℕ) (heads : List Link)
   ways_len : (b : ℕ) → 1 ≤ b → b ≤ suc n → length (ways b) ≡ suc n
   ways_len zero l h = absurd (omega arith)
   ways_len (suc zero) l h = run.ways_size
-  ways_len (suc (suc k)) l h = ap length (run.ways_next (suc k) (omega arith) (omega arith)) ∙ (step_length (suc k) (reach (suc k)) refl ∙ ways_len (suc k) (omega arith) (omega arith))
+  ways_len (suc (suc k)) l h = ap length (run.ways_next (suc k) (omega arith) (omega arith))
+      ∙ (step_length (suc k) (reach (suc k)) refl ∙ ways_len (suc k) (omega arith) (omega arith))
 
-  spread_length : (b : ℕ) (v : Bool) → length (cond v (spread_state (x b).way (full b) (state b) (states b)) (states b)) ≡ length (states b)
+  spread_length : (b : ℕ) (v : Bool)
+      → length (cond v (spread_state (x b).way (full b) (state b) (states b)) (states b)) ≡ length (states b)
   spread_length b true = states_length (x b).way (full b) (state b) (states b)
   spread_length b false = refl
 
   states_len : (b : ℕ) → 1 ≤ b → b ≤ suc n → length (states b) ≡ suc n
   states_len zero l h = absurd (omega arith)
   states_len (suc zero) l h = run.states_size
-  states_len (suc (suc k)) l h = ap length (run.states_next (suc k) (omega arith) (omega arith)) ∙ (spread_length (suc k) (reached (x (suc k)) (suc k) (ways (suc n))) ∙ states_len (suc k) (omega arith) (omega arith))
+  states_len (suc (suc k)) l h = ap length (run.states_next (suc k) (omega arith) (omega arith))
+      ∙ (spread_length (suc k) (reached (x (suc k)) (suc k) (ways (suc n)))
+      ∙ states_len (suc k) (omega arith) (omega arith))
 
   hand_length : (b : ℕ) (y : Option Behind) → length (hand_all (x b) (low b) y (behind b)) ≡ length (behind b)
   hand_length b None = refl
@@ -114,14 +149,18 @@ module _ (n : ℕ) (x : ℕ → Outline) (low : ℕ → ℕ) (heads : List Link)
   behind_len : (b : ℕ) → 1 ≤ b → b ≤ suc n → length (behind b) ≡ suc n
   behind_len zero l h = absurd (omega arith)
   behind_len (suc zero) l h = run.behind_size
-  behind_len (suc (suc k)) l h = ap length (run.behind_next (suc k) (omega arith) (omega arith)) ∙ (hand_length (suc k) (here (suc k)) ∙ behind_len (suc k) (omega arith) (omega arith))
+  behind_len (suc (suc k)) l h = ap length (run.behind_next (suc k) (omega arith) (omega arith))
+      ∙ (hand_length (suc k) (here (suc k)) ∙ behind_len (suc k) (omega arith) (omega arith))
 
   -- one step at one place
 
-  ways_hit : (m c : ℕ) → 1 ≤ m → m ≤ n → c ≤ n → reach m ≡ true → Leads (x m).way c → seen (suc m) c ≡ more (seen m c)
-  ways_hit m c l h k r e = ap (λ (t : List Ways). get_or t c Zero) (run.ways_next m l h) ∙ rw r (hit_ways (x m).way c (ways m) (run.parts m l h) e (omega (arith, ways_len m l (omega arith))))
+  ways_hit : (m c : ℕ) → 1 ≤ m → m ≤ n → c ≤ n → reach m ≡ true → Leads (x m).way c
+      → seen (suc m) c ≡ more (seen m c)
+  ways_hit m c l h k r e = ap (λ (t : List Ways). get_or t c Zero) (run.ways_next m l h)
+      ∙ rw r (hit_ways (x m).way c (ways m) (run.parts m l h) e (omega (arith, ways_len m l (omega arith))))
 
-  ways_miss : (m c : ℕ) → 1 ≤ m → m ≤ n → (reach m ≡ false) ⊎ (Leads (x m).way c → ⊥) → seen (suc m) c ≡ seen m c
+  ways_miss : (m c : ℕ) → 1 ≤ m → m ≤ n → (reach m ≡ false) ⊎ (Leads (x m).way c → ⊥)
+      → seen (suc m) c ≡ seen m c
   ways_miss m c l h (inl r) = ap (λ (t : List Ways). get_or t c Zero) (run.ways_next m l h) ∙ rw r refl
   ways_miss m c l h (inr k) = ap (λ (t : List Ways). get_or t c Zero) (run.ways_next m l h) ∙ go (reach m)
     where
@@ -138,33 +177,49 @@ module _ (n : ℕ) (x : ℕ → Outline) (low : ℕ → ℕ) (heads : List Link)
       go (inl e) rec = ap (λ (i : ℕ). seen i b) (sym e)
       go (inr d) rec =
           let q : b ≤ m = omega arith in
-          ways_miss m b (omega arith) (omega arith) (inr (λ e. absurd (let lt : m < b = (run.later m b (omega arith) (omega arith) e).0 in omega arith))) ∙ rec q
+          ways_miss m b (omega arith) (omega arith)
+          (inr (λ e. absurd (let lt : m < b = (run.later m b (omega arith) (omega arith) e).0 in
+          omega arith))) ∙ rec q
 
   pub reach_same : (b : ℕ) → 1 ≤ b → b ≤ n → reached (x b) b (ways (suc n)) ≡ reach b
-  reach_same b l h = ap (λ (w : Ways). (x b).first || has_way w) (settle b (suc n) l h (omega arith) (omega arith))
+  reach_same b l h = ap (λ (w : Ways). (x b).first || has_way w)
+      (settle b (suc n) l h (omega arith) (omega arith))
 
-  states_hit : (m c : ℕ) → 1 ≤ m → m ≤ n → c ≤ n → reach m ≡ true → Leads (x m).way c → get_or (states (suc m)) c Shared ≡ handed (x m).way (full m) (state m)
+  states_hit : (m c : ℕ) → 1 ≤ m → m ≤ n → c ≤ n → reach m ≡ true → Leads (x m).way c
+      → get_or (states (suc m)) c Shared ≡ handed (x m).way (full m) (state m)
   states_hit m c l h k r e =
       let r' : reached (x m) m (ways (suc n)) ≡ true = reach_same m l h ∙ r in
       ap (λ (t : List LastOps). get_or t c Shared) (run.states_next m l h)
-      ∙ (ap (λ (v : Bool). get_or (cond v (spread_state (x m).way (full m) (state m) (states m)) (states m)) c Shared) r' ∙ hit_states (x m).way c (full m) (state m) (states m) e (omega (arith, states_len m l (omega arith))))
+      ∙ (ap (λ (v : Bool). get_or (cond v (spread_state (x m).way (full m) (state m) (states m)) (states m)) c
+      Shared) r' ∙ hit_states (x m).way c (full m) (state m) (states m) e
+      (omega (arith, states_len m l (omega arith))))
 
-  states_miss : (m c : ℕ) → 1 ≤ m → m ≤ n → (reach m ≡ false) ⊎ (Leads (x m).way c → ⊥) → get_or (states (suc m)) c Shared ≡ get_or (states m) c Shared
-  states_miss m c l h k = ap (λ (t : List LastOps). get_or t c Shared) (run.states_next m l h) ∙ go (reached (x m) m (ways (suc n))) (reach_same m l h) k
+  states_miss : (m c : ℕ) → 1 ≤ m → m ≤ n → (reach m ≡ false) ⊎ (Leads (x m).way c → ⊥)
+      → get_or (states (suc m)) c Shared ≡ get_or (states m) c Shared
+  states_miss m c l h k = ap (λ (t : List LastOps). get_or t c Shared) (run.states_next m l h)
+      ∙ go (reached (x m) m (ways (suc n))) (reach_same m l h) k
     where
-      go : (v : Bool) → v ≡ reach m → (reach m ≡ false) ⊎ (Leads (x m).way c → ⊥) → get_or (cond v (spread_state (x m).way (full m) (state m) (states m)) (states m)) c Shared ≡ get_or (states m) c Shared
+      go : (v : Bool) → v ≡ reach m → (reach m ≡ false) ⊎ (Leads (x m).way c → ⊥)
+          → get_or (cond v (spread_state (x m).way (full m) (state m) (states m)) (states m)) c Shared
+          ≡ get_or (states m) c Shared
       go true e (inl r) = absurd (cc (e ∙ r))
       go true e (inr q) = miss_states (x m).way c (full m) (state m) (states m) q
       go false e q = refl
 
-  behind_hit : (m c : ℕ) (y : Behind) → 1 ≤ m → m ≤ n → c ≤ n → here m ≡ Some y → Leads (x m).way c → get_or (behind (suc m)) c None ≡ Some (joined (get_or (behind m) c None) (out m y))
+  behind_hit : (m c : ℕ) (y : Behind) → 1 ≤ m → m ≤ n → c ≤ n → here m ≡ Some y → Leads (x m).way c
+      → get_or (behind (suc m)) c None ≡ Some (joined (get_or (behind m) c None) (out m y))
   behind_hit m c y l h k r e = ap (λ (t : List (Option Behind)). get_or t c None) (run.behind_next m l h)
-      ∙ (ap (λ (o : Option Behind). get_or (hand_all (x m) (low m) o (behind m)) c None) r ∙ hit_behind (x m).way c (out m y) (behind m) (run.parts m l h) e (omega (arith, behind_len m l (omega arith))))
+      ∙ (ap (λ (o : Option Behind). get_or (hand_all (x m) (low m) o (behind m)) c None) r
+      ∙ hit_behind (x m).way c (out m y) (behind m) (run.parts m l h) e
+      (omega (arith, behind_len m l (omega arith))))
 
-  behind_miss : (m c : ℕ) → 1 ≤ m → m ≤ n → (here m ≡ None) ⊎ (Leads (x m).way c → ⊥) → get_or (behind (suc m)) c None ≡ get_or (behind m) c None
-  behind_miss m c l h k = ap (λ (t : List (Option Behind)). get_or t c None) (run.behind_next m l h) ∙ go (here m) refl k
+  behind_miss : (m c : ℕ) → 1 ≤ m → m ≤ n → (here m ≡ None) ⊎ (Leads (x m).way c → ⊥)
+      → get_or (behind (suc m)) c None ≡ get_or (behind m) c None
+  behind_miss m c l h k = ap (λ (t : List (Option Behind)). get_or t c None) (run.behind_next m l h)
+      ∙ go (here m) refl k
     where
-      go : (o : Option Behind) → here m ≡ o → (here m ≡ None) ⊎ (Leads (x m).way c → ⊥) → get_or (hand_all (x m) (low m) o (behind m)) c None ≡ get_or (behind m) c None
+      go : (o : Option Behind) → here m ≡ o → (here m ≡ None) ⊎ (Leads (x m).way c → ⊥)
+          → get_or (hand_all (x m) (low m) o (behind m)) c None ≡ get_or (behind m) c None
       go None e q = refl
       go (Some y) e (inl r) = absurd (cc (sym e ∙ r))
       go (Some y) e (inr q) = miss_behind (x m).way c (out m y) (behind m) q
@@ -194,25 +249,30 @@ module _ (n : ℕ) (x : ℕ → Outline) (low : ℕ → ℕ) (heads : List Link)
 
   pub data Inv (m c : ℕ) : Type 0 where
     zero_in : seen m c ≡ Zero → get_or (behind m) c None ≡ None → ((a : ℕ) → Came a c m → ⊥) → Inv m c
-    one_in : (a : ℕ) (y : Behind) → seen m c ≡ One → Came a c m → here a ≡ Some y → get_or (states m) c Shared ≡ handed (x a).way (full a) (state a) →
+    one_in : (a : ℕ) (y : Behind) → seen m c ≡ One → Came a c m → here a ≡ Some y
+        → get_or (states m) c Shared ≡ handed (x a).way (full a) (state a) →
         get_or (behind m) c None ≡ Some (out a y) → ((d : ℕ) → Came d c m → d ≡ a) → Inv m c
-    many_in : (a : ℕ) (y z : Behind) → seen m c ≡ Several → Came a c m → here a ≡ Some y → z.writer ≡ (out a y).writer → get_or (behind m) c None ≡ Some z →
+    many_in : (a : ℕ) (y z : Behind) → seen m c ≡ Several → Came a c m → here a ≡ Some y
+        → z.writer ≡ (out a y).writer → get_or (behind m) c None ≡ Some z →
         ((d : ℕ) → Came d c m → Brings d c z) → TwoCame c m → Inv m c
 
   has_here : (b : ℕ) → reach b ≡ true → Inv b b → (y : Behind) × (here b ≡ Some y)
   has_here b r i = go (cases_Bool (x b).first) i
     where
-      later : (o : Option Behind) (y : Behind) → (x b).first ≡ false → get_or (behind b) b None ≡ Some y → here b ≡ Some y
+      later : (o : Option Behind) (y : Behind) → (x b).first ≡ false → get_or (behind b) b None ≡ Some y
+          → here b ≡ Some y
       later o y f e = rw f e
 
       go : ((x b).first ≡ true) ⊎ ((x b).first ≡ false) → Inv b b → (y : Behind) × (here b ≡ Some y)
       go (inl f) i = (begin, rw f refl)
-      go (inr f) (zero_in e g u) = absurd (cc (sym (or_right (x b).first (has_way (seen b b)) r f) ∙ ap has_way e))
+      go (inr f) (zero_in e g u) =
+          absurd (cc (sym (or_right (x b).first (has_way (seen b b)) r f) ∙ ap has_way e))
       go (inr f) (one_in a y e k h s g u) = (out a y, later None (out a y) f g)
       go (inr f) (many_in a y z e k h w g u v) = (z, later None z f g)
 
   not_here : (b : ℕ) → reach b ≡ false → Inv b b → here b ≡ None
-  not_here b r i = go (or_none (x b).first (has_way (seen b b)) r).0 (or_none (x b).first (has_way (seen b b)) r).1 i
+  not_here b r i = go (or_none (x b).first (has_way (seen b b)) r).0
+      (or_none (x b).first (has_way (seen b b)) r).1 i
     where
       go : (x b).first ≡ false → has_way (seen b b) ≡ false → Inv b b → here b ≡ None
       go f w (zero_in e g u) = rw f g
@@ -220,25 +280,50 @@ module _ (n : ℕ) (x : ℕ → Outline) (low : ℕ → ℕ) (heads : List Link)
       go f w (many_in a y z e k h t g u v) = absurd (cc (sym w ∙ ap has_way e))
 
   keep_came : (a c m : ℕ) → Came a c m → Came a c (suc m)
-  keep_came a c m k = record { one = k.one; before = (let l : a < m = k.before in omega arith); most = k.most; reaches = k.reaches; edge = k.edge }
+  keep_came a c m k = record {
+    one = k.one;
+    before = (let l : a < m = k.before in omega arith);
+    most = k.most;
+    reaches = k.reaches;
+    edge = k.edge;
+  }
 
   keep_two : (c m : ℕ) → TwoCame c m → TwoCame c (suc m)
-  keep_two c m v = record { one = v.one; other = v.other; one_came = keep_came v.one c m v.one_came; other_came = keep_came v.other c m v.other_came; differ = v.differ }
+  keep_two c m v = record {
+    one = v.one;
+    other = v.other;
+    one_came = keep_came v.one c m v.one_came;
+    other_came = keep_came v.other c m v.other_came;
+    differ = v.differ;
+  }
 
   was_came : (a c m : ℕ) → Came a c (suc m) → (a ≡ m) ⊎ Came a c m
   was_came a c m k = elim (cases_eq a m) [
     | inl e ↦ inl e
-    | inr d ↦ inr (record { one = k.one; before = (let l : a < suc m = k.before in omega arith); most = k.most; reaches = k.reaches; edge = k.edge })
+    | inr d ↦
+        inr (record {
+          one = k.one;
+          before = (let l : a < suc m = k.before in omega arith);
+          most = k.most;
+          reaches = k.reaches;
+          edge = k.edge;
+        })
   ]
 
   -- no edge of block m leads to c
-  missed : (m c : ℕ) → 1 ≤ m → m ≤ n → (reach m ≡ false) ⊎ (Leads (x m).way c → ⊥) → Inv m m → Inv m c → Inv (suc m) c
+  missed : (m c : ℕ) → 1 ≤ m → m ≤ n → (reach m ≡ false) ⊎ (Leads (x m).way c → ⊥) → Inv m m → Inv m c
+      → Inv (suc m) c
   missed m c l h q own i = go i
     where
       old : (a : ℕ) → Came a c (suc m) → Came a c m
       old a k = elim (was_came a c m k) [
         | inr p ↦ p
-        | inl e ↦ absurd (elim q [ inl r ↦ cc (sym (subst (λ (j : ℕ). reach j ≡ true) e k.reaches) ∙ r) | inr w ↦ w (subst (λ (j : ℕ). Leads (x j).way c) e k.edge) ])
+        | inl e ↦
+            absurd (elim q [
+              | inl r ↦ cc (sym (subst (λ (j : ℕ). reach j ≡ true) e k.reaches) ∙ r)
+              | inr w ↦
+                  w (subst (λ (j : ℕ). Leads (x j).way c) e k.edge)
+            ])
       ]
 
       away : (here m ≡ None) ⊎ (Leads (x m).way c → ⊥)
@@ -255,11 +340,14 @@ module _ (n : ℕ) (x : ℕ → Outline) (low : ℕ → ℕ) (heads : List Link)
 
       go : Inv m c → Inv (suc m) c
       go (zero_in e g u) = zero_in (sw ∙ e) (sb ∙ g) (λ a k. u a (old a k))
-      go (one_in a y e k f s g u) = one_in a y (sw ∙ e) (keep_came a c m k) f (ss ∙ s) (sb ∙ g) (λ d p. u d (old d p))
-      go (many_in a y z e k f w g u v) = many_in a y z (sw ∙ e) (keep_came a c m k) f w (sb ∙ g) (λ d p. u d (old d p)) (keep_two c m v)
+      go (one_in a y e k f s g u) = one_in a y (sw ∙ e) (keep_came a c m k) f (ss ∙ s) (sb ∙ g)
+          (λ d p. u d (old d p))
+      go (many_in a y z e k f w g u v) = many_in a y z (sw ∙ e) (keep_came a c m k) f w (sb ∙ g)
+          (λ d p. u d (old d p)) (keep_two c m v)
 
   -- one does
-  met : (m c : ℕ) → 1 ≤ m → m ≤ n → c ≤ n → reach m ≡ true → Leads (x m).way c → Inv m m → Inv m c → Inv (suc m) c
+  met : (m c : ℕ) → 1 ≤ m → m ≤ n → c ≤ n → reach m ≡ true → Leads (x m).way c → Inv m m → Inv m c
+      → Inv (suc m) c
   met m c l h k r e own i = go i
     where
       mine : (y : Behind) × (here m ≡ Some y)
@@ -279,51 +367,88 @@ module _ (n : ℕ) (x : ℕ → Outline) (low : ℕ → ℕ) (heads : List Link)
 
       -- beside another, an edge is no arm
       straight : (a : ℕ) → Came a c m → (x m).way ≡ On c
-      straight a p = elim (on_or_fork (x m).way c e) [ inl f ↦ f | inr f ↦ absurd (let s : a ≡ m = run.alone m f.0 f.1 a c l h f.2 e p.one p.most p.edge in let b : a < m = p.before in omega arith) ]
+      straight a p = elim (on_or_fork (x m).way c e) [
+        | inl f ↦ f
+        | inr f ↦
+            absurd (let s : a ≡ m = run.alone m f.0 f.1 a c l h f.2 e p.one p.most p.edge in
+            let b : a < m = p.before in omega arith)
+      ]
 
       straight_too : (a : ℕ) → Came a c m → (x a).way ≡ On c
-      straight_too a p = elim (on_or_fork (x a).way c p.edge) [ inl f ↦ f | inr f ↦ absurd (let s : m ≡ a = run.alone a f.0 f.1 m c p.one p.most f.2 p.edge l h e in let b : a < m = p.before in omega arith) ]
+      straight_too a p = elim (on_or_fork (x a).way c p.edge) [
+        | inl f ↦ f
+        | inr f ↦
+            absurd (let s : m ≡ a = run.alone a f.0 f.1 m c p.one p.most f.2 p.edge l h e in
+            let b : a < m = p.before in omega arith)
+      ]
 
       brings : (a : ℕ) → Came a c m → (z : Behind) → Brings m c (joined (Some z) v)
       brings a p z = record { way = straight a p; y = mine.0; here_is = mine.1; under = under_new z v }
 
       still : (d : ℕ) (z : Behind) → Brings d c z → Brings d c (joined (Some z) v)
-      still d z b = record { way = b.way; y = b.y; here_is = b.here_is; under = under_on (out d b.y) z v b.under }
+      still d z b = record {
+        way = b.way;
+        y = b.y;
+        here_is = b.here_is;
+        under = under_on (out d b.y) z v b.under;
+      }
 
       first_brings : (a : ℕ) (y : Behind) → Came a c m → here a ≡ Some y → Brings a c (out a y)
-      first_brings a y p f = record { way = straight_too a p; y = y; here_is = f; under = under_self (out a y) }
+      first_brings a y p f = record {
+        way = straight_too a p;
+        y = y;
+        here_is = f;
+        under = under_self (out a y);
+      }
 
-      all : (a : ℕ) (z : Behind) → Came a c m → ((d : ℕ) → Came d c m → Brings d c z) → (d : ℕ) → Came d c (suc m) → Brings d c (joined (Some z) v)
+      all : (a : ℕ) (z : Behind) → Came a c m → ((d : ℕ) → Came d c m → Brings d c z) → (d : ℕ)
+          → Came d c (suc m) → Brings d c (joined (Some z) v)
       all a z p u d q = elim (was_came d c m q) [
         | inl s ↦ subst (λ (j : ℕ). Brings j c (joined (Some z) v)) (sym s) (brings a p z)
         | inr o ↦ still d z (u d o)
       ]
 
-      several_by : (a : ℕ) (y z : Behind) → seen (suc m) c ≡ Several → Came a c m → here a ≡ Some y → z.writer ≡ (out a y).writer → get_or (behind m) c None ≡ Some z →
+      several_by : (a : ℕ) (y z : Behind) → seen (suc m) c ≡ Several → Came a c m → here a ≡ Some y
+          → z.writer ≡ (out a y).writer → get_or (behind m) c None ≡ Some z →
           ((d : ℕ) → Came d c m → Brings d c z) → TwoCame c (suc m) → Inv (suc m) c
       several_by a y z w p f t g u two =
-          let b : get_or (behind (suc m)) c None ≡ Some (joined (Some z) v) = sb ∙ ap (λ (o : Option Behind). Some (joined o v)) g in
+          let b : get_or (behind (suc m)) c None ≡ Some (joined (Some z) v) =
+          sb ∙ ap (λ (o : Option Behind). Some (joined o v)) g in
           elim (larger_is z.writer v.writer) [
             | inl s ↦ many_in a y (joined (Some z) v) w (keep_came a c m p) f (s ∙ t) b (all a z p u) two
             | inr s ↦ many_in m mine.0 (joined (Some z) v) w now mine.1 s b (all a z p u) two
           ]
 
-      several : (a : ℕ) (y z : Behind) → seen (suc m) c ≡ Several → Came a c m → here a ≡ Some y → z.writer ≡ (out a y).writer → get_or (behind m) c None ≡ Some z →
+      several : (a : ℕ) (y z : Behind) → seen (suc m) c ≡ Several → Came a c m → here a ≡ Some y
+          → z.writer ≡ (out a y).writer → get_or (behind m) c None ≡ Some z →
           ((d : ℕ) → Came d c m → Brings d c z) → Inv (suc m) c
-      several a y z w p f t g u = several_by a y z w p f t g u (record { one = a; other = m; one_came = keep_came a c m p; other_came = now; differ = λ e. (let b : a < m = p.before in omega (arith, e)) })
+      several a y z w p f t g u =
+          several_by a y z w p f t g u (record {
+            one = a;
+            other = m;
+            one_came = keep_came a c m p;
+            other_came = now;
+            differ = λ e. (let b : a < m = p.before in omega (arith, e));
+          })
 
       go : Inv m c → Inv (suc m) c
-      go (zero_in w g u) = one_in m mine.0 (sw ∙ ap more w) now mine.1 (states_hit m c l h k r e) (sb ∙ ap (λ (o : Option Behind). Some (joined o v)) g)
+      go (zero_in w g u) = one_in m mine.0 (sw ∙ ap more w) now mine.1 (states_hit m c l h k r e)
+          (sb ∙ ap (λ (o : Option Behind). Some (joined o v)) g)
           (λ d p. elim (was_came d c m p) [ inl s ↦ s | inr q ↦ absurd (u d q) ])
-      go (one_in a y w p f s g u) = several a y (out a y) (sw ∙ ap more w) p f refl g (λ d q. subst (λ (j : ℕ). Brings j c (out a y)) (sym (u d q)) (first_brings a y p f))
+      go (one_in a y w p f s g u) = several a y (out a y) (sw ∙ ap more w) p f refl g
+          (λ d q. subst (λ (j : ℕ). Brings j c (out a y)) (sym (u d q)) (first_brings a y p f))
       go (many_in a y z w p f t g u v) = several a y z (sw ∙ ap more w) p f t g u
 
   pub inv : (m c : ℕ) → 1 ≤ m → m ≤ suc n → c ≤ n → Inv m c
   inv zero c l h k = absurd (omega arith)
-  inv (suc zero) c l h k = zero_in (run.ways_start c) (run.behind_start c) (λ a p. absurd (let o : 1 ≤ a = p.one in let b : a < 1 = p.before in omega arith))
-  inv (suc (suc j)) c l h k = go (cases_Bool (reach (suc j))) (leads (x (suc j)).way c) (inv (suc j) (suc j) (omega arith) (omega arith) (omega arith)) (inv (suc j) c (omega arith) (omega arith) k)
+  inv (suc zero) c l h k = zero_in (run.ways_start c) (run.behind_start c)
+      (λ a p. absurd (let o : 1 ≤ a = p.one in let b : a < 1 = p.before in omega arith))
+  inv (suc (suc j)) c l h k = go (cases_Bool (reach (suc j))) (leads (x (suc j)).way c)
+      (inv (suc j) (suc j) (omega arith) (omega arith) (omega arith))
+      (inv (suc j) c (omega arith) (omega arith) k)
     where
-      go : (reach (suc j) ≡ true) ⊎ (reach (suc j) ≡ false) → Leads (x (suc j)).way c ⊎ (Leads (x (suc j)).way c → ⊥) → Inv (suc j) (suc j) → Inv (suc j) c → Inv (suc (suc j)) c
+      go : (reach (suc j) ≡ true) ⊎ (reach (suc j) ≡ false) → Leads (x (suc j)).way c
+          ⊎ (Leads (x (suc j)).way c → ⊥) → Inv (suc j) (suc j) → Inv (suc j) c → Inv (suc (suc j)) c
       go (inl r) (inl e) own i = met (suc j) c (omega arith) (omega arith) k r e own i
       go (inl r) (inr e) own i = missed (suc j) c (omega arith) (omega arith) (inr e) own i
       go (inr r) e own i = missed (suc j) c (omega arith) (omega arith) (inl r) own i
@@ -347,7 +472,8 @@ module _ (n : ℕ) (x : ℕ → Outline) (low : ℕ → ℕ) (heads : List Link)
 
   -- it is the only one, or one of several
   abbrev pub Kind : ℕ → ℕ → Behind → Behind → Type 0
-  Kind b c y z = ((state c ≡ handed (x b).way (full b) (state b)) × (z ≡ out b y) × ((d : ℕ) → Came d c c → d ≡ b))
+  Kind b c y z = ((state c ≡ handed (x b).way (full b) (state b)) × (z ≡ out b y)
+      × ((d : ℕ) → Came d c c → d ≡ b))
       ⊎ ((state c ≡ Many) × ((x b).way ≡ On c) × (is_several (get_or (ways (suc n)) c Zero) ≡ true))
 
   -- what an edge to a block brings there
@@ -358,7 +484,8 @@ module _ (n : ℕ) (x : ℕ → Outline) (low : ℕ → ℕ) (heads : List Link)
     pub under : Under (out b y) z
     pub kind : Kind b c y z
 
-  pub into : (b c : ℕ) (y : Behind) → 1 ≤ b → b ≤ n → reach b ≡ true → here b ≡ Some y → Leads (x b).way c → Into b c y
+  pub into : (b c : ℕ) (y : Behind) → 1 ≤ b → b ≤ n → reach b ≡ true → here b ≡ Some y → Leads (x b).way c
+      → Into b c y
   into b c y l h r f e = go (inv c c (omega (arith, lt)) (omega (arith, most)) most)
     where
       lt : b < c
@@ -383,10 +510,13 @@ module _ (n : ℕ) (x : ℕ → Outline) (low : ℕ → ℕ) (heads : List Link)
       here_by z g = rw inside g
 
       one_state : (s : LastOps) → seen c c ≡ One → get_or (states c) c Shared ≡ s → state c ≡ s
-      one_state s w g = rw inside (ap (λ (v : Bool). cond v Many (get_or (states c) c Shared)) (ap is_several (end ∙ w)) ∙ g)
+      one_state s w g =
+          rw inside (ap (λ (v : Bool). cond v Many (get_or (states c) c Shared)) (ap is_several (end ∙ w))
+          ∙ g)
 
       many_state : seen c c ≡ Several → state c ≡ Many
-      many_state w = rw inside (ap (λ (v : Bool). cond v Many (get_or (states c) c Shared)) (ap is_several (end ∙ w)))
+      many_state w =
+          rw inside (ap (λ (v : Bool). cond v Many (get_or (states c) c Shared)) (ap is_several (end ∙ w)))
 
       same : (y v : Behind) → here b ≡ Some y → here b ≡ Some v → v ≡ y
       same y v p q = cc
@@ -397,7 +527,8 @@ module _ (n : ℕ) (x : ℕ → Outline) (low : ℕ → ℕ) (heads : List Link)
           let eq : b ≡ a = u b came in
           let vy : v ≡ y = same y v f (ap here eq ∙ q) in
           let o : out a v ≡ out b y = ap (λ (k : ℕ). out k v) (sym eq) ∙ ap (out b) vy in
-          let st : handed (x a).way (full a) (state a) ≡ handed (x b).way (full b) (state b) = ap (λ (k : ℕ). handed (x k).way (full k) (state k)) (sym eq) in
+          let st : handed (x a).way (full a) (state a) ≡ handed (x b).way (full b) (state b) =
+          ap (λ (k : ℕ). handed (x k).way (full k) (state k)) (sym eq) in
           record {
             reaches = reached_by (ap has_way w);
             z = out a v;
@@ -428,19 +559,24 @@ module _ (n : ℕ) (x : ℕ → Outline) (low : ℕ → ℕ) (heads : List Link)
     pub next : 1 ≤ a → (out_link (x a).way heads ≡ Unknown) ⊎ (out_link (x a).way heads ≡ head_at heads b)
     pub below : last_number a ≤ low b
 
-  pub low_rise : (b c : ℕ) → 1 ≤ b → b < c → c ≤ n → ((m : ℕ) → b < m → m ≤ c → (x m).first ≡ false) → low b + (x b).ops ≤ low c
+  pub low_rise : (b c : ℕ) → 1 ≤ b → b < c → c ≤ n → ((m : ℕ) → b < m → m ≤ c → (x m).first ≡ false)
+      → low b + (x b).ops ≤ low c
   low_rise b zero l h k f = absurd (omega arith)
-  low_rise b (suc c) l h k f = go (cases_eq b c) (λ q. low_rise b c l q (omega arith) (λ m u v. f m u (omega arith)))
+  low_rise b (suc c) l h k f =
+      go (cases_eq b c) (λ q. low_rise b c l q (omega arith) (λ m u v. f m u (omega arith)))
     where
       next : 1 ≤ c → low (suc c) ≡ low c + (x c).ops
-      next o = run.low_next c o (omega arith) ∙ ap (λ (v : Bool). cond v 0 (low c + (x c).ops)) (f (suc c) h (omega arith))
+      next o = run.low_next c o (omega arith) ∙ ap (λ (v : Bool). cond v 0 (low c + (x c).ops))
+          (f (suc c) h (omega arith))
 
       go : (b ≡ c) ⊎ (b ≡ c → ⊥) → (b < c → low b + (x b).ops ≤ low c) → low b + (x b).ops ≤ low (suc c)
-      go (inl e) rec = let s : low b + (x b).ops ≡ low c + (x c).ops = ap (λ (i : ℕ). low i + (x i).ops) e in omega (arith, s, next (omega arith))
+      go (inl e) rec = let s : low b + (x b).ops ≡ low c + (x c).ops = ap (λ (i : ℕ). low i + (x i).ops) e in
+          omega (arith, s, next (omega arith))
       go (inr d) rec = omega (arith, rec (omega arith), next (omega arith))
 
   head_empty : (b : ℕ) → 1 ≤ b → b ≤ n → (x b).ops ≡ 0 → head_at heads b ≡ out_link (x b).way heads
-  head_empty b l h e = run.head_is b l h ∙ ap (λ (k : ℕ). cond (eqb k 0) (out_link (x b).way heads) (Is (low b + 1))) e
+  head_empty b l h e = run.head_is b l h
+      ∙ ap (λ (k : ℕ). cond (eqb k 0) (out_link (x b).way heads) (Is (low b + 1))) e
 
   pub head_full : (b : ℕ) → 1 ≤ b → b ≤ n → 1 ≤ (x b).ops → head_at heads b ≡ Is (low b + 1)
   head_full b l h e = run.head_is b l h ∙ rw (ne_eqb (x b).ops 0 (λ d. absurd (omega arith))) refl
@@ -448,12 +584,18 @@ module _ (n : ℕ) (x : ℕ → Outline) (low : ℕ → ℕ) (heads : List Link)
   head_on : (w : Way) (c : ℕ) → w ≡ On c → out_link w heads ≡ head_at heads c
   head_on w c e = ap (λ (v : Way). out_link v heads) e
 
-  next_head : (w : Way) (c : ℕ) → Leads w c → (out_link w heads ≡ Unknown) ⊎ (out_link w heads ≡ head_at heads c)
+  next_head : (w : Way) (c : ℕ) → Leads w c → (out_link w heads ≡ Unknown)
+      ⊎ (out_link w heads ≡ head_at heads c)
   next_head Out c h = absurd h
   next_head (On b) c h = inr (ap (head_at heads) (sym h))
   next_head (Fork p q) c h = elim (both_says (head_at heads p) (head_at heads q)) [
     | inl e ↦ inl e
-    | inr e ↦ inr (elim h [ inl k ↦ e.0 ∙ ap (head_at heads) (sym k) | inr k ↦ e.0 ∙ (e.1 ∙ ap (head_at heads) (sym k)) ])
+    | inr e ↦
+        inr (elim h [
+          | inl k ↦ e.0 ∙ ap (head_at heads) (sym k)
+          | inr k ↦
+              e.0 ∙ (e.1 ∙ ap (head_at heads) (sym k))
+        ])
   ]
 
   exact_some : (k : ℕ) → 1 ≤ k → exact k ≡ Is k
@@ -473,7 +615,8 @@ module _ (n : ℕ) (x : ℕ → Outline) (low : ℕ → ℕ) (heads : List Link)
   out_empty b y e = rw (eq-eqb (x b).ops 0 e) refl
 
   out_full : (b a : ℕ) (y : Behind) → 1 ≤ b → 1 ≤ (x b).ops → (out b y).pred ≡ exact (last_number b)
-  out_full b a y l e = rw (ne_eqb (x b).ops 0 (λ d. absurd (omega arith))) (sym (ap exact (number_some b l) ∙ exact_some (low b + (x b).ops) (omega arith)))
+  out_full b a y l e = rw (ne_eqb (x b).ops 0 (λ d. absurd (omega arith)))
+      (sym (ap exact (number_some b l) ∙ exact_some (low b + (x b).ops) (omega arith)))
 
   -- who is last on a path that comes through block b without an operation of it
   through : (b a c : ℕ) (f : Facts b a) → (x b).ops ≡ 0 → Leads (x b).way c → Into b c f.y → Facts c a
@@ -483,7 +626,15 @@ module _ (n : ℕ) (x : ℕ → Outline) (low : ℕ → ℕ) (heads : List Link)
     reaches = i.reaches;
     y = i.z;
     y_is = i.z_is;
-    agrees = elim i.under.pred [ inl u ↦ inl u | inr u ↦ elim f.agrees [ inl v ↦ inl (u ∙ (out_empty b f.y e ∙ v)) | inr v ↦ inr (u ∙ (out_empty b f.y e ∙ v)) ] ];
+    agrees = elim i.under.pred [
+      | inl u ↦ inl u
+      | inr u ↦
+          elim f.agrees [
+            | inl v ↦ inl (u ∙ (out_empty b f.y e ∙ v))
+            | inr v ↦
+                inr (u ∙ (out_empty b f.y e ∙ v))
+          ]
+    ];
     known = knows i.kind f.known;
     owner = owns i.kind f.owner;
     next = λ o. after o (f.next o);
@@ -506,19 +657,28 @@ module _ (n : ℕ) (x : ℕ → Outline) (low : ℕ → ℕ) (heads : List Link)
       empty = rw (eq-eqb (x b).ops 0 e) refl
 
       no_fork : (p q : ℕ) → (x b).way ≡ Fork p q → state b ≡ Many → ⊥
-      no_fork p q w s = cc (sym vain ∙ (ap (λ (v : Way). is_vain v (ways (suc n)) (state b)) w ∙ ap (λ (v : LastOps). not (is_many v)) s))
+      no_fork p q w s =
+          cc (sym vain ∙ (ap (λ (v : Way). is_vain v (ways (suc n)) (state b)) w
+          ∙ ap (λ (v : LastOps). not (is_many v)) s))
 
       hand : (d : ℕ) → (x b).way ≡ On d → handed (x b).way (full b) (state b) ≡ state b
-      hand d w = ap (λ (v : Way). handed v (full b) (state b)) w ∙ ap (λ (v : Bool). cond v Sole (state b)) empty
+      hand d w = ap (λ (v : Way). handed v (full b) (state b)) w ∙ ap (λ (v : Bool). cond v Sole (state b))
+          empty
 
       hand_fork : (p q : ℕ) → (x b).way ≡ Fork p q → handed (x b).way (full b) (state b) ≡ Shared
       hand_fork p q w = ap (λ (v : Way). handed v (full b) (state b)) w
 
       owned : (x b).way ≡ On c → Owned b a → Owned c a
-      owned w o = record { some = o.some; head = o.head ∙ (head_empty b f.low_block f.high_block e ∙ head_on (x b).way c w) }
+      owned w o =
+          record {
+            some = o.some;
+            head = o.head ∙ (head_empty b f.low_block f.high_block e
+                ∙ head_on (x b).way c w);
+          }
 
       knows : Kind b c f.y i.z →
-          (state b ≡ Many) ⊎ (f.y.pred ≡ exact (last_number a)) → (state c ≡ Many) ⊎ (i.z.pred ≡ exact (last_number a))
+          (state b ≡ Many) ⊎ (f.y.pred ≡ exact (last_number a)) → (state c ≡ Many)
+          ⊎ (i.z.pred ≡ exact (last_number a))
       knows (inr s) g = inl s.0
       knows (inl s) (inr g) = inr (ap (λ (v : Behind). v.pred) s.1 ∙ (out_empty b f.y e ∙ g))
       knows (inl s) (inl g) = elim (on_or_fork (x b).way c k) [
@@ -527,7 +687,10 @@ module _ (n : ℕ) (x : ℕ → Outline) (low : ℕ → ℕ) (heads : List Link)
       ]
 
       not_shared : is_several (get_or (ways (suc n)) c Zero) ≡ true → (x b).way ≡ On c → state b ≡ Shared → ⊥
-      not_shared v w s = cc (sym vain ∙ (ap (λ (u : Way). is_vain u (ways (suc n)) (state b)) w ∙ (ap (λ (u : LastOps). not (is_shared u && is_several (get_or (ways (suc n)) c Zero))) s ∙ ap not v)))
+      not_shared v w s =
+          cc (sym vain ∙ (ap (λ (u : Way). is_vain u (ways (suc n)) (state b)) w
+          ∙ (ap (λ (u : LastOps). not (is_shared u && is_several (get_or (ways (suc n)) c Zero))) s
+          ∙ ap not v)))
 
       owns : Kind b c f.y i.z →
           (state b ≡ Shared) ⊎ Owned b a → (state c ≡ Shared) ⊎ Owned c a
@@ -538,7 +701,8 @@ module _ (n : ℕ) (x : ℕ → Outline) (low : ℕ → ℕ) (heads : List Link)
         | inl w ↦ elim g [ inl u ↦ inl (s.0 ∙ (hand c w ∙ u)) | inr o ↦ inr (owned w o) ]
       ]
 
-      after : 1 ≤ a → (out_link (x a).way heads ≡ Unknown) ⊎ (out_link (x a).way heads ≡ head_at heads b) → (out_link (x a).way heads ≡ Unknown) ⊎ (out_link (x a).way heads ≡ head_at heads c)
+      after : 1 ≤ a → (out_link (x a).way heads ≡ Unknown) ⊎ (out_link (x a).way heads ≡ head_at heads b)
+          → (out_link (x a).way heads ≡ Unknown) ⊎ (out_link (x a).way heads ≡ head_at heads c)
       after o (inl u) = inl u
       after o (inr u) = elim (next_head (x b).way c k) [
         | inl v ↦ inl (u ∙ (head_empty b f.low_block f.high_block e ∙ v))
@@ -554,7 +718,11 @@ module _ (n : ℕ) (x : ℕ → Outline) (low : ℕ → ℕ) (heads : List Link)
     y = i.z;
     y_is = i.z_is;
     agrees = elim i.under.pred [ inl u ↦ inl u | inr u ↦ inr (u ∙ out_full b a f.y f.low_block e) ];
-    known = elim i.kind [ inr s ↦ inl s.0 | inl s ↦ inr (ap (λ (v : Behind). v.pred) s.1 ∙ out_full b a f.y f.low_block e) ];
+    known = elim i.kind [
+      | inr s ↦ inl s.0
+      | inl s ↦
+          inr (ap (λ (v : Behind). v.pred) s.1 ∙ out_full b a f.y f.low_block e)
+    ];
     owner = owns i.kind;
     next = λ o. next_head (x b).way c k;
     below = omega (arith, number_some b f.low_block, rise);
@@ -597,14 +765,17 @@ module _ (n : ℕ) (x : ℕ → Outline) (low : ℕ → ℕ) (heads : List Link)
       let i : Into b c f.y = into b c f.y f.low_block f.high_block f.reaches f.y_is k in
       elim (cases_eq (x b).ops 0) [
         | inl e ↦ subst (Facts c) (sym (last_empty b a e)) (through b a c f e k i)
-        | inr d ↦ subst (Facts c) (sym (last_full b a (omega (arith, d)))) (beyond b a c f (omega (arith, d)) k i)
+        | inr d ↦ subst (Facts c) (sym (last_full b a (omega (arith, d))))
+            (beyond b a c f (omega (arith, d)) k i)
       ]
 
   -- an operation comes first in block b: its predecessor is said there, or by the last one before
-  pub first_linked : (b a : ℕ) (f : Facts b a) → 1 ≤ (x b).ops → (f.y.pred ≡ exact (last_number a)) ⊎ ((1 ≤ a) × (out_link (x a).way heads ≡ Is (low b + 1)))
+  pub first_linked : (b a : ℕ) (f : Facts b a) → 1 ≤ (x b).ops → (f.y.pred ≡ exact (last_number a))
+      ⊎ ((1 ≤ a) × (out_link (x a).way heads ≡ Is (low b + 1)))
   first_linked b a f e = go f.known f.owner
     where
-      go : (state b ≡ Many) ⊎ (f.y.pred ≡ exact (last_number a)) → (state b ≡ Shared) ⊎ Owned b a → (f.y.pred ≡ exact (last_number a)) ⊎ ((1 ≤ a) × (out_link (x a).way heads ≡ Is (low b + 1)))
+      go : (state b ≡ Many) ⊎ (f.y.pred ≡ exact (last_number a)) → (state b ≡ Shared) ⊎ Owned b a
+          → (f.y.pred ≡ exact (last_number a)) ⊎ ((1 ≤ a) × (out_link (x a).way heads ≡ Is (low b + 1)))
       go (inr k) o = inl k
       go (inl m) (inl s) = absurd (cc)
       go (inl m) (inr o) = inr (o.some, o.head ∙ head_full b f.low_block f.high_block e)
@@ -613,21 +784,26 @@ module _ (n : ℕ) (x : ℕ → Outline) (low : ℕ → ℕ) (heads : List Link)
   pub first_alone : (b a : ℕ) (f : Facts b a) → a ≡ 0 → f.y.pred ≡ Nothing
   first_alone b a f z = go f.known f.owner
     where
-      go : (state b ≡ Many) ⊎ (f.y.pred ≡ exact (last_number a)) → (state b ≡ Shared) ⊎ Owned b a → f.y.pred ≡ Nothing
+      go : (state b ≡ Many) ⊎ (f.y.pred ≡ exact (last_number a)) → (state b ≡ Shared) ⊎ Owned b a
+          → f.y.pred ≡ Nothing
       go (inr k) o = k ∙ ap (λ (i : ℕ). exact (last_number i)) z
       go (inl m) (inl s) = absurd (cc)
       go (inl m) (inr o) = absurd (omega (arith, o.some))
 
   -- a wave ends behind an empty block: the last operation says so
-  pub end_said : (b a : ℕ) → Facts b a → (x b).ops ≡ 0 → (x b).way ≡ Out → (1 ≤ a) × (out_link (x a).way heads ≡ Nothing)
+  pub end_said : (b a : ℕ) → Facts b a → (x b).ops ≡ 0 → (x b).way ≡ Out
+      → (1 ≤ a) × (out_link (x a).way heads ≡ Nothing)
   end_said b a f e w = go f.owner
     where
       vain : is_vain (x b).way (ways (suc n)) (state b) ≡ true
       vain = run.none_vain b f.low_block f.high_block (reach_same b f.low_block f.high_block ∙ f.reaches) e
 
       go : (state b ≡ Shared) ⊎ Owned b a → (1 ≤ a) × (out_link (x a).way heads ≡ Nothing)
-      go (inl s) = absurd (cc (sym vain ∙ (ap (λ (u : Way). is_vain u (ways (suc n)) (state b)) w ∙ ap (λ (u : LastOps). not (is_shared u)) s)))
-      go (inr o) = (o.some, o.head ∙ (head_empty b f.low_block f.high_block e ∙ ap (λ (v : Way). out_link v heads) w))
+      go (inl s) =
+          absurd (cc (sym vain ∙ (ap (λ (u : Way). is_vain u (ways (suc n)) (state b)) w
+          ∙ ap (λ (u : LastOps). not (is_shared u)) s)))
+      go (inr o) =
+          (o.some, o.head ∙ (head_empty b f.low_block f.high_block e ∙ ap (λ (v : Way). out_link v heads) w))
 
   -- Writing operations.
 
@@ -644,8 +820,15 @@ module _ (n : ℕ) (x : ℕ → Outline) (low : ℕ → ℕ) (heads : List Link)
     pub y_is : here b ≡ Some y
     pub writer : (y.writer ≡ 0) ⊎ Wrote b y.writer
 
-  attained_from : (a c : ℕ) (y z : Behind) → here a ≡ Some y → Leads (x a).way c → Attained a → here c ≡ Some z → z.writer ≡ (out a y).writer → Attained c
-  attained_from a c y z f k t g w = record { last = last_of a t.last; path = goes t.path k; y = z; y_is = g; writer = go (cases_eq (x a).writer 0) t.writer }
+  attained_from : (a c : ℕ) (y z : Behind) → here a ≡ Some y → Leads (x a).way c → Attained a
+      → here c ≡ Some z → z.writer ≡ (out a y).writer → Attained c
+  attained_from a c y z f k t g w = record {
+    last = last_of a t.last;
+    path = goes t.path k;
+    y = z;
+    y_is = g;
+    writer = go (cases_eq (x a).writer 0) t.writer;
+  }
     where
       same : t.y ≡ y
       same = eq t.y y t.y_is f
@@ -653,12 +836,14 @@ module _ (n : ℕ) (x : ℕ → Outline) (low : ℕ → ℕ) (heads : List Link)
           eq : (v u : Behind) → here a ≡ Some v → here a ≡ Some u → v ≡ u
           eq v u p q = cc
 
-      go : ((x a).writer ≡ 0) ⊎ ((x a).writer ≡ 0 → ⊥) → (t.y.writer ≡ 0) ⊎ Wrote a t.y.writer → (z.writer ≡ 0) ⊎ Wrote c z.writer
+      go : ((x a).writer ≡ 0) ⊎ ((x a).writer ≡ 0 → ⊥) → (t.y.writer ≡ 0) ⊎ Wrote a t.y.writer
+          → (z.writer ≡ 0) ⊎ Wrote c z.writer
       go (inr d) o =
           let e : z.writer ≡ low a + (x a).writer = w ∙ rw (ne_eqb (x a).writer 0 d) refl in
           inr (subst (Wrote c) (sym e) (wrote t.path (omega (arith, d)) k))
       go (inl d) o =
-          let e : z.writer ≡ t.y.writer = w ∙ (ap (λ (i : ℕ). cond (eqb i 0) y.writer (low a + i)) d ∙ ap (λ (v : Behind). v.writer) (sym same)) in
+          let e : z.writer ≡ t.y.writer = w ∙ (ap (λ (i : ℕ). cond (eqb i 0) y.writer (low a + i)) d
+          ∙ ap (λ (v : Behind). v.writer) (sym same)) in
           elim o [ inl q ↦ inl (e ∙ q) | inr q ↦ inr (subst (Wrote c) (sym e) (further q k)) ]
 
   attained_next : (b : ℕ) → 1 ≤ b → b ≤ n → reach b ≡ true → ((a : ℕ) → Came a b b → Attained a) → Attained b
@@ -666,13 +851,16 @@ module _ (n : ℕ) (x : ℕ → Outline) (low : ℕ → ℕ) (heads : List Link)
     where
       go : ((x b).first ≡ true) ⊎ ((x b).first ≡ false) → Inv b b → Attained b
       go (inl f) i = record { last = 0; path = starts l h f; y = begin; y_is = rw f refl; writer = inl refl }
-      go (inr f) (zero_in e g u) = absurd (cc (sym (or_right (x b).first (has_way (seen b b)) r f) ∙ ap has_way e))
+      go (inr f) (zero_in e g u) =
+          absurd (cc (sym (or_right (x b).first (has_way (seen b b)) r f) ∙ ap has_way e))
       go (inr f) (one_in a y e p k s g u) = attained_from a b y (out a y) k p.edge (before a p) (rw f g) refl
       go (inr f) (many_in a y z e p k w g u v) = attained_from a b y z k p.edge (before a p) (rw f g) w
 
   attained_here : (m b : ℕ) → b < m → 1 ≤ b → b ≤ n → reach b ≡ true → Attained b
   attained_here zero b q l h r = absurd (omega arith)
-  attained_here (suc m) b q l h r = attained_next b l h r (λ a p. attained_here m a (let t : a < b = p.before in omega (arith, q)) p.one p.most p.reaches)
+  attained_here (suc m) b q l h r =
+      attained_next b l h r (λ a p. attained_here m a (let t : a < b = p.before in omega (arith, q)) p.one
+      p.most p.reaches)
 
   pub attained : (b : ℕ) → 1 ≤ b → b ≤ n → reach b ≡ true → Attained b
   attained b l h r = attained_here (suc b) b (omega arith) l h r
@@ -682,7 +870,8 @@ module _ (n : ℕ) (x : ℕ → Outline) (low : ℕ → ℕ) (heads : List Link)
   wrote_low (wrote {b = b} {a = a} {c = c} p l k) =
       let f : Facts b a = facts p in
       let e : (b < c) × (c ≤ n) = run.later b c f.low_block f.high_block k in
-      let q : low b + (x b).ops ≤ low c = low_rise b c f.low_block e.0 e.1 (λ m u v. run.inner b c m f.low_block f.high_block k u v) in
+      let q : low b + (x b).ops ≤ low c = low_rise b c f.low_block e.0 e.1
+      (λ m u v. run.inner b c m f.low_block f.high_block k u v) in
       (omega (arith, e.0), e.1, omega (arith, q, run.writer_in b f.low_block f.high_block))
   wrote_low (further {b = b} {c = c} {w = w} p k) =
       let f : (1 ≤ b) × (b ≤ n) × (w ≤ low b) = wrote_low p in
@@ -691,7 +880,8 @@ module _ (n : ℕ) (x : ℕ → Outline) (low : ℕ → ℕ) (heads : List Link)
       (omega (arith, e.0), e.1, omega (arith, q, f.2))
 
   -- the writing operations of a path are counted where an edge leads on
-  pub writer_on : (b a c : ℕ) (f : Facts b a) → Leads (x b).way c → (g : Facts c (last_of b a)) → (out b f.y).writer ≤ g.y.writer
+  pub writer_on : (b a c : ℕ) (f : Facts b a) → Leads (x b).way c → (g : Facts c (last_of b a))
+      → (out b f.y).writer ≤ g.y.writer
   writer_on b a c f k g =
       let i : Into b c f.y = into b c f.y f.low_block f.high_block f.reaches f.y_is k in
       let e : i.z ≡ g.y = eq i.z g.y i.z_is g.y_is in

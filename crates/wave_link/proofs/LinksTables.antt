@@ -1,5 +1,7 @@
 -- Tables that are filled block by block, and what a place of one holds.
-use Rattle.std.proofs.Common.{ℕ, zero, suc, ◌+◌, ◌≡◌, ◌<◌, ◌≤◌, ◌⊎◌, Bool, false, cond, List, [], ◌∷◌, length, get_or, Option, Some, None, refl, sym, ap, ◌∙◌, inl, inr, subst, arith, eqb, eq-eqb, ne_eqb}
+use Rattle.std.proofs.Common.{ℕ, zero, suc, ◌+◌, ◌≡◌, ◌<◌, ◌≤◌, ◌⊎◌, Bool, false, cond, List, [], ◌∷◌, length}
+use Rattle.std.proofs.Common.{get_or, Option, Some, None, refl, sym, ap, ◌∙◌, inl, inr, subst, arith, eqb}
+use Rattle.std.proofs.Common.{eq-eqb, ne_eqb}
 use Rattle.std.specs.Prelude.{set}
 use Rattle.std.proofs.lemmas.Bool.{cases_eq}
 use Rattle.std.proofs.lemmas.List.{length-set, get_or-set_same, get_or-set_other}
@@ -13,8 +15,10 @@ use Rattle.wave_link.specs.declared.states.Ways.{Ways}
 use Rattle.wave_link.specs.declared.states.Ways.TheVariants.{Zero}
 use Rattle.wave_link.specs.declared.states.LastOps.{LastOps}
 use Rattle.wave_link.specs.declared.states.LastOps.TheVariants.{Shared, Sole}
-use Rattle.wave_link.specs.States.{more, enter, enter_way, ways_step, ways_from, needs_nop, spread_state, states_step, states_from}
-use Rattle.wave_link.specs.Notes.{both, low_at, lows_from, head_at, out_link, head_link, heads_from, joined, behind_in, hand_on, hand_way, hand_all, place_at, places_from}
+use Rattle.wave_link.specs.States.{more, enter, enter_way, ways_step, ways_from, needs_nop, spread_state}
+use Rattle.wave_link.specs.States.{states_step, states_from}
+use Rattle.wave_link.specs.Notes.{both, low_at, lows_from, head_at, out_link, head_link, heads_from, joined}
+use Rattle.wave_link.specs.Notes.{behind_in, hand_on, hand_way, hand_all, place_at, places_from}
 use Rattle.wave_link.specs.Grown.{no_place}
 use Rattle.ws_words.specs.Items.{nth, or_else}
 
@@ -30,32 +34,44 @@ stepped f xs b zero t = t
 stepped f [] b (suc n) t = t
 stepped f (x ∷ xs) b (suc n) t = stepped f xs (suc b) n (f x b t)
 
-pub stepped_next : {T : Type 0} (f : Outline → ℕ → T → T) (xs : List Outline) (b n m : ℕ) (t : T) → n < length xs → m ≡ b + n → stepped f xs b (suc n) t ≡ f (outline_in xs n) m (stepped f xs b n t)
+pub stepped_next : {T : Type 0} (f : Outline → ℕ → T → T) (xs : List Outline) (b n m : ℕ) (t : T)
+    → n < length xs → m ≡ b + n → stepped f xs b (suc n) t ≡ f (outline_in xs n) m (stepped f xs b n t)
 stepped_next f [] b n m t l e = absurd (omega arith)
 stepped_next f (x ∷ xs) b zero m t l e = let g : b ≡ m = omega arith in ap (λ (k : ℕ). f x k t) g
-stepped_next f (x ∷ xs) b (suc n) m t l e = stepped_next f xs (suc b) n m (f x b t) (omega arith) (omega arith)
+stepped_next f (x ∷ xs) b (suc n) m t l e = stepped_next f xs (suc b) n m (f x b t) (omega arith)
+    (omega arith)
 
-pub ways_are : (xs : List Outline) (b : ℕ) (t : List Ways) → ways_from xs b t ≡ stepped ways_step xs b (length xs) t
+pub ways_are : (xs : List Outline) (b : ℕ) (t : List Ways) → ways_from xs b t ≡ stepped ways_step xs b
+    (length xs) t
 ways_are [] b t = refl
 ways_are (x ∷ xs) b t = ways_are xs (suc b) (ways_step x b t)
 
-pub nop_at_place : (xs : List Outline) (b n m : ℕ) (ways : List Ways) (t : List LastOps) → n < length xs → m ≡ b + n →
-    get_or (states_from xs b ways t) n false ≡ needs_nop (outline_in xs n) m ways (stepped (λ (x : Outline) (k : ℕ) (s : List LastOps). states_step x k ways s) xs b n t)
+pub nop_at_place : (xs : List Outline) (b n m : ℕ) (ways : List Ways) (t : List LastOps) → n < length xs
+    → m ≡ b + n →
+    get_or (states_from xs b ways t) n false ≡ needs_nop (outline_in xs n) m ways
+    (stepped (λ (x : Outline) (k : ℕ) (s : List LastOps). states_step x k ways s) xs b n t)
 nop_at_place [] b n m ways t l e = absurd (omega arith)
-nop_at_place (x ∷ xs) b zero m ways t l e = let g : b ≡ m = omega arith in ap (λ (k : ℕ). needs_nop x k ways t) g
-nop_at_place (x ∷ xs) b (suc n) m ways t l e = nop_at_place xs (suc b) n m ways (states_step x b ways t) (omega arith) (omega arith)
+nop_at_place (x ∷ xs) b zero m ways t l e = let g : b ≡ m = omega arith in
+    ap (λ (k : ℕ). needs_nop x k ways t) g
+nop_at_place (x ∷ xs) b (suc n) m ways t l e = nop_at_place xs (suc b) n m ways (states_step x b ways t)
+    (omega arith) (omega arith)
 
 -- the step of the table of what came before
 abbrev pub behind_step : List ℕ → Outline → ℕ → List (Option Behind) → List (Option Behind)
 behind_step lows x b t = hand_all x (get_or lows b 0) (behind_in x b t) t
 
-pub place_there : (xs : List Outline) (b n m : ℕ) (lows : List ℕ) (heads : List Link) (t : List (Option Behind)) → n < length xs → m ≡ b + n →
-    get_or (places_from xs b lows heads t) n no_place ≡ place_at (outline_in xs n) m (get_or lows m 0) heads (stepped (behind_step lows) xs b n t)
+pub place_there : (xs : List Outline) (b n m : ℕ) (lows : List ℕ) (heads : List Link)
+    (t : List (Option Behind)) → n < length xs → m ≡ b + n →
+    get_or (places_from xs b lows heads t) n no_place ≡ place_at (outline_in xs n) m (get_or lows m 0) heads
+    (stepped (behind_step lows) xs b n t)
 place_there [] b n m lows heads t l e = absurd (omega arith)
-place_there (x ∷ xs) b zero m lows heads t l e = let g : b ≡ m = omega arith in ap (λ (k : ℕ). place_at x k (get_or lows k 0) heads t) g
-place_there (x ∷ xs) b (suc n) m lows heads t l e = place_there xs (suc b) n m lows heads (hand_all x (get_or lows b 0) (behind_in x b t) t) (omega arith) (omega arith)
+place_there (x ∷ xs) b zero m lows heads t l e = let g : b ≡ m = omega arith in
+    ap (λ (k : ℕ). place_at x k (get_or lows k 0) heads t) g
+place_there (x ∷ xs) b (suc n) m lows heads t l e = place_there xs (suc b) n m lows heads
+    (hand_all x (get_or lows b 0) (behind_in x b t) t) (omega arith) (omega arith)
 
-pub low_next : (xs : List Outline) (n l : ℕ) → suc n < length xs → get_or (lows_from xs l) (suc n) 0 ≡ low_at (outline_in xs (suc n)) (get_or (lows_from xs l) n 0 + (outline_in xs n).ops)
+pub low_next : (xs : List Outline) (n l : ℕ) → suc n < length xs → get_or (lows_from xs l) (suc n) 0
+    ≡ low_at (outline_in xs (suc n)) (get_or (lows_from xs l) n 0 + (outline_in xs n).ops)
 low_next [] n l h = absurd (omega arith)
 low_next (x ∷ []) n l h = absurd (omega arith)
 low_next (x ∷ y ∷ xs) zero l h = refl
@@ -86,49 +102,62 @@ Parts _ = Unit {0}
 same_place : {A : Type 0} (t : List A) (b c : ℕ) (x d : A) → c ≡ b → c < length t → get_or (set t b x) c d ≡ x
 same_place t b c x d e l = rw (sym e) (get_or-set_same t c x d l)
 
-pub hit_ways : (w : Way) (c : ℕ) (t : List Ways) → Parts w → Leads w c → c < length t → get_or (enter_way w t) c Zero ≡ more (get_or t c Zero)
+pub hit_ways : (w : Way) (c : ℕ) (t : List Ways) → Parts w → Leads w c → c < length t
+    → get_or (enter_way w t) c Zero ≡ more (get_or t c Zero)
 hit_ways Out c t p h l = absurd h
 hit_ways (On b) c t p h l = rw (sym h) (get_or-set_same t c (more (get_or t c Zero)) Zero l)
 hit_ways (Fork a b) c t p (inl h) l =
     let n : c ≡ b → ⊥ = λ e. p (sym h ∙ e) in
-    get_or-set_other (enter a t) b c (more (get_or (enter a t) b Zero)) Zero n ∙ rw (sym h) (get_or-set_same t c (more (get_or t c Zero)) Zero l)
+    get_or-set_other (enter a t) b c (more (get_or (enter a t) b Zero)) Zero n
+    ∙ rw (sym h) (get_or-set_same t c (more (get_or t c Zero)) Zero l)
 hit_ways (Fork a b) c t p (inr h) l =
     let n : c ≡ a → ⊥ = λ e. p (sym e ∙ h) in
-    let o : get_or (enter a t) c Zero ≡ get_or t c Zero = get_or-set_other t a c (more (get_or t a Zero)) Zero n in
-    same_place (enter a t) b c (more (get_or (enter a t) b Zero)) Zero h (subst (λ (k : ℕ). c < k) (sym (length-set t a (more (get_or t a Zero)))) l)
+    let o : get_or (enter a t) c Zero ≡ get_or t c Zero = get_or-set_other t a c (more (get_or t a Zero)) Zero
+    n in
+    same_place (enter a t) b c (more (get_or (enter a t) b Zero)) Zero h
+    (subst (λ (k : ℕ). c < k) (sym (length-set t a (more (get_or t a Zero)))) l)
     ∙ ap more (ap (λ (k : ℕ). get_or (enter a t) k Zero) (sym h) ∙ o)
 
-pub miss_ways : (w : Way) (c : ℕ) (t : List Ways) → (Leads w c → ⊥) → get_or (enter_way w t) c Zero ≡ get_or t c Zero
+pub miss_ways : (w : Way) (c : ℕ) (t : List Ways) → (Leads w c → ⊥) → get_or (enter_way w t) c Zero ≡ get_or t
+    c Zero
 miss_ways Out c t n = refl
 miss_ways (On b) c t n = get_or-set_other t b c (more (get_or t b Zero)) Zero n
-miss_ways (Fork a b) c t n = get_or-set_other (enter a t) b c (more (get_or (enter a t) b Zero)) Zero (λ e. n (inr e)) ∙ get_or-set_other t a c (more (get_or t a Zero)) Zero (λ e. n (inl e))
+miss_ways (Fork a b) c t n = get_or-set_other (enter a t) b c (more (get_or (enter a t) b Zero)) Zero
+    (λ e. n (inr e)) ∙ get_or-set_other t a c (more (get_or t a Zero)) Zero (λ e. n (inl e))
 
 pub ways_length : (w : Way) (t : List Ways) → length (enter_way w t) ≡ length t
 ways_length Out t = refl
 ways_length (On b) t = length-set t b (more (get_or t b Zero))
-ways_length (Fork a b) t = length-set (enter a t) b (more (get_or (enter a t) b Zero)) ∙ length-set t a (more (get_or t a Zero))
+ways_length (Fork a b) t = length-set (enter a t) b (more (get_or (enter a t) b Zero))
+    ∙ length-set t a (more (get_or t a Zero))
 
 -- the state that a way hands on
 abbrev pub handed : Way → Bool → LastOps → LastOps
 handed (On b) full s = cond full Sole s
 handed _ full s = Shared
 
-pub hit_states : (w : Way) (c : ℕ) (full : Bool) (s : LastOps) (t : List LastOps) → Leads w c → c < length t → get_or (spread_state w full s t) c Shared ≡ handed w full s
+pub hit_states : (w : Way) (c : ℕ) (full : Bool) (s : LastOps) (t : List LastOps) → Leads w c → c < length t
+    → get_or (spread_state w full s t) c Shared ≡ handed w full s
 hit_states Out c full s t h l = absurd h
 hit_states (On b) c full s t h l = same_place t b c (cond full Sole s) Shared h l
 hit_states (Fork a b) c full s t h l = go (cases_eq c b) h
   where
     go : (c ≡ b) ⊎ (c ≡ b → ⊥) → (c ≡ a) ⊎ (c ≡ b) → get_or (set (set t a Shared) b Shared) c Shared ≡ Shared
-    go (inl e) h = same_place (set t a Shared) b c Shared Shared e (subst (λ (k : ℕ). c < k) (sym (length-set t a Shared)) l)
-    go (inr n) (inl e) = get_or-set_other (set t a Shared) b c Shared Shared n ∙ same_place t a c Shared Shared e l
+    go (inl e) h = same_place (set t a Shared) b c Shared Shared e
+        (subst (λ (k : ℕ). c < k) (sym (length-set t a Shared)) l)
+    go (inr n) (inl e) = get_or-set_other (set t a Shared) b c Shared Shared n
+        ∙ same_place t a c Shared Shared e l
     go (inr n) (inr e) = absurd (n e)
 
-pub miss_states : (w : Way) (c : ℕ) (full : Bool) (s : LastOps) (t : List LastOps) → (Leads w c → ⊥) → get_or (spread_state w full s t) c Shared ≡ get_or t c Shared
+pub miss_states : (w : Way) (c : ℕ) (full : Bool) (s : LastOps) (t : List LastOps) → (Leads w c → ⊥)
+    → get_or (spread_state w full s t) c Shared ≡ get_or t c Shared
 miss_states Out c full s t n = refl
 miss_states (On b) c full s t n = get_or-set_other t b c (cond full Sole s) Shared n
-miss_states (Fork a b) c full s t n = get_or-set_other (set t a Shared) b c Shared Shared (λ e. n (inr e)) ∙ get_or-set_other t a c Shared Shared (λ e. n (inl e))
+miss_states (Fork a b) c full s t n = get_or-set_other (set t a Shared) b c Shared Shared (λ e. n (inr e))
+    ∙ get_or-set_other t a c Shared Shared (λ e. n (inl e))
 
-pub states_length : (w : Way) (full : Bool) (s : LastOps) (t : List LastOps) → length (spread_state w full s t) ≡ length t
+pub states_length : (w : Way) (full : Bool) (s : LastOps) (t : List LastOps)
+    → length (spread_state w full s t) ≡ length t
 states_length Out full s t = refl
 states_length (On b) full s t = length-set t b (cond full Sole s)
 states_length (Fork a b) full s t = length-set (set t a Shared) b Shared ∙ length-set t a Shared
@@ -136,45 +165,60 @@ states_length (Fork a b) full s t = length-set (set t a Shared) b Shared ∙ len
 abbrev pub added_to : Option Behind → Behind → Option Behind
 added_to o y = Some (joined o y)
 
-pub hit_behind : (w : Way) (c : ℕ) (y : Behind) (t : List (Option Behind)) → Parts w → Leads w c → c < length t → get_or (hand_way w y t) c None ≡ Some (joined (get_or t c None) y)
+pub hit_behind : (w : Way) (c : ℕ) (y : Behind) (t : List (Option Behind)) → Parts w → Leads w c
+    → c < length t → get_or (hand_way w y t) c None ≡ Some (joined (get_or t c None) y)
 hit_behind Out c y t p h l = absurd h
 hit_behind (On b) c y t p h l = rw (sym h) (get_or-set_same t c (Some (joined (get_or t c None) y)) None l)
 hit_behind (Fork a b) c y t p (inl h) l =
     let n : c ≡ b → ⊥ = λ e. p (sym h ∙ e) in
-    get_or-set_other (hand_on y a t) b c (Some (joined (get_or (hand_on y a t) b None) y)) None n ∙ rw (sym h) (get_or-set_same t c (Some (joined (get_or t c None) y)) None l)
+    get_or-set_other (hand_on y a t) b c (Some (joined (get_or (hand_on y a t) b None) y)) None n
+    ∙ rw (sym h) (get_or-set_same t c (Some (joined (get_or t c None) y)) None l)
 hit_behind (Fork a b) c y t p (inr h) l =
     let n : c ≡ a → ⊥ = λ e. p (sym e ∙ h) in
-    let o : get_or (hand_on y a t) c None ≡ get_or t c None = get_or-set_other t a c (Some (joined (get_or t a None) y)) None n in
-    same_place (hand_on y a t) b c (Some (joined (get_or (hand_on y a t) b None) y)) None h (subst (λ (k : ℕ). c < k) (sym (length-set t a (Some (joined (get_or t a None) y)))) l)
-    ∙ ap (λ (z : Option Behind). Some (joined z y)) (ap (λ (k : ℕ). get_or (hand_on y a t) k None) (sym h) ∙ o)
+    let o : get_or (hand_on y a t) c None ≡ get_or t c None = get_or-set_other t a c
+    (Some (joined (get_or t a None) y)) None n in
+    same_place (hand_on y a t) b c (Some (joined (get_or (hand_on y a t) b None) y)) None h
+    (subst (λ (k : ℕ). c < k) (sym (length-set t a (Some (joined (get_or t a None) y)))) l)
+    ∙ ap (λ (z : Option Behind). Some (joined z y)) (ap (λ (k : ℕ). get_or (hand_on y a t) k None) (sym h)
+    ∙ o)
 
-pub miss_behind : (w : Way) (c : ℕ) (y : Behind) (t : List (Option Behind)) → (Leads w c → ⊥) → get_or (hand_way w y t) c None ≡ get_or t c None
+pub miss_behind : (w : Way) (c : ℕ) (y : Behind) (t : List (Option Behind)) → (Leads w c → ⊥)
+    → get_or (hand_way w y t) c None ≡ get_or t c None
 miss_behind Out c y t n = refl
 miss_behind (On b) c y t n = get_or-set_other t b c (Some (joined (get_or t b None) y)) None n
-miss_behind (Fork a b) c y t n = get_or-set_other (hand_on y a t) b c (Some (joined (get_or (hand_on y a t) b None) y)) None (λ e. n (inr e)) ∙ get_or-set_other t a c (Some (joined (get_or t a None) y)) None (λ e. n (inl e))
+miss_behind (Fork a b) c y t n = get_or-set_other (hand_on y a t) b c
+    (Some (joined (get_or (hand_on y a t) b None) y)) None (λ e. n (inr e))
+    ∙ get_or-set_other t a c (Some (joined (get_or t a None) y)) None (λ e. n (inl e))
 
 pub behind_length : (w : Way) (y : Behind) (t : List (Option Behind)) → length (hand_way w y t) ≡ length t
 behind_length Out y t = refl
 behind_length (On b) y t = length-set t b (Some (joined (get_or t b None) y))
-behind_length (Fork a b) y t = length-set (hand_on y a t) b (Some (joined (get_or (hand_on y a t) b None) y)) ∙ length-set t a (Some (joined (get_or t a None) y))
+behind_length (Fork a b) y t = length-set (hand_on y a t) b (Some (joined (get_or (hand_on y a t) b None) y))
+    ∙ length-set t a (Some (joined (get_or t a None) y))
 
 -- What comes next: the table from the last block to the first.
 
-pub heads_length : (xs : List Outline) (lows : List ℕ) (b : ℕ) (h : List Link) → length (heads_from xs lows b h) ≡ length h
+pub heads_length : (xs : List Outline) (lows : List ℕ) (b : ℕ) (h : List Link)
+    → length (heads_from xs lows b h) ≡ length h
 heads_length [] lows b h = refl
-heads_length (x ∷ xs) lows b h = length-set (heads_from xs lows (suc b) h) b (head_link x (get_or lows b 0) (heads_from xs lows (suc b) h)) ∙ heads_length xs lows (suc b) h
+heads_length (x ∷ xs) lows b h = length-set (heads_from xs lows (suc b) h) b
+    (head_link x (get_or lows b 0) (heads_from xs lows (suc b) h)) ∙ heads_length xs lows (suc b) h
 
-same_out : (w : Way) (t u : List Link) → ((c : ℕ) → Leads w c → head_at t c ≡ head_at u c) → out_link w t ≡ out_link w u
+same_out : (w : Way) (t u : List Link) → ((c : ℕ) → Leads w c → head_at t c ≡ head_at u c)
+    → out_link w t ≡ out_link w u
 same_out Out t u h = refl
 same_out (On b) t u h = h b refl
 same_out (Fork a b) t u h = rw (h a (inl refl), h b (inr refl)) refl
 
-same_head : (x : Outline) (low : ℕ) (t u : List Link) → ((c : ℕ) → Leads x.way c → head_at t c ≡ head_at u c) → head_link x low t ≡ head_link x low u
+same_head : (x : Outline) (low : ℕ) (t u : List Link) → ((c : ℕ) → Leads x.way c → head_at t c ≡ head_at u c)
+    → head_link x low t ≡ head_link x low u
 same_head x low t u h = ap (λ (k : Link). cond (eqb x.ops 0) k (Is (low + 1))) (same_out x.way t u h)
 
-pub head_there : (xs : List Outline) (lows : List ℕ) (b n m : ℕ) (h : List Link) → n < length xs → m ≡ b + n → b + length xs ≤ length h →
+pub head_there : (xs : List Outline) (lows : List ℕ) (b n m : ℕ) (h : List Link) → n < length xs → m ≡ b + n
+    → b + length xs ≤ length h →
     ((i c : ℕ) → i < length xs → Leads (outline_in xs i).way c → b + i < c) →
-    head_at (heads_from xs lows b h) m ≡ head_link (outline_in xs n) (get_or lows m 0) (heads_from xs lows b h)
+    head_at (heads_from xs lows b h) m ≡ head_link (outline_in xs n) (get_or lows m 0)
+    (heads_from xs lows b h)
 head_there [] lows b n m h l e w later = absurd (omega arith)
 head_there (x ∷ xs) lows b zero m h l e w later =
     let r : List Link = heads_from xs lows (suc b) h in
@@ -182,14 +226,20 @@ head_there (x ∷ xs) lows b zero m h l e w later =
     let len : length r ≡ length h = heads_length xs lows (suc b) h in
     rw g (get_or-set_same r b (head_link x (get_or lows b 0) r) Unknown (omega arith)
     ∙ same_head x (get_or lows b 0) r (set r b (head_link x (get_or lows b 0) r)) (λ c k.
-    (let lt : b + 0 < c = later 0 c (omega arith) k in sym (get_or-set_other r b c (head_link x (get_or lows b 0) r) Unknown (λ e. absurd (omega (arith, lt, e)))))))
+    (let lt : b + 0 < c = later 0 c (omega arith) k in
+    sym (get_or-set_other r b c (head_link x (get_or lows b 0) r) Unknown
+    (λ e. absurd (omega (arith, lt, e)))))))
 head_there (x ∷ xs) lows b (suc n) m h l e w later =
     let r : List Link = heads_from xs lows (suc b) h in
     let f : List Link = set r b (head_link x (get_or lows b 0) r) in
-    let rec : head_at r m ≡ head_link (outline_in xs n) (get_or lows m 0) r = head_there xs lows (suc b) n m h (omega arith) (omega arith) (omega arith) (λ i c q k. (let lt : b + suc i < c = later (suc i) c (omega (arith, q)) k in omega (arith, lt))) in
+    let rec : head_at r m ≡ head_link (outline_in xs n) (get_or lows m 0) r =
+    head_there xs lows (suc b) n m h (omega arith) (omega arith) (omega arith)
+    (λ i c q k. (let lt : b + suc i < c = later (suc i) c (omega (arith, q)) k in omega (arith, lt))) in
     get_or-set_other r b m (head_link x (get_or lows b 0) r) Unknown (λ d. absurd (omega (arith, d)))
     ∙ (rec ∙ same_head (outline_in xs n) (get_or lows m 0) r f (λ c k.
-    (let lt : b + suc n < c = later (suc n) c (omega arith) k in sym (get_or-set_other r b c (head_link x (get_or lows b 0) r) Unknown (λ d. absurd (omega (arith, lt, d)))))))
+    (let lt : b + suc n < c = later (suc n) c (omega arith) k in
+    sym (get_or-set_other r b c (head_link x (get_or lows b 0) r) Unknown
+    (λ d. absurd (omega (arith, lt, d)))))))
 
 -- Links.
 
@@ -206,6 +256,7 @@ both_says (Is n) Nothing = inl refl
 both_says (Is n) Unknown = inl refl
 both_says (Is n) (Is m) = go (cases_eq n m)
   where
-    go : (n ≡ m) ⊎ (n ≡ m → ⊥) → (both (Is n) (Is m) ≡ Unknown) ⊎ ((both (Is n) (Is m) ≡ Is n) × (Is n ≡ Is m))
+    go : (n ≡ m) ⊎ (n ≡ m → ⊥) → (both (Is n) (Is m) ≡ Unknown)
+        ⊎ ((both (Is n) (Is m) ≡ Is n) × (Is n ≡ Is m))
     go (inl e) = inr (rw (eq-eqb n m e) refl, ap Is e)
     go (inr d) = inl (rw (ne_eqb n m d) refl)

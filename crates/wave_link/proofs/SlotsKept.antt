@@ -1,16 +1,22 @@
 -- Paths of a draft with no-ops are paths of the draft.
-use Rattle.std.proofs.Common.{ℕ, suc, ◌+◌, ◌-◌, ◌≡◌, ◌<◌, ◌≤◌, ◌⊎◌, Bool, true, false, cond, List, [], ◌∷◌, ◌++◌, Option, Some, None, refl, sym, ap, ap₂, ◌∙◌, inl, inr, subst, arith, eq-eqb, ne_eqb, eqb, ltb, ◌&&◌}
+use Rattle.std.proofs.Common.{ℕ, suc, ◌+◌, ◌-◌, ◌≡◌, ◌<◌, ◌≤◌, ◌⊎◌, Bool, true, false, cond, List, [], ◌∷◌}
+use Rattle.std.proofs.Common.{◌++◌, Option, Some, None, refl, sym, ap, ap₂, ◌∙◌, inl, inr, subst, arith}
+use Rattle.std.proofs.Common.{eq-eqb, ne_eqb, eqb, ltb, ◌&&◌}
 use Rattle.std.proofs.Math.Path.{fun_ext}
 use Rattle.std.proofs.lemmas.Bool.{cases_eq, cases_lt, lt-ltb, le-ltb}
 use Rattle.ws_isa.specs.declared.instr.Dest.{Dest}
-use Rattle.ws_isa.specs.Image.{Image, first_number, ports, is_advance, stops, target, now_dests, is_first, start_dests, IsIn, IsBlock}
-use Rattle.ws_isa.specs.Sound.{OpenSlots, none_open, opened, all_opened, Fresh, closed, HasDest, opens_at, Opens, begin, turn, edge, AdvancesOpen, EndSlots, EdgeInto, SlotRules}
-use Rattle.wave_link.proofs.GrownForm.{Trigger, Whole, Own, Before, renamed, nop_slot, own_slot, before_slot, extra, is_pending, lift, Grown}
+use Rattle.ws_isa.specs.Image.{Image, first_number, ports, is_advance, stops, target, now_dests, is_first}
+use Rattle.ws_isa.specs.Image.{start_dests, IsIn, IsBlock}
+use Rattle.ws_isa.specs.Sound.{OpenSlots, none_open, opened, all_opened, Fresh, closed, HasDest, opens_at}
+use Rattle.ws_isa.specs.Sound.{Opens, begin, turn, edge, AdvancesOpen, EndSlots, EdgeInto, SlotRules}
+use Rattle.wave_link.proofs.GrownForm.{Trigger, Whole, Own, Before, renamed, nop_slot, own_slot, before_slot}
+use Rattle.wave_link.proofs.GrownForm.{extra, is_pending, lift, Grown}
 use Rattle.ws_isa.proofs.Steps.{first_up}
 use Rattle.ws_isa.proofs.Opened.{opened_here}
 use Rattle.ws_isa.proofs.Slots.{all_opened_append as all_append}
 
-pub fresh_append : (xs bs : List Dest) (o : OpenSlots) → Fresh xs o → Fresh bs (all_opened xs o) → Fresh (xs ++ bs) o
+pub fresh_append : (xs bs : List Dest) (o : OpenSlots) → Fresh xs o → Fresh bs (all_opened xs o)
+    → Fresh (xs ++ bs) o
 fresh_append [] bs o f g = g
 fresh_append (a ∷ xs) bs o f g = (f.0, fresh_append xs bs (opened a o) f.1 g)
 
@@ -18,7 +24,8 @@ opened_there : (d : Dest) (o : OpenSlots) (j q : ℕ) → (d.instr ≡ j → ⊥
 opened_there d o j q n = rw (ne_eqb d.instr j n) refl
 
 pub swap : (c d : Dest) (o : OpenSlots) → opened c (opened d o) ≡ opened d (opened c o)
-swap c d o = fun_ext (λ j. fun_ext (λ q. point j q (eqb c.instr j && eqb c.port q) (eqb d.instr j && eqb d.port q)))
+swap c d o =
+    fun_ext (λ j. fun_ext (λ q. point j q (eqb c.instr j && eqb c.port q) (eqb d.instr j && eqb d.port q)))
   where
     point : (j q : ℕ) (a b : Bool) → cond a true (cond b true (o j q)) ≡ cond b true (cond a true (o j q))
     point j q true true = refl
@@ -26,7 +33,8 @@ swap c d o = fun_ext (λ j. fun_ext (λ q. point j q (eqb c.instr j && eqb c.por
     point j q false true = refl
     point j q false false = refl
 
-pub all_swap : (ds : List Dest) (c : Dest) (o : OpenSlots) → all_opened ds (opened c o) ≡ opened c (all_opened ds o)
+pub all_swap : (ds : List Dest) (c : Dest) (o : OpenSlots) → all_opened ds (opened c o) ≡ opened c
+    (all_opened ds o)
 all_swap [] c o = refl
 all_swap (d ∷ ds) c o = ap (all_opened ds) (swap d c o) ∙ all_swap ds c (opened d o)
 
@@ -39,24 +47,29 @@ held_there : (p : Bool) (n : ℕ) (o : OpenSlots) (j q : ℕ) → (n ≡ j → �
 held_there true n o j q h = opened_there (record { instr = n; port = 0 }) o j q h
 held_there false n o j q h = refl
 
-closed_held : (p : Bool) (n m : ℕ) (o : OpenSlots) → (n ≡ m → ⊥) → closed m (held p n o) ≡ held p n (closed m o)
+closed_held : (p : Bool) (n m : ℕ) (o : OpenSlots) → (n ≡ m → ⊥) → closed m (held p n o) ≡ held p n
+    (closed m o)
 closed_held false n m o h = refl
 closed_held true n m o h = fun_ext (λ j. fun_ext (λ q. point j q (cases_eq m j)))
   where
-    point : (j q : ℕ) → (m ≡ j) ⊎ (m ≡ j → ⊥) → closed m (opened (record { instr = n; port = 0 }) o) j q ≡ opened (record { instr = n; port = 0 }) (closed m o) j q
+    point : (j q : ℕ) → (m ≡ j) ⊎ (m ≡ j → ⊥) → closed m (opened (record { instr = n; port = 0 }) o) j q
+        ≡ opened (record { instr = n; port = 0 }) (closed m o) j q
     point j q (inl e) = rw (eq-eqb m j e, ne_eqb n j (λ f. h (f ∙ sym e))) refl
     point j q (inr e) = rw (ne_eqb m j e) refl
 
-all_held : (ds : List Dest) (p : Bool) (n : ℕ) (o : OpenSlots) → all_opened ds (held p n o) ≡ held p n (all_opened ds o)
+all_held : (ds : List Dest) (p : Bool) (n : ℕ) (o : OpenSlots) → all_opened ds (held p n o) ≡ held p n
+    (all_opened ds o)
 all_held ds true n o = all_swap ds (record { instr = n; port = 0 }) o
 all_held ds false n o = refl
 
-own_step : (t : Trigger) (n k : ℕ) (o : OpenSlots) → all_opened (own_slot t n k) (held (is_pending t k) n o) ≡ held (is_pending t (suc k)) n o
+own_step : (t : Trigger) (n k : ℕ) (o : OpenSlots) → all_opened (own_slot t n k) (held (is_pending t k) n o)
+    ≡ held (is_pending t (suc k)) n o
 own_step Whole n k o = refl
 own_step Before n k o = refl
 own_step (Own t) n k o = go (cases_eq t k) (cases_lt t k)
   where
-    go : (t ≡ k) ⊎ (t ≡ k → ⊥) → (t < k) ⊎ (k ≤ t) → all_opened (cond (eqb t k) (nop_slot n) []) (held (ltb t k) n o) ≡ held (ltb t (suc k)) n o
+    go : (t ≡ k) ⊎ (t ≡ k → ⊥) → (t < k) ⊎ (k ≤ t) → all_opened (cond (eqb t k) (nop_slot n) [])
+        (held (ltb t k) n o) ≡ held (ltb t (suc k)) n o
     go (inl e) (inl l) = absurd (omega arith)
     go (inl e) (inr l) = rw (eq-eqb t k e, le-ltb t k l, lt-ltb t (suc k) (omega arith)) refl
     go (inr e) (inl l) = rw (ne_eqb t k e, lt-ltb t k l, lt-ltb t (suc k) (omega arith)) refl
@@ -85,40 +98,61 @@ module _ (draft image : Image) (g : Grown draft image) where
   some_same e = cc
 
   -- a destination is opened before or after the numbers change
-  up_opened : (d : Dest) (o : OpenSlots) → g.origin (g.new d.instr) ≡ Some d.instr → opened (record { instr = g.new d.instr; port = d.port }) (up o) ≡ up (opened d o)
+  up_opened : (d : Dest) (o : OpenSlots) → g.origin (g.new d.instr) ≡ Some d.instr
+      → opened (record { instr = g.new d.instr; port = d.port }) (up o) ≡ up (opened d o)
   up_opened d o r = fun_ext (λ m. fun_ext (λ q. point m q (origin_cases m)))
     where
-      point : (m q : ℕ) → ((k : ℕ) × (g.origin m ≡ Some k)) ⊎ (g.origin m ≡ None) → opened (record { instr = g.new d.instr; port = d.port }) (up o) m q ≡ up (opened d o) m q
-      point m q (inr e) = opened_there (record { instr = g.new d.instr; port = d.port }) (up o) m q (λ f. absurd (cc (ap g.origin f))) ∙ up_none o m q e ∙ sym (up_none (opened d o) m q e)
+      point : (m q : ℕ) → ((k : ℕ) × (g.origin m ≡ Some k)) ⊎ (g.origin m ≡ None)
+          → opened (record { instr = g.new d.instr; port = d.port }) (up o) m q ≡ up (opened d o) m q
+      point m q (inr e) = opened_there (record { instr = g.new d.instr; port = d.port }) (up o) m q
+          (λ f. absurd (cc (ap g.origin f))) ∙ up_none o m q e ∙ sym (up_none (opened d o) m q e)
       point m q (inl (k, e)) = go (cases_eq d.instr k)
         where
-          go : (d.instr ≡ k) ⊎ (d.instr ≡ k → ⊥) → opened (record { instr = g.new d.instr; port = d.port }) (up o) m q ≡ up (opened d o) m q
+          go : (d.instr ≡ k) ⊎ (d.instr ≡ k → ⊥) → opened (record { instr = g.new d.instr; port = d.port })
+              (up o) m q ≡ up (opened d o) m q
           go (inl f) =
               let at : m ≡ g.new d.instr = g.origin_only m k e ∙ ap g.new (sym f) in
-              rw (up_at (opened d o) m q k e, up_at o m q k e, at, eq-eqb (g.new d.instr) (g.new d.instr) refl, eq-eqb d.instr k f) refl
-          go (inr n) = opened_there (record { instr = g.new d.instr; port = d.port }) (up o) m q (λ f. n (some_same (sym r ∙ ap g.origin f ∙ e))) ∙ up_at o m q k e ∙ sym (up_at (opened d o) m q k e ∙ opened_there d o k q n)
+              rw (
+                up_at (opened d o) m q k e,
+                up_at o m q k e,
+                at,
+                eq-eqb (g.new d.instr) (g.new d.instr)
+                    refl,
+                eq-eqb d.instr k f,
+              ) refl
+          go (inr n) = opened_there (record { instr = g.new d.instr; port = d.port }) (up o) m q
+              (λ f. n (some_same (sym r ∙ ap g.origin f ∙ e))) ∙ up_at o m q k e
+              ∙ sym (up_at (opened d o) m q k e ∙ opened_there d o k q n)
 
-  up_all : (ds : List Dest) (o : OpenSlots) → ((j q : ℕ) → HasDest ds j q → g.origin (g.new j) ≡ Some j) → all_opened (renamed g.new ds) (up o) ≡ up (all_opened ds o)
+  up_all : (ds : List Dest) (o : OpenSlots) → ((j q : ℕ) → HasDest ds j q → g.origin (g.new j) ≡ Some j)
+      → all_opened (renamed g.new ds) (up o) ≡ up (all_opened ds o)
   up_all [] o r = refl
-  up_all (d ∷ ds) o r = ap (all_opened (renamed g.new ds)) (up_opened d o (r d.instr d.port (inl (refl, refl)))) ∙ up_all ds (opened d o) (λ j q h. r j q (inr h))
+  up_all (d ∷ ds) o r = ap (all_opened (renamed g.new ds))
+      (up_opened d o (r d.instr d.port (inl (refl, refl)))) ∙ up_all ds (opened d o) (λ j q h. r j q (inr h))
 
-  up_fresh : (ds : List Dest) (o : OpenSlots) → ((j q : ℕ) → HasDest ds j q → g.origin (g.new j) ≡ Some j) → Fresh ds o → Fresh (renamed g.new ds) (up o)
+  up_fresh : (ds : List Dest) (o : OpenSlots) → ((j q : ℕ) → HasDest ds j q → g.origin (g.new j) ≡ Some j)
+      → Fresh ds o → Fresh (renamed g.new ds) (up o)
   up_fresh [] o r f = tt
   up_fresh (d ∷ ds) o r f = (
     up_at o (g.new d.instr) d.port d.instr (r d.instr d.port (inl (refl, refl))) ∙ f.0,
-    subst (λ (t : OpenSlots). Fresh (renamed g.new ds) t) (sym (up_opened d o (r d.instr d.port (inl (refl, refl))))) (up_fresh ds (opened d o) (λ j q h. r j q (inr h)) f.1),
+    subst (λ (t : OpenSlots). Fresh (renamed g.new ds) t)
+        (sym (up_opened d o (r d.instr d.port (inl (refl, refl)))))
+        (up_fresh ds (opened d o) (λ j q h. r j q (inr h)) f.1),
   )
 
   up_closed : (k n : ℕ) (o : OpenSlots) → g.origin n ≡ Some k → closed n (up o) ≡ up (closed k o)
   up_closed k n o r = fun_ext (λ m. fun_ext (λ q. point m q (cases_eq n m) (origin_cases m)))
     where
-      point : (m q : ℕ) → (n ≡ m) ⊎ (n ≡ m → ⊥) → ((j : ℕ) × (g.origin m ≡ Some j)) ⊎ (g.origin m ≡ None) → closed n (up o) m q ≡ up (closed k o) m q
-      point m q (inl e) x = rw (eq-eqb n m e) (sym (up_at (closed k o) m q k (ap g.origin (sym e) ∙ r) ∙ here))
+      point : (m q : ℕ) → (n ≡ m) ⊎ (n ≡ m → ⊥) → ((j : ℕ) × (g.origin m ≡ Some j)) ⊎ (g.origin m ≡ None)
+          → closed n (up o) m q ≡ up (closed k o) m q
+      point m q (inl e) x =
+          rw (eq-eqb n m e) (sym (up_at (closed k o) m q k (ap g.origin (sym e) ∙ r) ∙ here))
         where
           here : closed k o k q ≡ false
           here = rw (eq-eqb k k refl) refl
       point m q (inr e) (inr f) = rw (ne_eqb n m e) (up_none o m q f ∙ sym (up_none (closed k o) m q f))
-      point m q (inr e) (inl (j, f)) = rw (ne_eqb n m e) (up_at o m q j f ∙ sym (up_at (closed k o) m q j f ∙ there))
+      point m q (inr e) (inl (j, f)) =
+          rw (ne_eqb n m e) (up_at o m q j f ∙ sym (up_at (closed k o) m q j f ∙ there))
         where
           there : closed k o j q ≡ o j q
           there = rw (ne_eqb k j (λ h. e (g.origin_only n k r ∙ ap g.new h ∙ sym (g.origin_only m j f)))) refl
@@ -154,10 +188,13 @@ module _ (draft image : Image) (g : Grown draft image) where
     pub number : m ≡ first_number image (suc b)
     pub are : o ≡ up slots
 
-  start_pending : (b : ℕ) → IsBlock draft b → (o : OpenSlots) → all_opened (before_slot (g.trigger b) (g.nop b)) o ≡ held (is_pending (g.trigger b) (first_number draft b)) (g.nop b) o
+  start_pending : (b : ℕ) → IsBlock draft b → (o : OpenSlots)
+      → all_opened (before_slot (g.trigger b) (g.nop b)) o ≡ held
+      (is_pending (g.trigger b) (first_number draft b)) (g.nop b) o
   start_pending b h o = go (g.trigger b) refl
     where
-      go : (t : Trigger) → g.trigger b ≡ t → all_opened (before_slot t (g.nop b)) o ≡ held (is_pending t (first_number draft b)) (g.nop b) o
+      go : (t : Trigger) → g.trigger b ≡ t → all_opened (before_slot t (g.nop b)) o
+          ≡ held (is_pending t (first_number draft b)) (g.nop b) o
       go Whole e = refl
       go Before e = refl
       go (Own t) e = rw (le-ltb t (first_number draft b) ((g.own_in b t h e).0)) refl
@@ -170,7 +207,8 @@ module _ (draft image : Image) (g : Grown draft image) where
       go (Own t) e = refl
       go Before e = absurd (cc (f, g.before_inside b h e))
 
-  end_pending : (b : ℕ) → IsBlock draft b → extra (g.trigger b) ≡ 1 → is_pending (g.trigger b) (first_number draft (suc b)) ≡ true
+  end_pending : (b : ℕ) → IsBlock draft b → extra (g.trigger b) ≡ 1
+      → is_pending (g.trigger b) (first_number draft (suc b)) ≡ true
   end_pending b h x = go (g.trigger b) refl x
     where
       go : (t : Trigger) → g.trigger b ≡ t → extra t ≡ 1 → is_pending t (first_number draft (suc b)) ≡ true
@@ -195,10 +233,14 @@ module _ (draft image : Image) (g : Grown draft image) where
       go (Own t) = inr refl
 
   -- an instruction of the draft, or the no-op
-  turn_cases : (b k : ℕ) → IsBlock draft b → k ≤ first_number draft (suc b) → k + g.shift b < first_number image (suc b) → (k < first_number draft (suc b)) ⊎ ((k ≡ first_number draft (suc b)) × (extra (g.trigger b) ≡ 1) × (k + g.shift b ≡ g.nop b))
+  turn_cases : (b k : ℕ) → IsBlock draft b → k ≤ first_number draft (suc b)
+      → k + g.shift b < first_number image (suc b) → (k < first_number draft (suc b))
+      ⊎ ((k ≡ first_number draft (suc b)) × (extra (g.trigger b) ≡ 1) × (k + g.shift b ≡ g.nop b))
   turn_cases b k h l w = go (cases_lt k (first_number draft (suc b))) (extra_cases b)
     where
-      go : (k < first_number draft (suc b)) ⊎ (first_number draft (suc b) ≤ k) → (extra (g.trigger b) ≡ 0) ⊎ (extra (g.trigger b) ≡ 1) → (k < first_number draft (suc b)) ⊎ ((k ≡ first_number draft (suc b)) × (extra (g.trigger b) ≡ 1) × (k + g.shift b ≡ g.nop b))
+      go : (k < first_number draft (suc b)) ⊎ (first_number draft (suc b) ≤ k) → (extra (g.trigger b) ≡ 0)
+          ⊎ (extra (g.trigger b) ≡ 1) → (k < first_number draft (suc b))
+          ⊎ ((k ≡ first_number draft (suc b)) × (extra (g.trigger b) ≡ 1) × (k + g.shift b ≡ g.nop b))
       go (inl a) x = inl a
       go (inr a) (inl x) = absurd (omega (arith, g.ends b h))
       go (inr a) (inr x) = inr (omega arith, x, omega (arith, g.nop_is b h))
@@ -208,7 +250,8 @@ module _ (draft image : Image) (g : Grown draft image) where
 
   -- the turn of a real instruction
   real_turn : (b k : ℕ) (o : OpenSlots) → IsBlock draft b → IsIn draft b k →
-      all_opened (now_dests image (k + g.shift b)) (closed (k + g.shift b) (held (is_pending (g.trigger b) k) (g.nop b) (up o)))
+      all_opened (now_dests image (k + g.shift b))
+      (closed (k + g.shift b) (held (is_pending (g.trigger b) k) (g.nop b) (up o)))
       ≡ held (is_pending (g.trigger b) (suc k)) (g.nop b) (up (all_opened (now_dests draft k) (closed k o)))
   real_turn b k o h i =
       let p : Bool = is_pending (g.trigger b) k in
@@ -216,29 +259,39 @@ module _ (draft image : Image) (g : Grown draft image) where
       let m : ℕ = k + g.shift b in
       let ds : List Dest = now_dests draft k in
       let at : g.origin m ≡ Some k = ap g.origin (sym (g.new_is b k h i)) ∙ g.origin_real b k h i in
-      let a : closed m (held p n (up o)) ≡ held p n (up (closed k o)) = closed_held p n m (up o) (not_nop b k h i.1) ∙ ap (held p n) (up_closed k m o at) in
-      let c : all_opened (renamed g.new ds) (held p n (up (closed k o))) ≡ held p n (up (all_opened ds (closed k o))) =
-      all_held (renamed g.new ds) p n (up (closed k o)) ∙ ap (held p n) (up_all ds (closed k o) (λ j q z. g.now_real b k j q h i z)) in
+      let a : closed m (held p n (up o)) ≡ held p n (up (closed k o)) =
+      closed_held p n m (up o) (not_nop b k h i.1) ∙ ap (held p n) (up_closed k m o at) in
+      let c : all_opened (renamed g.new ds) (held p n (up (closed k o))) ≡ held p n
+      (up (all_opened ds (closed k o))) =
+      all_held (renamed g.new ds) p n (up (closed k o)) ∙ ap (held p n)
+      (up_all ds (closed k o) (λ j q z. g.now_real b k j q h i z)) in
       ap (λ (xs : List Dest). all_opened xs (closed m (held p n (up o)))) (g.now b k h i)
       ∙ (ap (all_opened (renamed g.new ds ++ own_slot (g.trigger b) n k)) a
       ∙ (all_append (renamed g.new ds) (own_slot (g.trigger b) n k) (held p n (up (closed k o)))
-      ∙ (ap (all_opened (own_slot (g.trigger b) n k)) c ∙ own_step (g.trigger b) n k (up (all_opened ds (closed k o))))))
+      ∙ (ap (all_opened (own_slot (g.trigger b) n k)) c ∙ own_step (g.trigger b) n k
+      (up (all_opened ds (closed k o))))))
 
   -- along an edge
   edge_turn : (b r : ℕ) (o : OpenSlots) → IsBlock draft b → stops draft b ≡ false →
-      all_opened (opens_at image b r) (up o) ≡ all_opened (before_slot (g.trigger (target draft b r)) (g.nop (target draft b r))) (up (all_opened (opens_at draft b r) o))
+      all_opened (opens_at image b r) (up o) ≡ all_opened
+      (before_slot (g.trigger (target draft b r)) (g.nop (target draft b r)))
+      (up (all_opened (opens_at draft b r) o))
   edge_turn b r o h s =
       let ds : List Dest = opens_at draft b r in
       let xs : List Dest = before_slot (g.trigger (target draft b r)) (g.nop (target draft b r)) in
-      g.edge_opens b r (up o) h s ∙ (all_append (renamed g.new ds) xs (up o) ∙ ap (all_opened xs) (up_all ds o (λ j q z. g.edge_real b r j q h z)))
+      g.edge_opens b r (up o) h s ∙ (all_append (renamed g.new ds) xs (up o)
+      ∙ ap (all_opened xs) (up_all ds o (λ j q z. g.edge_real b r j q h z)))
 
   start_turn : all_opened (start_dests image) none_open ≡ up (all_opened (start_dests draft) none_open)
-  start_turn = ap (λ (xs : List Dest). all_opened xs none_open) g.start ∙ (ap (all_opened (renamed g.new (start_dests draft))) none_up ∙ up_all (start_dests draft) none_open (λ j q z. g.start_real j q z))
+  start_turn = ap (λ (xs : List Dest). all_opened xs none_open) g.start
+      ∙ (ap (all_opened (renamed g.new (start_dests draft))) none_up ∙ up_all (start_dests draft) none_open
+      (λ j q z. g.start_real j q z))
     where
       none_up : none_open ≡ up none_open
       none_up = fun_ext (λ m. fun_ext (λ q. point m q (origin_cases m)))
         where
-          point : (m q : ℕ) → ((k : ℕ) × (g.origin m ≡ Some k)) ⊎ (g.origin m ≡ None) → false ≡ up none_open m q
+          point : (m q : ℕ) → ((k : ℕ) × (g.origin m ≡ Some k)) ⊎ (g.origin m ≡ None)
+              → false ≡ up none_open m q
           point m q (inl (k, e)) = sym (up_at none_open m q k e)
           point m q (inr e) = sym (up_none none_open m q e)
 
@@ -246,15 +299,23 @@ module _ (draft image : Image) (g : Grown draft image) where
   unfolding is_first
   is_first_one d = refl
 
-  at_end : (b m : ℕ) (o : OpenSlots) → Real b m o ⊎ Passed b m o → m ≡ first_number image (suc b) → IsBlock draft b × ((p : OpenSlots) × Opens draft b (first_number draft (suc b)) p × (o ≡ up p))
+  at_end : (b m : ℕ) (o : OpenSlots) → Real b m o ⊎ Passed b m o → m ≡ first_number image (suc b)
+      → IsBlock draft b × ((p : OpenSlots) × Opens draft b (first_number draft (suc b)) p × (o ≡ up p))
   at_end b m o (inr x) e = (x.here, (x.slots, x.path, x.are))
   at_end b m o (inl x) e = go (extra_cases b)
     where
-      go : (extra (g.trigger b) ≡ 0) ⊎ (extra (g.trigger b) ≡ 1) → IsBlock draft b × ((p : OpenSlots) × Opens draft b (first_number draft (suc b)) p × (o ≡ up p))
+      go : (extra (g.trigger b) ≡ 0) ⊎ (extra (g.trigger b) ≡ 1) → IsBlock draft b
+          × ((p : OpenSlots) × Opens draft b (first_number draft (suc b)) p × (o ≡ up p))
       go (inr y) = absurd (omega (arith, g.ends b x.here, x.high, x.number))
       go (inl y) =
-          let at : x.next ≡ first_number draft (suc b) = omega (arith, g.ends b x.here, x.high, x.number) in
-          (x.here, (x.slots, subst (λ (n : ℕ). Opens draft b n x.slots) at x.path, x.are ∙ ap (λ (p : Bool). held p (g.nop b) (up x.slots)) (whole_quiet b x.next y)))
+          let at : x.next ≡ first_number draft (suc b) = omega (arith, g.ends b x.here, x.high, x.number) in (
+            x.here,
+            (
+              x.slots,
+              subst (λ (n : ℕ). Opens draft b n x.slots) at x.path,
+              x.are ∙ ap (λ (p : Bool). held p (g.nop b) (up x.slots)) (whole_quiet b x.next y),
+            ),
+          )
 
   pub back : (b m : ℕ) (o : OpenSlots) → Opens image b m o → Real b m o ⊎ Passed b m o
   back b m o begin = inl (record {
@@ -265,7 +326,10 @@ module _ (draft image : Image) (g : Grown draft image) where
     low = omega arith;
     high = first_up draft 1;
     number = g.first 1 g.first_block;
-    are = start_turn ∙ (sym (ap (λ (xs : List Dest). all_opened xs (up (all_opened (start_dests draft) none_open))) (first_quiet 1 g.first_block (is_first_one draft))) ∙ start_pending 1 g.first_block (up (all_opened (start_dests draft) none_open)));
+    are = start_turn
+        ∙ (sym (ap (λ (xs : List Dest). all_opened xs (up (all_opened (start_dests draft) none_open)))
+        (first_quiet 1 g.first_block (is_first_one draft))) ∙ start_pending 1 g.first_block
+        (up (all_opened (start_dests draft) none_open)));
   })
   back b m o (turn {k = l} {o = p} path w) = elim (back b l p path) [
     | inr x ↦ absurd (omega (arith, x.number))
@@ -275,7 +339,8 @@ module _ (draft image : Image) (g : Grown draft image) where
     ]
   ]
     where
-      after_turn : (b l : ℕ) (p : OpenSlots) → (x : Real b l p) → x.next < first_number draft (suc b) → Real b (suc l) (all_opened (now_dests image l) (closed l p))
+      after_turn : (b l : ℕ) (p : OpenSlots) → (x : Real b l p) → x.next < first_number draft (suc b)
+          → Real b (suc l) (all_opened (now_dests image l) (closed l p))
       after_turn b l p x a = record {
         here = x.here;
         next = suc x.next;
@@ -284,31 +349,42 @@ module _ (draft image : Image) (g : Grown draft image) where
         low = omega (arith, x.low);
         high = omega arith;
         number = omega (arith, x.number);
-        are = ap₂ (λ (n : ℕ) (s : OpenSlots). all_opened (now_dests image n) (closed n s)) x.number x.are ∙ real_turn b x.next x.slots x.here (x.low, a);
+        are = ap₂ (λ (n : ℕ) (s : OpenSlots). all_opened (now_dests image n) (closed n s)) x.number x.are
+            ∙ real_turn b x.next x.slots x.here (x.low, a);
       }
 
-      after_nop : (b l : ℕ) (p : OpenSlots) → (x : Real b l p) → x.next ≡ first_number draft (suc b) → extra (g.trigger b) ≡ 1 → x.next + g.shift b ≡ g.nop b → Passed b (suc l) (all_opened (now_dests image l) (closed l p))
+      after_nop : (b l : ℕ) (p : OpenSlots) → (x : Real b l p) → x.next ≡ first_number draft (suc b)
+          → extra (g.trigger b) ≡ 1 → x.next + g.shift b ≡ g.nop b
+          → Passed b (suc l) (all_opened (now_dests image l) (closed l p))
       after_nop b l p x e y f =
           let at : l ≡ g.nop b = x.number ∙ f in
-          let pend : is_pending (g.trigger b) x.next ≡ true = ap (is_pending (g.trigger b)) e ∙ end_pending b x.here y in
-          let are : p ≡ held true (g.nop b) (up x.slots) = x.are ∙ ap (λ (t : Bool). held t (g.nop b) (up x.slots)) pend in
+          let pend : is_pending (g.trigger b) x.next ≡ true = ap (is_pending (g.trigger b)) e
+          ∙ end_pending b x.here y in
+          let are : p ≡ held true (g.nop b) (up x.slots) =
+          x.are ∙ ap (λ (t : Bool). held t (g.nop b) (up x.slots)) pend in
           record {
             here = x.here;
             slots = x.slots;
             path = subst (λ (n : ℕ). Opens draft b n x.slots) e x.path;
             number = omega (arith, g.ends b x.here, x.number);
-            are = ap₂ (λ (n : ℕ) (s : OpenSlots). all_opened (now_dests image n) (closed n s)) at are ∙ (ap (λ (ds : List Dest). all_opened ds (closed (g.nop b) (held true (g.nop b) (up x.slots)))) (g.nop_now b x.here y) ∙ up_nop (g.nop b) x.slots (g.origin_nop b x.here y));
+            are = ap₂ (λ (n : ℕ) (s : OpenSlots). all_opened (now_dests image n) (closed n s)) at are
+                ∙ (ap (λ (ds : List Dest).
+                all_opened ds (closed (g.nop b) (held true (g.nop b) (up x.slots)))) (g.nop_now b x.here y)
+                ∙ up_nop (g.nop b) x.slots (g.origin_nop b x.here y));
           }
   back b m o (edge {b = c} {k = l} {o = p} path e s r) = inl (after_edge c l p (back c l p path) e s r)
     where
-      after_edge : (c l : ℕ) (p : OpenSlots) → Real c l p ⊎ Passed c l p → l ≡ first_number image (suc c) → stops image c ≡ false → (r : ℕ) → Real (target image c r) (first_number image (target image c r)) (all_opened (opens_at image c r) p)
+      after_edge : (c l : ℕ) (p : OpenSlots) → Real c l p ⊎ Passed c l p → l ≡ first_number image (suc c)
+          → stops image c ≡ false → (r : ℕ) → Real (target image c r) (first_number image (target image c r))
+          (all_opened (opens_at image c r) p)
       after_edge c l p x e s r =
           let h = at_end c l p x e in
           let st : stops draft c ≡ false = sym (g.stops_are c) ∙ s in
           let q : OpenSlots = h.1.0 in
           let b : ℕ = target draft c r in
           let here : IsBlock draft b = g.edges c r h.0 st in
-          subst (λ (n : ℕ). Real n (first_number image n) (all_opened (opens_at image c r) p)) (sym (g.targets_are c r)) (record {
+          subst (λ (n : ℕ). Real n (first_number image n) (all_opened (opens_at image c r) p))
+          (sym (g.targets_are c r)) (record {
             here = here;
             next = first_number draft b;
             slots = all_opened (opens_at draft c r) q;
@@ -316,23 +392,28 @@ module _ (draft image : Image) (g : Grown draft image) where
             low = omega arith;
             high = first_up draft b;
             number = g.first b here;
-            are = ap (all_opened (opens_at image c r)) h.1.2 ∙ (edge_turn c r q h.0 st ∙ start_pending b here (up (all_opened (opens_at draft c r) q)));
+            are = ap (all_opened (opens_at image c r)) h.1.2
+                ∙ (edge_turn c r q h.0 st ∙ start_pending b here (up (all_opened (opens_at draft c r) q)));
           })
 
-  renamed_real : (ds : List Dest) (j q : ℕ) → ((j q : ℕ) → HasDest ds j q → g.origin (g.new j) ≡ Some j) → HasDest (renamed g.new ds) j q → (k : ℕ) × (g.origin j ≡ Some k)
+  renamed_real : (ds : List Dest) (j q : ℕ) → ((j q : ℕ) → HasDest ds j q → g.origin (g.new j) ≡ Some j)
+      → HasDest (renamed g.new ds) j q → (k : ℕ) × (g.origin j ≡ Some k)
   renamed_real [] j q r h = absurd h
   renamed_real (d ∷ ds) j q r (inl h) = (d.instr, ap g.origin (sym h.0) ∙ r d.instr d.port (inl (refl, refl)))
   renamed_real (d ∷ ds) j q r (inr h) = renamed_real ds j q (λ j q x. r j q (inr x)) h
 
-  fresh_held : (ds : List Dest) (p : Bool) (n : ℕ) (o : OpenSlots) → (p ≡ true → (j q : ℕ) → HasDest ds j q → n ≡ j → ⊥) → Fresh ds o → Fresh ds (held p n o)
+  fresh_held : (ds : List Dest) (p : Bool) (n : ℕ) (o : OpenSlots)
+      → (p ≡ true → (j q : ℕ) → HasDest ds j q → n ≡ j → ⊥) → Fresh ds o → Fresh ds (held p n o)
   fresh_held ds false n o a f = f
   fresh_held [] true n o a f = tt
   fresh_held (d ∷ ds) true n o a f = (
     held_there true n o d.instr d.port (a refl d.instr d.port (inl (refl, refl))) ∙ f.0,
-    subst (Fresh ds) (swap (record { instr = n; port = 0 }) d o) (fresh_held ds true n (opened d o) (λ e j q h. a e j q (inr h)) f.1),
+    subst (Fresh ds) (swap (record { instr = n; port = 0 }) d o)
+        (fresh_held ds true n (opened d o) (λ e j q h. a e j q (inr h)) f.1),
   )
 
-  own_fresh : (t : Trigger) (n k : ℕ) (o : OpenSlots) → (extra t ≡ 1 → o n 0 ≡ false) → Fresh (own_slot t n k) (held (is_pending t k) n o)
+  own_fresh : (t : Trigger) (n k : ℕ) (o : OpenSlots) → (extra t ≡ 1 → o n 0 ≡ false)
+      → Fresh (own_slot t n k) (held (is_pending t k) n o)
   own_fresh Whole n k o e = tt
   own_fresh Before n k o e = tt
   own_fresh (Own t) n k o e = go (cases_eq t k)
@@ -341,7 +422,8 @@ module _ (draft image : Image) (g : Grown draft image) where
       go (inl f) = rw (eq-eqb t k f, le-ltb t k (omega arith)) (e refl, tt)
       go (inr m) = rw (ne_eqb t k m) tt
 
-  before_fresh : (t : Trigger) (n : ℕ) (o : OpenSlots) → (extra t ≡ 1 → o n 0 ≡ false) → Fresh (before_slot t n) o
+  before_fresh : (t : Trigger) (n : ℕ) (o : OpenSlots) → (extra t ≡ 1 → o n 0 ≡ false)
+      → Fresh (before_slot t n) o
   before_fresh Whole n o e = tt
   before_fresh Before n o e = (e refl, tt)
   before_fresh (Own t) n o e = tt
@@ -354,53 +436,78 @@ module _ (draft image : Image) (g : Grown draft image) where
   nop_shut : (b : ℕ) (o : OpenSlots) → IsBlock draft b → extra (g.trigger b) ≡ 1 → up o (g.nop b) 0 ≡ false
   nop_shut b o h x = up_none o (g.nop b) 0 (g.origin_nop b h x)
 
-  not_renamed : (b k : ℕ) (ds : List Dest) → IsBlock draft b → ((j q : ℕ) → HasDest ds j q → g.origin (g.new j) ≡ Some j) → is_pending (g.trigger b) k ≡ true → (j q : ℕ) → HasDest (renamed g.new ds) j q → g.nop b ≡ j → ⊥
+  not_renamed : (b k : ℕ) (ds : List Dest) → IsBlock draft b
+      → ((j q : ℕ) → HasDest ds j q → g.origin (g.new j) ≡ Some j) → is_pending (g.trigger b) k ≡ true
+      → (j q : ℕ) → HasDest (renamed g.new ds) j q → g.nop b ≡ j → ⊥
   not_renamed b k ds h r e j q z f =
       let x = renamed_real ds j q r z in
       let y : g.origin (g.nop b) ≡ None = g.origin_nop b h (pending_extra (g.trigger b) k e) in
       absurd (cc (sym y ∙ ap g.origin f ∙ x.1))
 
-  real_fresh : (b k : ℕ) (o : OpenSlots) → IsBlock draft b → IsIn draft b k → Fresh (now_dests draft k) (closed k o) → Fresh (now_dests image (k + g.shift b)) (closed (k + g.shift b) (held (is_pending (g.trigger b) k) (g.nop b) (up o)))
+  real_fresh : (b k : ℕ) (o : OpenSlots) → IsBlock draft b → IsIn draft b k
+      → Fresh (now_dests draft k) (closed k o) → Fresh (now_dests image (k + g.shift b))
+      (closed (k + g.shift b) (held (is_pending (g.trigger b) k) (g.nop b) (up o)))
   real_fresh b k o h i f =
       let p : Bool = is_pending (g.trigger b) k in
       let n : ℕ = g.nop b in
       let m : ℕ = k + g.shift b in
       let ds : List Dest = now_dests draft k in
-      let real : (j q : ℕ) → HasDest ds j q → g.origin (g.new j) ≡ Some j = λ j q z. g.now_real b k j q h i z in
+      let real : (j q : ℕ) → HasDest ds j q → g.origin (g.new j) ≡ Some j =
+      λ j q z. g.now_real b k j q h i z in
       let at : g.origin m ≡ Some k = ap g.origin (sym (g.new_is b k h i)) ∙ g.origin_real b k h i in
-      let a : closed m (held p n (up o)) ≡ held p n (up (closed k o)) = closed_held p n m (up o) (not_nop b k h i.1) ∙ ap (held p n) (up_closed k m o at) in
-      let c : all_opened (renamed g.new ds) (held p n (up (closed k o))) ≡ held p n (up (all_opened ds (closed k o))) =
+      let a : closed m (held p n (up o)) ≡ held p n (up (closed k o)) =
+      closed_held p n m (up o) (not_nop b k h i.1) ∙ ap (held p n) (up_closed k m o at) in
+      let c : all_opened (renamed g.new ds) (held p n (up (closed k o))) ≡ held p n
+      (up (all_opened ds (closed k o))) =
       all_held (renamed g.new ds) p n (up (closed k o)) ∙ ap (held p n) (up_all ds (closed k o) real) in
-      let one : Fresh (renamed g.new ds) (held p n (up (closed k o))) = fresh_held (renamed g.new ds) p n (up (closed k o)) (λ e. not_renamed b k ds h real e) (up_fresh ds (closed k o) real f) in
-      let two : Fresh (own_slot (g.trigger b) n k) (all_opened (renamed g.new ds) (held p n (up (closed k o)))) =
-      subst (Fresh (own_slot (g.trigger b) n k)) (sym c) (own_fresh (g.trigger b) n k (up (all_opened ds (closed k o))) (nop_shut b (all_opened ds (closed k o)) h)) in
+      let one : Fresh (renamed g.new ds) (held p n (up (closed k o))) =
+      fresh_held (renamed g.new ds) p n (up (closed k o)) (λ e. not_renamed b k ds h real e)
+      (up_fresh ds (closed k o) real f) in
+      let two : Fresh (own_slot (g.trigger b) n k)
+      (all_opened (renamed g.new ds) (held p n (up (closed k o)))) =
+      subst (Fresh (own_slot (g.trigger b) n k)) (sym c)
+      (own_fresh (g.trigger b) n k (up (all_opened ds (closed k o)))
+      (nop_shut b (all_opened ds (closed k o)) h)) in
       subst (λ (xs : List Dest). Fresh xs (closed m (held p n (up o)))) (sym (g.now b k h i))
-      (subst (Fresh (renamed g.new ds ++ own_slot (g.trigger b) n k)) (sym a) (fresh_append (renamed g.new ds) (own_slot (g.trigger b) n k) (held p n (up (closed k o))) one two))
+      (subst (Fresh (renamed g.new ds ++ own_slot (g.trigger b) n k)) (sym a)
+      (fresh_append (renamed g.new ds) (own_slot (g.trigger b) n k) (held p n (up (closed k o))) one two))
 
-  edge_is_fresh : (b r : ℕ) (o : OpenSlots) → IsBlock draft b → stops draft b ≡ false → Fresh (opens_at draft b r) o → Fresh (opens_at image b r) (up o)
+  edge_is_fresh : (b r : ℕ) (o : OpenSlots) → IsBlock draft b → stops draft b ≡ false
+      → Fresh (opens_at draft b r) o → Fresh (opens_at image b r) (up o)
   edge_is_fresh b r o h s f =
       let t : ℕ = target draft b r in
-      let real : (j q : ℕ) → HasDest (opens_at draft b r) j q → g.origin (g.new j) ≡ Some j = λ j q z. g.edge_real b r j q h z in
-      g.edge_fresh b r (up o) h s (fresh_append (renamed g.new (opens_at draft b r)) (before_slot (g.trigger t) (g.nop t)) (up o) (up_fresh (opens_at draft b r) o real f)
-      (subst (Fresh (before_slot (g.trigger t) (g.nop t))) (sym (up_all (opens_at draft b r) o real)) (before_fresh (g.trigger t) (g.nop t) (up (all_opened (opens_at draft b r) o)) (nop_shut t (all_opened (opens_at draft b r) o) (g.edges b r h s)))))
+      let real : (j q : ℕ) → HasDest (opens_at draft b r) j q → g.origin (g.new j) ≡ Some j =
+      λ j q z. g.edge_real b r j q h z in
+      g.edge_fresh b r (up o) h s (fresh_append (renamed g.new (opens_at draft b r))
+      (before_slot (g.trigger t) (g.nop t)) (up o) (up_fresh (opens_at draft b r) o real f)
+      (subst (Fresh (before_slot (g.trigger t) (g.nop t))) (sym (up_all (opens_at draft b r) o real))
+      (before_fresh (g.trigger t) (g.nop t) (up (all_opened (opens_at draft b r) o))
+      (nop_shut t (all_opened (opens_at draft b r) o) (g.edges b r h s)))))
 
-  up_advances : (b : ℕ) (o : OpenSlots) → IsBlock draft b → AdvancesOpen draft b o → AdvancesOpen image b (up o)
+  up_advances : (b : ℕ) (o : OpenSlots) → IsBlock draft b → AdvancesOpen draft b o
+      → AdvancesOpen image b (up o)
   up_advances b o h a j q = (λ e. there e (origin_cases j), λ x. back_again x)
     where
-      there : up o j q ≡ true → ((k : ℕ) × (g.origin j ≡ Some k)) ⊎ (g.origin j ≡ None) → IsIn image b j × (is_advance image j ≡ true) × (q ≡ 0)
+      there : up o j q ≡ true → ((k : ℕ) × (g.origin j ≡ Some k)) ⊎ (g.origin j ≡ None)
+          → IsIn image b j × (is_advance image j ≡ true) × (q ≡ 0)
       there e (inr f) = absurd (cc (sym (up_none o j q f) ∙ e))
       there e (inl (k, f)) =
           let x = (a k q).0 (sym (up_at o j q k f) ∙ e) in
-          let n : j ≡ k + g.shift b = g.origin_only j k f ∙ g.new_is b k h x.0 in
-          ((omega (arith, n, g.first b h, x.0.0), omega (arith, n, g.ends b h, x.0.1)), ap (is_advance image) n ∙ (g.advance_are b k h x.0 ∙ x.1), x.2)
+          let n : j ≡ k + g.shift b = g.origin_only j k f ∙ g.new_is b k h x.0 in (
+            (omega (arith, n, g.first b h, x.0.0), omega (arith, n, g.ends b h, x.0.1)),
+            ap (is_advance image) n ∙ (g.advance_are b k h x.0 ∙ x.1),
+            x.2,
+          )
 
       back_again : IsIn image b j × (is_advance image j ≡ true) × (q ≡ 0) → up o j q ≡ true
-      back_again x = go (turn_cases b (j - g.shift b) h (omega (arith, x.0.1, g.ends b h, extra_cases b)) (omega (arith, x.0.0, x.0.1, g.first b h)))
+      back_again x = go (turn_cases b (j - g.shift b) h (omega (arith, x.0.1, g.ends b h, extra_cases b))
+          (omega (arith, x.0.0, x.0.1, g.first b h)))
         where
           low : g.shift b ≤ j
           low = omega (arith, x.0.0, g.first b h)
 
-          go : (j - g.shift b < first_number draft (suc b)) ⊎ ((j - g.shift b ≡ first_number draft (suc b)) × (extra (g.trigger b) ≡ 1) × (j - g.shift b + g.shift b ≡ g.nop b)) → up o j q ≡ true
+          go : (j - g.shift b < first_number draft (suc b)) ⊎ ((j - g.shift b ≡ first_number draft (suc b))
+              × (extra (g.trigger b) ≡ 1) × (j - g.shift b + g.shift b ≡ g.nop b)) → up o j q ≡ true
           go (inr y) = absurd (cc (g.nop_advance b h y.1, ap (is_advance image) (the_nop y.2), x.1))
             where
               the_nop : (j - g.shift b) + g.shift b ≡ g.nop b → j ≡ g.nop b
@@ -409,38 +516,60 @@ module _ (draft image : Image) (g : Grown draft image) where
               let k : ℕ = j - g.shift b in
               let n : j ≡ k + g.shift b = omega (arith, low) in
               let i : IsIn draft b k = (omega (arith, x.0.0, g.first b h, low), y) in
-              let f : g.origin j ≡ Some k = ap g.origin (n ∙ sym (g.new_is b k h i)) ∙ g.origin_real b k h i in
-              up_at o j q k f ∙ (a k q).1 (i, sym (g.advance_are b k h i) ∙ ap (is_advance image) (sym n) ∙ x.1, x.2)
+              let f : g.origin j ≡ Some k = ap g.origin (n ∙ sym (g.new_is b k h i))
+              ∙ g.origin_real b k h i in
+              up_at o j q k f ∙ (a k q).1 (
+                i,
+                sym (g.advance_are b k h i) ∙ ap (is_advance image) (sym n)
+                    ∙ x.1,
+                x.2,
+              )
 
   module _ (rules : SlotRules draft) where
-    turn_has_all : (b m : ℕ) (o : OpenSlots) → Real b m o ⊎ Passed b m o → m < first_number image (suc b) → (q : ℕ) → q < ports image m → o m q ≡ true
+    turn_has_all : (b m : ℕ) (o : OpenSlots) → Real b m o ⊎ Passed b m o → m < first_number image (suc b)
+        → (q : ℕ) → q < ports image m → o m q ≡ true
     turn_has_all b m o (inr x) w q l = absurd (omega (arith, x.number))
     turn_has_all b m o (inl x) w q l = go (turn_cases b x.next x.here x.high (omega (arith, x.number)))
       where
-        go : (x.next < first_number draft (suc b)) ⊎ ((x.next ≡ first_number draft (suc b)) × (extra (g.trigger b) ≡ 1) × (x.next + g.shift b ≡ g.nop b)) → o m q ≡ true
+        go : (x.next < first_number draft (suc b))
+            ⊎ ((x.next ≡ first_number draft (suc b)) × (extra (g.trigger b) ≡ 1)
+            × (x.next + g.shift b ≡ g.nop b)) → o m q ≡ true
         go (inl a) =
             let i : IsIn draft b x.next = (x.low, a) in
-            let at : g.origin m ≡ Some x.next = ap g.origin (x.number ∙ sym (g.new_is b x.next x.here i)) ∙ g.origin_real b x.next x.here i in
-            let n : ports image m ≡ ports draft x.next = ap (ports image) x.number ∙ g.ports_are b x.next x.here i in
-            ap (λ (s : OpenSlots). s m q) x.are ∙ (held_there (is_pending (g.trigger b) x.next) (g.nop b) (up x.slots) m q (λ e. not_nop b x.next x.here a (e ∙ x.number)) ∙ (up_at x.slots m q x.next at
+            let at : g.origin m ≡ Some x.next = ap g.origin (x.number ∙ sym (g.new_is b x.next x.here i))
+            ∙ g.origin_real b x.next x.here i in
+            let n : ports image m ≡ ports draft x.next = ap (ports image) x.number
+            ∙ g.ports_are b x.next x.here i in
+            ap (λ (s : OpenSlots). s m q) x.are
+            ∙ (held_there (is_pending (g.trigger b) x.next) (g.nop b) (up x.slots) m q
+            (λ e. not_nop b x.next x.here a (e ∙ x.number)) ∙ (up_at x.slots m q x.next at
             ∙ (rules.turns b x.next x.slots x.path a).has_all q (omega (arith, n))))
         go (inr e) =
             let at : m ≡ g.nop b = x.number ∙ e.2 in
             let n : ports image m ≡ 1 = ap (ports image) at ∙ g.nop_ports b x.here e.1 in
-            let pend : is_pending (g.trigger b) x.next ≡ true = ap (is_pending (g.trigger b)) e.0 ∙ end_pending b x.here e.1 in
-            ap (λ (s : OpenSlots). s m q) x.are ∙ (ap (λ (t : Bool). held t (g.nop b) (up x.slots) m q) pend ∙ opened_here (record { instr = g.nop b; port = 0 }) (up x.slots) m q (sym at) (omega (arith, n)))
+            let pend : is_pending (g.trigger b) x.next ≡ true = ap (is_pending (g.trigger b)) e.0
+            ∙ end_pending b x.here e.1 in
+            ap (λ (s : OpenSlots). s m q) x.are ∙ (ap (λ (t : Bool). held t (g.nop b) (up x.slots) m q) pend
+            ∙ opened_here (record { instr = g.nop b; port = 0 }) (up x.slots) m q (sym at)
+            (omega (arith, n)))
 
-    turn_fresh : (b m : ℕ) (o : OpenSlots) → Real b m o ⊎ Passed b m o → m < first_number image (suc b) → Fresh (now_dests image m) (closed m o)
+    turn_fresh : (b m : ℕ) (o : OpenSlots) → Real b m o ⊎ Passed b m o → m < first_number image (suc b)
+        → Fresh (now_dests image m) (closed m o)
     turn_fresh b m o (inr x) w = absurd (omega (arith, x.number))
     turn_fresh b m o (inl x) w = go (turn_cases b x.next x.here x.high (omega (arith, x.number)))
       where
-        go : (x.next < first_number draft (suc b)) ⊎ ((x.next ≡ first_number draft (suc b)) × (extra (g.trigger b) ≡ 1) × (x.next + g.shift b ≡ g.nop b)) → Fresh (now_dests image m) (closed m o)
+        go : (x.next < first_number draft (suc b))
+            ⊎ ((x.next ≡ first_number draft (suc b)) × (extra (g.trigger b) ≡ 1)
+            × (x.next + g.shift b ≡ g.nop b)) → Fresh (now_dests image m) (closed m o)
         go (inl a) = subst (λ (n : ℕ). Fresh (now_dests image n) (closed n o)) (sym x.number)
-            (subst (λ (s : OpenSlots). Fresh (now_dests image (x.next + g.shift b)) (closed (x.next + g.shift b) s)) (sym x.are)
+            (subst (λ (s : OpenSlots). Fresh (now_dests image (x.next + g.shift b))
+            (closed (x.next + g.shift b) s)) (sym x.are)
             (real_fresh b x.next x.slots x.here (x.low, a) (rules.turns b x.next x.slots x.path a).fresh))
-        go (inr e) = subst (λ (ds : List Dest). Fresh ds (closed m o)) (sym (ap (now_dests image) (x.number ∙ e.2) ∙ g.nop_now b x.here e.1)) tt
+        go (inr e) = subst (λ (ds : List Dest). Fresh ds (closed m o))
+            (sym (ap (now_dests image) (x.number ∙ e.2) ∙ g.nop_now b x.here e.1)) tt
 
-    left : (b : ℕ) (o : OpenSlots) → Opens image b (first_number image (suc b)) o → IsBlock draft b × ((p : OpenSlots) × Opens draft b (first_number draft (suc b)) p × (o ≡ up p))
+    left : (b : ℕ) (o : OpenSlots) → Opens image b (first_number image (suc b)) o
+        → IsBlock draft b × ((p : OpenSlots) × Opens draft b (first_number draft (suc b)) p × (o ≡ up p))
     left b o path = at_end b (first_number image (suc b)) o (back b (first_number image (suc b)) o path) refl
 
     -- an edge of the image is an edge of the draft
@@ -459,22 +588,38 @@ module _ (draft image : Image) (g : Grown draft image) where
         record {
           here = subst (IsBlock draft) to (g.edges c e.choice h.0 st);
           slots = slots;
-          into = record { before = h.1.0; path = h.1.1; goes_on = st; choice = e.choice; to = to; opens = refl };
-          are = sym e.opens ∙ (ap (all_opened (opens_at image c e.choice)) h.1.2 ∙ (edge_turn c e.choice h.1.0 h.0 st ∙ ap (λ (n : ℕ). all_opened (before_slot (g.trigger n) (g.nop n)) (up slots)) to));
+          into = record {
+            before = h.1.0;
+            path = h.1.1;
+            goes_on = st;
+            choice = e.choice;
+            to = to;
+            opens = refl;
+          };
+          are = sym e.opens ∙ (ap (all_opened (opens_at image c e.choice)) h.1.2
+              ∙ (edge_turn c e.choice h.1.0 h.0 st
+              ∙ ap (λ (n : ℕ). all_opened (before_slot (g.trigger n) (g.nop n)) (up slots)) to));
         }
 
-    crosses : (c b : ℕ) (o : OpenSlots) → EdgeInto image c b o → is_first image b ≡ true → AdvancesOpen image b o
+    crosses : (c b : ℕ) (o : OpenSlots) → EdgeInto image c b o → is_first image b ≡ true
+        → AdvancesOpen image b o
     crosses c b o e f =
         let x : Entered c b o = entered c b o e in
         let f' : is_first draft b ≡ true = sym (g.firsts_are b) ∙ f in
-        subst (AdvancesOpen image b) (sym (x.are ∙ ap (λ (xs : List Dest). all_opened xs (up x.slots)) (first_quiet b x.here f'))) (up_advances b x.slots x.here (rules.crossing c b x.slots x.into f'))
+        subst (AdvancesOpen image b)
+        (sym (x.are ∙ ap (λ (xs : List Dest). all_opened xs (up x.slots)) (first_quiet b x.here f')))
+        (up_advances b x.slots x.here (rules.crossing c b x.slots x.into f'))
 
-    joins : (c d b : ℕ) (o p : OpenSlots) → EdgeInto image c b o → EdgeInto image d b p → is_first image b ≡ false → o ≡ p
+    joins : (c d b : ℕ) (o p : OpenSlots) → EdgeInto image c b o → EdgeInto image d b p
+        → is_first image b ≡ false → o ≡ p
     joins c d b o p e f i =
         let x : Entered c b o = entered c b o e in
         let y : Entered d b p = entered d b p f in
-        let same : x.slots ≡ y.slots = fun_ext (λ j. fun_ext (λ q. rules.pending c d b x.slots y.slots x.into y.into (sym (g.firsts_are b) ∙ i) j q)) in
-        x.are ∙ (ap (λ (s : OpenSlots). all_opened (before_slot (g.trigger b) (g.nop b)) (up s)) same ∙ sym y.are)
+        let same : x.slots ≡ y.slots =
+        fun_ext (λ j. fun_ext (λ q. rules.pending c d b x.slots y.slots x.into y.into
+        (sym (g.firsts_are b) ∙ i) j q)) in
+        x.are ∙ (ap (λ (s : OpenSlots). all_opened (before_slot (g.trigger b) (g.nop b)) (up s)) same
+        ∙ sym y.are)
 
     shut : (p : OpenSlots) → ((i q : ℕ) → p i q ≡ false) → (j q : ℕ) → up p j q ≡ false
     shut p a j q = elim (origin_cases j) [
@@ -490,15 +635,23 @@ module _ (draft image : Image) (g : Grown draft image) where
         let h = left b o path in
         record {
           edges = λ s r. (let st : stops draft b ≡ false = sym (g.stops_are b) ∙ s in
-              subst (Fresh (opens_at image b r)) (sym h.1.2) (edge_is_fresh b r h.1.0 h.0 st ((rules.ends b h.1.0 h.1.1).edges st r)));
-          stop = λ s j q. ap (λ (x : OpenSlots). x j q) h.1.2 ∙ shut h.1.0 (λ i p. (rules.ends b h.1.0 h.1.1).stop (sym (g.stops_are b) ∙ s) i p) j q;
+              subst (Fresh (opens_at image b r)) (sym h.1.2)
+              (edge_is_fresh b r h.1.0 h.0 st ((rules.ends b h.1.0 h.1.1).edges st r)));
+          stop = λ s j q. ap (λ (x : OpenSlots). x j q) h.1.2 ∙ shut h.1.0
+              (λ i p. (rules.ends b h.1.0 h.1.1).stop (sym (g.stops_are b) ∙ s) i p) j q;
         }
 
     pub slot_rules : SlotRules image
     slot_rules = record {
-      start = subst (λ (xs : List Dest). Fresh xs none_open) (sym g.start) (subst (Fresh (renamed g.new (start_dests draft))) up_shut (up_fresh (start_dests draft) none_open (λ j q z. g.start_real j q z) rules.start));
-      begins = subst (AdvancesOpen image 1) (sym start_turn) (up_advances 1 (all_opened (start_dests draft) none_open) g.first_block rules.begins);
-      turns = λ b k o path w. record { has_all = turn_has_all b k o (back b k o path) w; fresh = turn_fresh b k o (back b k o path) w };
+      start = subst (λ (xs : List Dest). Fresh xs none_open) (sym g.start)
+          (subst (Fresh (renamed g.new (start_dests draft))) up_shut
+          (up_fresh (start_dests draft) none_open (λ j q z. g.start_real j q z) rules.start));
+      begins = subst (AdvancesOpen image 1) (sym start_turn)
+          (up_advances 1 (all_opened (start_dests draft) none_open) g.first_block rules.begins);
+      turns = λ b k o path w. record {
+        has_all = turn_has_all b k o (back b k o path) w;
+        fresh = turn_fresh b k o (back b k o path) w;
+      };
       ends = end_slots;
       crossing = crosses;
       pending = λ c d b o p e f i j q. ap (λ (x : OpenSlots). x j q) (joins c d b o p e f i);

@@ -1,5 +1,7 @@
--- Why each no-op is needed, on the blocks of a wave: with it left out, some path, or some paths together, would break a rule on links.
-use Rattle.std.proofs.Common.{ℕ, zero, suc, ◌+◌, ◌≡◌, ◌<◌, ◌≤◌, ◌⊎◌, ◌&&◌, Bool, true, false, cond, not, List, get_or, Option, refl, sym, ap, ◌∙◌, inl, inr, subst, arith, eq-eqb, ne_eqb}
+-- Why each no-op is needed, on the blocks of a wave: with it left out, some path, or some paths together,
+-- would break a rule on links.
+use Rattle.std.proofs.Common.{ℕ, zero, suc, ◌+◌, ◌≡◌, ◌<◌, ◌≤◌, ◌⊎◌, ◌&&◌, Bool, true, false, cond, not, List}
+use Rattle.std.proofs.Common.{get_or, Option, refl, sym, ap, ◌∙◌, inl, inr, subst, arith, eq-eqb, ne_eqb}
 use Rattle.std.proofs.lemmas.Bool.{cases_eq, cases_lt}
 use Rattle.ws_isa.specs.declared.instr.Link.{Link}
 use Rattle.wave_link.specs.declared.outline.Way.{Way}
@@ -12,9 +14,13 @@ use Rattle.wave_link.specs.declared.states.LastOps.{LastOps}
 use Rattle.wave_link.specs.declared.states.LastOps.TheVariants.{Shared, Sole, Many}
 use Rattle.wave_link.specs.States.{is_several, is_shared, is_many, is_vain}
 use Rattle.wave_link.proofs.LinksTables.{Leads, Parts, handed}
-use Rattle.wave_link.proofs.LinksRun.{Run, Before, starts, goes, last_of, last_empty, last_full, Facts, facts, Into, into, Came, TwoCame, Inv, zero_in, one_in, many_in, inv, Kind, reach, state, full, attained, on_or_fork, reach_same, settle}
+use Rattle.wave_link.proofs.LinksRun.{Run, Before, starts, goes, last_of, last_empty, last_full, Facts, facts}
+use Rattle.wave_link.proofs.LinksRun.{Into, into, Came, TwoCame, Inv, zero_in, one_in, many_in, inv, Kind}
+use Rattle.wave_link.proofs.LinksRun.{reach, state, full, attained, on_or_fork, reach_same, settle}
 
-module _ (n : ℕ) (x : ℕ → Outline) (low : ℕ → ℕ) (heads : List Link) (ways : ℕ → List Ways) (states : ℕ → List LastOps) (behind : ℕ → List (Option Behind)) (run : Run n x low heads ways states behind) where
+module _ (n : ℕ) (x : ℕ → Outline) (low : ℕ → ℕ) (heads : List Link) (ways : ℕ → List Ways)
+    (states : ℕ → List LastOps) (behind : ℕ → List (Option Behind))
+    (run : Run n x low heads ways states behind) where
   abbrev Path : ℕ → ℕ → Type 0
   Path b a = Before n x low heads ways states behind run b a
 
@@ -43,7 +49,8 @@ module _ (n : ℕ) (x : ℕ → Outline) (low : ℕ → ℕ) (heads : List Link)
   many_ways c = is_several (get_or (ways (suc n)) c Zero)
 
   entry : (b a c : ℕ) (f : Known b a) → Leads (x b).way c → Entry b c f.y
-  entry b a c f k = into n x low heads ways states behind run b c f.y f.low_block f.high_block f.reaches f.y_is k
+  entry b a c f k = into n x low heads ways states behind run b c f.y f.low_block f.high_block f.reaches
+      f.y_is k
 
   empty_after : (b a : ℕ) → (x b).ops ≡ 0 → after b a ≡ a
   empty_after b a e = last_empty n x low heads ways states behind run b a e
@@ -60,17 +67,25 @@ module _ (n : ℕ) (x : ℕ → Outline) (low : ℕ → ℕ) (heads : List Link)
   go_full b a c p e k = subst (λ (i : ℕ). Path c i) (full_after b a e) (goes p k)
 
   vain : (b a : ℕ) → Known b a → (x b).ops ≡ 0 → is_vain (x b).way (ways (suc n)) (st b) ≡ true
-  vain b a f e = run.none_vain b f.low_block f.high_block (reach_same n x low heads ways states behind run b f.low_block f.high_block ∙ f.reaches) e
+  vain b a f e = run.none_vain b f.low_block f.high_block (reach_same n x low heads ways states behind run b
+      f.low_block f.high_block ∙ f.reaches) e
 
   -- what the state of an empty block forbids
   no_fork : (b a p q : ℕ) → Known b a → (x b).ops ≡ 0 → (x b).way ≡ Fork p q → st b ≡ Many → ⊥
-  no_fork b a p q f e w s = cc (sym (vain b a f e) ∙ (ap (λ (v : Way). is_vain v (ways (suc n)) (st b)) w ∙ ap (λ (v : LastOps). not (is_many v)) s))
+  no_fork b a p q f e w s =
+      cc (sym (vain b a f e) ∙ (ap (λ (v : Way). is_vain v (ways (suc n)) (st b)) w
+      ∙ ap (λ (v : LastOps). not (is_many v)) s))
 
   no_out : (b a : ℕ) → Known b a → (x b).ops ≡ 0 → (x b).way ≡ Out → st b ≡ Shared → ⊥
-  no_out b a f e w s = cc (sym (vain b a f e) ∙ (ap (λ (v : Way). is_vain v (ways (suc n)) (st b)) w ∙ ap (λ (v : LastOps). not (is_shared v)) s))
+  no_out b a f e w s =
+      cc (sym (vain b a f e) ∙ (ap (λ (v : Way). is_vain v (ways (suc n)) (st b)) w
+      ∙ ap (λ (v : LastOps). not (is_shared v)) s))
 
-  no_meet : (b a c : ℕ) → Known b a → (x b).ops ≡ 0 → (x b).way ≡ On c → many_ways c ≡ true → st b ≡ Shared → ⊥
-  no_meet b a c f e w v s = cc (sym (vain b a f e) ∙ (ap (λ (u : Way). is_vain u (ways (suc n)) (st b)) w ∙ (ap (λ (u : LastOps). not (is_shared u && many_ways c)) s ∙ ap not v)))
+  no_meet : (b a c : ℕ) → Known b a → (x b).ops ≡ 0 → (x b).way ≡ On c → many_ways c ≡ true → st b ≡ Shared
+      → ⊥
+  no_meet b a c f e w v s =
+      cc (sym (vain b a f e) ∙ (ap (λ (u : Way). is_vain u (ways (suc n)) (st b)) w
+      ∙ (ap (λ (u : LastOps). not (is_shared u && many_ways c)) s ∙ ap not v)))
 
   full_is : (b : ℕ) → 1 ≤ (x b).ops → full n x low heads ways states behind run b ≡ true
   full_is b e = rw (ne_eqb (x b).ops 0 (λ d. absurd (omega arith))) refl
@@ -85,10 +100,12 @@ module _ (n : ℕ) (x : ℕ → Outline) (low : ℕ → ℕ) (heads : List Link)
   hand_fork b p q w = ap (λ (v : Way). handed v (full n x low heads ways states behind run b) (st b)) w
 
   hand_full : (b c : ℕ) → (x b).way ≡ On c → 1 ≤ (x b).ops → hand b ≡ Sole
-  hand_full b c w e = ap (λ (v : Way). handed v (full n x low heads ways states behind run b) (st b)) w ∙ ap (λ (v : Bool). cond v Sole (st b)) (full_is b e)
+  hand_full b c w e = ap (λ (v : Way). handed v (full n x low heads ways states behind run b) (st b)) w
+      ∙ ap (λ (v : Bool). cond v Sole (st b)) (full_is b e)
 
   hand_empty : (b c : ℕ) → (x b).way ≡ On c → (x b).ops ≡ 0 → hand b ≡ st b
-  hand_empty b c w e = ap (λ (v : Way). handed v (full n x low heads ways states behind run b) (st b)) w ∙ ap (λ (v : Bool). cond v Sole (st b)) (empty_is b e)
+  hand_empty b c w e = ap (λ (v : Way). handed v (full n x low heads ways states behind run b) (st b)) w
+      ∙ ap (λ (v : Bool). cond v Sole (st b)) (empty_is b e)
 
   -- the edge that leads on, and where
   later : (b a c : ℕ) → Known b a → Leads (x b).way c → b < c
@@ -98,7 +115,13 @@ module _ (n : ℕ) (x : ℕ → Outline) (low : ℕ → ℕ) (heads : List Link)
   most b a c f k = (run.later b c f.low_block f.high_block k).1
 
   came : (b a c : ℕ) → Known b a → Leads (x b).way c → Edge b c c
-  came b a c f k = record { one = f.low_block; before = later b a c f k; most = f.high_block; reaches = f.reaches; edge = k }
+  came b a c f k = record {
+    one = f.low_block;
+    before = later b a c f k;
+    most = f.high_block;
+    reaches = f.reaches;
+    edge = k;
+  }
 
   -- each block that is reached has a path
   pub record Reached (b : ℕ) : Type 0 where
@@ -106,7 +129,8 @@ module _ (n : ℕ) (x : ℕ → Outline) (low : ℕ → ℕ) (heads : List Link)
     pub path : Path b last
 
   pub path_to : (b : ℕ) → 1 ≤ b → b ≤ n → reach n x low heads ways states behind run b ≡ true → Reached b
-  path_to b l h r = let t = attained n x low heads ways states behind run b l h r in record { last = t.last; path = t.path }
+  path_to b l h r = let t = attained n x low heads ways states behind run b l h r in
+      record { last = t.last; path = t.path }
 
   ops_or : (b : ℕ) → ((x b).ops ≡ 0) ⊎ (1 ≤ (x b).ops)
   ops_or b = elim (cases_eq (x b).ops 0) [ inl e ↦ inl e | inr d ↦ inr (omega (arith, d)) ]
@@ -143,7 +167,8 @@ module _ (n : ℕ) (x : ℕ → Outline) (low : ℕ → ℕ) (heads : List Link)
   chain_up (next {g = g} {h = h} c o v u) = let l : g < h = v.before in omega (arith, chain_up c)
 
   -- chains from the two arms of a fork don't meet
-  arms_apart : (f p q : ℕ) → Edge f p p → Edge f q q → (p ≡ q → ⊥) → {s t : ℕ} → Chain p s → Chain q t → s ≡ t → ⊥
+  arms_apart : (f p q : ℕ) → Edge f p p → Edge f q q → (p ≡ q → ⊥) → {s t : ℕ} → Chain p s → Chain q t → s ≡ t
+      → ⊥
   arms_apart f p q ep eq d at at e = d e
   arms_apart f p q ep eq d at (next {g = g} {h = h} c o v u) e =
       let i : f ≡ g = u f (subst (λ (j : ℕ). Edge f j j) e ep) in
@@ -160,18 +185,22 @@ module _ (n : ℕ) (x : ℕ → Outline) (low : ℕ → ℕ) (heads : List Link)
   parts_of f p q a k w = subst Parts w (run.parts f k.low_block k.high_block)
 
   -- entering a block that is no meeting
-  single : (b a c : ℕ) (f : Known b a) (k : Leads (x b).way c) → (st c ≡ Many → ⊥) → ((st c ≡ hand b) × ((d : ℕ) → Edge d c c → d ≡ b))
+  single : (b a c : ℕ) (f : Known b a) (k : Leads (x b).way c) → (st c ≡ Many → ⊥)
+      → ((st c ≡ hand b) × ((d : ℕ) → Edge d c c → d ≡ b))
   single b a c f k m = go (entry b a c f k).kind
     where
-      go : Kind n x low heads ways states behind run b c f.y (entry b a c f k).z → (st c ≡ hand b) × ((d : ℕ) → Edge d c c → d ≡ b)
+      go : Kind n x low heads ways states behind run b c f.y (entry b a c f k).z
+          → (st c ≡ hand b) × ((d : ℕ) → Edge d c c → d ≡ b)
       go (inl s) = (s.0, s.2)
       go (inr s) = absurd (m s.0)
 
   -- an arm of a fork is entered from it alone, and shares what came before
-  arm_in : (b a c p q : ℕ) (f : Known b a) → (x b).way ≡ Fork p q → Leads (x b).way c → (st c ≡ Shared) × ((d : ℕ) → Edge d c c → d ≡ b)
+  arm_in : (b a c p q : ℕ) (f : Known b a) → (x b).way ≡ Fork p q → Leads (x b).way c
+      → (st c ≡ Shared) × ((d : ℕ) → Edge d c c → d ≡ b)
   arm_in b a c p q f w k = go (entry b a c f k).kind
     where
-      go : Kind n x low heads ways states behind run b c f.y (entry b a c f k).z → (st c ≡ Shared) × ((d : ℕ) → Edge d c c → d ≡ b)
+      go : Kind n x low heads ways states behind run b c f.y (entry b a c f k).z
+          → (st c ≡ Shared) × ((d : ℕ) → Edge d c c → d ≡ b)
       go (inl s) = (s.0 ∙ hand_fork b p q w, s.2)
       go (inr s) = absurd (not_both b c p q s.1 w)
 
@@ -188,19 +217,23 @@ module _ (n : ℕ) (x : ℕ → Outline) (low : ℕ → ℕ) (heads : List Link)
 
   ahead : (fuel q p a : ℕ) → n < fuel + p → Chain q p → Path p a → st p ≡ Shared → Ahead q a
   ahead zero q p a l c h s = absurd (let m : p ≤ n = (known_at h).high_block in omega arith)
-  ahead (suc fuel) q p a l c h s = go (ops_or p) (λ r o k w u. ahead fuel q r a (omega (arith, later p a r (known_at h) o)) (next c k (came p a r (known_at h) o) u) (go_empty p a r h k o) w)
+  ahead (suc fuel) q p a l c h s =
+      go (ops_or p) (λ r o k w u. ahead fuel q r a (omega (arith, later p a r (known_at h) o))
+      (next c k (came p a r (known_at h) o) u) (go_empty p a r h k o) w)
     where
       way_of : (w : Way) → (w ≡ Out) ⊎ ((c : ℕ) × (w ≡ On c)) ⊎ ((p : ℕ) × (q : ℕ) × (w ≡ Fork p q))
       way_of Out = inl refl
       way_of (On c) = inr (inl (c, refl))
       way_of (Fork p q) = inr (inr (p, q, refl))
 
-      go : ((x p).ops ≡ 0) ⊎ (1 ≤ (x p).ops) → ((r : ℕ) → Leads (x p).way r → (x p).ops ≡ 0 → st r ≡ Shared → ((d : ℕ) → Edge d r r → d ≡ p) → Ahead q a) → Ahead q a
+      go : ((x p).ops ≡ 0) ⊎ (1 ≤ (x p).ops) → ((r : ℕ) → Leads (x p).way r → (x p).ops ≡ 0 → st r ≡ Shared
+          → ((d : ℕ) → Edge d r r → d ≡ p) → Ahead q a) → Ahead q a
       go (inr e) rec = record { block = p; chain = c; path = h; some = e; shares = s }
       go (inl e) rec = elim (way_of (x p).way) [
         | inl w ↦ absurd (no_out p a (known_at h) e w s)
         | inr v ↦ elim v [
-          | inr w ↦ (let r : (st w.0 ≡ Shared) × ((d : ℕ) → Edge d w.0 w.0 → d ≡ p) = arm_in p a w.0 w.0 w.1 (known_at h) w.2 (one_leads p w.0 w.1 w.2) in rec w.0 (one_leads p w.0 w.1 w.2) e r.0 r.1)
+          | inr w ↦ (let r : (st w.0 ≡ Shared) × ((d : ℕ) → Edge d w.0 w.0 → d ≡ p) = arm_in p a w.0 w.0 w.1
+              (known_at h) w.2 (one_leads p w.0 w.1 w.2) in rec w.0 (one_leads p w.0 w.1 w.2) e r.0 r.1)
           | inl w ↦ on w.0 w.1 e
         ]
       ]
@@ -208,7 +241,8 @@ module _ (n : ℕ) (x : ℕ → Outline) (low : ℕ → ℕ) (heads : List Link)
           on : (c : ℕ) → (x p).way ≡ On c → (x p).ops ≡ 0 → Ahead q a
           on c w e = onto (entry p a c (known_at h) (on_leads p c w)).kind
             where
-              onto : Kind n x low heads ways states behind run p c (known_at h).y (entry p a c (known_at h) (on_leads p c w)).z → Ahead q a
+              onto : Kind n x low heads ways states behind run p c (known_at h).y
+                  (entry p a c (known_at h) (on_leads p c w)).z → Ahead q a
               onto (inl k) = rec c (on_leads p c w) e (k.0 ∙ (hand_empty p c w e ∙ s)) k.2
               onto (inr k) = absurd (no_meet p a c (known_at h) e w k.2 s)
 
@@ -216,7 +250,8 @@ module _ (n : ℕ) (x : ℕ → Outline) (low : ℕ → ℕ) (heads : List Link)
   abbrev Same : ℕ → Type 0
   Same m = (e a c : ℕ) → e < m → Path e a → Path e c → (st e ≡ Many → ⊥) → a ≡ c
 
-  unique_on : (e b a b2 a2 : ℕ) → Same e → Path b a → Leads (x b).way e → Path b2 a2 → Leads (x b2).way e → (st e ≡ Many → ⊥) → after b a ≡ after b2 a2
+  unique_on : (e b a b2 a2 : ℕ) → Same e → Path b a → Leads (x b).way e → Path b2 a2 → Leads (x b2).way e
+      → (st e ≡ Many → ⊥) → after b a ≡ after b2 a2
   unique_on e b a b2 a2 rec p k p2 k2 m = go (ops_or b)
     where
       one : (st e ≡ hand b) × ((d : ℕ) → Edge d e e → d ≡ b)
@@ -226,26 +261,36 @@ module _ (n : ℕ) (x : ℕ → Outline) (low : ℕ → ℕ) (heads : List Link)
       same = one.1 b2 (came b2 a2 e (known_at p2) k2)
 
       not_many : (x b).ops ≡ 0 → st b ≡ Many → ⊥
-      not_many z s = elim (on_or_fork (x b).way e k) [ inl w ↦ m (one.0 ∙ (hand_empty b e w z ∙ s)) | inr w ↦ no_fork b a w.0 w.1 (known_at p) z w.2 s ]
+      not_many z s = elim (on_or_fork (x b).way e k) [
+        | inl w ↦ m (one.0 ∙ (hand_empty b e w z ∙ s))
+        | inr w ↦
+            no_fork b a w.0 w.1 (known_at p) z w.2 s
+      ]
 
       go : ((x b).ops ≡ 0) ⊎ (1 ≤ (x b).ops) → after b a ≡ after b2 a2
-      go (inr z) = full_after b a z ∙ (sym same ∙ sym (full_after b2 a2 (subst (λ (i : ℕ). 1 ≤ (x i).ops) (sym same) z)))
-      go (inl z) = empty_after b a z ∙ (rec b a a2 (later b a e (known_at p) k) p (subst (λ (i : ℕ). Path i a2) same p2) (not_many z) ∙ sym (empty_after b2 a2 (ap (λ (i : ℕ). (x i).ops) same ∙ z)))
+      go (inr z) = full_after b a z
+          ∙ (sym same ∙ sym (full_after b2 a2 (subst (λ (i : ℕ). 1 ≤ (x i).ops) (sym same) z)))
+      go (inl z) = empty_after b a z
+          ∙ (rec b a a2 (later b a e (known_at p) k) p (subst (λ (i : ℕ). Path i a2) same p2) (not_many z)
+          ∙ sym (empty_after b2 a2 (ap (λ (i : ℕ). (x i).ops) same ∙ z)))
 
   unique_at : {b d i j : ℕ} → Path b i → Path d j → b ≡ d → Same b → (st b ≡ Many → ⊥) → i ≡ j
   unique_at (starts l1 h1 f1) (starts l2 h2 f2) e rec m = refl
   unique_at (starts l1 h1 f1) (goes {b = b} {a = a} {c = c} p k) e rec m =
-      absurd (let i : (x c).first ≡ false = run.inner b c c (known_at p).low_block (known_at p).high_block k (later b a c (known_at p) k) (omega arith) in
+      absurd (let i : (x c).first ≡ false = run.inner b c c (known_at p).low_block (known_at p).high_block k
+      (later b a c (known_at p) k) (omega arith) in
       cc (sym f1 ∙ (ap (λ (v : ℕ). (x v).first) e ∙ i)))
   unique_at (goes {b = b} {a = a} {c = c} p k) (starts l2 h2 f2) e rec m =
-      absurd (let i : (x c).first ≡ false = run.inner b c c (known_at p).low_block (known_at p).high_block k (later b a c (known_at p) k) (omega arith) in
+      absurd (let i : (x c).first ≡ false = run.inner b c c (known_at p).low_block (known_at p).high_block k
+      (later b a c (known_at p) k) (omega arith) in
       cc (sym f2 ∙ (ap (λ (v : ℕ). (x v).first) (sym e) ∙ i)))
   unique_at (goes {b = b} {a = a} {c = c} p k) (goes {b = b2} {a = a2} {c = c2} p2 k2) e rec m =
       unique_on c b a b2 a2 rec p k p2 (subst (λ (i : ℕ). Leads (x b2).way i) (sym e) k2) m
 
   unique_below : (m : ℕ) → Same m
   unique_below zero e a c l p q k = absurd (omega arith)
-  unique_below (suc m) e a c l p q k = unique_at p q refl (λ g i j w r s t. unique_below m g i j (omega (arith, w)) r s t) k
+  unique_below (suc m) e a c l p q k =
+      unique_at p q refl (λ g i j w r s t. unique_below m g i j (omega (arith, w)) r s t) k
 
   unique : (e a c : ℕ) → Path e a → Path e c → (st e ≡ Many → ⊥) → a ≡ c
   unique e a c p q m = unique_below (suc e) e a c (omega arith) p q m
@@ -256,7 +301,8 @@ module _ (n : ℕ) (x : ℕ → Outline) (low : ℕ → ℕ) (heads : List Link)
     where
       go : ((x b).ops ≡ 0) ⊎ (1 ≤ (x b).ops) → (1 ≤ a → a < b) → 1 ≤ after b a → after b a < c
       go (inr z) rec o = omega (arith, full_after b a z, later b a c (known_at p) k)
-      go (inl z) rec o = let e : after b a ≡ a = empty_after b a z in omega (arith, rec (omega arith), later b a c (known_at p) k)
+      go (inl z) rec o = let e : after b a ≡ a = empty_after b a z in
+          omega (arith, rec (omega arith), later b a c (known_at p) k)
 
   -- where paths parted: block e lies behind one arm, and at the other the last operation is the same
   pub record Origin (e a : ℕ) : Type 0 where
@@ -270,7 +316,8 @@ module _ (n : ℕ) (x : ℕ → Outline) (low : ℕ → ℕ) (heads : List Link)
     pub path : Path other a
     pub shares : st other ≡ Shared
 
-  origin_fork : (b a c p q : ℕ) (h : Path b a) → (x b).way ≡ Fork p q → Leads (x b).way c → Origin c (after b a)
+  origin_fork : (b a c p q : ℕ) (h : Path b a) → (x b).way ≡ Fork p q → Leads (x b).way c
+      → Origin c (after b a)
   origin_fork b a c p q h w k = go (subst (λ (v : Way). Leads v c) w k)
     where
       f : Known b a
@@ -308,7 +355,8 @@ module _ (n : ℕ) (x : ℕ → Outline) (low : ℕ → ℕ) (heads : List Link)
 
   origin : {e a : ℕ} → Path e a → 1 ≤ a → st e ≡ Shared → Origin e a
   origin (starts l h f) o s = absurd (omega (arith, o))
-  origin (goes {b = b} {a = a} {c = c} p k) o s = go (on_or_fork (x b).way c k) (ops_or b) (λ q t. origin p q t)
+  origin (goes {b = b} {a = a} {c = c} p k) o s = go (on_or_fork (x b).way c k) (ops_or b)
+      (λ q t. origin p q t)
     where
       one : (st c ≡ hand b) × ((d : ℕ) → Edge d c c → d ≡ b)
       one = single b a c (known_at p) k (shared_not_many c s)
@@ -316,7 +364,8 @@ module _ (n : ℕ) (x : ℕ → Outline) (low : ℕ → ℕ) (heads : List Link)
       clash : st c ≡ Sole → ⊥
       clash e = cc
 
-      go : ((x b).way ≡ On c) ⊎ ((p : ℕ) × (q : ℕ) × ((x b).way ≡ Fork p q)) → ((x b).ops ≡ 0) ⊎ (1 ≤ (x b).ops) → (1 ≤ a → st b ≡ Shared → Origin b a) → Origin c (after b a)
+      go : ((x b).way ≡ On c) ⊎ ((p : ℕ) × (q : ℕ) × ((x b).way ≡ Fork p q))
+          → ((x b).ops ≡ 0) ⊎ (1 ≤ (x b).ops) → (1 ≤ a → st b ≡ Shared → Origin b a) → Origin c (after b a)
       go (inr w) z rec = origin_fork b a c w.0 w.1 p w.2 k
       go (inl w) (inr z) rec = absurd (clash (one.0 ∙ hand_full b c w z))
       go (inl w) (inl z) rec =
@@ -348,17 +397,22 @@ module _ (n : ℕ) (x : ℕ → Outline) (low : ℕ → ℕ) (heads : List Link)
   first_step (from {c = c} l o w k) = (c, w, omega arith)
   first_step (more {c = c} {e = e} s z w k) = let r = first_step s in (r.0, r.1, omega (arith, r.2, k))
 
-  ahead_on : (fuel a d c d2 c2 : ℕ) → c + c2 < fuel → Straight a d c → Straight a d2 c2 → c < c2 → (g : ℕ) × ((x c).way ≡ On g) × (g ≤ c2)
+  ahead_on : (fuel a d c d2 c2 : ℕ) → c + c2 < fuel → Straight a d c → Straight a d2 c2 → c < c2
+      → (g : ℕ) × ((x c).way ≡ On g) × (g ≤ c2)
   ahead_on zero a d c d2 c2 l s t k = absurd (omega arith)
-  ahead_on (suc fuel) a d c d2 c2 l s t k = go t refl k (λ i j i2 j2 m p q r. ahead_on fuel a i j i2 j2 m p q r)
+  ahead_on (suc fuel) a d c d2 c2 l s t k =
+      go t refl k (λ i j i2 j2 m p q r. ahead_on fuel a i j i2 j2 m p q r)
     where
-      go : {i j : ℕ} → Straight a i j → j ≡ c2 → c < j → ((i j i2 j2 : ℕ) → j + j2 < fuel → Straight a i j → Straight a i2 j2 → j < j2 → (g : ℕ) × ((x j).way ≡ On g) × (g ≤ j2)) → (g : ℕ) × ((x c).way ≡ On g) × (g ≤ c2)
+      go : {i j : ℕ} → Straight a i j → j ≡ c2 → c < j → ((i j i2 j2 : ℕ) → j + j2 < fuel → Straight a i j
+          → Straight a i2 j2 → j < j2 → (g : ℕ) × ((x j).way ≡ On g) × (g ≤ j2))
+          → (g : ℕ) × ((x c).way ≡ On g) × (g ≤ c2)
       go (from {c = j} o z w q) e k rec =
           let r = first_step s in
           let u : r.0 ≡ j = on_same a r.0 j r.1 w in
           absurd (omega (arith, r.2, u, k))
       go (more {d = i2} {c = j2} {e = j} t z w q) e k rec = elim (cases_lt c j2) [
-        | inl m ↦ (let r = rec d c i2 j2 (omega (arith, l, e, q)) s t m in (r.0, r.1, omega (arith, r.2, q, e)))
+        | inl m ↦ (let r = rec d c i2 j2 (omega (arith, l, e, q)) s t m in
+            (r.0, r.1, omega (arith, r.2, q, e)))
         | inr m ↦ elim (cases_eq c j2) [
           | inl f ↦ (j, ap (λ (v : ℕ). (x v).way) f ∙ w, omega (arith, e))
           | inr f ↦ absurd (let r = rec i2 j2 d c (omega (arith, l, e, q)) t s (omega (arith, m, f)) in
@@ -366,7 +420,8 @@ module _ (n : ℕ) (x : ℕ → Outline) (low : ℕ → ℕ) (heads : List Link)
         ]
       ]
 
-  goes_on : (a d c d2 c2 : ℕ) → Straight a d c → Straight a d2 c2 → c < c2 → (g : ℕ) × ((x c).way ≡ On g) × (g ≤ c2)
+  goes_on : (a d c d2 c2 : ℕ) → Straight a d c → Straight a d2 c2 → c < c2 → (g : ℕ) × ((x c).way ≡ On g)
+      × (g ≤ c2)
   goes_on a d c d2 c2 s t k = ahead_on (suc (c + c2)) a d c d2 c2 (omega arith) s t k
 
   -- two that end in one block end in one edge
@@ -376,29 +431,37 @@ module _ (n : ℕ) (x : ℕ → Outline) (low : ℕ → ℕ) (heads : List Link)
       absurd (let r = first_step t in let u : r.0 ≡ c = on_same a r.0 c r.1 w in omega (arith, r.2, u, q, e))
   one_end {a} (more {d = i} {c = j} {e = f} t z v q) (from {c = c} l o w k) e =
       absurd (let r = first_step t in let u : r.0 ≡ c = on_same a r.0 c r.1 w in omega (arith, r.2, u, q, e))
-  one_end {a} (more {d = i} {c = j} {e = f} s z v q) (more {d = i2} {c = j2} {e = f2} t z2 v2 q2) e = elim (cases_lt j j2) [
-    | inl m ↦ absurd (let r = goes_on a i j i2 j2 s t m in let u : r.0 ≡ f = on_same j r.0 f r.1 v in omega (arith, r.2, u, q2, e))
-    | inr m ↦ elim (cases_eq j j2) [
-      | inl g ↦ g
-      | inr g ↦ absurd (let r = goes_on a i2 j2 i j t s (omega (arith, m, g)) in let u : r.0 ≡ f2 = on_same j2 r.0 f2 r.1 v2 in omega (arith, r.2, u, q, e))
-    ]
-  ]
+  one_end {a} (more {d = i} {c = j} {e = f} s z v q) (more {d = i2} {c = j2} {e = f2} t z2 v2 q2) e =
+      elim (cases_lt j j2) [
+        | inl m ↦ absurd (let r = goes_on a i j i2 j2 s t m in let u : r.0 ≡ f = on_same j r.0 f r.1 v in
+            omega (arith, r.2, u, q2, e))
+        | inr m ↦ elim (cases_eq j j2) [
+          | inl g ↦ g
+          | inr g ↦ absurd (let r = goes_on a i2 j2 i j t s (omega (arith, m, g)) in
+              let u : r.0 ≡ f2 = on_same j2 r.0 f2 r.1 v2 in omega (arith, r.2, u, q, e))
+        ]
+      ]
 
   -- a path to a block that doesn't share what came before
   straight_to : {e a : ℕ} → Path e a → (st e ≡ Shared → ⊥) → (d : ℕ) × Straight a d e
   straight_to (starts {b = b} l h f) m = absurd (m (rw f refl))
-  straight_to (goes {b = b} {a = a} {c = c} p k) m = go (ops_or b) (entry b a c (known_at p) k).kind (λ q. straight_to p q)
+  straight_to (goes {b = b} {a = a} {c = c} p k) m = go (ops_or b) (entry b a c (known_at p) k).kind
+      (λ q. straight_to p q)
     where
       lt : b < c
       lt = later b a c (known_at p) k
 
-      through : (x b).ops ≡ 0 → (x b).way ≡ On c → (d : ℕ) × Straight a d b → (d : ℕ) × Straight (after b a) d c
+      through : (x b).ops ≡ 0 → (x b).way ≡ On c → (d : ℕ) × Straight a d b
+          → (d : ℕ) × Straight (after b a) d c
       through z w r = (b, subst (λ (i : ℕ). Straight i b c) (sym (empty_after b a z)) (more r.1 z w lt))
 
       begun : 1 ≤ (x b).ops → (x b).way ≡ On c → (d : ℕ) × Straight (after b a) d c
-      begun z w = (b, subst (λ (i : ℕ). Straight i b c) (sym (full_after b a z)) (from (known_at p).low_block z w lt))
+      begun z w =
+          (b, subst (λ (i : ℕ). Straight i b c) (sym (full_after b a z)) (from (known_at p).low_block z w lt))
 
-      go : ((x b).ops ≡ 0) ⊎ (1 ≤ (x b).ops) → Kind n x low heads ways states behind run b c (known_at p).y (entry b a c (known_at p) k).z → ((st b ≡ Shared → ⊥) → (d : ℕ) × Straight a d b) → (d : ℕ) × Straight (after b a) d c
+      go : ((x b).ops ≡ 0) ⊎ (1 ≤ (x b).ops) → Kind n x low heads ways states behind run b c (known_at p).y
+          (entry b a c (known_at p) k).z → ((st b ≡ Shared → ⊥) → (d : ℕ) × Straight a d b)
+          → (d : ℕ) × Straight (after b a) d c
       go (inr z) (inr s) rec = begun z s.1
       go (inl z) (inr s) rec = through z s.1 (rec (λ q. no_meet b a c (known_at p) z s.1 s.2 q))
       go z (inl s) rec = elim (on_or_fork (x b).way c k) [
@@ -411,16 +474,23 @@ module _ (n : ℕ) (x : ℕ → Outline) (low : ℕ → ℕ) (heads : List Link)
 
   -- such a block isn't shared, and a path before its end goes along it
   straight_state : {a d c : ℕ} (r : ℕ) → Path a r → Straight a d c → Path c a × (st c ≡ Shared → ⊥)
-  straight_state {a} r p (from {c = c} l o w k) = (go_full a r c p o (on_leads a c w), λ s. clash s (entry a r c (known_at p) (on_leads a c w)).kind)
+  straight_state {a} r p (from {c = c} l o w k) = (
+    go_full a r c p o (on_leads a c w),
+    λ s. clash s (entry a r c (known_at p) (on_leads a c w)).kind,
+  )
     where
-      clash : st c ≡ Shared → Kind n x low heads ways states behind run a c (known_at p).y (entry a r c (known_at p) (on_leads a c w)).z → ⊥
+      clash : st c ≡ Shared → Kind n x low heads ways states behind run a c (known_at p).y
+          (entry a r c (known_at p) (on_leads a c w)).z → ⊥
       clash s (inl q) = cc (sym s ∙ (q.0 ∙ hand_full a c w o))
       clash s (inr q) = cc (sym s ∙ q.0)
   straight_state {a} r p (more {d = d} {c = c} {e = e} t z w k) =
-      let g : Path c a × (st c ≡ Shared → ⊥) = straight_state r p t in
-      (go_empty c a e g.0 z (on_leads c e w), λ s. clash s g.0 g.1 (entry c a e (known_at g.0) (on_leads c e w)).kind)
+      let g : Path c a × (st c ≡ Shared → ⊥) = straight_state r p t in (
+        go_empty c a e g.0 z (on_leads c e w),
+        λ s. clash s g.0 g.1 (entry c a e (known_at g.0) (on_leads c e w)).kind,
+      )
     where
-      clash : st e ≡ Shared → (h : Path c a) → (st c ≡ Shared → ⊥) → Kind n x low heads ways states behind run c e (known_at h).y (entry c a e (known_at h) (on_leads c e w)).z → ⊥
+      clash : st e ≡ Shared → (h : Path c a) → (st c ≡ Shared → ⊥) → Kind n x low heads ways states behind run
+          c e (known_at h).y (entry c a e (known_at h) (on_leads c e w)).z → ⊥
       clash s h m (inl q) = m (sym (hand_empty c e w z) ∙ (sym q.0 ∙ s))
       clash s h m (inr q) = cc (sym s ∙ q.0)
 
@@ -431,13 +501,17 @@ module _ (n : ℕ) (x : ℕ → Outline) (low : ℕ → ℕ) (heads : List Link)
       lt : b < c
       lt = later b a c (known_at p) q
 
-      go : ((x b).ops ≡ 0) ⊎ (1 ≤ (x b).ops) → (1 ≤ a → Straight a d e → b < e → (i : ℕ) × Straight a i b) → (i : ℕ) × Straight (after b a) i c
+      go : ((x b).ops ≡ 0) ⊎ (1 ≤ (x b).ops) → (1 ≤ a → Straight a d e → b < e → (i : ℕ) × Straight a i b)
+          → (i : ℕ) × Straight (after b a) i c
       go (inr z) rec =
           let f : after b a ≡ b = full_after b a z in
           let t : Straight b d e = subst (λ (i : ℕ). Straight i d e) f s in
           let r = first_step t in
-          let w : c ≡ r.0 = on_only b r.0 c r.1 q in
-          (b, subst (λ (i : ℕ). Straight i b c) (sym f) (from (known_at p).low_block z (on_eq b r.0 c r.1 w) lt))
+          let w : c ≡ r.0 = on_only b r.0 c r.1 q in (
+            b,
+            subst (λ (i : ℕ). Straight i b c) (sym f) (from (known_at p).low_block z (on_eq b r.0 c r.1 w)
+                lt),
+          )
       go (inl z) rec =
           let f : after b a ≡ a = empty_after b a z in
           let t : Straight a d e = subst (λ (i : ℕ). Straight i d e) f s in
@@ -452,7 +526,8 @@ module _ (n : ℕ) (x : ℕ → Outline) (low : ℕ → ℕ) (heads : List Link)
     where
       go : ((x b).ops ≡ 0) ⊎ (1 ≤ (x b).ops) → (1 ≤ a → Reached a) → Reached (after b a)
       go (inr z) rec = subst Reached (sym (full_after b a z)) (record { last = a; path = p })
-      go (inl z) rec = let e : after b a ≡ a = empty_after b a z in subst Reached (sym e) (rec (omega (arith, e, o)))
+      go (inl z) rec = let e : after b a ≡ a = empty_after b a z in
+          subst Reached (sym e) (rec (omega (arith, e, o)))
 
   -- a shared block before the end of a straight way isn't behind its operation
   not_straight : (b a d e : ℕ) → Path b a → 1 ≤ a → Straight a d e → b < e → st b ≡ Shared → ⊥
@@ -486,10 +561,20 @@ module _ (n : ℕ) (x : ℕ → Outline) (low : ℕ → ℕ) (heads : List Link)
       r = path_to d e.one e.most e.reaches
 
       go : ((x d).ops ≡ 0) ⊎ (1 ≤ (x d).ops) → Straightly d c
-      go (inr z) = record { last = d; path = go_full d r.last c r.path z e.edge; some = e.one; straight = from e.one z w e.before }
+      go (inr z) = record {
+        last = d;
+        path = go_full d r.last c r.path z e.edge;
+        some = e.one;
+        straight = from e.one z w e.before;
+      }
       go (inl z) =
           let s = straight_to r.path (λ q. no_meet d r.last c (known_at r.path) z w v q) in
-          record { last = r.last; path = go_empty d r.last c r.path z e.edge; some = straight_one s.1; straight = more s.1 z w e.before }
+          record {
+            last = r.last;
+            path = go_empty d r.last c r.path z e.edge;
+            some = straight_one s.1;
+            straight = more s.1 z w e.before;
+          }
 
   abbrev Two : ℕ → Type 0
   Two c = TwoCame n x low heads ways states behind run c c
@@ -504,12 +589,17 @@ module _ (n : ℕ) (x : ℕ → Outline) (low : ℕ → ℕ) (heads : List Link)
   meeting c l h v = go (inv n x low heads ways states behind run c c l (omega arith) h)
     where
       w : is_several (get_or (ways c) c Zero) ≡ true
-      w = ap is_several (sym (settle n x low heads ways states behind run c (suc n) l h (omega arith) (omega arith))) ∙ v
+      w = ap is_several
+          (sym (settle n x low heads ways states behind run c (suc n) l h (omega arith) (omega arith))) ∙ v
 
       go : Inv n x low heads ways states behind run c c → Meeting c
       go (zero_in e g u) = absurd (cc (sym w ∙ ap is_several e))
       go (one_in a y e k p s g u) = absurd (cc (sym w ∙ ap is_several e))
-      go (many_in a y z e k p t g u two) = record { two = two; one_way = (u two.one two.one_came).way; other_way = (u two.other two.other_came).way }
+      go (many_in a y z e k p t g u two) = record {
+        two = two;
+        one_way = (u two.one two.one_came).way;
+        other_way = (u two.other two.other_came).way;
+      }
 
   two_meet : (c : ℕ) → 1 ≤ c → c ≤ n → many_ways c ≡ true → TwoLasts c
   two_meet c l h v =
@@ -523,7 +613,9 @@ module _ (n : ℕ) (x : ℕ → Outline) (low : ℕ → ℕ) (heads : List Link)
         other_path = t.path;
         one_some = s.some;
         other_some = t.some;
-        differ = λ e. m.two.differ (one_end s.straight (subst (λ (i : ℕ). Straight i m.two.other c) (sym e) t.straight) refl);
+        differ = λ e.
+            m.two.differ (one_end s.straight (subst (λ (i : ℕ). Straight i m.two.other c) (sym e) t.straight)
+            refl);
       }
 
   two_on : (b c : ℕ) → TwoLasts b → (x b).ops ≡ 0 → Leads (x b).way c → TwoLasts c
@@ -547,7 +639,8 @@ module _ (n : ℕ) (x : ℕ → Outline) (low : ℕ → ℕ) (heads : List Link)
       up : b < c
       up = later b a c (known_at p) k
 
-      go : Kind n x low heads ways states behind run b c (known_at p).y (entry b a c (known_at p) k).z → (st b ≡ Many → TwoLasts b) → TwoLasts c
+      go : Kind n x low heads ways states behind run b c (known_at p).y (entry b a c (known_at p) k).z
+          → (st b ≡ Many → TwoLasts b) → TwoLasts c
       go (inr s) rec = two_meet c (omega (arith, up)) (most b a c (known_at p) k) s.2
       go (inl s) rec = elim (on_or_fork (x b).way c k) [
         | inr w ↦ absurd (clash (s.0 ∙ hand_fork b w.0 w.1 w.2))
@@ -588,7 +681,8 @@ module _ (n : ℕ) (x : ℕ → Outline) (low : ℕ → ℕ) (heads : List Link)
     no_op : (e : ℕ) → Skip v v e → Past v e 0 → Last v e → Need v
     first_and_not : (s i : ℕ) → Skip v v s → Stays v s → Past v s 0 → 1 ≤ i → Past v s i → Need v
     last_and_not : (a e s : ℕ) → Skip v v e → 1 ≤ a → Past v e a → Last v e → Stays v s → Past v s a → Need v
-    two_and_two : (a c s t : ℕ) → Skip v v s → 1 ≤ a → 1 ≤ c → (c ≡ a → ⊥) → Stays v s → Stays v t → (t ≡ s → ⊥) → Past v s a → Past v t a → Past v s c → Need v
+    two_and_two : (a c s t : ℕ) → Skip v v s → 1 ≤ a → 1 ≤ c → (c ≡ a → ⊥) → Stays v s → Stays v t
+        → (t ≡ s → ⊥) → Past v s a → Past v t a → Past v s c → Need v
 
   chain_skip : {v e p s : ℕ} → Skip v e p → Chain p s → Skip v e s
   chain_skip k at = k
@@ -601,14 +695,17 @@ module _ (n : ℕ) (x : ℕ → Outline) (low : ℕ → ℕ) (heads : List Link)
 
   onward : (fuel v e g r : ℕ) → n < fuel + g → e ≤ g → Skip v e g → Path g r → Onward v e r
   onward zero v e g r l u k p = absurd (let m : g ≤ n = (known_at p).high_block in omega arith)
-  onward (suc fuel) v e g r l u k p = go (ops_or g) (λ h z o. onward fuel v e h r (omega (arith, later g r h (known_at p) o)) (omega (arith, later g r h (known_at p) o)) (over k (inl z) o) (go_empty g r h p z o))
+  onward (suc fuel) v e g r l u k p =
+      go (ops_or g) (λ h z o. onward fuel v e h r (omega (arith, later g r h (known_at p) o))
+      (omega (arith, later g r h (known_at p) o)) (over k (inl z) o) (go_empty g r h p z o))
     where
       way_of : (w : Way) → (w ≡ Out) ⊎ ((c : ℕ) × Leads w c)
       way_of Out = inl refl
       way_of (On c) = inr (c, refl)
       way_of (Fork p q) = inr (p, inl refl)
 
-      go : ((x g).ops ≡ 0) ⊎ (1 ≤ (x g).ops) → ((h : ℕ) → (x g).ops ≡ 0 → Leads (x g).way h → Onward v e r) → Onward v e r
+      go : ((x g).ops ≡ 0) ⊎ (1 ≤ (x g).ops) → ((h : ℕ) → (x g).ops ≡ 0 → Leads (x g).way h → Onward v e r)
+          → Onward v e r
       go (inr z) rec = meets g k u z p
       go (inl z) rec = elim (way_of (x g).way) [ inl w ↦ ends g k z w | inr w ↦ rec w.0 z w.1 ]
 
@@ -633,7 +730,16 @@ module _ (n : ℕ) (x : ℕ → Outline) (low : ℕ → ℕ) (heads : List Link)
   other_arm v a p o s =
       let g : Origin v a = origin p o s in
       let h : Ahead g.other a = ahead (suc n) g.other g.other a (omega arith) at g.path g.shares in
-      record { block = h.block; stays = (h.some, λ e. arms_apart g.fork g.arm g.other g.to_arm g.to_other g.parted g.chain h.chain (sym e)); path = h.path; shares = h.shares }
+      record {
+        block = h.block;
+        stays = (
+          h.some,
+          λ e. arms_apart g.fork g.arm g.other g.to_arm g.to_other g.parted g.chain h.chain
+              (sym e),
+        );
+        path = h.path;
+        shares = h.shares;
+      }
 
   need_out : (v a : ℕ) → Path v a → (x v).way ≡ Out → st v ≡ Shared → Need v
   need_out v a p w s = go (cases_eq a 0)
@@ -643,7 +749,9 @@ module _ (n : ℕ) (x : ℕ → Outline) (low : ℕ → ℕ) (heads : List Link)
 
       go : (a ≡ 0) ⊎ (a ≡ 0 → ⊥) → Need v
       go (inl z) = no_op v stay (subst (Past v v) z (past_here v v a p d)) (inr refl, w)
-      go (inr z) = let o : Other v a = other_arm v a p (omega (arith, z)) s in last_and_not a v o.block stay (omega (arith, z)) (past_here v v a p d) (inr refl, w) o.stays (past_here v o.block a o.path d)
+      go (inr z) = let o : Other v a = other_arm v a p (omega (arith, z)) s in
+          last_and_not a v o.block stay (omega (arith, z)) (past_here v v a p d) (inr refl, w) o.stays
+          (past_here v o.block a o.path d)
 
   need_fork : (v a p q : ℕ) → Path v a → 1 ≤ (x v).ops → (x v).way ≡ Fork p q → st v ≡ Many → Need v
   need_fork v a p q h z w m =
@@ -651,18 +759,30 @@ module _ (n : ℕ) (x : ℕ → Outline) (low : ℕ → ℕ) (heads : List Link)
       let kp : Leads (x v).way p = one_leads v p q w in
       let kq : Leads (x v).way q = other_leads v p q w in
       let t : TwoLasts v = two_lasts h m in
-      let s1 : Ahead p v = ahead (suc n) p p v (omega arith) at (go_full v a p h z kp) (arm_in v a p p q f w kp).0 in
-      let s2 : Ahead q v = ahead (suc n) q q v (omega arith) at (go_full v a q h z kq) (arm_in v a q p q f w kq).0 in
+      let s1 : Ahead p v = ahead (suc n) p p v (omega arith) at (go_full v a p h z kp)
+      (arm_in v a p p q f w kp).0 in
+      let s2 : Ahead q v = ahead (suc n) q q v (omega arith) at (go_full v a q h z kq)
+      (arm_in v a q p q f w kq).0 in
       let u1 : v < p = later v a p f kp in
       let u2 : v < q = later v a q f kq in
       let d1 : t.one ≡ v → ⊥ = below_self v t.one t.one_path f.low_block in
       let d2 : t.other ≡ v → ⊥ = below_self v t.other t.other_path f.low_block in
-      two_and_two t.one t.other s1.block s2.block (chain_skip (over stay (inr refl) kp) s1.chain) t.one_some t.other_some (λ e. t.differ (sym e))
-      (s1.some, λ e. absurd (omega (arith, chain_up s1.chain, u1, e))) (s2.some, λ e. absurd (omega (arith, chain_up s2.chain, u2, e)))
-      (λ e. arms_apart v p q (came v a p f kp) (came v a q f kq) (parts_of v p q a f w) s1.chain s2.chain (sym e))
+      two_and_two t.one t.other s1.block s2.block (chain_skip (over stay (inr refl) kp) s1.chain) t.one_some
+      t.other_some (λ e. t.differ (sym e))
+      (s1.some, λ e. absurd (omega (arith, chain_up s1.chain, u1, e))) (
+        s2.some,
+        λ e. absurd (omega (arith, chain_up s2.chain, u2, e)),
+      )
+      (λ e. arms_apart v p q (came v a p f kp) (came v a q f kq) (parts_of v p q a f w) s1.chain s2.chain
+      (sym e))
       (record { at = v; path = t.one_path; other = d1; skip = chain_skip (over stay (inr refl) kp) s1.chain })
       (record { at = v; path = t.one_path; other = d1; skip = chain_skip (over stay (inr refl) kq) s2.chain })
-      (record { at = v; path = t.other_path; other = d2; skip = chain_skip (over stay (inr refl) kp) s1.chain })
+      (record {
+        at = v;
+        path = t.other_path;
+        other = d2;
+        skip = chain_skip (over stay (inr refl) kp) s1.chain;
+      })
 
   -- another way into the block where v leads
   pub record Beside (v c : ℕ) : Type 0 where
@@ -677,15 +797,25 @@ module _ (n : ℕ) (x : ℕ → Outline) (low : ℕ → ℕ) (heads : List Link)
       g = meeting c l h m
 
       go : (g.two.one ≡ v) ⊎ (g.two.one ≡ v → ⊥) → Beside v c
-      go (inr d) = record { edge = g.two.one; way = straightly g.two.one c g.two.one_came g.one_way m; differ = d }
-      go (inl e) = record { edge = g.two.other; way = straightly g.two.other c g.two.other_came g.other_way m; differ = λ f. g.two.differ (e ∙ sym f) }
+      go (inr d) = record {
+        edge = g.two.one;
+        way = straightly g.two.one c g.two.one_came g.one_way m;
+        differ = d;
+      }
+      go (inl e) = record {
+        edge = g.two.other;
+        way = straightly g.two.other c g.two.other_came g.other_way m;
+        differ = λ f. g.two.differ (e ∙ sym f);
+      }
 
   skip_on : {v e c s : ℕ} → Skip v e c → Skip v c s → Skip v e s
   skip_on k stay = k
   skip_on k (over l o u) = over (skip_on k l) o u
 
-  need_on : (v a c : ℕ) → Path v a → 1 ≤ (x v).ops → (x v).way ≡ On c → many_ways c ≡ true → st v ≡ Shared → Need v
-  need_on v a c p z w m s = go (cases_eq a 0) (onward (suc n) v c c v (omega arith) (omega arith) stay (go_full v a c p z k))
+  need_on : (v a c : ℕ) → Path v a → 1 ≤ (x v).ops → (x v).way ≡ On c → many_ways c ≡ true → st v ≡ Shared
+      → Need v
+  need_on v a c p z w m s =
+      go (cases_eq a 0) (onward (suc n) v c c v (omega arith) (omega arith) stay (go_full v a c p z k))
     where
       f : Known v a
       f = known_at p
@@ -707,7 +837,8 @@ module _ (n : ℕ) (x : ℕ → Outline) (low : ℕ → ℕ) (heads : List Link)
 
       -- that way doesn't begin at v
       apart : b.way.last ≡ v → ⊥
-      apart e = b.differ (one_end (subst (λ (j : ℕ). Straight j b.edge c) e b.way.straight) (from f.low_block z w up) refl)
+      apart e = b.differ (one_end (subst (λ (j : ℕ). Straight j b.edge c) e b.way.straight)
+          (from f.low_block z w up) refl)
 
       from_self : {g : ℕ} → Skip v c g → Skip v v g
       from_self q = skip_on (over stay (inr refl) k) q
@@ -723,19 +854,25 @@ module _ (n : ℕ) (x : ℕ → Outline) (low : ℕ → ℕ) (heads : List Link)
 
       go : (a ≡ 0) ⊎ (a ≡ 0 → ⊥) → Onward v c v → Need v
       go (inl e) (ends g q o u) = no_op g (from_self q) (subst (Past v g) e (by_self q)) (inl o, u)
-      go (inl e) (meets g q l o r) = first_and_not g b.way.last (from_self q) (stays g l o) (subst (Past v g) e (by_self q)) b.way.some (by_other q)
+      go (inl e) (meets g q l o r) = first_and_not g b.way.last (from_self q) (stays g l o)
+          (subst (Past v g) e (by_self q)) b.way.some (by_other q)
       go (inr e) (ends g q o u) =
           let t : Other v a = other_arm v a p (omega (arith, e)) s in
-          last_and_not a g t.block (from_self q) (omega (arith, e)) (by_self q) (inl o, u) t.stays (past_here v t.block a t.path d)
+          last_and_not a g t.block (from_self q) (omega (arith, e)) (by_self q) (inl o, u) t.stays
+          (past_here v t.block a t.path d)
       go (inr e) (meets g q l o r) =
           let t : Other v a = other_arm v a p (omega (arith, e)) s in
           two_and_two a b.way.last g t.block (from_self q) (omega (arith, e)) b.way.some
-          (λ y. not_straight v a b.edge c p (omega (arith, e)) (subst (λ (j : ℕ). Straight j b.edge c) y b.way.straight) up s)
+          (λ y. not_straight v a b.edge c p (omega (arith, e))
+          (subst (λ (j : ℕ). Straight j b.edge c) y b.way.straight) up s)
           (stays g l o) t.stays
-          (λ y. d (unique t.block a v t.path (subst (λ (j : ℕ). Path j v) (sym y) r) (shared_not_many t.block t.shares)))
+          (λ y. d (unique t.block a v t.path (subst (λ (j : ℕ). Path j v) (sym y) r)
+          (shared_not_many t.block t.shares)))
           (by_self q) (past_here v t.block a t.path d) (by_other q)
 
-  not_vain : (w : Way) (t : LastOps) → is_vain w (ways (suc n)) t ≡ false → ((w ≡ Out) × (t ≡ Shared)) ⊎ ((c : ℕ) × (w ≡ On c) × (t ≡ Shared) × (many_ways c ≡ true)) ⊎ ((p : ℕ) × (q : ℕ) × (w ≡ Fork p q) × (t ≡ Many))
+  not_vain : (w : Way) (t : LastOps) → is_vain w (ways (suc n)) t ≡ false → ((w ≡ Out) × (t ≡ Shared))
+      ⊎ ((c : ℕ) × (w ≡ On c) × (t ≡ Shared) × (many_ways c ≡ true))
+      ⊎ ((p : ℕ) × (q : ℕ) × (w ≡ Fork p q) × (t ≡ Many))
   not_vain Out Shared e = inl (refl, refl)
   not_vain Out Sole e = absurd (cc)
   not_vain Out Many e = absurd (cc)
@@ -751,13 +888,15 @@ module _ (n : ℕ) (x : ℕ → Outline) (low : ℕ → ℕ) (heads : List Link)
   not_vain (Fork p q) Many e = inr (inr (p, q, refl, refl))
 
   -- a no-op that isn't vain for the state is needed
-  pub needed : (v : ℕ) → 1 ≤ v → v ≤ n → reach n x low heads ways states behind run v ≡ true → 1 ≤ (x v).ops → is_vain (x v).way (ways (suc n)) (st v) ≡ false → Need v
+  pub needed : (v : ℕ) → 1 ≤ v → v ≤ n → reach n x low heads ways states behind run v ≡ true → 1 ≤ (x v).ops
+      → is_vain (x v).way (ways (suc n)) (st v) ≡ false → Need v
   needed v l h r z e = go (not_vain (x v).way (st v) e)
     where
       p : Reached v
       p = path_to v l h r
 
-      go : (((x v).way ≡ Out) × (st v ≡ Shared)) ⊎ ((c : ℕ) × ((x v).way ≡ On c) × (st v ≡ Shared) × (many_ways c ≡ true)) ⊎ ((p : ℕ) × (q : ℕ) × ((x v).way ≡ Fork p q) × (st v ≡ Many)) → Need v
+      go : (((x v).way ≡ Out) × (st v ≡ Shared)) ⊎ ((c : ℕ) × ((x v).way ≡ On c) × (st v ≡ Shared)
+          × (many_ways c ≡ true)) ⊎ ((p : ℕ) × (q : ℕ) × ((x v).way ≡ Fork p q) × (st v ≡ Many)) → Need v
       go (inl w) = need_out v p.last p.path w.0 w.1
       go (inr (inl w)) = need_on v p.last w.0 p.path z w.1 w.3 w.2
       go (inr (inr w)) = need_fork v p.last w.0 w.1 p.path z w.2 w.3

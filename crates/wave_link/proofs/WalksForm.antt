@@ -26,11 +26,15 @@ choice_at image b results = choice_of (block_at image b).exit results
 pub record WalksAlike (draft image : Image) (g : Grown draft image) : Type 0 where
   pub memory : (world : World) → opening_memory image world ≡ opening_memory draft world
   pub ops : (b k : ℕ) → IsBlock draft b → IsIn draft b k → op_at image (k + g.shift b) ≡ op_at draft k
-  pub choices : (b : ℕ) (new old : ℕ → ℕ) → IsBlock draft b → ResultsLike g.origin new old → choice_at image b new ≡ choice_at draft b old
+  pub choices : (b : ℕ) (new old : ℕ → ℕ) → IsBlock draft b → ResultsLike g.origin new old
+      → choice_at image b new ≡ choice_at draft b old
   pub extras : ℕ → ℕ → ℕ → List Dest
-  pub each : (b r k : ℕ) → IsBlock draft b → IsIn draft b k → edge_dests image b r (k + g.shift b) ≡ renamed g.new (edge_dests draft b r k) ++ extras b r k
-  pub extras_none : (b r k j q : ℕ) → IsBlock draft b → IsIn draft b k → HasDest (extras b r k) j q → g.origin j ≡ None
-  pub each_real : (b r k j q : ℕ) → IsBlock draft b → IsIn draft b k → HasDest (edge_dests draft b r k) j q → g.origin (g.new j) ≡ Some j
+  pub each : (b r k : ℕ) → IsBlock draft b → IsIn draft b k → edge_dests image b r (k + g.shift b)
+      ≡ renamed g.new (edge_dests draft b r k) ++ extras b r k
+  pub extras_none : (b r k j q : ℕ) → IsBlock draft b → IsIn draft b k → HasDest (extras b r k) j q
+      → g.origin j ≡ None
+  pub each_real : (b r k j q : ℕ) → IsBlock draft b → IsIn draft b k → HasDest (edge_dests draft b r k) j q
+      → g.origin (g.new j) ≡ Some j
   pub nop_edge : (b r : ℕ) → IsBlock draft b → extra (g.trigger b) ≡ 1 → edge_dests image b r (g.nop b) ≡ []
   pub nop_op : (b : ℕ) → IsBlock draft b → extra (g.trigger b) ≡ 1 → op_at image (g.nop b) ≡ Nop
   pub stop_whole : (b : ℕ) → IsBlock draft b → stops draft b ≡ true → extra (g.trigger b) ≡ 0

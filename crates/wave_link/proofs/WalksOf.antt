@@ -1,5 +1,6 @@
 -- The walk of an image follows its draft's.
-use Rattle.std.proofs.Common.{ℕ, zero, suc, ◌+◌, ◌-◌, ◌≡◌, ◌≤◌, ◌⊎◌, inl, inr, Bool, true, false, cond, length, refl, sym, ap, ap₂, ◌∙◌, arith}
+use Rattle.std.proofs.Common.{ℕ, zero, suc, ◌+◌, ◌-◌, ◌≡◌, ◌≤◌, ◌⊎◌, inl, inr, Bool, true, false, cond}
+use Rattle.std.proofs.Common.{length, refl, sym, ap, ap₂, ◌∙◌, arith}
 use Rattle.ws_words.specs.Outside.{World}
 use Rattle.ws_isa.specs.Image.{Image, size_of, IsBlock}
 use Rattle.ws_isa.specs.Open.{OpenToNotes}
@@ -19,22 +20,32 @@ use Rattle.wave_link.proofs.WalksKept.{alike as walks_alike}
 pub keeps_slots : (draft : Image) → OpenToNotes draft → SlotRules (annotated draft)
 keeps_slots draft ok = slot_rules draft (annotated draft) (grown draft ok) ok.walkable.slots
 
-passed_once : (draft : Image) (ok : OpenToNotes draft) (p : Pos) → IsBlock draft p.block → passes_at draft (annotated draft) (grown draft ok) (alike draft ok) p ≡ where_left draft p (size_of (annotated draft) p.block - size_of draft p.block)
+passed_once : (draft : Image) (ok : OpenToNotes draft) (p : Pos) → IsBlock draft p.block
+    → passes_at draft (annotated draft) (grown draft ok) (alike draft ok) p ≡ where_left draft p
+    (size_of (annotated draft) p.block - size_of draft p.block)
 unfolding passes_at
-passed_once draft ok p h = ap (where_left draft p) (ap extra (grown_trigger draft ok p.block) ∙ (extra_is draft p.block ∙ sym (sizes draft p.block h)))
+passed_once draft ok p h = ap (where_left draft p) (ap extra (grown_trigger draft ok p.block)
+    ∙ (extra_is draft p.block ∙ sym (sizes draft p.block h)))
 
-passed_all : (draft : Image) (ok : OpenToNotes draft) (world : World) (t : ℕ) → passes_in draft (annotated draft) (grown draft ok) (alike draft ok) t (opening draft world) ≡ added_left draft (annotated draft) world t
+passed_all : (draft : Image) (ok : OpenToNotes draft) (world : World) (t : ℕ)
+    → passes_in draft (annotated draft) (grown draft ok) (alike draft ok) t (opening draft world) ≡ added_left
+    draft (annotated draft) world t
 unfolding passes_in added_left
 passed_all draft ok world zero = refl
 passed_all draft ok world (suc t) =
-    let k = keeps draft (annotated draft) (grown draft ok) (alike draft ok) (opening draft world) (opening (annotated draft) world) (opens_alike draft (annotated draft) (grown draft ok) (alike draft ok) world) t in
+    let k = keeps draft (annotated draft) (grown draft ok) (alike draft ok) (opening draft world)
+    (opening (annotated draft) world) (opens_alike draft (annotated draft) (grown draft ok)
+    (alike draft ok) world) t in
     ap₂ (λ (a b : ℕ). a + b) (passed_all draft ok world t)
     (passed_once draft ok (ahead draft t (opening draft world)) k.stands.here
-    ∙ ap (λ (p : Pos). where_left draft p (size_of (annotated draft) p.block - size_of draft p.block)) (sym (pos_is draft (annotated draft) (grown draft ok) (alike draft ok) draft world t)))
+    ∙ ap (λ (p : Pos). where_left draft p (size_of (annotated draft) p.block - size_of draft p.block))
+    (sym (pos_is draft (annotated draft) (grown draft ok) (alike draft ok) draft world t)))
 
-pub follows : (draft : Image) (world : World) → OpenToNotes draft → (t : ℕ) → FollowsFor draft (annotated draft) world t
+pub follows : (draft : Image) (world : World) → OpenToNotes draft → (t : ℕ)
+    → FollowsFor draft (annotated draft) world t
 follows draft world ok t =
-    let a : Alike draft (annotated draft) (grown draft ok) (alike draft ok) world t = walks_alike draft (annotated draft) (grown draft ok) (alike draft ok) world t in
+    let a : Alike draft (annotated draft) (grown draft ok) (alike draft ok) world t =
+    walks_alike draft (annotated draft) (grown draft ok) (alike draft ok) world t in
     record {
       steps = a.steps;
       as_many = a.as_many;
@@ -43,40 +54,58 @@ follows draft world ok t =
       fired = a.fired ∙ ap (λ (n : ℕ). length (walk draft world t) + n) (passed_all draft ok world t);
     }
 
-one_at_most : (draft : Image) (ok : OpenToNotes draft) (p : Pos) → passes_at draft (annotated draft) (grown draft ok) (alike draft ok) p ≤ where_left draft p 1
+one_at_most : (draft : Image) (ok : OpenToNotes draft) (p : Pos) → passes_at draft (annotated draft)
+    (grown draft ok) (alike draft ok) p ≤ where_left draft p 1
 unfolding passes_at
-one_at_most draft ok p = go p.over (is_within draft p) (extra_cases draft (annotated draft) (grown draft ok) p.block)
+one_at_most draft ok p = go p.over (is_within draft p) (extra_cases draft (annotated draft) (grown draft ok)
+    p.block)
   where
-    go : (o w : Bool) → (extra ((grown draft ok).trigger p.block) ≡ 0) ⊎ (extra ((grown draft ok).trigger p.block) ≡ 1) → cond o 0 (cond w 0 (extra ((grown draft ok).trigger p.block))) ≤ cond o 0 (cond w 0 1)
+    go : (o w : Bool) → (extra ((grown draft ok).trigger p.block) ≡ 0)
+        ⊎ (extra ((grown draft ok).trigger p.block) ≡ 1)
+        → cond o 0 (cond w 0 (extra ((grown draft ok).trigger p.block))) ≤ cond o 0 (cond w 0 1)
     go true w x = omega arith
     go false true x = omega arith
     go false false (inl x) = omega arith
     go false false (inr x) = omega arith
 
-few_passed : (draft : Image) (ok : OpenToNotes draft) (world : World) (t : ℕ) → passes_in draft (annotated draft) (grown draft ok) (alike draft ok) t (opening draft world) ≤ blocks_left draft world t
+few_passed : (draft : Image) (ok : OpenToNotes draft) (world : World) (t : ℕ)
+    → passes_in draft (annotated draft) (grown draft ok) (alike draft ok) t (opening draft world)
+    ≤ blocks_left draft world t
 unfolding passes_in blocks_left
 few_passed draft ok world zero = omega arith
 few_passed draft ok world (suc t) = omega (
   arith,
   few_passed draft ok world t,
   one_at_most draft ok (ahead draft t (opening draft world)),
-  ap (λ (p : Pos). where_left draft p 1) (pos_is draft (annotated draft) (grown draft ok) (alike draft ok) draft world t),
+  ap (λ (p : Pos). where_left draft p 1) (pos_is draft (annotated draft) (grown draft ok) (alike draft ok)
+      draft world t),
 )
 
-pub few_added : (draft : Image) (world : World) → OpenToNotes draft → (t : ℕ) → added_left draft (annotated draft) world t ≤ blocks_left draft world t
+pub few_added : (draft : Image) (world : World) → OpenToNotes draft → (t : ℕ)
+    → added_left draft (annotated draft) world t ≤ blocks_left draft world t
 few_added draft world ok t = omega (arith, few_passed draft ok world t, passed_all draft ok world t)
 
 -- the image costs at most one more for each block that the draft's walk leaves
-pub costs : (draft : Image) (world : World) → OpenToNotes draft → (k : ℕ) → ((t : ℕ) → length (walk draft world t) + blocks_left draft world t ≤ k) → CostAtMost (annotated draft) world k
+pub costs : (draft : Image) (world : World) → OpenToNotes draft → (k : ℕ)
+    → ((t : ℕ) → length (walk draft world t) + blocks_left draft world t ≤ k)
+    → CostAtMost (annotated draft) world k
 costs draft world ok k h t =
     let f : FollowsFor draft (annotated draft) world t = follows draft world ok t in
-    omega (arith, goes_up (annotated draft) world t f.steps f.as_many, f.fired, few_added draft world ok t, h t)
+    omega (
+      arith,
+      goes_up (annotated draft) world t f.steps f.as_many,
+      f.fired,
+      few_added draft world ok t,
+      h t,
+    )
 
-pub over_next : (image : Image) (world : World) (t : ℕ) → (pos image world t).over ≡ true → (pos image world (suc t)).over ≡ true
+pub over_next : (image : Image) (world : World) (t : ℕ) → (pos image world t).over ≡ true
+    → (pos image world (suc t)).over ≡ true
 unfolding pos step
 over_next image world t e = rw e refl
 
-stays_over : (image : Image) (world : World) (t d : ℕ) → has_ended image world t ≡ true → has_ended image world (d + t) ≡ true
+stays_over : (image : Image) (world : World) (t d : ℕ) → has_ended image world t ≡ true
+    → has_ended image world (d + t) ≡ true
 unfolding has_ended
 stays_over image world t d e = go d
   where
@@ -85,18 +114,26 @@ stays_over image world t d e = go d
       where
         zero_plus : (n : ℕ) → 0 + n ≡ n
         zero_plus n = omega arith
-    go (suc d) = ap (λ (n : ℕ). (pos image world n).over) (suc_plus d t) ∙ over_next image world (d + t) (go d)
+    go (suc d) = ap (λ (n : ℕ). (pos image world n).over) (suc_plus d t)
+        ∙ over_next image world (d + t) (go d)
       where
         suc_plus : (d n : ℕ) → suc d + n ≡ suc (d + n)
         suc_plus d n = omega arith
 
 -- where the image's walk has ended, the draft's has
-pub ends_too : (draft : Image) (world : World) → OpenToNotes draft → (t : ℕ) → has_ended (annotated draft) world t ≡ true → has_ended draft world t ≡ true
+pub ends_too : (draft : Image) (world : World) → OpenToNotes draft → (t : ℕ)
+    → has_ended (annotated draft) world t ≡ true → has_ended draft world t ≡ true
 ends_too draft world ok t e =
     let f : FollowsFor draft (annotated draft) world t = follows draft world ok t in
     let l : t ≤ f.steps = f.as_many in
     let s : (f.steps - t) + t ≡ f.steps = omega arith in
-    sym f.ended ∙ (ap (has_ended (annotated draft) world) (sym s) ∙ stays_over (annotated draft) world t (f.steps - t) e)
+    sym f.ended ∙ (ap (has_ended (annotated draft) world) (sym s) ∙ stays_over (annotated draft) world t
+    (f.steps - t) e)
 
 pub walks_for : (draft : Image) (world : World) → OpenToNotes draft → WalksFor draft (annotated draft) world
-walks_for draft world ok = record { follows = follows draft world ok; ends = ends_too draft world ok; added = few_added draft world ok; costs = costs draft world ok }
+walks_for draft world ok = record {
+  follows = follows draft world ok;
+  ends = ends_too draft world ok;
+  added = few_added draft world ok;
+  costs = costs draft world ok;
+}

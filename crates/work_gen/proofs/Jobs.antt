@@ -1,5 +1,6 @@
 -- Each generated job has a written and accepted program and a short text.
-use Rattle.std.specs.Prelude.{ℕ, ◌+◌, ◌*◌, ◌%◌, ◌^◌, ◌<◌, ◌≤◌, List, [], ◌∷◌, ◌++◌, codes, decimal, flat_map, length, map, refl}
+use Rattle.std.specs.Prelude.{ℕ, ◌+◌, ◌*◌, ◌%◌, ◌^◌, ◌<◌, ◌≤◌, List, [], ◌∷◌, ◌++◌, codes, decimal, flat_map}
+use Rattle.std.specs.Prelude.{length, map, refl}
 use Rattle.std.proofs.Common.{arith, length-append}
 use Rattle.std.specs.List.{range_with_len}
 use Rattle.std.proofs.lemmas.Bool.{leb-true}
@@ -69,7 +70,11 @@ module _ (n : ℕ) (rows : n < 2 ^ 64) (cells : n * n < 2 ^ 64) where
         omega arith,
         omega arith,
         (
-          (name_s, (name_s, ((name_a, ((name_i, rows), name_k)), (name_b, ((name_k, rows), name_j)))), omega arith),
+          (
+            name_s,
+            (name_s, ((name_a, ((name_i, rows), name_k)), (name_b, ((name_k, rows), name_j)))),
+            omega arith,
+          ),
           (counted 2 (codes "k") name_k, tt),
         ),
       ),
@@ -107,7 +112,10 @@ module _ (n : ℕ) (rows : n < 2 ^ 64) (cells : n * n < 2 ^ 64) where
                       omega arith,
                       (
                         (name_x, name_cell, (name_i, (name_j, tt)), omega arith),
-                        ((name_c, ((name_i, rows), name_j), name_x, omega arith), ((name_x, omega arith), (counted 3 (codes "j") name_j, tt))),
+                        (
+                          (name_c, ((name_i, rows), name_j), name_x, omega arith),
+                          ((name_x, omega arith), (counted 3 (codes "j") name_j, tt)),
+                        ),
                       ),
                     ),
                     (counted 2 (codes "i") name_i, tt),
@@ -125,25 +133,41 @@ module _ (n : ℕ) (rows : n < 2 ^ 64) (cells : n * n < 2 ^ 64) where
 
   product_written : IsWritten (product n)
   unfolding product
-  product_written = ((name_a, cells), ((name_b, cells), ((name_c, cells), (cell_written, (main_written, tt)))))
+  product_written =
+      ((name_a, cells), ((name_b, cells), ((name_c, cells), (cell_written, (main_written, tt)))))
 
 -- the text is short
 
 below_97 : (number k : ℕ) → word number k < 97
 below_97 number k = omega arith
 
-further_short : (number : ℕ) (ks : List ℕ) → length (flat_map further_word (map (word number) ks)) ≤ 3 * length ks
+further_short : (number : ℕ) (ks : List ℕ) → length (flat_map further_word (map (word number) ks))
+    ≤ 3 * length ks
 further_short number [] = omega arith
 further_short number (k ∷ ks) =
-    let one = length-decimal-le 2 (word number k) (omega arith) (omega (arith, below_97 number k)) (omega (arith, below_97 number k)) in
-    omega (arith, one, length-append (further_word (word number k)) (flat_map further_word (map (word number) ks)), further_short number ks)
+    let one = length-decimal-le 2 (word number k) (omega arith) (omega (arith, below_97 number k))
+    (omega (arith, below_97 number k)) in
+    omega (
+      arith,
+      one,
+      length-append (further_word (word number k))
+          (flat_map further_word (map (word number) ks)),
+      further_short number ks,
+    )
 
 line_short : (number : ℕ) (ks : List ℕ) → length (words_line (map (word number) ks)) ≤ 3 * length ks + 1
 line_short number [] = omega arith
 line_short number (k ∷ ks) =
-    let one = length-decimal-le 2 (word number k) (omega arith) (omega (arith, below_97 number k)) (omega (arith, below_97 number k)) in
+    let one = length-decimal-le 2 (word number k) (omega arith) (omega (arith, below_97 number k))
+    (omega (arith, below_97 number k)) in
     let more = flat_map further_word (map (word number) ks) in
-    omega (arith, one, further_short number ks, length-append (decimal (word number k) ++ more) (codes "\n"), length-append (decimal (word number k)) more)
+    omega (
+      arith,
+      one,
+      further_short number ks,
+      length-append (decimal (word number k) ++ more) (codes "\n"),
+      length-append (decimal (word number k)) more,
+    )
 
 -- at most 100 cells
 few_cells : (r : ℕ) → r < 9 → (2 + r) * (2 + r) ≤ 100
@@ -152,7 +176,8 @@ few_cells r h = leb-true ((2 + r) * (2 + r)) 100 (of_size r h).few
 job_short : (number : ℕ) → length (job_text number) ≤ 1800
 unfolding job_text
 job_short number =
-    let program = leb-true (length (printed_form (product (size number)))) 1000 (of_size (number % 9) (omega arith)).short in
+    let program = leb-true (length (printed_form (product (size number)))) 1000
+    (of_size (number % 9) (omega arith)).short in
     let cells = few_cells (number % 9) (omega arith) in
     let many = length-range_with_len 0 (2 * square number) in
     let line = line_short number (range_with_len 0 (2 * square number)) in

@@ -4,10 +4,19 @@ use Rattle.ws_isa.specs.Image.{Image, first_number, stops, target}
 use Rattle.ws_isa.specs.Sound.{OpenSlots, all_opened, opens_at, Opens, EdgeInto}
 
 -- it stands there
-pub path_end : {image : Image} {b k : ℕ} {o : OpenSlots} → Opens image b k o → k ≡ first_number image (suc b) → Opens image b (first_number image (suc b)) o
+pub path_end : {image : Image} {b k : ℕ} {o : OpenSlots} → Opens image b k o → k ≡ first_number image (suc b)
+    → Opens image b (first_number image (suc b)) o
 path_end {image} {b} {k} {o} path at = subst (λ n. Opens image b n o) at path
 
 -- it leads along each edge
-pub along : {image : Image} {b k : ℕ} {o : OpenSlots} → Opens image b k o → k ≡ first_number image (suc b) → stops image b ≡ false → (r : ℕ) →
+pub along : {image : Image} {b k : ℕ} {o : OpenSlots} → Opens image b k o → k ≡ first_number image (suc b)
+    → stops image b ≡ false → (r : ℕ) →
     EdgeInto image b (target image b r) (all_opened (opens_at image b r) o)
-along {image} {b} {k} {o} path at s r = record { before = o; path = path_end path at; goes_on = s; choice = r; to = refl; opens = refl }
+along {image} {b} {k} {o} path at s r = record {
+  before = o;
+  path = path_end path at;
+  goes_on = s;
+  choice = r;
+  to = refl;
+  opens = refl;
+}

@@ -1,14 +1,21 @@
 -- The code fires an instruction as the walk does.
-use Rattle.std.proofs.Common.{ℕ, zero, suc, ◌+◌, ◌*◌, ◌≡◌, ◌<◌, ◌≤◌, Bool, true, false, cond, List, [], ◌∷◌, ◌++◌, length, Option, Some, None, eqb, slice_index, slice_set, refl, sym, ap, ◌∙◌, subst, inl, inr, arith, length-append, eq-eqb, ne_eqb}
+use Rattle.std.proofs.Common.{ℕ, zero, suc, ◌+◌, ◌*◌, ◌≡◌, ◌<◌, ◌≤◌, Bool, true, false, cond, List, [], ◌∷◌}
+use Rattle.std.proofs.Common.{◌++◌, length, Option, Some, None, eqb, slice_index, slice_set, refl, sym, ap}
+use Rattle.std.proofs.Common.{◌∙◌, subst, inl, inr, arith, length-append, eq-eqb, ne_eqb}
 use Rattle.std.proofs.lemmas.Bool.{cases_Bool, cases_eq, both_ways, cond-true, cond-false}
 use Rattle.std.proofs.lemmas.List.{get_or-set_same, get_or-set_other, length-set}
 use Rattle.ws_words.specs.Operators.{applied}
 use Rattle.ws_words.specs.Outside.{Outside, World}
 use Rattle.ws_isa.specs.declared.instr.Op.{Op}
-use Rattle.ws_isa.specs.declared.instr.Op.TheVariants.{Const, Alu, Merge, Advance, Steer, Phi, Send, Load, Store, Input, Output, Give, Take, Nop, Halt}
+use Rattle.ws_isa.specs.declared.instr.Op.TheVariants.{Const, Alu, Merge, Advance, Steer, Phi, Send, Load}
+use Rattle.ws_isa.specs.declared.instr.Op.TheVariants.{Store, Input, Output, Give, Take, Nop, Halt}
 use Rattle.ws_isa.specs.declared.instr.Dest.{Dest}
-use Rattle.ws_isa.specs.Image.{Instr, Array, Image, flat, instr_at, first_number, ports, ports_of, is_memory, is_memory_op, is_advance, is_advance_op, is_past, is_past_op, array_at, array_of_op, result_of, result_of_op, answer, answer_op, after, after_op, now_of, now_dests}
-use Rattle.ws_isa.specs.Walk.{Ports, Inst, Pos, pos, mem, walk, fires, fire, inst_at, wave_of, operands_at, result_at, gather, with_inst}
+use Rattle.ws_isa.specs.Image.{Instr, Array, Image, flat, instr_at, first_number, ports, ports_of, is_memory}
+use Rattle.ws_isa.specs.Image.{is_memory_op, is_advance, is_advance_op, is_past, is_past_op, array_at}
+use Rattle.ws_isa.specs.Image.{array_of_op, result_of, result_of_op, answer, answer_op, after, after_op}
+use Rattle.ws_isa.specs.Image.{now_of, now_dests}
+use Rattle.ws_isa.specs.Walk.{Ports, Inst, Pos, pos, mem, walk, fires, fire, inst_at, wave_of, operands_at}
+use Rattle.ws_isa.specs.Walk.{result_at, gather, with_inst}
 use Rattle.ws_isa.specs.Operations.{past, fault_among}
 use Rattle.ws_isa.specs.Sound.{OpenSlots, HasDest, closed, Fresh}
 use Rattle.ws_isa.specs.Open.{Walkable}
@@ -19,7 +26,8 @@ use Rattle.ws_words.specs.Memory.{OutIs}
 use Rattle.ws_isa.specs.Shows.{Resulted, looked, delivered, At, seen}
 use Rattle.ws_isa.proofs.Slots.{all_opened_from, fresh_apart, closed_cases, with_tokens_lands}
 use Rattle.ws_isa.proofs.Steps.{first_le, StepCase, stands, turns, ends, leaves, step_case, Place, place}
-use Rattle.ws_isa.proofs.Flow.{Ahead, number_ahead, number_else, number_same, slots_turn, path, slot_port, ahead_open, Stays, turn_stays}
+use Rattle.ws_isa.proofs.Flow.{Ahead, number_ahead, number_else, number_same, slots_turn, path, slot_port}
+use Rattle.ws_isa.proofs.Flow.{ahead_open, Stays, turn_stays}
 use Rattle.ws_isa.proofs.There.{ports_there, now_there}
 use Rattle.ws_isa.proofs.Blocks.{number_last}
 use Rattle.ws_isa.proofs.Delivered.{Fits, few_ports, delivered_size, delivered_lands, delivered_other}
@@ -31,7 +39,8 @@ Agree op xs ys = (q : ℕ) → q < ports_of op → slice_index xs q ≡ slice_in
 
 same_result : (op : Op) (xs ys : List ℕ) → Agree op xs ys → result_of_op op xs ≡ result_of_op op ys
 same_result (Const n) xs ys h = refl
-same_result (Alu o) xs ys h = ap (λ n. applied o n (slice_index xs 1)) (h 0 (omega arith)) ∙ ap (λ n. applied o (slice_index ys 0) n) (h 1 (omega arith))
+same_result (Alu o) xs ys h = ap (λ n. applied o n (slice_index xs 1)) (h 0 (omega arith))
+    ∙ ap (λ n. applied o (slice_index ys 0) n) (h 1 (omega arith))
 same_result Merge xs ys h = h 0 (omega arith)
 same_result Advance xs ys h = h 0 (omega arith)
 same_result Steer xs ys h = h 0 (omega arith)
@@ -49,7 +58,8 @@ same_result (Take p) xs ys h = h 0 (omega arith)
 same_result Nop xs ys h = h 0 (omega arith)
 same_result Halt xs ys h = h 0 (omega arith)
 
-same_answer : (op : Op) (xs ys : List ℕ) (o : Outside) → Agree op xs ys → answer_op op xs o ≡ answer_op op ys o
+same_answer : (op : Op) (xs ys : List ℕ) (o : Outside) → Agree op xs ys
+    → answer_op op xs o ≡ answer_op op ys o
 same_answer (Load a) xs ys o h = rw (h 0 (omega arith)) refl
 same_answer (Const n) xs ys o h = refl
 same_answer (Alu f) xs ys o h = refl
@@ -83,7 +93,8 @@ same_after (Give p) xs ys o h = refl
 same_after Nop xs ys o h = refl
 same_after Halt xs ys o h = refl
 
-same_past : (arrays : List Array) (op : Op) (xs ys : List ℕ) → Agree op xs ys → is_past_op arrays op xs ≡ is_past_op arrays op ys
+same_past : (arrays : List Array) (op : Op) (xs ys : List ℕ) → Agree op xs ys
+    → is_past_op arrays op xs ≡ is_past_op arrays op ys
 same_past arrays (Load a) xs ys h = rw (h 0 (omega arith)) refl
 same_past arrays (Store a) xs ys h = rw (h 0 (omega arith)) refl
 same_past arrays Output xs ys h = refl
@@ -121,7 +132,8 @@ third_unread op x y z w o word m e r =
     }
 
 -- the index alone decides
-past_by_index : (arrays : List Array) (op : Op) (x : ℕ) (xs : List ℕ) → is_past_op arrays op (x ∷ []) ≡ is_past_op arrays op (x ∷ xs)
+past_by_index : (arrays : List Array) (op : Op) (x : ℕ) (xs : List ℕ) → is_past_op arrays op (x ∷ [])
+    ≡ is_past_op arrays op (x ∷ xs)
 past_by_index arrays (Load a) x xs = refl
 past_by_index arrays (Store a) x xs = refl
 past_by_index arrays Output x xs = refl
@@ -155,26 +167,33 @@ advance_port (Take p) e = absurd (cc)
 advance_port Nop e = absurd (cc)
 advance_port Halt e = absurd (cc)
 
-gather_index : (f : Ports) (w i p n q : ℕ) → q < n → slice_index (gather f w i p n) q ≡ or_else (f w i (p + q)) 0
+gather_index : (f : Ports) (w i p n q : ℕ) → q < n → slice_index (gather f w i p n) q
+    ≡ or_else (f w i (p + q)) 0
 gather_index f w i p zero q l = absurd (omega arith)
 gather_index f w i p (suc n) zero l = let e : p + zero ≡ p = omega arith in rw e refl
-gather_index f w i p (suc n) (suc q) l = let e : p + suc q ≡ suc p + q = omega arith in rw e (gather_index f w i (suc p) n q (omega arith))
+gather_index f w i p (suc n) (suc q) l = let e : p + suc q ≡ suc p + q = omega arith in
+    rw e (gather_index f w i (suc p) n q (omega arith))
 
 -- the first fault, after one instance more
 abbrev pub looked_more : Option ℕ → Bool → ℕ → Option ℕ
 looked_more (Some a) b n = Some a
 looked_more None b n = cond b (Some n) None
 
-fault_more : (image : Image) (xs : List Inst) (x : Inst) → fault_among image (xs ++ x ∷ []) ≡ looked_more (fault_among image xs) (past image x) (array_at image x.instr)
+fault_more : (image : Image) (xs : List Inst) (x : Inst) → fault_among image (xs ++ x ∷ []) ≡ looked_more
+    (fault_among image xs) (past image x) (array_at image x.instr)
 fault_more image [] x = refl
 fault_more image (y ∷ xs) x = go (past image y) (fault_more image xs x)
   where
-    go : (b : Bool) → fault_among image (xs ++ x ∷ []) ≡ looked_more (fault_among image xs) (past image x) (array_at image x.instr) →
-        cond b (Some (array_at image y.instr)) (fault_among image (xs ++ x ∷ [])) ≡ looked_more (cond b (Some (array_at image y.instr)) (fault_among image xs)) (past image x) (array_at image x.instr)
+    go : (b : Bool) → fault_among image (xs ++ x ∷ []) ≡ looked_more (fault_among image xs) (past image x)
+        (array_at image x.instr) →
+        cond b (Some (array_at image y.instr)) (fault_among image (xs ++ x ∷ [])) ≡ looked_more
+        (cond b (Some (array_at image y.instr)) (fault_among image xs)) (past image x)
+        (array_at image x.instr)
     go true ih = refl
     go false ih = ih
 
-looked_is : (arrays : List Array) (op : Op) (xs : List ℕ) (f : Option ℕ) → looked arrays op xs f ≡ looked_more f (is_past_op arrays op xs) (array_of_op op)
+looked_is : (arrays : List Array) (op : Op) (xs : List ℕ) (f : Option ℕ)
+    → looked arrays op xs f ≡ looked_more f (is_past_op arrays op xs) (array_of_op op)
 looked_is arrays op xs (Some a) = refl
 looked_is arrays op xs None = refl
 
@@ -205,14 +224,19 @@ module _ (image : Image) (world : World) (ok : Walkable image) where
       go (leaves a l s e f) = absurd (omega arith)
 
   -- the number under which the next instruction fires
-  turn_wave : (t : ℕ) → (P t).next < first_number image (suc (P t).block) → wave_of image (P t) ≡ turn_number image (P t) (P t).next
+  turn_wave : (t : ℕ) → (P t).next < first_number image (suc (P t).block)
+      → wave_of image (P t) ≡ turn_number image (P t) (P t).next
   unfolding wave_of
   turn_wave t w = elim (cases_Bool (is_advance image (P t).next)) [
-    | inl d ↦ cond-true (is_advance image (P t).next) _ _ d ∙ sym (number_ahead image (P t) (P t).next (record { advance = d; low = omega arith; high = w }))
-    | inr d ↦ cond-false (is_advance image (P t).next) _ _ d ∙ sym (number_else image (P t) (P t).next (λ x. both_ways (is_advance image (P t).next) d x.advance))
+    | inl d ↦ cond-true (is_advance image (P t).next) _ _ d
+        ∙ sym (number_ahead image (P t) (P t).next (record { advance = d; low = omega arith; high = w }))
+    | inr d ↦ cond-false (is_advance image (P t).next) _ _ d
+        ∙ sym (number_else image (P t) (P t).next (λ x. both_ways (is_advance image (P t).next) d x.advance))
   ]
 
-  module _ (t b k word : ℕ) (i : Instr) (old new : Walker) (at : At image world t b k old) (l : k < first_number image (suc b)) (is : instr_at image k ≡ i) (h : Fires image.arrays i k word old new) where
+  module _ (t b k word : ℕ) (i : Instr) (old new : Walker) (at : At image world t b k old)
+      (l : k < first_number image (suc b)) (is : instr_at image k ≡ i)
+      (h : Fires image.arrays i k word old new) where
     within : (P t).next < first_number image (suc (P t).block)
     within = rw (at.next, at.block) l
 
@@ -225,30 +249,42 @@ module _ (image : Image) (world : World) (ok : Walkable image) where
     -- the number of the instruction is one of the table's
     small : k < suc (length (flat image.blocks))
     small =
-        let u : first_number image (suc (P t).block) ≤ first_number image (suc (length image.blocks)) = first_le image (suc (P t).block) (suc (length image.blocks)) (let z : (P t).block ≤ length image.blocks = here.block.1 in omega arith) in
-        let v : first_number image (suc (length image.blocks)) ≡ suc (length (flat image.blocks)) = number_last image in
+        let u : first_number image (suc (P t).block) ≤ first_number image (suc (length image.blocks)) =
+        first_le image (suc (P t).block) (suc (length image.blocks))
+        (let z : (P t).block ≤ length image.blocks = here.block.1 in omega arith) in
+        let v : first_number image (suc (length image.blocks)) ≡ suc (length (flat image.blocks)) =
+        number_last image in
         let w : (P t).next < first_number image (suc (P t).block) = within in
         let n : (P t).next ≡ k = at.next in
         omega arith
 
     open_here : (q : ℕ) → q < ports image k → slots_at image world t k q ≡ true
-    open_here q m = rw (sym at.next) ((ok.slots.turns (P t).block (P t).next (slots_at image world t) (path image world (ports_there image ok.suited.references) ok.shape ok.slots t at.running) within).has_all q (rw at.next m))
+    open_here q m =
+        rw (sym at.next)
+        ((ok.slots.turns (P t).block (P t).next (slots_at image world t)
+        (path image world (ports_there image ok.suited.references) ok.shape ok.slots t at.running)
+        within).has_all q (rw at.next m))
 
-    operand_is : (q : ℕ) → q < ports image k → slice_index (operands_at image (P t)) q ≡ slice_index old.table.operands (4 * k + q)
+    operand_is : (q : ℕ) → q < ports image k → slice_index (operands_at image (P t)) q ≡ slice_index
+        old.table.operands (4 * k + q)
     unfolding operands_at
     operand_is q m =
         let n : q < ports image (P t).next = rw at.next m in
         gather_index (P t).sent (wave_of image (P t)) (P t).next 0 (ports image (P t).next) q n
-        ∙ ap (λ (x : ℕ). or_else ((P t).sent (wave_of image (P t)) (P t).next x) 0) (let z : 0 + q ≡ q = omega arith in z)
+        ∙ ap (λ (x : ℕ). or_else ((P t).sent (wave_of image (P t)) (P t).next x) 0)
+        (let z : 0 + q ≡ q = omega arith in z)
         ∙ ap (λ (x : ℕ). or_else ((P t).sent x (P t).next q) 0) (turn_wave t within)
         ∙ ap (λ (x : ℕ). or_else ((P t).sent (turn_number image (P t) x) x q) 0) at.next
         ∙ sym (at.operands k q (open_here q m))
 
     agree : Agree i.op (operands_at image (P t)) (seen old k)
     unfolding ports
-    agree q m = let n : q < ports_of (instr_at image k).op = subst (λ (j : Instr). q < ports_of j.op) (sym is) m in go q (few_ports image k) n (operand_is q n)
+    agree q m = let n : q < ports_of (instr_at image k).op = subst (λ (j : Instr). q < ports_of j.op) (sym is)
+        m in go q (few_ports image k) n (operand_is q n)
       where
-        go : (q : ℕ) → ports_of (instr_at image k).op ≤ 3 → q < ports_of (instr_at image k).op → slice_index (operands_at image (P t)) q ≡ slice_index old.table.operands (4 * k + q) → slice_index (operands_at image (P t)) q ≡ slice_index (seen old k) q
+        go : (q : ℕ) → ports_of (instr_at image k).op ≤ 3 → q < ports_of (instr_at image k).op
+            → slice_index (operands_at image (P t)) q ≡ slice_index old.table.operands (4 * k + q)
+            → slice_index (operands_at image (P t)) q ≡ slice_index (seen old k) q
         go zero f m e = e ∙ (let z : 4 * k + 0 ≡ 4 * k = omega arith in rw z refl)
         go (suc zero) f m e = e
         go (suc (suc zero)) f m e = e
@@ -264,25 +300,34 @@ module _ (image : Image) (world : World) (ok : Walkable image) where
     unfolding result_at is_memory answer result_of mem
     result_same =
         rw at_i (
-        ap (λ (x : ℕ). cond (is_memory_op i.op) x (result_of_op i.op (operands_at image (P t)))) (same_answer i.op (operands_at image (P t)) (seen old k) (P t).memory agree)
-        ∙ ap (λ (x : ℕ). cond (is_memory_op i.op) (answer_op i.op (seen old k) (P t).memory) x) (same_result i.op (operands_at image (P t)) (seen old k) agree)
+        ap (λ (x : ℕ). cond (is_memory_op i.op) x (result_of_op i.op (operands_at image (P t))))
+        (same_answer i.op (operands_at image (P t)) (seen old k) (P t).memory agree)
+        ∙ ap (λ (x : ℕ). cond (is_memory_op i.op) (answer_op i.op (seen old k) (P t).memory) x)
+        (same_result i.op (operands_at image (P t)) (seen old k) agree)
         ∙ sym outcome.result)
 
-    memory_same : cond (is_memory image (P t).next) (after image (P t).next (operands_at image (P t)) (P t).memory) (P t).memory ≡ cond (is_memory_op i.op) (after_op i.op (seen old k) (P t).memory) (P t).memory
+    memory_same : cond (is_memory image (P t).next) (after image (P t).next (operands_at image (P t))
+        (P t).memory) (P t).memory ≡ cond (is_memory_op i.op) (after_op i.op (seen old k) (P t).memory)
+        (P t).memory
     unfolding is_memory after
-    memory_same = rw at_i (ap (λ (x : Outside). cond (is_memory_op i.op) x (P t).memory) (same_after i.op (operands_at image (P t)) (seen old k) (P t).memory agree))
+    memory_same =
+        rw at_i (ap (λ (x : Outside). cond (is_memory_op i.op) x (P t).memory)
+        (same_after i.op (operands_at image (P t)) (seen old k) (P t).memory agree))
 
     outside_next : OutIs (mem image world (suc t)) new.memory
     unfolding mem
-    outside_next = subst (λ (o : Outside). OutIs o new.memory) (sym (ap (λ (p : Pos). p.memory) tn.to ∙ memory_same)) outcome.after
+    outside_next = subst (λ (o : Outside). OutIs o new.memory)
+        (sym (ap (λ (p : Pos). p.memory) tn.to ∙ memory_same)) outcome.after
 
     results_next : (j : ℕ) → slice_index new.table.results j ≡ (P (suc t)).results j
     results_next j =
-        let e : (P (suc t)).results j ≡ cond (eqb j (P t).next) (result_at image (P t)) ((P t).results j) = ap (λ (p : Pos). p.results j) tn.to in
+        let e : (P (suc t)).results j ≡ cond (eqb j (P t).next) (result_at image (P t)) ((P t).results j) =
+        ap (λ (p : Pos). p.results j) tn.to in
         ap (λ (xs : List ℕ). slice_index xs j) h.results ∙ elim (cases_eq j k) [
           | inl same ↦ ap (λ (x : ℕ). slice_index (slice_set old.table.results k word) x) same
               ∙ get_or-set_same old.table.results k word 0 (rw at.results_size small)
-              ∙ sym (e ∙ cond-true (eqb j (P t).next) _ _ (eq-eqb j (P t).next (same ∙ sym at.next)) ∙ result_same)
+              ∙ sym (e ∙ cond-true (eqb j (P t).next) _ _ (eq-eqb j (P t).next (same ∙ sym at.next))
+              ∙ result_same)
           | inr other ↦ get_or-set_other old.table.results k j word 0 other
               ∙ at.results j
               ∙ sym (e ∙ cond-false (eqb j (P t).next) _ _ (ne_eqb j (P t).next (λ x. other (x ∙ at.next))))
@@ -294,12 +339,15 @@ module _ (image : Image) (world : World) (ok : Walkable image) where
 
     fits : Fits (now_dests image (P t).next) (length old.table.operands)
     fits = record {
-      port = λ j q g. (let a : q < ports image j = (now_there image ok.suited.references (P t).next j q g).1 in let f : ports image j ≤ 3 = few_ports image j in omega arith);
+      port = λ j q g.
+          (let a : q < ports image j = (now_there image ok.suited.references (P t).next j q g).1 in
+          let f : ports image j ≤ 3 = few_ports image j in omega arith);
       place = λ j q g.
           (let r = now_there image ok.suited.references (P t).next j q g in
           let a : q < ports image j = r.1 in let f : ports image j ≤ 3 = few_ports image j in
           let n : j ≤ length (flat image.blocks) = r.0.1 in
-          let z : length old.table.operands ≡ 4 * suc (length (flat image.blocks)) = at.operands_size in omega arith);
+          let z : length old.table.operands ≡ 4 * suc (length (flat image.blocks)) = at.operands_size in
+          omega arith);
     }
 
     -- an advance that stands ahead is no destination of this turn
@@ -309,55 +357,91 @@ module _ (image : Image) (world : World) (ok : Walkable image) where
         let nx : (P (suc t)).next ≡ suc (P t).next = ap (λ (p : Pos). p.next) tn.to in
         let bl : (P (suc t)).block ≡ (P t).block = ap (λ (p : Pos). p.block) tn.to in
         let lo : (P (suc t)).next ≤ j = a.low in
-        let now : Ahead image (P t) j = record { advance = a.advance; low = omega arith; high = rw bl at a.high } in
-        let s : slots_at image world t j 0 ≡ true = ahead_open image world (ports_there image ok.suited.references) ok.shape ok.slots t j at.running now in
+        let now : Ahead image (P t) j = record {
+          advance = a.advance;
+          low = omega arith;
+          high = rw bl at a.high;
+        } in
+        let s : slots_at image world t j 0 ≡ true = ahead_open image world
+        (ports_there image ok.suited.references) ok.shape ok.slots t j at.running now in
         let one : ports_of (instr_at image j).op ≡ 1 = advance_port (instr_at image j).op a.advance in
-        let m : q < ports_of (instr_at image j).op = (now_there image ok.suited.references (P t).next j q g).1 in
+        let m : q < ports_of (instr_at image j).op =
+        (now_there image ok.suited.references (P t).next j q g).1 in
         let z : q ≡ 0 = omega arith in
         let g0 : HasDest (now_dests image (P t).next) j 0 = rw z at g in
-        let still : closed (P t).next (slots_at image world t) j 0 ≡ true = elim (closed_cases (P t).next (slots_at image world t) j 0) [ inl c ↦ absurd (let x : (P t).next ≡ j = c.0 in omega arith) | inr c ↦ c.1 ∙ s ] in
+        let still : closed (P t).next (slots_at image world t) j 0 ≡ true =
+        elim (closed_cases (P t).next (slots_at image world t) j 0)
+        [ inl c ↦ absurd (let x : (P t).next ≡ j = c.0 in omega arith) | inr c ↦ c.1 ∙ s ] in
         fresh_apart (now_dests image (P t).next) (closed (P t).next (slots_at image world t)) j 0
-        ((ok.slots.turns (P t).block (P t).next (slots_at image world t) (path image world (ports_there image ok.suited.references) ok.shape ok.slots t at.running) within).fresh) still g0
+        ((ok.slots.turns (P t).block (P t).next (slots_at image world t)
+        (path image world (ports_there image ok.suited.references) ok.shape ok.slots t at.running)
+        within).fresh) still g0
 
-    number_stays : (j : ℕ) → ((P t).next ≡ j → ⊥) → turn_number image (P t) j ≡ turn_number image (P (suc t)) j
+    number_stays : (j : ℕ) → ((P t).next ≡ j → ⊥) → turn_number image (P t) j ≡ turn_number image (P (suc t))
+        j
     number_stays j n =
         let nx : (P (suc t)).next ≡ suc (P t).next = ap (λ (p : Pos). p.next) tn.to in
         let bl : (P (suc t)).block ≡ (P t).block = ap (λ (p : Pos). p.block) tn.to in
         let wv : (P t).wave ≡ (P (suc t)).wave = ap (λ (p : Pos). p.wave) (sym tn.to) in
         number_same image (P t) (P (suc t)) j wv
-        (λ y. (let lo : (P t).next ≤ j = y.low in record { advance = y.advance; low = omega arith; high = rw bl y.high }))
-        (λ y. (let lo : (P (suc t)).next ≤ j = y.low in record { advance = y.advance; low = omega arith; high = rw bl at y.high }))
+        (λ y. (let lo : (P t).next ≤ j = y.low in record {
+          advance = y.advance;
+          low = omega arith;
+          high = rw bl y.high;
+        }))
+        (λ y. (let lo : (P (suc t)).next ≤ j = y.low in record {
+          advance = y.advance;
+          low = omega arith;
+          high = rw bl at y.high;
+        }))
 
-    landed : (j q : ℕ) → HasDest (now_dests image (P t).next) j q → slice_index new.table.operands (4 * j + q) ≡ or_else ((P (suc t)).sent (turn_number image (P (suc t)) j) j q) 0
+    landed : (j q : ℕ) → HasDest (now_dests image (P t).next) j q → slice_index new.table.operands (4 * j + q)
+        ≡ or_else ((P (suc t)).sent (turn_number image (P (suc t)) j) j q) 0
     landed j q g =
-        let num : turn_number image (P (suc t)) j ≡ (P t).wave = number_else image (P (suc t)) j (not_ahead j q g) ∙ ap (λ (p : Pos). p.wave) tn.to in
+        let num : turn_number image (P (suc t)) j ≡ (P t).wave = number_else image (P (suc t)) j
+        (not_ahead j q g) ∙ ap (λ (p : Pos). p.wave) tn.to in
         let s : (P (suc t)).sent (P t).wave j q ≡ Some (result_at image (P t)) =
-        ap (λ (p : Pos). p.sent (P t).wave j q) tn.to ∙ with_tokens_lands (P t).wave (result_at image (P t)) (now_dests image (P t).next) (P t).sent j q g in
-        ap (λ (xs : List ℕ). slice_index xs (4 * j + q)) (h.operands ∙ ap (λ (ds : List Dest). delivered ds word old.table.operands) now_is)
+        ap (λ (p : Pos). p.sent (P t).wave j q) tn.to ∙ with_tokens_lands (P t).wave (result_at image (P t))
+        (now_dests image (P t).next) (P t).sent j q g in
+        ap (λ (xs : List ℕ). slice_index xs (4 * j + q))
+        (h.operands ∙ ap (λ (ds : List Dest). delivered ds word old.table.operands) now_is)
         ∙ delivered_lands (now_dests image (P t).next) word old.table.operands j q fits g
-        ∙ sym (ap (λ (n : ℕ). or_else ((P (suc t)).sent n j q) 0) num ∙ ap (λ (x : Option ℕ). or_else x 0) s ∙ result_same)
+        ∙ sym (ap (λ (n : ℕ). or_else ((P (suc t)).sent n j q) 0) num ∙ ap (λ (x : Option ℕ). or_else x 0) s
+        ∙ result_same)
 
-    stayed : (j q : ℕ) → slots_at image world t j q ≡ true → closed (P t).next (slots_at image world t) j q ≡ true → ((P t).next ≡ j → ⊥) → slice_index new.table.operands (4 * j + q) ≡ or_else ((P (suc t)).sent (turn_number image (P (suc t)) j) j q) 0
+    stayed : (j q : ℕ) → slots_at image world t j q ≡ true → closed (P t).next (slots_at image world t) j q
+        ≡ true → ((P t).next ≡ j → ⊥) → slice_index new.table.operands (4 * j + q)
+        ≡ or_else ((P (suc t)).sent (turn_number image (P (suc t)) j) j q) 0
     stayed j q s still n =
         let there = ports_there image ok.suited.references in
-        let fr : Fresh (now_dests image (P t).next) (closed (P t).next (slots_at image world t)) = (ok.slots.turns (P t).block (P t).next (slots_at image world t) (path image world there ok.shape ok.slots t at.running) within).fresh in
-        let st : Stays image world there ok.shape ok.slots t j q = turn_stays image world there ok.shape ok.slots t j q at.running within tn.to s n in
+        let fr : Fresh (now_dests image (P t).next) (closed (P t).next (slots_at image world t)) =
+        (ok.slots.turns (P t).block (P t).next (slots_at image world t)
+        (path image world there ok.shape ok.slots t at.running) within).fresh in
+        let st : Stays image world there ok.shape ok.slots t j q = turn_stays image world there ok.shape
+        ok.slots t j q at.running within tn.to s n in
         let m : q < ports image j = slot_port image world there ok.shape ok.slots t j q at.running s in
         let f : ports image j ≤ 3 = few_ports image j in
-        ap (λ (xs : List ℕ). slice_index xs (4 * j + q)) (h.operands ∙ ap (λ (ds : List Dest). delivered ds word old.table.operands) now_is)
-        ∙ delivered_other (now_dests image (P t).next) word old.table.operands j q (length old.table.operands) fits (omega arith) (fresh_apart (now_dests image (P t).next) (closed (P t).next (slots_at image world t)) j q fr still)
+        ap (λ (xs : List ℕ). slice_index xs (4 * j + q))
+        (h.operands ∙ ap (λ (ds : List Dest). delivered ds word old.table.operands) now_is)
+        ∙ delivered_other (now_dests image (P t).next) word old.table.operands j q (length old.table.operands)
+        fits (omega arith) (fresh_apart (now_dests image (P t).next)
+        (closed (P t).next (slots_at image world t)) j q fr still)
         ∙ at.operands j q s
         ∙ ap (λ (n : ℕ). or_else ((P t).sent n j q) 0) (number_stays j n)
         ∙ sym (ap (λ (x : Option ℕ). or_else x 0) (st.value (turn_number image (P (suc t)) j)))
 
-    operands_next : (j q : ℕ) → slots_at image world (suc t) j q ≡ true → slice_index new.table.operands (4 * j + q) ≡ or_else ((P (suc t)).sent (turn_number image (P (suc t)) j) j q) 0
-    operands_next j q s = elim (all_opened_from (now_dests image (P t).next) (closed (P t).next (slots_at image world t)) j q (ap (λ (x : OpenSlots). x j q) (sym (slots_turn image world t at.running within)) ∙ s)) [
-      | inl g ↦ elim (closed_cases (P t).next (slots_at image world t) j q) [
-        | inl c ↦ absurd (both_ways (closed (P t).next (slots_at image world t) j q) c.1 g)
-        | inr c ↦ stayed j q (sym c.1 ∙ g) g c.0
-      ]
-      | inr g ↦ landed j q g
-    ]
+    operands_next : (j q : ℕ) → slots_at image world (suc t) j q ≡ true
+        → slice_index new.table.operands (4 * j + q) ≡ or_else
+        ((P (suc t)).sent (turn_number image (P (suc t)) j) j q) 0
+    operands_next j q s =
+        elim (all_opened_from (now_dests image (P t).next) (closed (P t).next (slots_at image world t)) j q
+        (ap (λ (x : OpenSlots). x j q) (sym (slots_turn image world t at.running within)) ∙ s)) [
+          | inl g ↦ elim (closed_cases (P t).next (slots_at image world t) j q) [
+            | inl c ↦ absurd (both_ways (closed (P t).next (slots_at image world t) j q) c.1 g)
+            | inr c ↦ stayed j q (sym c.1 ∙ g) g c.0
+          ]
+          | inr g ↦ landed j q g
+        ]
 
     walk_next : walk image world (suc t) ≡ walk image world t ++ inst_at image (P t) ∷ []
     unfolding walk
@@ -368,9 +452,13 @@ module _ (image : Image) (world : World) (ok : Walkable image) where
     fault_next =
         h.fault
         ∙ looked_is image.arrays i.op (slice_index old.table.operands (4 * k) ∷ []) old.fault
-        ∙ ap (λ (x : Bool). looked_more old.fault x (array_of_op i.op)) (past_by_index image.arrays i.op (slice_index old.table.operands (4 * k)) _ ∙ sym (same_past image.arrays i.op (operands_at image (P t)) (seen old k) agree))
-        ∙ ap (λ (j : Instr). looked_more old.fault (is_past_op image.arrays j.op (operands_at image (P t))) (array_of_op j.op)) (sym at_i)
-        ∙ ap (λ (x : Option ℕ). looked_more x (past image (inst_at image (P t))) (array_at image (P t).next)) at.fault
+        ∙ ap (λ (x : Bool). looked_more old.fault x (array_of_op i.op))
+        (past_by_index image.arrays i.op (slice_index old.table.operands (4 * k)) _
+        ∙ sym (same_past image.arrays i.op (operands_at image (P t)) (seen old k) agree))
+        ∙ ap (λ (j : Instr). looked_more old.fault (is_past_op image.arrays j.op (operands_at image (P t)))
+        (array_of_op j.op)) (sym at_i)
+        ∙ ap (λ (x : Option ℕ). looked_more x (past image (inst_at image (P t))) (array_at image (P t).next))
+        at.fault
         ∙ sym (ap (fault_among image) walk_next ∙ fault_more image (walk image world t) (inst_at image (P t)))
 
     -- after a firing the code stands where the walk stands
@@ -379,11 +467,14 @@ module _ (image : Image) (world : World) (ok : Walkable image) where
       running = ap (λ (p : Pos). p.over) tn.to;
       block = ap (λ (p : Pos). p.block) tn.to ∙ at.block;
       next = ap (λ (p : Pos). p.next) tn.to ∙ ap suc at.next;
-      operands_size = ap length h.operands ∙ delivered_size (now_of i.op i.dests) word old.table.operands ∙ at.operands_size;
+      operands_size = ap length h.operands ∙ delivered_size (now_of i.op i.dests) word old.table.operands
+          ∙ at.operands_size;
       results_size = ap length h.results ∙ length-set old.table.results k word ∙ at.results_size;
       operands = operands_next;
       results = results_next;
       outside = outside_next;
-      fired = h.fired ∙ ap suc at.fired ∙ sym (ap length walk_next ∙ length-append (walk image world t) (inst_at image (P t) ∷ []) ∙ (let z : length (walk image world t) + 1 ≡ suc (length (walk image world t)) = omega arith in z));
+      fired = h.fired ∙ ap suc at.fired
+          ∙ sym (ap length walk_next ∙ length-append (walk image world t) (inst_at image (P t) ∷ [])
+          ∙ (let z : length (walk image world t) + 1 ≡ suc (length (walk image world t)) = omega arith in z));
       fault = fault_next;
     }

@@ -1,12 +1,16 @@
 -- The slots that are open along the walk, and that each open slot's value is consumed.
-use Rattle.std.proofs.Common.{ℕ, zero, suc, ◌-◌, ◌≡◌, ◌<◌, ◌≤◌, ◌⊎◌, true, false, cond, ◌&&◌, ltb, Some, refl, sym, ap, ◌∙◌, inl, inr, arith}
+use Rattle.std.proofs.Common.{ℕ, zero, suc, ◌-◌, ◌≡◌, ◌<◌, ◌≤◌, ◌⊎◌, true, false, cond, ◌&&◌, ltb, Some, refl}
+use Rattle.std.proofs.Common.{sym, ap, ◌∙◌, inl, inr, arith}
 use Rattle.std.proofs.lemmas.Bool.{cases_Bool, cases_lt, both_ways, cond-true, cond-false, lt-ltb, le-ltb}
 use Rattle.ws_words.specs.Outside.{World}
-use Rattle.ws_isa.specs.Image.{Image, ports, is_advance, first_number, size_of, stops, target, is_first, now_dests, start_dests, IsIn, IsBlock}
+use Rattle.ws_isa.specs.Image.{Image, ports, is_advance, first_number, size_of, stops, target, is_first}
+use Rattle.ws_isa.specs.Image.{now_dests, start_dests, IsIn, IsBlock}
 use Rattle.ws_isa.specs.Walk.{Pos, pos, opening, enter, fire, is_within, choice, with_tokens, edge_tokens}
-use Rattle.ws_isa.specs.Sound.{OpenSlots, none_open, all_opened, closed, opens_at, HasDest, PortsThere, Opens, begin, turn, edge, ShapeRules, SlotRules}
+use Rattle.ws_isa.specs.Sound.{OpenSlots, none_open, all_opened, closed, opens_at, HasDest, PortsThere, Opens}
+use Rattle.ws_isa.specs.Sound.{begin, turn, edge, ShapeRules, SlotRules}
 use Rattle.ws_isa.specs.Standing.{turn_number, slots_at}
-use Rattle.ws_isa.proofs.Slots.{all_opened_keeps, all_opened_from, fresh_apart, with_tokens_other, edge_all_from, edge_other, closed_cases}
+use Rattle.ws_isa.proofs.Slots.{all_opened_keeps, all_opened_from, fresh_apart, with_tokens_other}
+use Rattle.ws_isa.proofs.Slots.{edge_all_from, edge_other, closed_cases}
 use Rattle.ws_isa.proofs.Steps.{StepCase, stands, turns, ends, leaves, step_case, Place, place, pos_start}
 use Rattle.ws_isa.proofs.Along.{path_end, along}
 
@@ -16,17 +20,35 @@ pub record Ahead (image : Image) (p : Pos) (j : ℕ) : Type 0 where
   pub low : p.next ≤ j
   pub high : j < first_number image (suc p.block)
 
-pub number_cases : (image : Image) (p : Pos) (j : ℕ) → (Ahead image p j × (turn_number image p j ≡ p.wave - 1)) ⊎ ((Ahead image p j → ⊥) × (turn_number image p j ≡ p.wave))
+pub number_cases : (image : Image) (p : Pos) (j : ℕ)
+    → (Ahead image p j × (turn_number image p j ≡ p.wave - 1))
+    ⊎ ((Ahead image p j → ⊥) × (turn_number image p j ≡ p.wave))
 unfolding turn_number
-number_cases image p j = go (cases_Bool (is_advance image j)) (cases_lt j p.next) (cases_lt j (first_number image (suc p.block)))
+number_cases image p j = go (cases_Bool (is_advance image j)) (cases_lt j p.next)
+    (cases_lt j (first_number image (suc p.block)))
   where
-    go : (is_advance image j ≡ true) ⊎ (is_advance image j ≡ false) → (j < p.next) ⊎ (p.next ≤ j) → (j < first_number image (suc p.block)) ⊎ (first_number image (suc p.block) ≤ j) →
-        (Ahead image p j × (cond (is_advance image j && (ltb p.next (suc j) && ltb j (first_number image (suc p.block)))) (p.wave - 1) p.wave ≡ p.wave - 1)) ⊎
-        ((Ahead image p j → ⊥) × (cond (is_advance image j && (ltb p.next (suc j) && ltb j (first_number image (suc p.block)))) (p.wave - 1) p.wave ≡ p.wave))
-    go (inl a) (inr l) (inl h) = inl (record { advance = a; low = l; high = h }, rw (a, lt-ltb p.next (suc j) (omega arith), lt-ltb j (first_number image (suc p.block)) h) refl)
+    go : (is_advance image j ≡ true) ⊎ (is_advance image j ≡ false) → (j < p.next) ⊎ (p.next ≤ j)
+        → (j < first_number image (suc p.block)) ⊎ (first_number image (suc p.block) ≤ j) →
+        (Ahead image p j
+        × (cond (is_advance image j && (ltb p.next (suc j) && ltb j (first_number image (suc p.block))))
+        (p.wave - 1) p.wave ≡ p.wave - 1)) ⊎
+        ((Ahead image p j → ⊥)
+        × (cond (is_advance image j && (ltb p.next (suc j) && ltb j (first_number image (suc p.block))))
+        (p.wave - 1) p.wave ≡ p.wave))
+    go (inl a) (inr l) (inl h) = inl (
+      record { advance = a; low = l; high = h },
+      rw (a, lt-ltb p.next (suc j) (omega arith), lt-ltb j (first_number image (suc p.block)) h) refl,
+    )
     go (inr a) l h = inr ((λ x. both_ways (is_advance image j) a x.advance), rw a refl)
-    go (inl a) (inl l) h = inr ((λ x. (let y : p.next ≤ j = x.low in omega arith)), rw (a, le-ltb p.next (suc j) (omega arith)) refl)
-    go (inl a) (inr l) (inr h) = inr ((λ x. (let y : j < first_number image (suc p.block) = x.high in omega arith)), rw (a, lt-ltb p.next (suc j) (omega arith), le-ltb j (first_number image (suc p.block)) h) refl)
+    go (inl a) (inl l) h = inr (
+      (λ x. (let y : p.next ≤ j = x.low in omega arith)),
+      rw (a, le-ltb p.next (suc j) (omega arith)) refl,
+    )
+    go (inl a) (inr l) (inr h) =
+        inr (
+          (λ x. (let y : j < first_number image (suc p.block) = x.high in omega arith)),
+          rw (a, lt-ltb p.next (suc j) (omega arith), le-ltb j (first_number image (suc p.block)) h) refl,
+        )
 
 -- an advance that stands ahead has the number before
 pub number_ahead : (image : Image) (p : Pos) (j : ℕ) → Ahead image p j → turn_number image p j ≡ p.wave - 1
@@ -37,7 +59,8 @@ pub number_else : (image : Image) (p : Pos) (j : ℕ) → (Ahead image p j → �
 number_else image p j a = elim (number_cases image p j) [ inl h ↦ absurd (a h.0) | inr h ↦ h.1 ]
 
 -- two positions at which j is ahead alike
-pub number_same : (image : Image) (p q : Pos) (j : ℕ) → p.wave ≡ q.wave → (Ahead image p j → Ahead image q j) → (Ahead image q j → Ahead image p j) → turn_number image p j ≡ turn_number image q j
+pub number_same : (image : Image) (p q : Pos) (j : ℕ) → p.wave ≡ q.wave → (Ahead image p j → Ahead image q j)
+    → (Ahead image q j → Ahead image p j) → turn_number image p j ≡ turn_number image q j
 number_same image p q j w f g = elim (number_cases image p j) [
   | inl h ↦ h.1 ∙ ap (λ (n : ℕ). n - 1) w ∙ sym (number_ahead image q j (f h.0))
   | inr h ↦ h.1 ∙ w ∙ sym (number_else image q j (λ a. h.0 (g a)))
@@ -48,14 +71,20 @@ module _ (image : Image) (world : World) where
   P t = pos image world t
 
   -- the slots after a firing
-  pub slots_turn : (t : ℕ) → (P t).over ≡ false → (P t).next < first_number image (suc (P t).block) → slots_at image world (suc t) ≡ all_opened (now_dests image (P t).next) (closed (P t).next (slots_at image world t))
+  pub slots_turn : (t : ℕ) → (P t).over ≡ false → (P t).next < first_number image (suc (P t).block)
+      → slots_at image world (suc t) ≡ all_opened (now_dests image (P t).next)
+      (closed (P t).next (slots_at image world t))
   unfolding slots_at
-  slots_turn t a w = cond-false (P t).over _ _ a ∙ cond-true (is_within image (P t)) _ _ (lt-ltb (P t).next (first_number image (suc (P t).block)) w)
+  slots_turn t a w = cond-false (P t).over _ _ a ∙ cond-true (is_within image (P t)) _ _
+      (lt-ltb (P t).next (first_number image (suc (P t).block)) w)
 
   -- the slots after an edge
-  pub slots_leave : (t : ℕ) → (P t).over ≡ false → first_number image (suc (P t).block) ≤ (P t).next → slots_at image world (suc t) ≡ all_opened (opens_at image (P t).block (choice image (P t))) (slots_at image world t)
+  pub slots_leave : (t : ℕ) → (P t).over ≡ false → first_number image (suc (P t).block) ≤ (P t).next
+      → slots_at image world (suc t) ≡ all_opened (opens_at image (P t).block (choice image (P t)))
+      (slots_at image world t)
   unfolding slots_at
-  slots_leave t a w = cond-false (P t).over _ _ a ∙ cond-false (is_within image (P t)) _ _ (le-ltb (P t).next (first_number image (suc (P t).block)) w)
+  slots_leave t a w = cond-false (P t).over _ _ a ∙ cond-false (is_within image (P t)) _ _
+      (le-ltb (P t).next (first_number image (suc (P t).block)) w)
 
   -- the slots at the start
   pub slots_start : slots_at image world zero ≡ all_opened (start_dests image) none_open
@@ -64,15 +93,21 @@ module _ (image : Image) (world : World) where
 
   module _ (there : PortsThere image) (shape : ShapeRules image) (slots : SlotRules image) where
     -- a block that is left has fired whole
-    pub at_end : (t : ℕ) → (P t).over ≡ false → first_number image (suc (P t).block) ≤ (P t).next → (P t).next ≡ first_number image (suc (P t).block)
-    at_end t a w = let pl : Place image (P t) = place image world shape t a in let h : (P t).next ≤ first_number image (suc (P t).block) = pl.high in omega arith
+    pub at_end : (t : ℕ) → (P t).over ≡ false → first_number image (suc (P t).block) ≤ (P t).next
+        → (P t).next ≡ first_number image (suc (P t).block)
+    at_end t a w = let pl : Place image (P t) = place image world shape t a in
+        let h : (P t).next ≤ first_number image (suc (P t).block) = pl.high in omega arith
 
     -- the walk's path
-    path_step : (t : ℕ) → (P (suc t)).over ≡ false → StepCase image world t → ((P t).over ≡ false → Opens image (P t).block (P t).next (slots_at image world t)) → Opens image (P (suc t)).block (P (suc t)).next (slots_at image world (suc t))
-    path_step t o (stands a e f) ih = absurd (both_ways true (sym a ∙ ap (λ (p : Pos). p.over) (sym e) ∙ o) refl)
+    path_step : (t : ℕ) → (P (suc t)).over ≡ false → StepCase image world t
+        → ((P t).over ≡ false → Opens image (P t).block (P t).next (slots_at image world t))
+        → Opens image (P (suc t)).block (P (suc t)).next (slots_at image world (suc t))
+    path_step t o (stands a e f) ih =
+        absurd (both_ways true (sym a ∙ ap (λ (p : Pos). p.over) (sym e) ∙ o) refl)
     path_step t o (turns a w e f) ih = rw (slots_turn t a w, e) (turn (ih a) w)
     path_step t o (ends a w s e f) ih = absurd (both_ways true (ap (λ (p : Pos). p.over) (sym e) ∙ o) refl)
-    path_step t o (leaves a w s e f) ih = rw (slots_leave t a w, e) (edge (ih a) (at_end t a w) s (choice image (P t)))
+    path_step t o (leaves a w s e f) ih =
+        rw (slots_leave t a w, e) (edge (ih a) (at_end t a w) s (choice image (P t)))
 
     path_start : Opens image (P zero).block (P zero).next (slots_at image world zero)
     unfolding opening
@@ -86,49 +121,78 @@ module _ (image : Image) (world : World) where
     -- an open slot is a port that is there
     edge_port : (b r j q : ℕ) → HasDest (opens_at image b r) j q → q < ports image j
     unfolding opens_at
-    edge_port b r j q g = let f = edge_all_from image b r (first_number image b) (size_of image b) j q g in there.edge b r f.source j q f.has
+    edge_port b r j q g = let f = edge_all_from image b r (first_number image b) (size_of image b) j q g in
+        there.edge b r f.source j q f.has
 
-    port_step : (t j q : ℕ) → (P (suc t)).over ≡ false → StepCase image world t → ((P t).over ≡ false → slots_at image world t j q ≡ true → q < ports image j) → slots_at image world (suc t) j q ≡ true → q < ports image j
-    port_step t j q o (stands a e f) ih h = absurd (both_ways true (sym a ∙ ap (λ (p : Pos). p.over) (sym e) ∙ o) refl)
-    port_step t j q o (turns a w e f) ih h = elim (all_opened_from (now_dests image (P t).next) (closed (P t).next (slots_at image world t)) j q (ap (λ (s : OpenSlots). s j q) (sym (slots_turn t a w)) ∙ h)) [
-      | inl g ↦ elim (closed_cases (P t).next (slots_at image world t) j q) [
-        | inl c ↦ absurd (both_ways (closed (P t).next (slots_at image world t) j q) c.1 g)
-        | inr c ↦ ih a (sym c.1 ∙ g)
-      ]
-      | inr g ↦ there.now (P t).next j q g
-    ]
-    port_step t j q o (ends a w s e f) ih h = absurd (both_ways true (ap (λ (p : Pos). p.over) (sym e) ∙ o) refl)
-    port_step t j q o (leaves a w s e f) ih h = elim (all_opened_from (opens_at image (P t).block (choice image (P t))) (slots_at image world t) j q (ap (λ (s : OpenSlots). s j q) (sym (slots_leave t a w)) ∙ h)) [
-      | inl g ↦ ih a g
-      | inr g ↦ edge_port (P t).block (choice image (P t)) j q g
-    ]
+    port_step : (t j q : ℕ) → (P (suc t)).over ≡ false → StepCase image world t
+        → ((P t).over ≡ false → slots_at image world t j q ≡ true → q < ports image j)
+        → slots_at image world (suc t) j q ≡ true → q < ports image j
+    port_step t j q o (stands a e f) ih h =
+        absurd (both_ways true (sym a ∙ ap (λ (p : Pos). p.over) (sym e) ∙ o) refl)
+    port_step t j q o (turns a w e f) ih h =
+        elim (all_opened_from (now_dests image (P t).next) (closed (P t).next (slots_at image world t)) j q
+        (ap (λ (s : OpenSlots). s j q) (sym (slots_turn t a w)) ∙ h)) [
+          | inl g ↦ elim (closed_cases (P t).next (slots_at image world t) j q) [
+            | inl c ↦ absurd (both_ways (closed (P t).next (slots_at image world t) j q) c.1 g)
+            | inr c ↦ ih a (sym c.1 ∙ g)
+          ]
+          | inr g ↦ there.now (P t).next j q g
+        ]
+    port_step t j q o (ends a w s e f) ih h =
+        absurd (both_ways true (ap (λ (p : Pos). p.over) (sym e) ∙ o) refl)
+    port_step t j q o (leaves a w s e f) ih h =
+        elim (all_opened_from (opens_at image (P t).block (choice image (P t))) (slots_at image world t) j q
+        (ap (λ (s : OpenSlots). s j q) (sym (slots_leave t a w)) ∙ h)) [
+          | inl g ↦ ih a g
+          | inr g ↦ edge_port (P t).block (choice image (P t)) j q g
+        ]
 
     -- an open slot is a port
     pub slot_port : (t j q : ℕ) → (P t).over ≡ false → slots_at image world t j q ≡ true → q < ports image j
-    slot_port zero j q o h = elim (all_opened_from (start_dests image) none_open j q (ap (λ (s : OpenSlots). s j q) (sym slots_start) ∙ h)) [
-      | inl g ↦ absurd (both_ways true (sym g) refl)
-      | inr g ↦ there.start j q g
-    ]
+    slot_port zero j q o h =
+        elim (all_opened_from (start_dests image) none_open j q
+        (ap (λ (s : OpenSlots). s j q) (sym slots_start) ∙ h)) [
+          | inl g ↦ absurd (both_ways true (sym g) refl)
+          | inr g ↦ there.start j q g
+        ]
     slot_port (suc t) j q o h = port_step t j q o (step_case image world t) (λ a k. slot_port t j q a k) h
 
     -- the slots of the advances ahead are open
-    ahead_step : (t j : ℕ) → (P (suc t)).over ≡ false → StepCase image world t → ((P t).over ≡ false → Ahead image (P t) j → slots_at image world t j 0 ≡ true) → Ahead image (P (suc t)) j → slots_at image world (suc t) j 0 ≡ true
-    ahead_step t j o (stands a e f) ih h = absurd (both_ways true (sym a ∙ ap (λ (p : Pos). p.over) (sym e) ∙ o) refl)
+    ahead_step : (t j : ℕ) → (P (suc t)).over ≡ false → StepCase image world t
+        → ((P t).over ≡ false → Ahead image (P t) j → slots_at image world t j 0 ≡ true)
+        → Ahead image (P (suc t)) j → slots_at image world (suc t) j 0 ≡ true
+    ahead_step t j o (stands a e f) ih h =
+        absurd (both_ways true (sym a ∙ ap (λ (p : Pos). p.over) (sym e) ∙ o) refl)
     ahead_step t j o (turns a w e f) ih h =
         let h' : Ahead image (fire image (P t)) j = rw e at h in
         let l : suc (P t).next ≤ j = h'.low in
-        let op : slots_at image world t j 0 ≡ true = ih a (record { advance = h'.advance; low = omega arith; high = h'.high }) in
-        rw (slots_turn t a w) (all_opened_keeps (now_dests image (P t).next) (closed (P t).next (slots_at image world t)) j 0
-        (elim (closed_cases (P t).next (slots_at image world t) j 0) [ inl c ↦ absurd (let x : (P t).next ≡ j = c.0 in omega arith) | inr c ↦ c.1 ∙ op ]))
-    ahead_step t j o (ends a w s e f) ih h = absurd (both_ways true (ap (λ (p : Pos). p.over) (sym e) ∙ o) refl)
+        let op : slots_at image world t j 0 ≡ true =
+        ih a (record { advance = h'.advance; low = omega arith; high = h'.high }) in
+        rw (slots_turn t a w) (all_opened_keeps (now_dests image (P t).next)
+        (closed (P t).next (slots_at image world t)) j 0
+        (elim (closed_cases (P t).next (slots_at image world t) j 0) [
+          | inl c ↦
+              absurd (let x : (P t).next ≡ j = c.0 in omega arith)
+          | inr c ↦ c.1 ∙ op
+        ]))
+    ahead_step t j o (ends a w s e f) ih h =
+        absurd (both_ways true (ap (λ (p : Pos). p.over) (sym e) ∙ o) refl)
     ahead_step t j o (leaves a w s e f) ih h =
         let c : ℕ = target image (P t).block (choice image (P t)) in
-        let b : (P (suc t)).block ≡ target image (P t).block (choice image (P t)) = ap (λ (p : Pos). p.block) e in
-        let n : (P (suc t)).next ≡ first_number image (target image (P t).block (choice image (P t))) = ap (λ (p : Pos). p.next) e in
-        let i : IsIn image (target image (P t).block (choice image (P t))) j = (rw n at h.low, rw b at h.high) in
-        let k : IsBlock image (target image (P t).block (choice image (P t))) = (shape.blocks (P t).block (place image world shape t a).block).edges.there (choice image (P t)) s in
-        let fst : is_first image (target image (P t).block (choice image (P t))) ≡ true = (shape.blocks (target image (P t).block (choice image (P t))) k).front.advances j i h.advance in
-        rw (slots_leave t a w) ((slots.crossing (P t).block _ _ (along (path t a) (at_end t a w) s (choice image (P t))) fst j 0).1 (i, h.advance, refl))
+        let b : (P (suc t)).block ≡ target image (P t).block (choice image (P t)) =
+        ap (λ (p : Pos). p.block) e in
+        let n : (P (suc t)).next ≡ first_number image (target image (P t).block (choice image (P t))) =
+        ap (λ (p : Pos). p.next) e in
+        let i : IsIn image (target image (P t).block (choice image (P t))) j =
+        (rw n at h.low, rw b at h.high) in
+        let k : IsBlock image (target image (P t).block (choice image (P t))) =
+        (shape.blocks (P t).block (place image world shape t a).block).edges.there (choice image (P t))
+        s in
+        let fst : is_first image (target image (P t).block (choice image (P t))) ≡ true =
+        (shape.blocks (target image (P t).block (choice image (P t))) k).front.advances j i h.advance in
+        rw (slots_leave t a w)
+        ((slots.crossing (P t).block _ _ (along (path t a) (at_end t a w) s (choice image (P t))) fst j
+        0).1 (i, h.advance, refl))
 
     ahead_start : (j : ℕ) → Ahead image (P zero) j → slots_at image world zero j 0 ≡ true
     unfolding opening
@@ -147,66 +211,124 @@ module _ (image : Image) (world : World) where
       pub value : (a : ℕ) → (P (suc t)).sent a j q ≡ (P t).sent a j q
 
     -- a value at an open slot stays at a firing
-    pub turn_stays : (t j q : ℕ) → (P t).over ≡ false → (P t).next < first_number image (suc (P t).block) → P (suc t) ≡ fire image (P t) → slots_at image world t j q ≡ true → ((P t).next ≡ j → ⊥) → Stays t j q
+    pub turn_stays : (t j q : ℕ) → (P t).over ≡ false → (P t).next < first_number image (suc (P t).block)
+        → P (suc t) ≡ fire image (P t) → slots_at image world t j q ≡ true → ((P t).next ≡ j → ⊥)
+        → Stays t j q
     turn_stays t j q a w e h n =
-        let still : closed (P t).next (slots_at image world t) j q ≡ true = elim (closed_cases (P t).next (slots_at image world t) j q) [ inl c ↦ absurd (n c.0) | inr c ↦ c.1 ∙ h ] in
+        let still : closed (P t).next (slots_at image world t) j q ≡ true =
+        elim (closed_cases (P t).next (slots_at image world t) j q) [
+          | inl c ↦ absurd (n c.0)
+          | inr c ↦
+              c.1 ∙ h
+        ] in
         record {
-          slot = ap (λ (s : OpenSlots). s j q) (slots_turn t a w) ∙ all_opened_keeps (now_dests image (P t).next) (closed (P t).next (slots_at image world t)) j q still;
-          value = λ b. ap (λ (p : Pos). p.sent b j q) e ∙ with_tokens_other (P t).wave _ (now_dests image (P t).next) (P t).sent b j q
-              (fresh_apart (now_dests image (P t).next) (closed (P t).next (slots_at image world t)) j q ((slots.turns (P t).block (P t).next (slots_at image world t) (path t a) w).fresh) still);
+          slot = ap (λ (s : OpenSlots). s j q) (slots_turn t a w) ∙ all_opened_keeps
+              (now_dests image (P t).next) (closed (P t).next (slots_at image world t)) j q still;
+          value = λ b. ap (λ (p : Pos). p.sent b j q) e ∙ with_tokens_other (P t).wave _
+              (now_dests image (P t).next) (P t).sent b j q
+              (fresh_apart (now_dests image (P t).next) (closed (P t).next (slots_at image world t)) j q
+              ((slots.turns (P t).block (P t).next (slots_at image world t) (path t a) w).fresh) still);
         }
 
     -- what is open on an edge is none of what the edge opens
-    pub apart_edge : (t j q : ℕ) → (P t).over ≡ false → first_number image (suc (P t).block) ≤ (P t).next → stops image (P t).block ≡ false → slots_at image world t j q ≡ true → HasDest (opens_at image (P t).block (choice image (P t))) j q → ⊥
-    apart_edge t j q a w s h = fresh_apart (opens_at image (P t).block (choice image (P t))) (slots_at image world t) j q
+    pub apart_edge : (t j q : ℕ) → (P t).over ≡ false → first_number image (suc (P t).block) ≤ (P t).next
+        → stops image (P t).block ≡ false → slots_at image world t j q ≡ true
+        → HasDest (opens_at image (P t).block (choice image (P t))) j q → ⊥
+    apart_edge t j q a w s h = fresh_apart (opens_at image (P t).block (choice image (P t)))
+        (slots_at image world t) j q
         ((slots.ends (P t).block _ (path_end (path t a) (at_end t a w))).edges s (choice image (P t))) h
 
     -- and while the block is left
-    pub leave_stays : (t j q : ℕ) (a : (P t).over ≡ false) (w : first_number image (suc (P t).block) ≤ (P t).next) (s : stops image (P t).block ≡ false) →
-        P (suc t) ≡ enter image (target image (P t).block (choice image (P t))) (P t).wave (with_tokens (edge_tokens image (P t).block (choice image (P t)) (P t).wave (P t).results (first_number image (P t).block) (size_of image (P t).block)) (P t).sent) (P t).results (P t).memory →
+    pub leave_stays : (t j q : ℕ) (a : (P t).over ≡ false) (w : first_number image (suc (P t).block)
+        ≤ (P t).next) (s : stops image (P t).block ≡ false) →
+        P (suc t) ≡ enter image (target image (P t).block (choice image (P t))) (P t).wave
+        (with_tokens (edge_tokens image (P t).block (choice image (P t)) (P t).wave (P t).results
+        (first_number image (P t).block) (size_of image (P t).block)) (P t).sent) (P t).results
+        (P t).memory →
         slots_at image world t j q ≡ true → Stays t j q
     unfolding opens_at
     leave_stays t j q a w s e h = record {
-      slot = ap (λ (x : OpenSlots). x j q) (slots_leave t a w) ∙ all_opened_keeps (opens_at image (P t).block (choice image (P t))) (slots_at image world t) j q h;
-      value = λ b. ap (λ (p : Pos). p.sent b j q) e ∙ edge_other image (P t).block (choice image (P t)) (P t).wave (P t).results (first_number image (P t).block) (size_of image (P t).block) (P t).sent b j q (apart_edge t j q a w s h);
+      slot = ap (λ (x : OpenSlots). x j q) (slots_leave t a w) ∙ all_opened_keeps
+          (opens_at image (P t).block (choice image (P t))) (slots_at image world t) j q h;
+      value = λ b. ap (λ (p : Pos). p.sent b j q) e ∙ edge_other image (P t).block (choice image (P t))
+          (P t).wave (P t).results (first_number image (P t).block) (size_of image (P t).block) (P t).sent b j
+          q (apart_edge t j q a w s h);
     }
 
     -- where instruction j is not the one that fires, the slot is as good afterwards
-    pub turn_on : (t j q v : ℕ) → (P t).over ≡ false → (P t).next < first_number image (suc (P t).block) → P (suc t) ≡ fire image (P t) → ((P t).next ≡ j → ⊥) →
+    pub turn_on : (t j q v : ℕ) → (P t).over ≡ false → (P t).next < first_number image (suc (P t).block)
+        → P (suc t) ≡ fire image (P t) → ((P t).next ≡ j → ⊥) →
         slots_at image world t j q ≡ true → (P t).sent (turn_number image (P t) j) j q ≡ Some v →
-        (turn_number image (P t) j ≡ turn_number image (P (suc t)) j) × (slots_at image world (suc t) j q ≡ true) × ((P (suc t)).sent (turn_number image (P (suc t)) j) j q ≡ Some v)
+        (turn_number image (P t) j ≡ turn_number image (P (suc t)) j)
+        × (slots_at image world (suc t) j q ≡ true)
+        × ((P (suc t)).sent (turn_number image (P (suc t)) j) j q ≡ Some v)
     turn_on t j q v a w e n s x =
         let st : Stays t j q = turn_stays t j q a w e s n in
         let nx : (P (suc t)).next ≡ suc (P t).next = ap (λ (p : Pos). p.next) e in
         let bl : (P (suc t)).block ≡ (P t).block = ap (λ (p : Pos). p.block) e in
         let wv : (P t).wave ≡ (P (suc t)).wave = ap (λ (p : Pos). p.wave) (sym e) in
-        let num : turn_number image (P t) j ≡ turn_number image (P (suc t)) j = number_same image (P t) (P (suc t)) j wv
-        (λ y. (let l : (P t).next ≤ j = y.low in record { advance = y.advance; low = omega arith; high = rw bl y.high }))
-        (λ y. (let l : (P (suc t)).next ≤ j = y.low in record { advance = y.advance; low = omega arith; high = rw bl at y.high })) in
+        let num : turn_number image (P t) j ≡ turn_number image (P (suc t)) j =
+        number_same image (P t) (P (suc t)) j wv
+        (λ y. (let l : (P t).next ≤ j = y.low in record {
+          advance = y.advance;
+          low = omega arith;
+          high = rw bl y.high;
+        }))
+        (λ y. (let l : (P (suc t)).next ≤ j = y.low in record {
+          advance = y.advance;
+          low = omega arith;
+          high = rw bl at y.high;
+        })) in
         (num, st.slot, st.value (turn_number image (P (suc t)) j) ∙ (rw num at x))
 
     -- at a block's end no advance is ahead
-    pub end_number : (t j : ℕ) → first_number image (suc (P t).block) ≤ (P t).next → turn_number image (P t) j ≡ (P t).wave
-    end_number t j w = number_else image (P t) j (λ y. (let l : (P t).next ≤ j = y.low in let h : j < first_number image (suc (P t).block) = y.high in omega arith))
+    pub end_number : (t j : ℕ) → first_number image (suc (P t).block) ≤ (P t).next
+        → turn_number image (P t) j ≡ (P t).wave
+    end_number t j w =
+        number_else image (P t) j
+        (λ y. (let l : (P t).next ≤ j = y.low in let h : j < first_number image (suc (P t).block) = y.high in
+        omega arith))
 
     -- at the first block of a wave
-    pub cross_number : (t j q : ℕ) → (P t).over ≡ false → first_number image (suc (P t).block) ≤ (P t).next → stops image (P t).block ≡ false →
-        (P (suc t)).block ≡ target image (P t).block (choice image (P t)) → (P (suc t)).next ≡ first_number image (target image (P t).block (choice image (P t))) →
-        (P (suc t)).wave ≡ cond (is_first image (target image (P t).block (choice image (P t)))) (suc (P t).wave) (P t).wave →
-        is_first image (target image (P t).block (choice image (P t))) ≡ true → slots_at image world (suc t) j q ≡ true → Ahead image (P (suc t)) j × (turn_number image (P (suc t)) j ≡ (P t).wave)
+    pub cross_number : (t j q : ℕ) → (P t).over ≡ false → first_number image (suc (P t).block) ≤ (P t).next
+        → stops image (P t).block ≡ false →
+        (P (suc t)).block ≡ target image (P t).block (choice image (P t))
+        → (P (suc t)).next ≡ first_number image (target image (P t).block (choice image (P t))) →
+        (P (suc t)).wave ≡ cond (is_first image (target image (P t).block (choice image (P t))))
+        (suc (P t).wave) (P t).wave →
+        is_first image (target image (P t).block (choice image (P t))) ≡ true
+        → slots_at image world (suc t) j q ≡ true → Ahead image (P (suc t)) j
+        × (turn_number image (P (suc t)) j ≡ (P t).wave)
     cross_number t j q a w st bl nx wv fst s =
-        let c = (slots.crossing (P t).block _ _ (along (path t a) (at_end t a w) st (choice image (P t))) fst j q).0 (ap (λ (x : OpenSlots). x j q) (sym (slots_leave t a w)) ∙ s) in
-        let ah : Ahead image (P (suc t)) j = record { advance = c.1; low = rw nx c.0.0; high = rw bl c.0.1 } in
-        let wv' : (P (suc t)).wave ≡ suc (P t).wave = wv ∙ cond-true (is_first image (target image (P t).block (choice image (P t)))) _ _ fst in
-        (ah, number_ahead image (P (suc t)) j ah ∙ (let g : (P (suc t)).wave - 1 ≡ (P t).wave = omega arith in g))
+        let c = (slots.crossing (P t).block _ _ (along (path t a) (at_end t a w) st (choice image (P t))) fst
+        j q).0 (ap (λ (x : OpenSlots). x j q) (sym (slots_leave t a w)) ∙ s) in
+        let ah : Ahead image (P (suc t)) j = record {
+          advance = c.1;
+          low = rw nx c.0.0;
+          high = rw bl c.0.1;
+        } in
+        let wv' : (P (suc t)).wave ≡ suc (P t).wave =
+        wv ∙ cond-true (is_first image (target image (P t).block (choice image (P t)))) _ _ fst in (
+          ah,
+          number_ahead image (P (suc t)) j ah ∙ (let g : (P (suc t)).wave - 1 ≡ (P t).wave = omega arith in
+              g),
+        )
 
     -- inside a wave the number stays
     pub same_wave_number : (t j : ℕ) → (P t).over ≡ false → stops image (P t).block ≡ false →
-        (P (suc t)).block ≡ target image (P t).block (choice image (P t)) → (P (suc t)).next ≡ first_number image (target image (P t).block (choice image (P t))) →
-        (P (suc t)).wave ≡ cond (is_first image (target image (P t).block (choice image (P t)))) (suc (P t).wave) (P t).wave →
-        is_first image (target image (P t).block (choice image (P t))) ≡ false → turn_number image (P (suc t)) j ≡ (P t).wave
+        (P (suc t)).block ≡ target image (P t).block (choice image (P t))
+        → (P (suc t)).next ≡ first_number image (target image (P t).block (choice image (P t))) →
+        (P (suc t)).wave ≡ cond (is_first image (target image (P t).block (choice image (P t))))
+        (suc (P t).wave) (P t).wave →
+        is_first image (target image (P t).block (choice image (P t))) ≡ false
+        → turn_number image (P (suc t)) j ≡ (P t).wave
     same_wave_number t j a st bl nx wv fst =
-        let wv' : (P (suc t)).wave ≡ (P t).wave = wv ∙ cond-false (is_first image (target image (P t).block (choice image (P t)))) _ _ fst in
-        let k : IsBlock image (target image (P t).block (choice image (P t))) = (shape.blocks (P t).block (place image world shape t a).block).edges.there (choice image (P t)) st in
-        number_else image (P (suc t)) j (λ y. both_ways (is_first image (target image (P t).block (choice image (P t)))) fst
-        ((shape.blocks (target image (P t).block (choice image (P t))) k).front.advances j (rw nx at y.low, rw bl at y.high) y.advance)) ∙ wv'
+        let wv' : (P (suc t)).wave ≡ (P t).wave =
+        wv ∙ cond-false (is_first image (target image (P t).block (choice image (P t)))) _ _ fst in
+        let k : IsBlock image (target image (P t).block (choice image (P t))) =
+        (shape.blocks (P t).block (place image world shape t a).block).edges.there (choice image (P t))
+        st in
+        number_else image (P (suc t)) j
+        (λ y. both_ways (is_first image (target image (P t).block (choice image (P t)))) fst
+        ((shape.blocks (target image (P t).block (choice image (P t))) k).front.advances j
+        (rw nx at y.low, rw bl at y.high) y.advance)) ∙ wv'

@@ -1,10 +1,12 @@
 -- Laws of a walk: it goes on, its acts grow, its wave numbers never fall, and loads have no effect.
-use Rattle.std.proofs.Common.{ℕ, zero, suc, ◌+◌, ◌≡◌, ◌≤◌, Bool, true, false, List, [], ◌∷◌, ◌++◌, Option, Some, None, refl, sym, ap, ◌∙◌, inl, inr, arith, append_assoc}
+use Rattle.std.proofs.Common.{ℕ, zero, suc, ◌+◌, ◌≡◌, ◌≤◌, Bool, true, false, List, [], ◌∷◌, ◌++◌, Option}
+use Rattle.std.proofs.Common.{Some, None, refl, sym, ap, ◌∙◌, inl, inr, arith, append_assoc}
 use Rattle.std.proofs.lemmas.Bool.{cond-true, cond-false}
 use Rattle.std.proofs.lemmas.List.{append-nil}
 use Rattle.ws_words.specs.Outside.{Act, loads, stores, reads, prints, gives, takes, Outside, World}
 use Rattle.ws_isa.specs.declared.instr.Op.{Op}
-use Rattle.ws_isa.specs.declared.instr.Op.TheVariants.{Const, Alu, Merge, Advance, Steer, Phi, Send, Load, Store, Input, Output, Give, Take, Nop, Halt}
+use Rattle.ws_isa.specs.declared.instr.Op.TheVariants.{Const, Alu, Merge, Advance, Steer, Phi, Send, Load}
+use Rattle.ws_isa.specs.declared.instr.Op.TheVariants.{Store, Input, Output, Give, Take, Nop, Halt}
 use Rattle.ws_isa.specs.Image.{Image, instr_at, is_memory, is_load_op, answer_op, after, after_op}
 use Rattle.ws_isa.specs.Formed.{Formed}
 use Rattle.ws_isa.specs.Walk.{Inst, Pos, pos, mem, walk, fires, fire, operands_at, with_inst}
@@ -31,7 +33,8 @@ drop_load (prints w ∷ acts) a i = ap (λ (x : List Act). prints w ∷ x) (drop
 drop_load (gives p ∷ acts) a i = ap (λ (x : List Act). gives p ∷ x) (drop_load acts a i)
 drop_load (takes p w ∷ acts) a i = ap (λ (x : List Act). takes p w ∷ x) (drop_load acts a i)
 
-pub keep_others : (acts more : List Act) → without_loads (acts ++ more) ≡ without_loads acts ++ without_loads more
+pub keep_others : (acts more : List Act) → without_loads (acts ++ more) ≡ without_loads acts ++ without_loads
+    more
 keep_others [] more = refl
 keep_others (loads b j ∷ acts) more = keep_others acts more
 keep_others (stores b j w ∷ acts) more = ap (λ (x : List Act). stores b j w ∷ x) (keep_others acts more)
@@ -41,7 +44,8 @@ keep_others (gives p ∷ acts) more = ap (λ (x : List Act). gives p ∷ x) (kee
 keep_others (takes p w ∷ acts) more = ap (λ (x : List Act). takes p w ∷ x) (keep_others acts more)
 
 -- an answer depends on the effect alone
-pub answer_by_effect : (op : Op) (xs : List ℕ) (o : Outside) → answer_op op xs (effect_of o) ≡ answer_op op xs o
+pub answer_by_effect : (op : Op) (xs : List ℕ) (o : Outside) → answer_op op xs (effect_of o) ≡ answer_op op xs
+    o
 answer_by_effect (Load a) xs o = refl
 answer_by_effect (Store a) xs o = refl
 answer_by_effect Input xs o = refl
@@ -63,7 +67,8 @@ abbrev pub with_acts_of : Outside → List Act → Outside
 with_acts_of o acts = record { cells = o.cells; input = o.input; left = o.left; acts = acts }
 
 -- a load has no effect
-pub load_has_no_effect : (op : Op) (xs : List ℕ) (o : Outside) → is_load_op op ≡ true → effect_of (after_op op xs o) ≡ effect_of o
+pub load_has_no_effect : (op : Op) (xs : List ℕ) (o : Outside) → is_load_op op ≡ true
+    → effect_of (after_op op xs o) ≡ effect_of o
 load_has_no_effect (Load a) xs o e = ap (with_acts_of o) (drop_load o.acts a _)
 load_has_no_effect (Store a) xs o e = absurd (cc)
 load_has_no_effect Input xs o e = absurd (cc)
@@ -81,13 +86,18 @@ load_has_no_effect Phi xs o e = absurd (cc)
 load_has_no_effect (Send k) xs o e = absurd (cc)
 
 -- all others take the same effect whenever loads were answered
-pub others_take_effect : (op : Op) (xs : List ℕ) (o : Outside) → is_load_op op ≡ false → effect_of (after_op op xs o) ≡ after_op op xs (effect_of o)
+pub others_take_effect : (op : Op) (xs : List ℕ) (o : Outside) → is_load_op op ≡ false
+    → effect_of (after_op op xs o) ≡ after_op op xs (effect_of o)
 others_take_effect (Load a) xs o e = absurd (cc)
-others_take_effect (Store a) xs o e = ap (with_acts_of (after_op (Store a) xs o)) (keep_others o.acts (stores a _ _ ∷ []))
+others_take_effect (Store a) xs o e = ap (with_acts_of (after_op (Store a) xs o))
+    (keep_others o.acts (stores a _ _ ∷ []))
 others_take_effect Input xs o e = ap (with_acts_of (after_op Input xs o)) (keep_others o.acts (reads ∷ []))
-others_take_effect Output xs o e = ap (with_acts_of (after_op Output xs o)) (keep_others o.acts (prints _ ∷ []))
-others_take_effect (Give p) xs o e = ap (with_acts_of (after_op (Give p) xs o)) (keep_others o.acts (gives p ∷ []))
-others_take_effect (Take p) xs o e = ap (with_acts_of (after_op (Take p) xs o)) (keep_others o.acts (takes p _ ∷ []))
+others_take_effect Output xs o e = ap (with_acts_of (after_op Output xs o))
+    (keep_others o.acts (prints _ ∷ []))
+others_take_effect (Give p) xs o e = ap (with_acts_of (after_op (Give p) xs o))
+    (keep_others o.acts (gives p ∷ []))
+others_take_effect (Take p) xs o e = ap (with_acts_of (after_op (Take p) xs o))
+    (keep_others o.acts (takes p _ ∷ []))
 others_take_effect Nop xs o e = refl
 others_take_effect Halt xs o e = refl
 others_take_effect (Const n) xs o e = refl
@@ -99,7 +109,8 @@ others_take_effect Phi xs o e = refl
 others_take_effect (Send k) xs o e = refl
 
 -- the acts of an operation come after those before
-more_acts : (op : Op) (xs : List ℕ) (o : Outside) → (acts : List Act) × ((after_op op xs o).acts ≡ o.acts ++ acts)
+more_acts : (op : Op) (xs : List ℕ) (o : Outside) → (acts : List Act)
+    × ((after_op op xs o).acts ≡ o.acts ++ acts)
 more_acts (Load a) xs o = (_, refl)
 more_acts (Store a) xs o = (_, refl)
 more_acts Input xs o = (_, refl)
@@ -124,12 +135,18 @@ module _ (image : Image) (world : World) where
   unfolding mem
   still t e = ([], ap (λ (o : Outside). o.acts) e ∙ sym (append-nil (pos image world t).memory.acts))
 
-  fired_acts : (t : ℕ) (b : Bool) → is_memory image (pos image world t).next ≡ b → pos image world (suc t) ≡ fire image (pos image world t) → Grows t (suc t)
+  fired_acts : (t : ℕ) (b : Bool) → is_memory image (pos image world t).next ≡ b
+      → pos image world (suc t) ≡ fire image (pos image world t) → Grows t (suc t)
   unfolding mem after
   fired_acts t true m e =
-      let a = more_acts (instr_at image (pos image world t).next).op (operands_at image (pos image world t)) (pos image world t).memory in
-      (a.0, ap (λ (o : Outside). o.acts) (ap (λ (p : Pos). p.memory) e ∙ cond-true (is_memory image (pos image world t).next) _ _ m) ∙ a.1)
-  fired_acts t false m e = still t (ap (λ (p : Pos). p.memory) e ∙ cond-false (is_memory image (pos image world t).next) _ _ m)
+      let a = more_acts (instr_at image (pos image world t).next).op (operands_at image (pos image world t))
+      (pos image world t).memory in (
+        a.0,
+        ap (λ (o : Outside). o.acts) (ap (λ (p : Pos). p.memory) e ∙ cond-true
+            (is_memory image (pos image world t).next) _ _ m) ∙ a.1,
+      )
+  fired_acts t false m e =
+      still t (ap (λ (p : Pos). p.memory) e ∙ cond-false (is_memory image (pos image world t).next) _ _ m)
 
   acts_step : (t : ℕ) → StepCase image world t → Grows t (suc t)
   acts_step t (stands a e f) = still t (ap (λ (p : Pos). p.memory) e)
@@ -144,7 +161,11 @@ module _ (image : Image) (world : World) where
       let e : suc d + t ≡ suc (d + t) = omega arith in
       let a = acts_grow d t in
       let b = acts_step (d + t) (step_case image world (d + t)) in
-      rw e (a.0 ++ b.0, b.1 ∙ ap (λ (x : List Act). x ++ b.0) a.1 ∙ append_assoc (mem image world t).acts a.0 b.0)
+      rw e (
+        a.0 ++ b.0,
+        b.1 ∙ ap (λ (x : List Act). x ++ b.0) a.1 ∙ append_assoc (mem image world t).acts a.0
+            b.0,
+      )
 
   one_more : (xs : List Inst) (o : Option Inst) → (more : List Inst) × (with_inst xs o ≡ xs ++ more)
   one_more xs None = ([], sym (append-nil xs))
@@ -158,20 +179,28 @@ module _ (image : Image) (world : World) where
       let e : suc d + t ≡ suc (d + t) = omega arith in
       let a = walk_goes_on d t in
       let b = one_more (walk image world (d + t)) (fires image world (d + t)) in
-      rw e (a.0 ++ b.0, b.1 ∙ ap (λ (x : List Inst). x ++ b.0) a.1 ∙ append_assoc (walk image world t) a.0 b.0)
+      rw e (
+        a.0 ++ b.0,
+        b.1 ∙ ap (λ (x : List Inst). x ++ b.0) a.1 ∙ append_assoc (walk image world t) a.0
+            b.0,
+      )
 
-  wave_step : (shape : ShapeRules image) (t : ℕ) → (pos image world (suc t)).over ≡ false → (pos image world t).wave ≤ (pos image world (suc t)).wave
+  wave_step : (shape : ShapeRules image) (t : ℕ) → (pos image world (suc t)).over ≡ false
+      → (pos image world t).wave ≤ (pos image world (suc t)).wave
   wave_step shape t o = elim (later_step image world shape t o (step_case image world t)) [
     | inl l ↦ omega arith
     | inr l ↦ (let e : (pos image world t).wave ≡ (pos image world (suc t)).wave = l.0 in omega arith)
   ]
 
   -- wave numbers never fall
-  pub waves_rise : (shape : ShapeRules image) (d t : ℕ) → (pos image world (d + t)).over ≡ false → (pos image world t).wave ≤ (pos image world (d + t)).wave
+  pub waves_rise : (shape : ShapeRules image) (d t : ℕ) → (pos image world (d + t)).over ≡ false
+      → (pos image world t).wave ≤ (pos image world (d + t)).wave
   waves_rise shape zero t o = let e : 0 + t ≡ t = omega arith in rw e (omega arith)
   waves_rise shape (suc d) t o =
       let e : suc d + t ≡ suc (d + t) = omega arith in
       let o' : (pos image world (suc (d + t))).over ≡ false = rw e at o in
-      let a : (pos image world t).wave ≤ (pos image world (d + t)).wave = waves_rise shape d t (running image world shape (d + t) o') in
-      let b : (pos image world (d + t)).wave ≤ (pos image world (suc (d + t))).wave = wave_step shape (d + t) o' in
+      let a : (pos image world t).wave ≤ (pos image world (d + t)).wave =
+      waves_rise shape d t (running image world shape (d + t) o') in
+      let b : (pos image world (d + t)).wave ≤ (pos image world (suc (d + t))).wave =
+      wave_step shape (d + t) o' in
       rw e (omega arith)

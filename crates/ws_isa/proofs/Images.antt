@@ -1,8 +1,11 @@
 -- Lemmas on images and their lists.
-use Rattle.std.proofs.Common.{ℕ, zero, suc, ◌≡◌, List, [], ◌∷◌, ◌++◌, Some, ◌<◌, arith, true, false, refl, ◌≤◌, ap}
-use Rattle.ws_isa.specs.Image.{Instr, ports_of, is_memory_op, is_writing_op, Token, tokens_to, is_writing, is_memory, Image, instr_at}
+use Rattle.std.proofs.Common.{ℕ, zero, suc, ◌≡◌, List, [], ◌∷◌, ◌++◌, Some, ◌<◌, arith, true, false, refl}
+use Rattle.std.proofs.Common.{◌≤◌, ap}
+use Rattle.ws_isa.specs.Image.{Instr, ports_of, is_memory_op, is_writing_op, Token, tokens_to, is_writing}
+use Rattle.ws_isa.specs.Image.{is_memory, Image, instr_at}
 use Rattle.ws_isa.specs.declared.instr.Op.{Op}
-use Rattle.ws_isa.specs.declared.instr.Op.TheVariants.{Alu, Steer, Phi, Send, Store, Input, Output, Give, Take, Halt}
+use Rattle.ws_isa.specs.declared.instr.Op.TheVariants.{Alu, Steer, Phi, Send, Store, Input, Output, Give}
+use Rattle.ws_isa.specs.declared.instr.Op.TheVariants.{Take, Halt}
 use Rattle.std.proofs.lemmas.Bool.{both_ways}
 use Rattle.ws_isa.specs.declared.instr.Dest.{Dest}
 use Rattle.ws_words.specs.Items.{nth}
@@ -37,9 +40,12 @@ three_ports (Send k) = omega arith
 three_ports (Store a) = omega arith
 three_ports op = omega arith
 
-pub tokens_append : (w v : ℕ) (xs ys : List Dest) → tokens_to w v (xs ++ ys) ≡ tokens_to w v xs ++ tokens_to w v ys
+pub tokens_append : (w v : ℕ) (xs ys : List Dest) → tokens_to w v (xs ++ ys) ≡ tokens_to w v xs ++ tokens_to w
+    v ys
 tokens_append w v [] ys = refl
-tokens_append w v (x ∷ xs) ys = ap (λ (ts : List Token). record { wave = w; instr = x.instr; port = x.port; value = v } ∷ ts) (tokens_append w v xs ys)
+tokens_append w v (x ∷ xs) ys =
+    ap (λ (ts : List Token). record { wave = w; instr = x.instr; port = x.port; value = v } ∷ ts)
+    (tokens_append w v xs ys)
 
 -- a writing operation is one of memory
 pub writing_memory : (image : Image) (k : ℕ) → is_writing image k ≡ true → is_memory image k ≡ true

@@ -1,9 +1,13 @@
 -- The walk's steps, the blocks it stands in, and that it fires each instance once.
-use Rattle.std.proofs.Common.{ℕ, zero, suc, ◌+◌, ◌-◌, ◌≡◌, ◌<◌, ◌≤◌, ◌⊎◌, Bool, true, false, cond, List, [], ◌∷◌, length, Some, None, refl, sym, ap, ◌∙◌, inl, inr, arith}
-use Rattle.std.proofs.lemmas.Bool.{cases_Bool, cases_eq, cases_order, both_ways, cond-true, cond-false, ltb-true, ltb-false, lt-ltb, le-ltb}
+use Rattle.std.proofs.Common.{ℕ, zero, suc, ◌+◌, ◌-◌, ◌≡◌, ◌<◌, ◌≤◌, ◌⊎◌, Bool, true, false, cond, List, []}
+use Rattle.std.proofs.Common.{◌∷◌, length, Some, None, refl, sym, ap, ◌∙◌, inl, inr, arith}
+use Rattle.std.proofs.lemmas.Bool.{cases_Bool, cases_eq, cases_order, both_ways, cond-true, cond-false}
+use Rattle.std.proofs.lemmas.Bool.{ltb-true, ltb-false, lt-ltb, le-ltb}
 use Rattle.ws_words.specs.Outside.{World}
-use Rattle.ws_isa.specs.Image.{Image, Block, first_of, first_number, size_of, holder, block_of, stops, target, is_first, is_advance, IsBlock, IsIn}
-use Rattle.ws_isa.specs.Walk.{Inst, Pos, pos, step, opening, enter, fire, fires, fires_from, is_within, inst_at, choice, wave_of, edge_tokens, with_tokens}
+use Rattle.ws_isa.specs.Image.{Image, Block, first_of, first_number, size_of, holder, block_of, stops, target}
+use Rattle.ws_isa.specs.Image.{is_first, is_advance, IsBlock, IsIn}
+use Rattle.ws_isa.specs.Walk.{Inst, Pos, pos, step, opening, enter, fire, fires, fires_from, is_within}
+use Rattle.ws_isa.specs.Walk.{inst_at, choice, wave_of, edge_tokens, with_tokens}
 use Rattle.ws_isa.specs.Sound.{ShapeRules}
 use Rattle.ws_isa.proofs.Counting.{first_one as first_of_zero}
 
@@ -14,13 +18,15 @@ first_of_up (x ∷ xs) (suc n) = let e : first_of xs n ≤ first_of xs (suc n) =
 
 pub first_of_pos : (xs : List Block) (n : ℕ) → 1 ≤ first_of xs n
 first_of_pos xs zero = let e : first_of xs zero ≡ 1 = first_of_zero xs in omega arith
-first_of_pos xs (suc n) = let e : first_of xs n ≤ first_of xs (suc n) = first_of_up xs n in let f : 1 ≤ first_of xs n = first_of_pos xs n in omega arith
+first_of_pos xs (suc n) = let e : first_of xs n ≤ first_of xs (suc n) = first_of_up xs n in
+    let f : 1 ≤ first_of xs n = first_of_pos xs n in omega arith
 
 pub first_of_le : (xs : List Block) (m n : ℕ) → m ≤ n → first_of xs m ≤ first_of xs n
 first_of_le xs m zero l = let e : m ≡ zero = omega arith in rw e (omega arith)
 first_of_le xs m (suc n) l = elim (cases_eq m (suc n)) [
   | inl e ↦ rw e (omega arith)
-  | inr h ↦ (let a : first_of xs m ≤ first_of xs n = first_of_le xs m n (omega arith) in let b : first_of xs n ≤ first_of xs (suc n) = first_of_up xs n in omega arith)
+  | inr h ↦ (let a : first_of xs m ≤ first_of xs n = first_of_le xs m n (omega arith) in
+      let b : first_of xs n ≤ first_of xs (suc n) = first_of_up xs n in omega arith)
 ]
 
 -- numbers of blocks' first instructions never fall
@@ -34,46 +40,77 @@ first_le image (suc b) (suc c) l = first_of_le image.blocks b c (omega arith)
 pub first_up : (image : Image) (b : ℕ) → first_number image b ≤ first_number image (suc b)
 first_up image b = first_le image b (suc b) (omega arith)
 
-pub holder_is : (xs : List Block) (s n k : ℕ) → n < length xs → first_of xs n ≤ suc k → suc k < first_of xs (suc n) → holder xs s k ≡ s + n
+pub holder_is : (xs : List Block) (s n k : ℕ) → n < length xs → first_of xs n ≤ suc k
+    → suc k < first_of xs (suc n) → holder xs s k ≡ s + n
 holder_is [] s n k l a b = absurd (omega arith)
 holder_is (x ∷ xs) s zero k l a b =
     let e : first_of xs zero ≡ 1 = first_of_zero xs in
     rw (lt-ltb k (length x.instrs) (omega arith)) (omega arith)
 holder_is (x ∷ xs) s (suc n) k l a b =
     let e : 1 ≤ first_of xs n = first_of_pos xs n in
-    let h : holder xs (suc s) (k - length x.instrs) ≡ suc s + n = holder_is xs (suc s) n (k - length x.instrs) (omega arith) (omega arith) (omega arith) in
+    let h : holder xs (suc s) (k - length x.instrs) ≡ suc s + n = holder_is xs (suc s) n (k - length x.instrs)
+    (omega arith) (omega arith) (omega arith) in
     rw (le-ltb k (length x.instrs) (omega arith)) (omega (arith, h))
 
 pub block_of_is : (image : Image) (b k : ℕ) → IsBlock image b → IsIn image b k → block_of image k ≡ b
 unfolding block_of first_number
 block_of_is image zero k h i = absurd (omega (arith, h.0))
-block_of_is image (suc b) zero h i = absurd (let p : 1 ≤ first_of image.blocks b = first_of_pos image.blocks b in omega (arith, i.0))
-block_of_is image (suc b) (suc k) h i = holder_is image.blocks 1 b k (omega (arith, h.1)) i.0 i.1 ∙ (let e : 1 + b ≡ suc b = omega arith in e)
+block_of_is image (suc b) zero h i =
+    absurd (let p : 1 ≤ first_of image.blocks b = first_of_pos image.blocks b in omega (arith, i.0))
+block_of_is image (suc b) (suc k) h i = holder_is image.blocks 1 b k (omega (arith, h.1)) i.0 i.1
+    ∙ (let e : 1 + b ≡ suc b = omega arith in e)
 
 -- what one step does
 pub data StepCase (image : Image) (world : World) (t : ℕ) : Type 0 where
-  stands : (pos image world t).over ≡ true → pos image world (suc t) ≡ pos image world t → fires image world t ≡ None → StepCase image world t
-  turns : (pos image world t).over ≡ false → (pos image world t).next < first_number image (suc (pos image world t).block) →
-      pos image world (suc t) ≡ fire image (pos image world t) → fires image world t ≡ Some (inst_at image (pos image world t)) → StepCase image world t
-  ends : (pos image world t).over ≡ false → first_number image (suc (pos image world t).block) ≤ (pos image world t).next → stops image (pos image world t).block ≡ true →
-      pos image world (suc t) ≡ record (pos image world t) { over = true } → fires image world t ≡ None → StepCase image world t
-  leaves : (pos image world t).over ≡ false → first_number image (suc (pos image world t).block) ≤ (pos image world t).next → stops image (pos image world t).block ≡ false →
-      pos image world (suc t) ≡ enter image (target image (pos image world t).block (choice image (pos image world t))) (pos image world t).wave
-      (with_tokens (edge_tokens image (pos image world t).block (choice image (pos image world t)) (pos image world t).wave (pos image world t).results (first_number image (pos image world t).block) (size_of image (pos image world t).block)) (pos image world t).sent)
-      (pos image world t).results (pos image world t).memory → fires image world t ≡ None → StepCase image world t
+  stands : (pos image world t).over ≡ true → pos image world (suc t) ≡ pos image world t
+      → fires image world t ≡ None → StepCase image world t
+  turns : (pos image world t).over ≡ false → (pos image world t).next < first_number image
+      (suc (pos image world t).block) →
+      pos image world (suc t) ≡ fire image (pos image world t) → fires image world t
+      ≡ Some (inst_at image (pos image world t)) → StepCase image world t
+  ends : (pos image world t).over ≡ false → first_number image (suc (pos image world t).block)
+      ≤ (pos image world t).next → stops image (pos image world t).block ≡ true →
+      pos image world (suc t) ≡ record (pos image world t) { over = true } → fires image world t ≡ None
+      → StepCase image world t
+  leaves : (pos image world t).over ≡ false → first_number image (suc (pos image world t).block)
+      ≤ (pos image world t).next → stops image (pos image world t).block ≡ false →
+      pos image world (suc t) ≡ enter image (target image (pos image world t).block
+      (choice image (pos image world t))) (pos image world t).wave
+      (with_tokens (edge_tokens image (pos image world t).block (choice image (pos image world t))
+      (pos image world t).wave (pos image world t).results (first_number image (pos image world t).block)
+      (size_of image (pos image world t).block)) (pos image world t).sent)
+      (pos image world t).results (pos image world t).memory → fires image world t ≡ None
+      → StepCase image world t
 
 module _ (image : Image) (world : World) where
   -- what a step does
   pub step_case : (t : ℕ) → StepCase image world t
   unfolding pos step fires fires_from
-  step_case t = go (cases_Bool (pos image world t).over) (cases_Bool (is_within image (pos image world t))) (cases_Bool (stops image (pos image world t).block))
+  step_case t = go (cases_Bool (pos image world t).over) (cases_Bool (is_within image (pos image world t)))
+      (cases_Bool (stops image (pos image world t).block))
     where
-      go : ((pos image world t).over ≡ true) ⊎ ((pos image world t).over ≡ false) → (is_within image (pos image world t) ≡ true) ⊎ (is_within image (pos image world t) ≡ false) →
-          (stops image (pos image world t).block ≡ true) ⊎ (stops image (pos image world t).block ≡ false) → StepCase image world t
+      go : ((pos image world t).over ≡ true) ⊎ ((pos image world t).over ≡ false)
+          → (is_within image (pos image world t) ≡ true) ⊎ (is_within image (pos image world t) ≡ false) →
+          (stops image (pos image world t).block ≡ true) ⊎ (stops image (pos image world t).block ≡ false)
+          → StepCase image world t
       go (inl o) w s = stands o (cond-true (pos image world t).over (pos image world t) _ o) (rw o refl)
-      go (inr o) (inl w) s = turns o (ltb-true (pos image world t).next (first_number image (suc (pos image world t).block)) w) (cond-false (pos image world t).over (pos image world t) _ o ∙ cond-true (is_within image (pos image world t)) _ _ w) (cond-false (pos image world t).over _ _ o ∙ cond-true (is_within image (pos image world t)) _ _ w)
-      go (inr o) (inr w) (inl s) = ends o (ltb-false (pos image world t).next (first_number image (suc (pos image world t).block)) w) s (cond-false (pos image world t).over (pos image world t) _ o ∙ cond-false (is_within image (pos image world t)) _ _ w ∙ cond-true (stops image (pos image world t).block) _ _ s) (cond-false (pos image world t).over _ _ o ∙ cond-false (is_within image (pos image world t)) _ _ w)
-      go (inr o) (inr w) (inr s) = leaves o (ltb-false (pos image world t).next (first_number image (suc (pos image world t).block)) w) s (cond-false (pos image world t).over (pos image world t) _ o ∙ cond-false (is_within image (pos image world t)) _ _ w ∙ cond-false (stops image (pos image world t).block) _ _ s) (cond-false (pos image world t).over _ _ o ∙ cond-false (is_within image (pos image world t)) _ _ w)
+      go (inr o) (inl w) s =
+          turns o (ltb-true (pos image world t).next (first_number image (suc (pos image world t).block)) w)
+          (cond-false (pos image world t).over (pos image world t) _ o ∙ cond-true
+          (is_within image (pos image world t)) _ _ w) (cond-false (pos image world t).over _ _ o
+          ∙ cond-true (is_within image (pos image world t)) _ _ w)
+      go (inr o) (inr w) (inl s) =
+          ends o (ltb-false (pos image world t).next (first_number image (suc (pos image world t).block)) w) s
+          (cond-false (pos image world t).over (pos image world t) _ o ∙ cond-false
+          (is_within image (pos image world t)) _ _ w ∙ cond-true (stops image (pos image world t).block) _ _
+          s) (cond-false (pos image world t).over _ _ o ∙ cond-false (is_within image (pos image world t)) _ _
+          w)
+      go (inr o) (inr w) (inr s) =
+          leaves o (ltb-false (pos image world t).next (first_number image (suc (pos image world t).block)) w)
+          s (cond-false (pos image world t).over (pos image world t) _ o
+          ∙ cond-false (is_within image (pos image world t)) _ _ w ∙ cond-false
+          (stops image (pos image world t).block) _ _ s) (cond-false (pos image world t).over _ _ o
+          ∙ cond-false (is_within image (pos image world t)) _ _ w)
 
 -- the walk stands in a block, and the number of its wave is at least 1
 pub record Place (image : Image) (p : Pos) : Type 0 where
@@ -85,12 +122,25 @@ pub record Place (image : Image) (p : Pos) : Type 0 where
 module _ (image : Image) (world : World) (shape : ShapeRules image) where
   place_start : Place image (opening image world)
   unfolding opening is_first
-  place_start = record { block = shape.has_block; low = omega arith; high = first_up image 1; wave = omega arith }
+  place_start = record {
+    block = shape.has_block;
+    low = omega arith;
+    high = first_up image 1;
+    wave = omega arith;
+  }
 
-  place_fire : (p : Pos) → Place image p → p.next < first_number image (suc p.block) → Place image (fire image p)
-  place_fire p a l = record { block = a.block; low = (let h : first_number image p.block ≤ p.next = a.low in omega arith); high = l; wave = a.wave }
+  place_fire : (p : Pos) → Place image p → p.next < first_number image (suc p.block)
+      → Place image (fire image p)
+  place_fire p a l =
+      record {
+        block = a.block;
+        low = (let h : first_number image p.block ≤ p.next = a.low in omega arith);
+        high = l;
+        wave = a.wave;
+      }
 
-  place_leave : (p : Pos) (r : ℕ) → Place image p → stops image p.block ≡ false → (q : Pos) → q.block ≡ target image p.block r → q.next ≡ first_number image (target image p.block r) →
+  place_leave : (p : Pos) (r : ℕ) → Place image p → stops image p.block ≡ false → (q : Pos)
+      → q.block ≡ target image p.block r → q.next ≡ first_number image (target image p.block r) →
       q.wave ≡ cond (is_first image (target image p.block r)) (suc p.wave) p.wave → Place image q
   place_leave p r a s q b n w = record {
     block = rw b ((shape.blocks p.block a.block).edges.there r s);
@@ -103,11 +153,15 @@ module _ (image : Image) (world : World) (shape : ShapeRules image) where
       up true = omega arith
       up false = a.wave
 
-  place_step : (t : ℕ) → (pos image world (suc t)).over ≡ false → StepCase image world t → ((pos image world t).over ≡ false → Place image (pos image world t)) → Place image (pos image world (suc t))
-  place_step t o (stands a e f) ih = absurd (both_ways true (sym a ∙ ap (λ (p : Pos). p.over) (sym e) ∙ o) refl)
+  place_step : (t : ℕ) → (pos image world (suc t)).over ≡ false → StepCase image world t
+      → ((pos image world t).over ≡ false → Place image (pos image world t))
+      → Place image (pos image world (suc t))
+  place_step t o (stands a e f) ih =
+      absurd (both_ways true (sym a ∙ ap (λ (p : Pos). p.over) (sym e) ∙ o) refl)
   place_step t o (turns a w e f) ih = rw e (place_fire (pos image world t) (ih a) w)
   place_step t o (ends a w s e f) ih = absurd (both_ways true (ap (λ (p : Pos). p.over) (sym e) ∙ o) refl)
-  place_step t o (leaves a w s e f) ih = place_leave (pos image world t) (choice image (pos image world t)) (ih a) s (pos image world (suc t))
+  place_step t o (leaves a w s e f) ih = place_leave (pos image world t) (choice image (pos image world t))
+      (ih a) s (pos image world (suc t))
       (ap (λ (p : Pos). p.block) e) (ap (λ (p : Pos). p.next) e) (ap (λ (p : Pos). p.wave) e)
 
   -- before the first step
@@ -125,32 +179,58 @@ module _ (image : Image) (world : World) (shape : ShapeRules image) where
   IsLater p q = (p.wave < q.wave) ⊎ ((p.wave ≡ q.wave) × (p.next ≤ q.next))
 
   -- a step leads to a later wave, or further in the same wave
-  pub later_step : (t : ℕ) → (pos image world (suc t)).over ≡ false → StepCase image world t → ((pos image world t).wave < (pos image world (suc t)).wave) ⊎ (((pos image world t).wave ≡ (pos image world (suc t)).wave) × ((pos image world t).next ≤ (pos image world (suc t)).next))
+  pub later_step : (t : ℕ) → (pos image world (suc t)).over ≡ false → StepCase image world t
+      → ((pos image world t).wave < (pos image world (suc t)).wave)
+      ⊎ (((pos image world t).wave ≡ (pos image world (suc t)).wave)
+      × ((pos image world t).next ≤ (pos image world (suc t)).next))
   later_step t o (stands a e f) = absurd (both_ways true (sym a ∙ ap (λ (p : Pos). p.over) (sym e) ∙ o) refl)
-  later_step t o (turns a w e f) = inr (ap (λ (p : Pos). p.wave) (sym e), (let n : (pos image world (suc t)).next ≡ suc (pos image world t).next = ap (λ (p : Pos). p.next) e in omega arith))
+  later_step t o (turns a w e f) = inr (
+    ap (λ (p : Pos). p.wave) (sym e),
+    (let n : (pos image world (suc t)).next ≡ suc (pos image world t).next = ap (λ (p : Pos). p.next) e in
+        omega arith),
+  )
   later_step t o (ends a w s e f) = absurd (both_ways true (ap (λ (p : Pos). p.over) (sym e) ∙ o) refl)
   later_step t o (leaves a w s e f) = go (is_first image c) refl
     where
       c : ℕ
       c = target image (pos image world t).block (choice image (pos image world t))
 
-      go : (b : Bool) → is_first image (target image (pos image world t).block (choice image (pos image world t))) ≡ b →
-          ((pos image world t).wave < (pos image world (suc t)).wave) ⊎ (((pos image world t).wave ≡ (pos image world (suc t)).wave) × ((pos image world t).next ≤ (pos image world (suc t)).next))
-      go true h = inl (let n : (pos image world (suc t)).wave ≡ cond (is_first image (target image (pos image world t).block (choice image (pos image world t)))) (suc (pos image world t).wave) (pos image world t).wave = ap (λ (p : Pos). p.wave) e in
+      go : (b : Bool)
+          → is_first image (target image (pos image world t).block (choice image (pos image world t))) ≡ b →
+          ((pos image world t).wave < (pos image world (suc t)).wave)
+          ⊎ (((pos image world t).wave ≡ (pos image world (suc t)).wave)
+          × ((pos image world t).next ≤ (pos image world (suc t)).next))
+      go true h =
+          inl (let n : (pos image world (suc t)).wave ≡ cond
+          (is_first image (target image (pos image world t).block (choice image (pos image world t))))
+          (suc (pos image world t).wave) (pos image world t).wave = ap (λ (p : Pos). p.wave) e in
           let m : (pos image world (suc t)).wave ≡ suc (pos image world t).wave = rw h at n in omega arith)
       go false h = inr (
-        (let n : (pos image world (suc t)).wave ≡ cond (is_first image (target image (pos image world t).block (choice image (pos image world t)))) (suc (pos image world t).wave) (pos image world t).wave = ap (λ (p : Pos). p.wave) e in
+        (let n : (pos image world (suc t)).wave ≡ cond
+            (is_first image (target image (pos image world t).block (choice image (pos image world t))))
+            (suc (pos image world t).wave) (pos image world t).wave = ap (λ (p : Pos). p.wave) e in
             let m : (pos image world (suc t)).wave ≡ (pos image world t).wave = rw h at n in sym m),
-        (let n : (pos image world (suc t)).next ≡ first_number image (target image (pos image world t).block (choice image (pos image world t))) = ap (λ (p : Pos). p.next) e in
+        (let n : (pos image world (suc t)).next ≡ first_number image
+            (target image (pos image world t).block (choice image (pos image world t))) =
+            ap (λ (p : Pos). p.next) e in
             let pl : Place image (pos image world t) = place t a in
-            let l : (pos image world t).block < target image (pos image world t).block (choice image (pos image world t)) = ((shape.blocks (pos image world t).block pl.block).edges.later (choice image (pos image world t)) s h).0 in
-            let g : first_number image (suc (pos image world t).block) ≤ first_number image (target image (pos image world t).block (choice image (pos image world t))) = first_le image (suc (pos image world t).block) (target image (pos image world t).block (choice image (pos image world t))) l in
-            let hi : (pos image world t).next ≤ first_number image (suc (pos image world t).block) = pl.high in
+            let l : (pos image world t).block < target image (pos image world t).block
+            (choice image (pos image world t)) =
+            ((shape.blocks (pos image world t).block pl.block).edges.later
+            (choice image (pos image world t)) s h).0 in
+            let g : first_number image (suc (pos image world t).block) ≤ first_number image
+            (target image (pos image world t).block (choice image (pos image world t))) =
+            first_le image (suc (pos image world t).block)
+            (target image (pos image world t).block (choice image (pos image world t))) l in
+            let hi : (pos image world t).next ≤ first_number image (suc (pos image world t).block) =
+            pl.high in
             omega arith),
       )
 
-  pub running_step : (t : ℕ) → (pos image world (suc t)).over ≡ false → StepCase image world t → (pos image world t).over ≡ false
-  running_step t o (stands a e f) = absurd (both_ways true (sym a ∙ ap (λ (p : Pos). p.over) (sym e) ∙ o) refl)
+  pub running_step : (t : ℕ) → (pos image world (suc t)).over ≡ false → StepCase image world t
+      → (pos image world t).over ≡ false
+  running_step t o (stands a e f) =
+      absurd (both_ways true (sym a ∙ ap (λ (p : Pos). p.over) (sym e) ∙ o) refl)
   running_step t o (turns a w e f) = a
   running_step t o (ends a w s e f) = a
   running_step t o (leaves a w s e f) = a
@@ -171,7 +251,12 @@ module _ (image : Image) (world : World) (shape : ShapeRules image) where
     where
       none_some : None ≡ Some x → ⊥
       none_some h = cc
-  turn_of t x fx (turns a w e f) = record { over = a; within = w; next = e; inst = (let h : Some x ≡ Some (inst_at image (pos image world t)) = sym fx ∙ f in cc) }
+  turn_of t x fx (turns a w e f) = record {
+    over = a;
+    within = w;
+    next = e;
+    inst = (let h : Some x ≡ Some (inst_at image (pos image world t)) = sym fx ∙ f in cc);
+  }
   turn_of t x fx (ends a w s e f) = absurd (none_some (sym f ∙ fx))
     where
       none_some : None ≡ Some x → ⊥
@@ -185,37 +270,54 @@ module _ (image : Image) (world : World) (shape : ShapeRules image) where
   turn_at t x fx = turn_of t x fx (step_case image world t)
 
   order : (t u : ℕ) (x : Inst) → t < u → fires image world t ≡ Some x → (pos image world u).over ≡ false →
-      ((pos image world t).wave < (pos image world u).wave) ⊎ (((pos image world t).wave ≡ (pos image world u).wave) × ((pos image world t).next < (pos image world u).next))
+      ((pos image world t).wave < (pos image world u).wave)
+      ⊎ (((pos image world t).wave ≡ (pos image world u).wave)
+      × ((pos image world t).next < (pos image world u).next))
   order t zero x l fx o = absurd (omega arith)
   order t (suc u) x l fx o = go (cases_eq t u) (λ h. order t u x h fx (running u o))
     where
-      go : (t ≡ u) ⊎ (t ≡ u → ⊥) → (t < u → ((pos image world t).wave < (pos image world u).wave) ⊎ (((pos image world t).wave ≡ (pos image world u).wave) × ((pos image world t).next < (pos image world u).next))) →
-          ((pos image world t).wave < (pos image world (suc u)).wave) ⊎ (((pos image world t).wave ≡ (pos image world (suc u)).wave) × ((pos image world t).next < (pos image world (suc u)).next))
+      go : (t ≡ u) ⊎ (t ≡ u → ⊥) → (t < u → ((pos image world t).wave < (pos image world u).wave)
+          ⊎ (((pos image world t).wave ≡ (pos image world u).wave)
+          × ((pos image world t).next < (pos image world u).next))) →
+          ((pos image world t).wave < (pos image world (suc u)).wave)
+          ⊎ (((pos image world t).wave ≡ (pos image world (suc u)).wave)
+          × ((pos image world t).next < (pos image world (suc u)).next))
       go (inl e) ih = let fu : fires image world u ≡ Some x = rw e at fx in
           let g : pos image world (suc u) ≡ fire image (pos image world u) = (turn_at u x fu).next in
-          let n : (pos image world (suc u)).next ≡ suc (pos image world u).next = ap (λ (p : Pos). p.next) g in
-          let w : (pos image world u).wave ≡ (pos image world (suc u)).wave = ap (λ (p : Pos). p.wave) (sym g) in
+          let n : (pos image world (suc u)).next ≡ suc (pos image world u).next =
+          ap (λ (p : Pos). p.next) g in
+          let w : (pos image world u).wave ≡ (pos image world (suc u)).wave =
+          ap (λ (p : Pos). p.wave) (sym g) in
           rw e (inr (w, omega arith))
       go (inr n) ih = join (ih (omega arith)) (later_step u o (step_case image world u))
         where
-          join : ((pos image world t).wave < (pos image world u).wave) ⊎ (((pos image world t).wave ≡ (pos image world u).wave) × ((pos image world t).next < (pos image world u).next)) →
-              ((pos image world u).wave < (pos image world (suc u)).wave) ⊎ (((pos image world u).wave ≡ (pos image world (suc u)).wave) × ((pos image world u).next ≤ (pos image world (suc u)).next)) →
-              ((pos image world t).wave < (pos image world (suc u)).wave) ⊎ (((pos image world t).wave ≡ (pos image world (suc u)).wave) × ((pos image world t).next < (pos image world (suc u)).next))
+          join : ((pos image world t).wave < (pos image world u).wave)
+              ⊎ (((pos image world t).wave ≡ (pos image world u).wave)
+              × ((pos image world t).next < (pos image world u).next)) →
+              ((pos image world u).wave < (pos image world (suc u)).wave)
+              ⊎ (((pos image world u).wave ≡ (pos image world (suc u)).wave)
+              × ((pos image world u).next ≤ (pos image world (suc u)).next)) →
+              ((pos image world t).wave < (pos image world (suc u)).wave)
+              ⊎ (((pos image world t).wave ≡ (pos image world (suc u)).wave)
+              × ((pos image world t).next < (pos image world (suc u)).next))
           join (inl a) (inl b) = inl (omega arith)
           join (inl a) (inr b) = inl (omega arith)
           join (inr a) (inl b) = inl (omega arith)
           join (inr a) (inr b) = inr (a.0 ∙ b.0, omega arith)
 
   -- the number of the wave at an instance
-  pub inst_wave : (t : ℕ) (x : Inst) → fires image world t ≡ Some x → x.wave ≡ cond (is_advance image x.instr) ((pos image world t).wave - 1) (pos image world t).wave
+  pub inst_wave : (t : ℕ) (x : Inst) → fires image world t ≡ Some x → x.wave ≡ cond (is_advance image x.instr)
+      ((pos image world t).wave - 1) (pos image world t).wave
   unfolding wave_of
   inst_wave t x fx = let k : Turn t x = turn_at t x fx in rw k.inst refl
 
   pub inst_instr : (t : ℕ) (x : Inst) → fires image world t ≡ Some x → x.instr ≡ (pos image world t).next
   inst_instr t x fx = ap (λ (y : Inst). y.instr) (turn_at t x fx).inst
 
-  same_wave : (t u : ℕ) (x y : Inst) → fires image world t ≡ Some x → fires image world u ≡ Some y → x.wave ≡ y.wave → x.instr ≡ y.instr → (pos image world t).wave ≡ (pos image world u).wave
-  same_wave t u x y fx fy w i = go (is_advance image x.instr) (is_advance image y.instr) (inst_wave t x fx) (inst_wave u y fy) (ap (is_advance image) i)
+  same_wave : (t u : ℕ) (x y : Inst) → fires image world t ≡ Some x → fires image world u ≡ Some y
+      → x.wave ≡ y.wave → x.instr ≡ y.instr → (pos image world t).wave ≡ (pos image world u).wave
+  same_wave t u x y fx fy w i = go (is_advance image x.instr) (is_advance image y.instr) (inst_wave t x fx)
+      (inst_wave u y fy) (ap (is_advance image) i)
     where
       tw : 1 ≤ (pos image world t).wave
       tw = (place t (turn_at t x fx).over).wave
@@ -223,14 +325,17 @@ module _ (image : Image) (world : World) (shape : ShapeRules image) where
       uw : 1 ≤ (pos image world u).wave
       uw = (place u (turn_at u y fy).over).wave
 
-      go : (a b : Bool) → x.wave ≡ cond a ((pos image world t).wave - 1) (pos image world t).wave → y.wave ≡ cond b ((pos image world u).wave - 1) (pos image world u).wave → a ≡ b → (pos image world t).wave ≡ (pos image world u).wave
+      go : (a b : Bool) → x.wave ≡ cond a ((pos image world t).wave - 1) (pos image world t).wave
+          → y.wave ≡ cond b ((pos image world u).wave - 1) (pos image world u).wave → a ≡ b
+          → (pos image world t).wave ≡ (pos image world u).wave
       go true true e f g = omega (arith, tw, uw)
       go false false e f g = omega arith
       go true false e f g = cc
       go false true e f g = cc
 
   -- each instance fires once
-  pub once : (t u : ℕ) (x y : Inst) → fires image world t ≡ Some x → fires image world u ≡ Some y → x.wave ≡ y.wave → x.instr ≡ y.instr → t ≡ u
+  pub once : (t u : ℕ) (x y : Inst) → fires image world t ≡ Some x → fires image world u ≡ Some y
+      → x.wave ≡ y.wave → x.instr ≡ y.instr → t ≡ u
   once t u x y fx fy w i = go (cases_order t u)
     where
       sw : (pos image world t).wave ≡ (pos image world u).wave
@@ -245,8 +350,12 @@ module _ (image : Image) (world : World) (shape : ShapeRules image) where
 
       go : (t ≡ u) ⊎ ((t < u) ⊎ (u < t)) → t ≡ u
       go (inl e) = e
-      go (inr (inl l)) = absurd (clash (pos image world t).wave (pos image world u).wave (pos image world t).next (pos image world u).next sw sn (order t u x l fx (turn_at u y fy).over))
-      go (inr (inr l)) = absurd (clash (pos image world u).wave (pos image world t).wave (pos image world u).next (pos image world t).next (sym sw) (sym sn) (order u t y l fy (turn_at t x fx).over))
+      go (inr (inl l)) =
+          absurd (clash (pos image world t).wave (pos image world u).wave (pos image world t).next
+          (pos image world u).next sw sn (order t u x l fx (turn_at u y fy).over))
+      go (inr (inr l)) =
+          absurd (clash (pos image world u).wave (pos image world t).wave (pos image world u).next
+          (pos image world t).next (sym sw) (sym sn) (order u t y l fy (turn_at t x fx).over))
 
 pub first_zero : (image : Image) → first_number image 0 ≡ 1
 unfolding first_number

@@ -1,21 +1,26 @@
 -- References of an image: what they name is there.
-use Rattle.std.proofs.Common.{ℕ, zero, suc, ◌≡◌, ◌<◌, Bool, true, false, cond, List, [], ◌∷◌, Some, eqb, sym, subst, inl, inr}
+use Rattle.std.proofs.Common.{ℕ, zero, suc, ◌≡◌, ◌<◌, Bool, true, false, cond, List, [], ◌∷◌, Some, eqb, sym}
+use Rattle.std.proofs.Common.{subst, inl, inr}
 use Rattle.std.specs.List.{AllByRecursion}
 use Rattle.ws_isa.specs.declared.instr.Op.{Op}
-use Rattle.ws_isa.specs.declared.instr.Op.TheVariants.{Const, Alu, Merge, Advance, Steer, Phi, Send, Load, Store, Input, Output, Give, Take, Nop, Halt}
+use Rattle.ws_isa.specs.declared.instr.Op.TheVariants.{Const, Alu, Merge, Advance, Steer, Phi, Send, Load}
+use Rattle.ws_isa.specs.declared.instr.Op.TheVariants.{Store, Input, Output, Give, Take, Nop, Halt}
 use Rattle.ws_isa.specs.declared.instr.Dest.{Dest}
-use Rattle.ws_isa.specs.Image.{Instr, Pad, Block, Image, no_instr, no_block, flat, instr_at, block_at, ports, pad_of, target, now_of, now_dests, edge_of, edge_dests, start_dests, IsInstr}
+use Rattle.ws_isa.specs.Image.{Instr, Pad, Block, Image, no_instr, no_block, flat, instr_at, block_at, ports}
+use Rattle.ws_isa.specs.Image.{pad_of, target, now_of, now_dests, edge_of, edge_dests, start_dests, IsInstr}
 use Rattle.ws_isa.specs.Formed.{DestIn, DestsIn, References}
 use Rattle.ws_isa.specs.Sound.{HasDest, PortsThere, edge_all}
 use Rattle.ws_isa.proofs.Slots.{FromEdge, edge_all_from}
 use Rattle.ws_words.specs.Items.{nth, or_else}
 
-pub all_nth : {A : Type 0} (P : A → Type 0) (xs : List A) (k : ℕ) (d : A) → P d → AllByRecursion P xs → P (or_else (nth xs k) d)
+pub all_nth : {A : Type 0} (P : A → Type 0) (xs : List A) (k : ℕ) (d : A) → P d → AllByRecursion P xs
+    → P (or_else (nth xs k) d)
 all_nth P [] k d h all = h
 all_nth P (x ∷ xs) zero d h all = all.0
 all_nth P (x ∷ xs) (suc k) d h all = all_nth P xs k d h all.1
 
-pub all_in : {A : Type 0} (P : A → Type 0) (xs : List A) (k : ℕ) (x : A) → nth xs k ≡ Some x → AllByRecursion P xs → P x
+pub all_in : {A : Type 0} (P : A → Type 0) (xs : List A) (k : ℕ) (x : A) → nth xs k ≡ Some x
+    → AllByRecursion P xs → P x
 all_in P [] k x e all = absurd (cc)
 all_in P (y ∷ xs) zero x e all = let f : y ≡ x = cc in subst P f all.0
 all_in P (y ∷ xs) (suc k) x e all = all_in P xs k x e all.1
@@ -37,25 +42,31 @@ module _ (image : Image) (refs : References image) where
   pub dests_there : (k : ℕ) → There image (instr_at image k).dests
   unfolding instr_at no_instr
   dests_there zero = none_there image
-  dests_there (suc k) = there image _ (all_nth (λ (i : Instr). DestsIn image i.dests) (flat image.blocks) k no_instr tt refs.dests)
+  dests_there (suc k) = there image _ (all_nth (λ (i : Instr). DestsIn image i.dests) (flat image.blocks) k
+      no_instr tt refs.dests)
 
   pub others_there : (k : ℕ) → There image (instr_at image k).others
   unfolding instr_at no_instr
   others_there zero = none_there image
-  others_there (suc k) = there image _ (all_nth (λ (i : Instr). DestsIn image i.others) (flat image.blocks) k no_instr tt refs.others)
+  others_there (suc k) = there image _ (all_nth (λ (i : Instr). DestsIn image i.others) (flat image.blocks) k
+      no_instr tt refs.others)
 
   cond_there : (b : Bool) (ds es : List Dest) → There image ds → There image es → There image (cond b ds es)
   cond_there true ds es h g = h
   cond_there false ds es h g = g
 
-  pad_there : (pads : List Pad) (n : ℕ) → AllByRecursion (λ (p : Pad). DestsIn image p.dests) pads → There image (pad_of pads n)
+  pad_there : (pads : List Pad) (n : ℕ) → AllByRecursion (λ (p : Pad). DestsIn image p.dests) pads
+      → There image (pad_of pads n)
   pad_there [] n all = none_there image
-  pad_there (p ∷ pads) n all = cond_there (eqb p.number n) p.dests (pad_of pads n) (there image p.dests all.0) (pad_there pads n all.1)
+  pad_there (p ∷ pads) n all = cond_there (eqb p.number n) p.dests (pad_of pads n) (there image p.dests all.0)
+      (pad_there pads n all.1)
 
   pub pads_there : (b n : ℕ) → There image (pad_of (block_at image b).pads n)
   unfolding block_at no_block
   pads_there zero n = none_there image
-  pads_there (suc b) n = pad_there _ n (all_nth (λ (b : Block). AllByRecursion (λ (p : Pad). DestsIn image p.dests) b.pads) image.blocks b no_block tt refs.pads)
+  pads_there (suc b) n =
+      pad_there _ n (all_nth (λ (b : Block). AllByRecursion (λ (p : Pad). DestsIn image p.dests) b.pads)
+      image.blocks b no_block tt refs.pads)
 
   now_of_there : (op : Op) (ds : List Dest) → There image ds → There image (now_of op ds)
   now_of_there Steer ds h = none_there image
@@ -107,7 +118,8 @@ module _ (image : Image) (refs : References image) where
 
   -- and those that an edge opens
   pub edges_there : (b r k n : ℕ) → There image (edge_all image b r k n)
-  edges_there b r k n j q h = let f : FromEdge image b r k n j q = edge_all_from image b r k n j q h in edge_there b r f.source j q f.has
+  edges_there b r k n j q h = let f : FromEdge image b r k n j q = edge_all_from image b r k n j q h in
+      edge_there b r f.source j q f.has
 
   -- in an image whose references are there all destinations are ports
   pub ports_there : PortsThere image

@@ -1,5 +1,6 @@
 -- The digits that a number is written with.
-use Rattle.std.proofs.Common.{ℕ, ◌+◌, ◌%◌, ◌^◌, ◌≡◌, ◌<◌, true, false, List, [], ◌∷◌, ◌++◌, decimal, refl, sym, ◌∙◌, arith}
+use Rattle.std.proofs.Common.{ℕ, ◌+◌, ◌%◌, ◌^◌, ◌≡◌, ◌<◌, true, false, List, [], ◌∷◌, ◌++◌, decimal, refl}
+use Rattle.std.proofs.Common.{sym, ◌∙◌, arith}
 use Rattle.std.specs.List.{list_all}
 use Rattle.std.proofs.lemmas.Bool.{and_from, true≢false}
 use Rattle.std.proofs.lemmas.Bool.Decides.{nat_tests}
@@ -11,7 +12,8 @@ use Rattle.ws_words.proofs.Bools.{and_parts, or_left}
 use Rattle.ws_words.proofs.Lists.{value_from-append}
 use Rattle.ws_words.proofs.Numbers.{is_digit_of}
 
-pub more_digits : (ds : List ℕ) (n : ℕ) → n < 10 → is_number ds ≡ true → is_number (ds ++ (48 + n) ∷ []) ≡ true
+pub more_digits : (ds : List ℕ) (n : ℕ) → n < 10 → is_number ds ≡ true → is_number (ds ++ (48 + n) ∷ [])
+    ≡ true
 more_digits [] n h k = absurd (true≢false (sym k))
 more_digits (b ∷ bytes) n h k =
     let parts = and_parts (is_digit b) (list_all is_digit bytes) k in

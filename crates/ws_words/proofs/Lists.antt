@@ -1,5 +1,7 @@
 -- Lemmas on lists.
-use Rattle.std.proofs.Common.{suc, ◌≡◌, List, [], ◌∷◌, length, map, refl, ap, ℕ, zero, ◌<◌, Bool, get_or, arith, ◌++◌, ◌+◌, ◌-◌, ◌*◌, ◌≤◌, true, false, if◌then◌else◌, drop, slice_index_or, sym, ◌∙◌, append_assoc}
+use Rattle.std.proofs.Common.{suc, ◌≡◌, List, [], ◌∷◌, length, map, refl, ap, ℕ, zero, ◌<◌, Bool, get_or}
+use Rattle.std.proofs.Common.{arith, ◌++◌, ◌+◌, ◌-◌, ◌*◌, ◌≤◌, true, false, if◌then◌else◌, drop}
+use Rattle.std.proofs.Common.{slice_index_or, sym, ◌∙◌, append_assoc}
 use Rattle.std.specs.List.{AllByRecursion, filter}
 use Rattle.ws_words.specs.Digits.{value_from}
 use Rattle.std.proofs.lemmas.List.{append-nil}
@@ -32,25 +34,30 @@ pub filter_few : (p : ℕ → Bool) (xs : List ℕ) → length (filter p xs) ≤
 filter_few p [] = omega arith
 filter_few p (x ∷ xs) = by_test (p x) (filter_few p xs)
   where
-    by_test : (v : Bool) → length (filter p xs) ≤ length xs → length (if v then x ∷ filter p xs else filter p xs) ≤ suc (length xs)
+    by_test : (v : Bool) → length (filter p xs) ≤ length xs
+        → length (if v then x ∷ filter p xs else filter p xs) ≤ suc (length xs)
     by_test true h = omega arith
     by_test false h = omega arith
 
-pub all_have : {A : Type 0} (P Q : A → Type 0) (xs : List A) → ((x : A) → P x → Q x) → AllByRecursion P xs → AllByRecursion Q xs
+pub all_have : {A : Type 0} (P Q : A → Type 0) (xs : List A) → ((x : A) → P x → Q x) → AllByRecursion P xs
+    → AllByRecursion Q xs
 all_have P Q [] f h = tt
 all_have P Q (x ∷ xs) f h = (f x h.0, all_have P Q xs f h.1)
 
 -- the items from one on begin with it
-pub drop_next : {A : Type 0} (xs : List A) (i j : ℕ) (x : A) → j ≡ suc i → i < length xs → x ≡ slice_index_or xs i x → drop i xs ≡ x ∷ drop j xs
+pub drop_next : {A : Type 0} (xs : List A) (i j : ℕ) (x : A) → j ≡ suc i → i < length xs
+    → x ≡ slice_index_or xs i x → drop i xs ≡ x ∷ drop j xs
 drop_next xs i j x e lt h = at xs i x lt h ∙ ap (λ n. x ∷ drop n xs) (sym e)
   where
-    at : {A : Type 0} (xs : List A) (i : ℕ) (x : A) → i < length xs → x ≡ slice_index_or xs i x → drop i xs ≡ x ∷ drop (suc i) xs
+    at : {A : Type 0} (xs : List A) (i : ℕ) (x : A) → i < length xs → x ≡ slice_index_or xs i x
+        → drop i xs ≡ x ∷ drop (suc i) xs
     at [] i x lt h = absurd (omega arith)
     at (y ∷ xs) zero x lt h = ap (λ z. z ∷ xs) (sym h)
     at (y ∷ xs) (suc i) x lt h = at xs i x (omega arith) h
 
 -- one item more
-pub slide : {A : Type 0} (done rest after whole : List A) (y : A) → done ++ rest ≡ whole → rest ≡ y ∷ after → (done ++ y ∷ []) ++ after ≡ whole
+pub slide : {A : Type 0} (done rest after whole : List A) (y : A) → done ++ rest ≡ whole → rest ≡ y ∷ after
+    → (done ++ y ∷ []) ++ after ≡ whole
 slide done rest after whole y h e = append_assoc done (y ∷ []) after ∙ ap (λ zs. done ++ zs) (sym e) ∙ h
 
 -- no item stands past the end
@@ -73,7 +80,8 @@ append_on [] ys zs = refl
 append_on (x ∷ xs) ys zs = ap (λ (l : List _). x ∷ l) (append_on xs ys zs)
 
 -- what holds of each value of a function at items of a list
-pub all_mapped : {A B : Type 0} (P : B → Type 0) (f : A → B) (xs : List A) → AllByRecursion (λ x. P (f x)) xs → AllByRecursion P (map f xs)
+pub all_mapped : {A B : Type 0} (P : B → Type 0) (f : A → B) (xs : List A) → AllByRecursion (λ x. P (f x)) xs
+    → AllByRecursion P (map f xs)
 all_mapped P f [] h = tt
 all_mapped P f (x ∷ xs) h = (h.0, all_mapped P f xs h.1)
 

@@ -1,5 +1,7 @@
 -- Lemmas on numbers.
-use Rattle.std.proofs.Common.{ℕ, ◌≡◌, true, sym, ◌∙◌, inl, inr, eqb, ne_eqb, suc, ◌+◌, arith, ◌<◌, nat_le, zero, get_or, refl, length, ap, ◌==◌, Bool, false, List, [], ◌∷◌, ◌++◌, ◌⊎◌, ◌≤◌, eq-or-lt_of_le}
+use Rattle.std.proofs.Common.{ℕ, ◌≡◌, true, sym, ◌∙◌, inl, inr, eqb, ne_eqb, suc, ◌+◌, arith, ◌<◌, nat_le}
+use Rattle.std.proofs.Common.{zero, get_or, refl, length, ap, ◌==◌, Bool, false, List, [], ◌∷◌, ◌++◌, ◌⊎◌}
+use Rattle.std.proofs.Common.{◌≤◌, eq-or-lt_of_le}
 use Rattle.std.proofs.lemmas.Bool.{cases_eq, and_from, le-leb, cases_lt}
 use Rattle.ws_words.specs.Digits.{is_digit}
 use Rattle.ws_words.specs.Outside.{zeros}
@@ -12,7 +14,8 @@ pub one_more : (n : ℕ) → 1 + n ≡ suc n
 one_more n = omega arith
 
 pub is_digit_of : (n : ℕ) → n < 10 → is_digit (48 + n) ≡ true
-is_digit_of n h = and_from (nat_le 48 (48 + n)) (nat_le (48 + n) 57) (le-leb 48 (48 + n) (omega arith)) (le-leb (48 + n) 57 (omega arith))
+is_digit_of n h = and_from (nat_le 48 (48 + n)) (nat_le (48 + n) 57) (le-leb 48 (48 + n) (omega arith))
+    (le-leb (48 + n) 57 (omega arith))
 
 pub zero_at : (n x : ℕ) → get_or (zeros n) x 0 ≡ 0
 zero_at zero x = refl

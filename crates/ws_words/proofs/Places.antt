@@ -1,5 +1,6 @@
 -- Lemmas on items by place.
-use Rattle.std.proofs.Common.{ℕ, zero, suc, ◌≡◌, ◌<◌, List, [], ◌∷◌, ◌++◌, length, Some, None, refl, arith, ◌⊎◌, inl, inr, slice_index, ap}
+use Rattle.std.proofs.Common.{ℕ, zero, suc, ◌≡◌, ◌<◌, List, [], ◌∷◌, ◌++◌, length, Some, None, refl, arith}
+use Rattle.std.proofs.Common.{◌⊎◌, inl, inr, slice_index, ap}
 use Rattle.std.specs.List.{AllByRecursion}
 use Rattle.ws_words.specs.Items.{nth, or_else, In}
 use Rattle.std.proofs.lemmas.Bool.{cases_eq}
@@ -9,7 +10,8 @@ nth_there [] k lt = absurd (omega arith)
 nth_there (x ∷ xs) zero lt = (x, refl)
 nth_there (x ∷ xs) (suc k) lt = nth_there xs k (omega arith)
 
-pub nth_or : {A : Type 0} (xs : List A) (k : ℕ) (d : A) → k < length xs → nth xs k ≡ Some (or_else (nth xs k) d)
+pub nth_or : {A : Type 0} (xs : List A) (k : ℕ) (d : A) → k < length xs
+    → nth xs k ≡ Some (or_else (nth xs k) d)
 nth_or [] k d lt = absurd (omega arith)
 nth_or (x ∷ xs) zero d lt = refl
 nth_or (x ∷ xs) (suc k) d lt = nth_or xs k d (omega arith)
@@ -25,7 +27,8 @@ nth_append_left (x ∷ xs) ys zero lt = refl
 nth_append_left (x ∷ xs) ys (suc k) lt = nth_append_left xs ys k (omega arith)
 
 -- what holds at each place holds of all
-pub all_of : {A : Type 0} (P : A → Type 0) (xs : List A) → ((k : ℕ) (x : A) → nth xs k ≡ Some x → P x) → AllByRecursion P xs
+pub all_of : {A : Type 0} (P : A → Type 0) (xs : List A) → ((k : ℕ) (x : A) → nth xs k ≡ Some x → P x)
+    → AllByRecursion P xs
 all_of P [] h = tt
 all_of P (x ∷ xs) h = (h 0 x refl, all_of P xs (λ k y e. h (suc k) y e))
 

@@ -15,9 +15,11 @@ use Rattle.wsc_top.specs.Sections.{program_of, input_of, input_place, IsInputFau
 use Rattle.src_ast.specs.declared.fault.TextFault.{TextFault}
 use Rattle.src_ast.specs.declared.fault.TextFault.TheVariants as text_fault
 use Rattle.wsc_top.specs.declared.assembly.AsmRefusal.{AsmRefusal}
-use Rattle.wsc_top.specs.Assembly.{fault_of_input, AnswersAssembly, IsSectionFault, IsAssemblyFault, assembly, unsound, input}
+use Rattle.wsc_top.specs.Assembly.{fault_of_input, AnswersAssembly, IsSectionFault, IsAssemblyFault, assembly}
+use Rattle.wsc_top.specs.Assembly.{unsound, input}
 
-pub bad_of : (image : Image) (f : CheckFault) (bad : Bad) → f ≡ check.Refused bad → Breach image f → BadBreach image bad
+pub bad_of : (image : Image) (f : CheckFault) (bad : Bad) → f ≡ check.Refused bad → Breach image f
+    → BadBreach image bad
 bad_of image f bad e h = subst (λ x. Breach image x) e h
 
 -- what is wrong with the assembly section is wrong with the text
@@ -33,7 +35,8 @@ pub input_refused : (text : List ℕ) (image : Image) (f : TextFault) (e : Assem
     → IsAssemblyFault text e
 input_refused text image f e is reads s h = subst (λ x. IsAssemblyFault text x) (sym is) (go f h)
   where
-    go : (f : TextFault) → IsInputFault (input_place text) (input_of text) f → IsAssemblyFault text (fault_of_input f)
+    go : (f : TextFault) → IsInputFault (input_place text) (input_of text) f
+        → IsAssemblyFault text (fault_of_input f)
     go text_fault.NoMemory h = tt
     go (text_fault.Refused r) h = input image r.place reads s h.1
 

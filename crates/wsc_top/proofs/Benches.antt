@@ -11,17 +11,23 @@ use Rattle.wsc_top.specs.Generated.{IsGeneratedJob}
 use Rattle.wsc_top.specs.Answers.{IsCompiled}
 
 -- its text is short enough to be read
-pub bench_short : (number : ℕ) (seen : List ℕ) → seen ≡ job_text number → (parts : List Part) × IsGeneratedJob number parts → length seen ≤ job_limit
+pub bench_short : (number : ℕ) (seen : List ℕ) → seen ≡ job_text number
+    → (parts : List Part) × IsGeneratedJob number parts → length seen ≤ job_limit
 bench_short number seen is law = subst (λ t. length t ≤ job_limit) (sym is) law.1.short
 
 -- and it isn't refused
-pub bench_refused : (number : ℕ) (seen : List ℕ) → seen ≡ job_text number → (e : TextFault) → (parts : List Part) × IsGeneratedJob number parts
-    → ((parts : List Part) (words : List ℕ) → IsJob seen parts words → e ≡ fault.NoMemory) → e ≡ fault.NoMemory
-bench_refused number seen is e law only = only law.0 (words_of number) (subst (λ t. IsJob t law.0 (words_of number)) (sym is) law.1.job)
+pub bench_refused : (number : ℕ) (seen : List ℕ) → seen ≡ job_text number → (e : TextFault)
+    → (parts : List Part) × IsGeneratedJob number parts
+    → ((parts : List Part) (words : List ℕ) → IsJob seen parts words → e ≡ fault.NoMemory)
+    → e ≡ fault.NoMemory
+bench_refused number seen is e law only =
+    only law.0 (words_of number) (subst (λ t. IsJob t law.0 (words_of number)) (sym is) law.1.job)
 
 -- its program and its words
-pub bench_job : (number : ℕ) (seen : List ℕ) (found : List Part) (input : List ℕ) (image : Image) → seen ≡ job_text number → (parts : List Part) × IsGeneratedJob number parts
-    → ((parts : List Part) (words : List ℕ) → IsJob seen parts words → (found ≡ parts) × (input ≡ words)) → IsCompiled found image
+pub bench_job : (number : ℕ) (seen : List ℕ) (found : List Part) (input : List ℕ) (image : Image)
+    → seen ≡ job_text number → (parts : List Part) × IsGeneratedJob number parts
+    → ((parts : List Part) (words : List ℕ) → IsJob seen parts words → (found ≡ parts) × (input ≡ words))
+    → IsCompiled found image
     → (parts : List Part) × IsGeneratedJob number parts × IsCompiled parts image × (input ≡ words_of number)
 bench_job number seen found input image is law same c =
     let e = same law.0 (words_of number) (subst (λ t. IsJob t law.0 (words_of number)) (sym is) law.1.job) in

@@ -1,9 +1,13 @@
 -- Programs that differ in places alone have one bound.
 use Rattle.std.specs.Prelude.{◌≡◌, suc, ◌+◌, ◌*◌, max, List, [], ◌∷◌, Option, Some, None, refl}
 use Rattle.std.proofs.Common.{sym, ap, ◌∙◌}
-use Rattle.src_ast.specs.Syntax.{Expression, Number, Variable, Cell, Signed, Binary, Statement, Assign, Store, Print, Read, Give, Take, Call, If, While, Statements, Nothing, Then, Last, Part, Array, Proc}
-use Rattle.src_ast.specs.Same.{bare_expression, bare_expressions, bare_statement, bare_statements, bare_ending, bare_parts, Same}
-use Rattle.src_ast.specs.Bound.{nodes, nodes_of, most_nodes, most_nodes_of, ending_nodes, widest, most_variables, bound}
+use Rattle.src_ast.specs.Syntax.{Expression, Number, Variable, Cell, Signed, Binary, Statement, Assign, Store}
+use Rattle.src_ast.specs.Syntax.{Print, Read, Give, Take, Call, If, While, Statements, Nothing, Then, Last}
+use Rattle.src_ast.specs.Syntax.{Part, Array, Proc}
+use Rattle.src_ast.specs.Same.{bare_expression, bare_expressions, bare_statement, bare_statements}
+use Rattle.src_ast.specs.Same.{bare_ending, bare_parts, Same}
+use Rattle.src_ast.specs.Bound.{nodes, nodes_of, most_nodes, most_nodes_of, ending_nodes, widest}
+use Rattle.src_ast.specs.Bound.{most_variables, bound}
 use Rattle.src_ast.proofs.Ruled.{names_bare}
 
 both : {A B C : Type 0} (f : A → B → C) (a b : A) (c d : B) → a ≡ b → c ≡ d → f a c ≡ f b d
@@ -29,7 +33,8 @@ mutual
   most_bare (Give at n p x) = refl
   most_bare (Take at n p e) = nodes_bare e
   most_bare (Call at x f es) = nodes_of_bare es
-  most_bare (If at e a b) = both max _ _ _ _ (nodes_bare e) (both max _ _ _ _ (most_of_bare a) (most_of_bare b))
+  most_bare (If at e a b) =
+      both max _ _ _ _ (nodes_bare e) (both max _ _ _ _ (most_of_bare a) (most_of_bare b))
   most_bare (While at e body) = both max _ _ _ _ (nodes_bare e) (most_of_bare body)
 
   most_of_bare : (body : Statements) → most_nodes_of (bare_statements body) ≡ most_nodes_of body
@@ -43,12 +48,15 @@ ending_bare (Some last) = nodes_bare last.value
 widest_bare : (parts : List Part) → widest (bare_parts parts) ≡ widest parts
 widest_bare [] = refl
 widest_bare (Array x n at ∷ parts) = widest_bare parts
-widest_bare (Proc p ∷ parts) = both max _ _ _ _ (both max _ _ _ _ (most_of_bare p.body) (ending_bare p.ending)) (widest_bare parts)
+widest_bare (Proc p ∷ parts) =
+    both max _ _ _ _ (both max _ _ _ _ (most_of_bare p.body) (ending_bare p.ending)) (widest_bare parts)
 
 variables_bare : (parts : List Part) → most_variables (bare_parts parts) ≡ most_variables parts
 variables_bare [] = refl
 variables_bare (Array x n at ∷ parts) = variables_bare parts
-variables_bare (Proc p ∷ parts) = both max _ _ _ _ (both (λ m n. m + n) _ _ _ _ (names_bare p.params) (names_bare p.vars)) (variables_bare parts)
+variables_bare (Proc p ∷ parts) =
+    both max _ _ _ _ (both (λ m n. m + n) _ _ _ _ (names_bare p.params) (names_bare p.vars))
+    (variables_bare parts)
 
 bound_bare : (parts : List Part) → bound (bare_parts parts) ≡ bound parts
 bound_bare parts = both (λ m n. 2 * m + 16 * (n + 8)) _ _ _ _ (widest_bare parts) (variables_bare parts)

@@ -1,5 +1,6 @@
 -- Each generated job is a job.
-use Rattle.std.specs.Prelude.{◌≡◌, ℕ, ◌+◌, ◌*◌, ◌%◌, ◌<◌, true, not, IsTrue, List, [], ◌∷◌, ◌++◌, codes, decimal, flat_map, map, refl}
+use Rattle.std.specs.Prelude.{◌≡◌, ℕ, ◌+◌, ◌*◌, ◌%◌, ◌<◌, true, not, IsTrue, List, [], ◌∷◌, ◌++◌, codes}
+use Rattle.std.specs.Prelude.{decimal, flat_map, map, refl}
 use Rattle.std.proofs.Common.{sym, ap, ◌∙◌, subst, arith, append_assoc}
 use Rattle.std.specs.Fmt.{digits}
 use Rattle.std.specs.List.{range_with_len, AllByRecursion}
@@ -59,13 +60,19 @@ further_blank [] = refl
 further_blank (w ∷ ws) = refl
 
 further_words : (at : Place) (ws : List ℕ) → AllByRecursion IsWord ws → InputWords at (further ws) ws
-further_words at [] h = record { place = after at (codes "\n"); items = stop (codes "\n") refl refl refl refl }
+further_words at [] h = record {
+  place = after at (codes "\n");
+  items = stop (codes "\n") refl refl refl
+      refl;
+}
 further_words at (w ∷ ws) h =
     let more = further_words (after (after at (codes " ")) (decimal w)) ws h.1 in
     record {
       place = more.place;
-      items = next w (codes " ") (decimal w) (further ws) (ap (λ t. 32 ∷ t) (append_assoc (decimal w) (flat_map further_word ws) (codes "\n"))) refl
-          (word_item w h.0 (further ws) (further_blank ws)) (word_text w h.0 (further ws) (further_blank ws)) more.items;
+      items = next w (codes " ") (decimal w) (further ws)
+          (ap (λ t. 32 ∷ t) (append_assoc (decimal w) (flat_map further_word ws) (codes "\n"))) refl
+          (word_item w h.0 (further ws) (further_blank ws)) (word_text w h.0 (further ws) (further_blank ws))
+          more.items;
     }
 
 line_words : (at : Place) (ws : List ℕ) → AllByRecursion IsWord ws → InputWords at (words_line ws) ws
@@ -74,8 +81,10 @@ line_words at (w ∷ ws) h =
     let more = further_words (after at (decimal w)) ws h.1 in
     record {
       place = more.place;
-      items = next w [] (decimal w) (further ws) (append_assoc (decimal w) (flat_map further_word ws) (codes "\n")) refl
-          (word_item w h.0 (further ws) (further_blank ws)) (word_text w h.0 (further ws) (further_blank ws)) more.items;
+      items = next w [] (decimal w) (further ws) (append_assoc (decimal w) (flat_map further_word ws)
+          (codes "\n")) refl
+          (word_item w h.0 (further ws) (further_blank ws)) (word_text w h.0 (further ws) (further_blank ws))
+          more.items;
     }
 
 are_words : (number : ℕ) (ks : List ℕ) → AllByRecursion IsWord (map (word number) ks)
@@ -83,7 +92,8 @@ are_words number [] = tt
 are_words number (k ∷ ks) = (omega arith, are_words number ks)
 
 -- each generated job is a job
-pub generated_job : (generated : (number : ℕ) → IsGenerated number) → ((parts : List Part) → IsWritten parts → ReadsTheSame parts)
+pub generated_job : (generated : (number : ℕ) → IsGenerated number)
+    → ((parts : List Part) → IsWritten parts → ReadsTheSame parts)
     → ((a b : List Part) (f g : Place) → Same a b → IsAccepted a f → IsAccepted b g)
     → (number : ℕ) → (parts : List Part) × IsGeneratedJob number parts
 generated_job generated reads accepted number =
@@ -98,10 +108,13 @@ generated_job generated reads accepted number =
             lex = subst (λ text. Lex text read.ls read.finish) (sym (job_program number)) read.lex;
             kept = read.kept;
             tree = read.tree;
-            accepted = accepted (product (size number)) read.again read.finish read.finish read.same (known.accepted read.finish);
+            accepted = accepted (product (size number)) read.again read.finish read.finish read.same
+                (known.accepted read.finish);
           };
-          words = subst (λ text. InputWords (input_place (job_text number)) text (words_of number)) (sym (job_input number))
-              (line_words (input_place (job_text number)) (words_of number) (are_words number (range_with_len 0 (2 * square number))));
+          words = subst (λ text. InputWords (input_place (job_text number)) text (words_of number))
+              (sym (job_input number))
+              (line_words (input_place (job_text number)) (words_of number)
+              (are_words number (range_with_len 0 (2 * square number))));
         };
         same = read.same;
         bounded = sym (one_bound (product (size number)) read.again read.same) ∙ known.bounded;

@@ -1,5 +1,6 @@
 -- Runs on a clocked grid: the numbers that a line gives it, and how it ends.
-use Rattle.std.proofs.Common.{◌≡◌, ℕ, ◌≤◌, false, List, Option, Some, None, true, refl, sym, ap, ◌∙◌, subst, inl, arith}
+use Rattle.std.proofs.Common.{◌≡◌, ℕ, ◌≤◌, false, List, Option, Some, None, true, refl, sym, ap, ◌∙◌, subst}
+use Rattle.std.proofs.Common.{inl, arith}
 use Rattle.ws_words.specs.Outside.{World}
 use Rattle.ws_isa.specs.Image.{Image}
 use Rattle.df_core.specs.declared.answer.Done.{Done as Left}
@@ -26,7 +27,8 @@ by_text None f g = f refl
 by_text (Some text) f g = g text refl
 
 -- each number of a line is in its range
-module _ (c : Command) (given : List Given) (ranges : AreIn c given) (k : Key) (number : is_flag k ≡ false) where
+module _ (c : Command) (given : List Given) (ranges : AreIn c given) (k : Key)
+    (number : is_flag k ≡ false) where
   at_least : least k ≤ usual c k → least k ≤ number_of c k given
   at_least h = by_text (text_of k given)
       (λ e. rw e h)
@@ -38,7 +40,8 @@ module _ (c : Command) (given : List Given) (ranges : AreIn c given) (k : Key) (
       (λ text e. rw e (ranges k text number e).most)
 
 -- so are those of a grid
-given_in_range : (given : List Given) → AreIn command.Grid given → InRange (grid_options (line_of command.Grid given))
+given_in_range : (given : List Given) → AreIn command.Grid given
+    → InRange (grid_options (line_of command.Grid given))
 given_in_range given ranges = (
   at_least command.Grid given ranges Elements refl (omega arith),
   at_most command.Grid given ranges Elements refl (omega arith),
@@ -46,21 +49,29 @@ given_in_range given ranges = (
   at_most command.Grid given ranges Firings refl (omega arith),
 )
 
-task_in_range : (c : Command) (given : List Given) → AreIn c given → (t : AssemblyTask) → task_by c (line_of c given) ≡ Some (Assembly t) → TaskInRange t
+task_in_range : (c : Command) (given : List Given) → AreIn c given → (t : AssemblyTask)
+    → task_by c (line_of c given) ≡ Some (Assembly t) → TaskInRange t
 task_in_range command.Run given ranges t e = absurd cc
 task_in_range command.Plain given ranges t e = absurd cc
 task_in_range command.Format given ranges t e = absurd cc
 task_in_range command.Compile given ranges t e = absurd cc
 task_in_range command.Check given ranges t e = let same : task.Check ≡ t = cc in subst TaskInRange same tt
-task_in_range command.Exec given ranges t e = let same : task.Exec (options_of (line_of command.Exec given) (Full (line_of command.Exec given).memory (line_of command.Exec given).stats)) ≡ t = cc in subst TaskInRange same tt
+task_in_range command.Exec given ranges t e =
+    let same : task.Exec
+    (options_of (line_of command.Exec given) (Full (line_of command.Exec given).memory
+    (line_of command.Exec given).stats)) ≡ t = cc in subst TaskInRange same tt
 task_in_range command.List given ranges t e = let same : task.List ≡ t = cc in subst TaskInRange same tt
-task_in_range command.Trace given ranges t e = let same : task.Trace (line_of command.Trace given).budget ≡ t = cc in subst TaskInRange same tt
+task_in_range command.Trace given ranges t e = let same : task.Trace (line_of command.Trace given).budget
+    ≡ t = cc in subst TaskInRange same tt
 task_in_range command.Replay given ranges t e = let same : task.Replay ≡ t = cc in subst TaskInRange same tt
 task_in_range command.Gen given ranges t e = absurd cc
 task_in_range command.Bench given ranges t e = absurd cc
 task_in_range command.Multi given ranges t e = absurd cc
-task_in_range command.Decouple given ranges t e = let same : task.Exec (decoupled_options (line_of command.Decouple given)) ≡ t = cc in subst TaskInRange same tt
-task_in_range command.Grid given ranges t e = let same : task.Grid (grid_options (line_of command.Grid given)) ≡ t = cc in subst TaskInRange same (given_in_range given ranges)
+task_in_range command.Decouple given ranges t e =
+    let same : task.Exec (decoupled_options (line_of command.Decouple given)) ≡ t = cc in
+    subst TaskInRange same tt
+task_in_range command.Grid given ranges t e = let same : task.Grid (grid_options (line_of command.Grid given))
+    ≡ t = cc in subst TaskInRange same (given_in_range given ranges)
 
 -- a line asks for no other grid
 pub line_in_range : (words : List (List ℕ)) (t : AssemblyTask) → AsksFor words (Assembly t) → TaskInRange t
@@ -68,7 +79,8 @@ line_in_range words t (line, l, e) = task_in_range l.command l.given l.ranges t 
 
 -- a run on a grid ends as a run of the core does
 module _ (image : Image) (world : World) (budget : ℕ) (left : Left) where
-  pub ends_clocked : (how : Finish) → RunSo image world budget (run_from how left) → EndsRun image world budget (clocked_status how)
+  pub ends_clocked : (how : Finish) → RunSo image world budget (run_from how left)
+      → EndsRun image world budget (clocked_status how)
   ends_clocked finish.Rest r = record {
     done = λ h. inl refl;
     only = λ e. r.rests.0 refl;

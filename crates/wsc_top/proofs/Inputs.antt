@@ -1,5 +1,7 @@
 -- The words of an input section: how they are read, and that they are the only ones.
-use Rattle.std.specs.Prelude.{◌≡◌, ℕ, zero, suc, ◌+◌, ◌==◌, ◌^◌, ◌<◌, ◌≤◌, Bool, true, false, not, ◌&&◌, IsTrue, List, [], ◌∷◌, ◌++◌, length, take, drop, cond, ◌⊎◌, Result, Ok, Err, refl}
+use Rattle.std.specs.Prelude.{◌≡◌, ℕ, zero, suc, ◌+◌, ◌==◌, ◌^◌, ◌<◌, ◌≤◌, Bool, true, false, not, ◌&&◌}
+use Rattle.std.specs.Prelude.{IsTrue, List, [], ◌∷◌, ◌++◌, length, take, drop, cond, ◌⊎◌, Result, Ok, Err}
+use Rattle.std.specs.Prelude.{refl}
 use Rattle.std.proofs.Common.{sym, ap, ◌∙◌, subst, arith, append_assoc, append-nil, length-append, inl, inr}
 use Rattle.std.specs.List.{list_all, prefix_len}
 use Rattle.std.proofs.Math.Dec.{ltb}
@@ -9,7 +11,8 @@ use Rattle.ws_words.specs.Digits.{is_number, value_of}
 use Rattle.src_ast.specs.declared.lexeme.Place.{Place}
 use Rattle.src_ast.specs.Lexemes.{start, after, is_blank}
 use Rattle.src_ast.specs.Once.{ExactlyOne}
-use Rattle.wsc_top.specs.Sections.{program_of, input_place, IsItem, IsWordText, InputItems, stop, next, InputWords, InputFault, IsInputAnswer}
+use Rattle.wsc_top.specs.Sections.{program_of, input_place, IsItem, IsWordText, InputItems, stop, next}
+use Rattle.wsc_top.specs.Sections.{InputWords, InputFault, IsInputAnswer}
 use Rattle.ws_words.specs.Letters.{starts_without}
 use Rattle.ws_words.proofs.Runs.{prefix_all, prefix_stops}
 use Rattle.ws_words.proofs.Numbers.{one_more}
@@ -33,17 +36,23 @@ pub record Same (a b x y : List ℕ) : Type 0 where
 same_more : (p : ℕ) (a b x y : List ℕ) → Same a b x y → Same (p ∷ a) (p ∷ b) x y
 same_more p a b x y s = record { run = ap (λ v. p ∷ v) s.run; rest = s.rest }
 
-stops_at : (p : ℕ → Bool) (b : ℕ) (bytes x : List ℕ) → IsTrue (starts_without p x) → x ≡ b ∷ bytes → IsTrue (p b) → ⊥
-stops_at p b bytes x s e h = let k = subst (λ v. IsTrue (starts_without p v)) e s in let n : not true ≡ true = subst (λ t. not t ≡ true) h k in cc
+stops_at : (p : ℕ → Bool) (b : ℕ) (bytes x : List ℕ) → IsTrue (starts_without p x) → x ≡ b ∷ bytes
+    → IsTrue (p b) → ⊥
+stops_at p b bytes x s e h = let k = subst (λ v. IsTrue (starts_without p v)) e s in let n : not true ≡ true =
+    subst (λ t. not t ≡ true) h k in cc
 
-run_same : (p : ℕ → Bool) (a b x y : List ℕ) → IsTrue (list_all p a) → IsTrue (list_all p b) → IsTrue (starts_without p x) → IsTrue (starts_without p y) → a ++ x ≡ b ++ y → Same a b x y
+run_same : (p : ℕ → Bool) (a b x y : List ℕ) → IsTrue (list_all p a) → IsTrue (list_all p b)
+    → IsTrue (starts_without p x) → IsTrue (starts_without p y) → a ++ x ≡ b ++ y → Same a b x y
 run_same p [] [] x y ha hb sx sy e = record { run = refl; rest = e }
-run_same p [] (c ∷ b) x y ha hb sx sy e = absurd (stops_at p c (b ++ y) x sx e (left_true (p c) (list_all p b) hb))
-run_same p (c ∷ a) [] x y ha hb sx sy e = absurd (stops_at p c (a ++ x) y sy (sym e) (left_true (p c) (list_all p a) ha))
+run_same p [] (c ∷ b) x y ha hb sx sy e =
+    absurd (stops_at p c (b ++ y) x sx e (left_true (p c) (list_all p b) hb))
+run_same p (c ∷ a) [] x y ha hb sx sy e =
+    absurd (stops_at p c (a ++ x) y sy (sym e) (left_true (p c) (list_all p a) ha))
 run_same p (c ∷ a) (d ∷ b) x y ha hb sx sy e =
     let one : c ≡ d = cc in
     let more : a ++ x ≡ b ++ y = cc in
-    let s = run_same p a b x y (right_true (p c) (list_all p a) ha) (right_true (p d) (list_all p b) hb) sx sy more in
+    let s = run_same p a b x y (right_true (p c) (list_all p a) ha) (right_true (p d) (list_all p b) hb) sx sy
+    more in
     record { run = ap (λ v. c ∷ v) s.run ∙ ap (λ n. n ∷ b) one; rest = s.rest }
 
 -- an item begins with no blank
@@ -59,7 +68,8 @@ word_same : (a b : List ℕ) (v w : ℕ) → a ≡ b → IsWordText a v → IsWo
 word_same a b v w e h k = sym h.1 ∙ (ap value_of e ∙ k.1)
 
 -- two readings of a text have the same words, where the first comes to its end
-same_words : (at : Place) (text ws vs : List ℕ) (p q : Place) (r s : List ℕ) → InputItems at text ws p r → InputItems at text vs q s → r ≡ [] → s ≡ [] → ws ≡ vs
+same_words : (at : Place) (text ws vs : List ℕ) (p q : Place) (r s : List ℕ) → InputItems at text ws p r
+    → InputItems at text vs q s → r ≡ [] → s ≡ [] → ws ≡ vs
 same_words at text ws vs p q r s (stop a e h n o) (stop b f k m u) x y = refl
 same_words at text ws vs p q r s (stop a e h n o) (next w b bytes further f k i t more) x y =
     let same = run_same is_blank a b r (bytes ++ further) h k n (item_starts bytes further i) (sym e ∙ f) in
@@ -67,15 +77,22 @@ same_words at text ws vs p q r s (stop a e h n o) (next w b bytes further f k i 
 same_words at text ws vs p q r s (next w b bytes further f k i t more) (stop a e h n o) x y =
     let same = run_same is_blank a b s (bytes ++ further) h k n (item_starts bytes further i) (sym e ∙ f) in
     absurd (no_item bytes further i (sym same.rest ∙ y))
-same_words at text ws vs p q r s (next {words = us} w b bytes further f k i t more) (next {words = zs} v c others far g l j u rest) x y =
-    let same = run_same is_blank b c (bytes ++ further) (others ++ far) k l (item_starts bytes further i) (item_starts others far j) (sym f ∙ g) in
+same_words at text ws vs p q r s (next {words = us} w b bytes further f k i t more)
+    (next {words = zs} v c others far g l j u rest) x y =
+    let same = run_same is_blank b c (bytes ++ further) (others ++ far) k l (item_starts bytes further i)
+    (item_starts others far j) (sym f ∙ g) in
     let items = run_same is_dense bytes others further far i.dense j.dense i.longest j.longest same.rest in
-    let again : InputItems (after (after at b) bytes) further zs q s = subst (λ z. InputItems (after (after at z) bytes) further zs q s) (sym same.run)
-    (subst (λ z. InputItems (after (after at c) z) further zs q s) (sym items.run) (subst (λ z. InputItems (after (after at c) others) z zs q s) (sym items.rest) rest)) in
-    ap (λ n. n ∷ us) (word_same bytes others w v items.run t u) ∙ ap (λ z. v ∷ z) (same_words _ further us zs p q r s more again x y)
+    let again : InputItems (after (after at b) bytes) further zs q s =
+    subst (λ z. InputItems (after (after at z) bytes) further zs q s) (sym same.run)
+    (subst (λ z. InputItems (after (after at c) z) further zs q s) (sym items.run)
+    (subst (λ z. InputItems (after (after at c) others) z zs q s) (sym items.rest) rest)) in
+    ap (λ n. n ∷ us) (word_same bytes others w v items.run t u) ∙ ap (λ z. v ∷ z)
+    (same_words _ further us zs p q r s more again x y)
 
 -- a text of words has no item that is none
-no_fault : (at : Place) (text ws vs : List ℕ) (p q : Place) (r s bad far : List ℕ) → InputItems at text ws p r → InputItems at text vs q s → r ≡ [] → s ≡ bad ++ far → IsItem bad far → ((w : ℕ) → IsWordText bad w → ⊥) → ⊥
+no_fault : (at : Place) (text ws vs : List ℕ) (p q : Place) (r s bad far : List ℕ) → InputItems at text ws p r
+    → InputItems at text vs q s → r ≡ [] → s ≡ bad ++ far → IsItem bad far → ((w : ℕ) → IsWordText bad w → ⊥)
+    → ⊥
 no_fault at text ws vs p q r s bad far (stop a e h n o) (stop b f k m u) x y item wrong =
     let same = run_same is_blank a b r s h k n m (sym e ∙ f) in
     no_item bad far item (sym y ∙ sym same.rest ∙ x)
@@ -84,106 +101,152 @@ no_fault at text ws vs p q r s bad far (stop a e h n o) (next w b bytes further 
     no_item bytes further i (sym same.rest ∙ x)
 no_fault at text ws vs p q r s bad far (next w b bytes further f k i t more) (stop a e h n o) x y item wrong =
     let same = run_same is_blank b a (bytes ++ further) s k h (item_starts bytes further i) n (sym f ∙ e) in
-    let items = run_same is_dense bytes bad further far i.dense item.dense i.longest item.longest (same.rest ∙ y) in
+    let items = run_same is_dense bytes bad further far i.dense item.dense i.longest item.longest
+    (same.rest ∙ y) in
     wrong w (subst (λ z. IsWordText z w) items.run t)
-no_fault at text ws vs p q r s bad far (next {words = us} w b bytes further f k i t more) (next {words = zs} v c others away g l j u rest) x y item wrong =
-    let same = run_same is_blank b c (bytes ++ further) (others ++ away) k l (item_starts bytes further i) (item_starts others away j) (sym f ∙ g) in
+no_fault at text ws vs p q r s bad far (next {words = us} w b bytes further f k i t more)
+    (next {words = zs} v c others away g l j u rest) x y item wrong =
+    let same = run_same is_blank b c (bytes ++ further) (others ++ away) k l (item_starts bytes further i)
+    (item_starts others away j) (sym f ∙ g) in
     let items = run_same is_dense bytes others further away i.dense j.dense i.longest j.longest same.rest in
-    let again : InputItems (after (after at b) bytes) further zs q s = subst (λ z. InputItems (after (after at z) bytes) further zs q s) (sym same.run)
-    (subst (λ z. InputItems (after (after at c) z) further zs q s) (sym items.run) (subst (λ z. InputItems (after (after at c) others) z zs q s) (sym items.rest) rest)) in
+    let again : InputItems (after (after at b) bytes) further zs q s =
+    subst (λ z. InputItems (after (after at z) bytes) further zs q s) (sym same.run)
+    (subst (λ z. InputItems (after (after at c) z) further zs q s) (sym items.run)
+    (subst (λ z. InputItems (after (after at c) others) z zs q s) (sym items.rest) rest)) in
     no_fault _ further us zs p q r s bad far more again x y item wrong
 
 pub one_list : (at : Place) (text ws vs : List ℕ) → InputWords at text ws → InputWords at text vs → ws ≡ vs
 one_list at text ws vs a b = same_words at text ws vs a.place b.place [] [] a.items b.items refl refl
 
-pub no_fault_in_words : (at : Place) (text ws : List ℕ) (p : Place) → InputWords at text ws → InputFault at text p → ⊥
-no_fault_in_words at text ws p a b = no_fault at text ws b.words a.place p [] (b.bytes ++ b.further) b.bytes b.further a.items b.items refl refl b.item b.wrong
+pub no_fault_in_words : (at : Place) (text ws : List ℕ) (p : Place) → InputWords at text ws
+    → InputFault at text p → ⊥
+no_fault_in_words at text ws p a b = no_fault at text ws b.words a.place p [] (b.bytes ++ b.further) b.bytes
+    b.further a.items b.items refl refl b.item b.wrong
 
 -- Whatever the rest leads to, the whole does.
 pub record Reading (at : Place) (text words : List ℕ) (place : Place) (rest : List ℕ) : Type 0 where
-  pub leads : (more : List ℕ) (p : Place) (r : List ℕ) → InputItems place rest more p r → InputItems at text (words ++ more) p r
+  pub leads : (more : List ℕ) (p : Place) (r : List ℕ) → InputItems place rest more p r
+      → InputItems at text (words ++ more) p r
 
 pub reads_none : (at : Place) (text : List ℕ) → Reading at text [] at text
 reads_none at text = record { leads = λ more p r h. h }
 
 -- a run of blanks that is as long as possible
-pub blank_run : (text run rest : List ℕ) (n : ℕ) → n ≡ prefix_len is_blank text → run ≡ take n text → rest ≡ drop n text → IsTrue (list_all is_blank run) × IsTrue (starts_without is_blank rest)
-blank_run text run rest n e f g = (rw (f, e) (prefix_all is_blank text), rw (g, e) (prefix_stops is_blank text))
+pub blank_run : (text run rest : List ℕ) (n : ℕ) → n ≡ prefix_len is_blank text → run ≡ take n text
+    → rest ≡ drop n text → IsTrue (list_all is_blank run) × IsTrue (starts_without is_blank rest)
+blank_run text run rest n e f g = (
+  rw (f, e) (prefix_all is_blank text),
+  rw (g, e) (prefix_stops is_blank text),
+)
 
 -- an item, which has at least its first byte
-pub item_run : (text run rest : List ℕ) (n : ℕ) → 0 < length text → IsTrue (starts_without is_blank text) → n ≡ prefix_len is_dense text → run ≡ take n text → rest ≡ drop n text → (0 < length run) × IsItem run rest
+pub item_run : (text run rest : List ℕ) (n : ℕ) → 0 < length text → IsTrue (starts_without is_blank text)
+    → n ≡ prefix_len is_dense text → run ≡ take n text → rest ≡ drop n text
+    → (0 < length run) × IsItem run rest
 item_run [] run rest n h s e f g = absurd (omega arith)
 item_run (b ∷ text) run rest n h s e f g =
-    let first : n ≡ 1 + prefix_len is_dense text = e ∙ ap (λ (t : Bool). cond t (1 + prefix_len is_dense text) 0) s in
-    let some : run ≡ b ∷ take (prefix_len is_dense text) text = f ∙ ap (λ m. take m (b ∷ text)) (first ∙ one_more (prefix_len is_dense text)) in (
+    let first : n ≡ 1 + prefix_len is_dense text =
+    e ∙ ap (λ (t : Bool). cond t (1 + prefix_len is_dense text) 0) s in
+    let some : run ≡ b ∷ take (prefix_len is_dense text) text = f ∙ ap (λ m. take m (b ∷ text))
+    (first ∙ one_more (prefix_len is_dense text)) in (
       subst (λ r. 0 < length r) (sym some) (omega arith),
-      record { some = λ none. let bad : b ∷ take (prefix_len is_dense text) text ≡ [] = sym some ∙ none in cc; dense = rw (f, e) (prefix_all is_dense (b ∷ text)); longest = rw (g, e) (prefix_stops is_dense (b ∷ text)) },
+      record {
+        some = λ none. let bad : b ∷ take (prefix_len is_dense text) text ≡ [] = sym some ∙ none in cc;
+        dense = rw (f, e) (prefix_all is_dense (b ∷ text));
+        longest =
+            rw (g, e) (prefix_stops is_dense (b ∷ text));
+      },
     )
 
 -- blanks to the end
-pub reads_end : (at place : Place) (text words rest blanks front : List ℕ) → Reading at text words place rest → rest ≡ blanks ++ front → IsTrue (list_all is_blank blanks) → front ≡ [] → InputWords at text words
+pub reads_end : (at place : Place) (text words rest blanks front : List ℕ) → Reading at text words place rest
+    → rest ≡ blanks ++ front → IsTrue (list_all is_blank blanks) → front ≡ [] → InputWords at text words
 reads_end at place text words rest blanks front r e h n = record {
   place = after place blanks;
-  items = subst (λ ws. InputItems at text ws (after place blanks) []) (append-nil words) (r.leads [] (after place blanks) [] (stop blanks (e ∙ ap (λ x. blanks ++ x) n) h refl refl));
+  items = subst (λ ws. InputItems at text ws (after place blanks) []) (append-nil words)
+      (r.leads [] (after place blanks) [] (stop blanks (e ∙ ap (λ x. blanks ++ x) n) h refl refl));
 }
 
 -- an item that is no word
-pub reads_fault : (at place after_blanks : Place) (text words rest blanks front bytes further : List ℕ) → Reading at text words place rest → rest ≡ blanks ++ front → IsTrue (list_all is_blank blanks)
-    → IsTrue (starts_without is_blank front) → after_blanks ≡ after place blanks → front ≡ bytes ++ further → IsItem bytes further → ((word : ℕ) → IsWordText bytes word → ⊥) → InputFault at text after_blanks
+pub reads_fault : (at place after_blanks : Place) (text words rest blanks front bytes further : List ℕ)
+    → Reading at text words place rest → rest ≡ blanks ++ front → IsTrue (list_all is_blank blanks)
+    → IsTrue (starts_without is_blank front) → after_blanks ≡ after place blanks → front ≡ bytes ++ further
+    → IsItem bytes further → ((word : ℕ) → IsWordText bytes word → ⊥) → InputFault at text after_blanks
 reads_fault at place after_blanks text words rest blanks front bytes further r e h s p f i wrong = record {
   words = words;
   bytes = bytes;
   further = further;
   items = subst (λ ws. InputItems at text ws after_blanks (bytes ++ further)) (append-nil words)
-      (r.leads [] after_blanks (bytes ++ further) (stop blanks (e ∙ ap (λ x. blanks ++ x) f) h (subst (λ x. IsTrue (starts_without is_blank x)) f s) p));
+      (r.leads [] after_blanks (bytes ++ further) (stop blanks (e ∙ ap (λ x. blanks ++ x) f) h
+      (subst (λ x. IsTrue (starts_without is_blank x)) f s) p));
   item = i;
   wrong = wrong;
 }
 
 -- one more word
-pub reads_word : (at place after_blanks after_item : Place) (text words more rest blanks front bytes further : List ℕ) (word : ℕ) → Reading at text words place rest → rest ≡ blanks ++ front → IsTrue (list_all is_blank blanks)
-    → after_blanks ≡ after place blanks → front ≡ bytes ++ further → IsItem bytes further → IsWordText bytes word → after_item ≡ after after_blanks bytes → more ≡ words ++ word ∷ []
+pub reads_word : (at place after_blanks after_item : Place)
+    (text words more rest blanks front bytes further : List ℕ) (word : ℕ) → Reading at text words place rest
+    → rest ≡ blanks ++ front → IsTrue (list_all is_blank blanks)
+    → after_blanks ≡ after place blanks → front ≡ bytes ++ further → IsItem bytes further
+    → IsWordText bytes word → after_item ≡ after after_blanks bytes → more ≡ words ++ word ∷ []
     → Reading at text more after_item further
-reads_word at place after_blanks after_item text words more rest blanks front bytes further word r e h p f i t q m = record {
-  leads = λ others far x items.
-      subst (λ ws. InputItems at text ws far x) (sym (append_assoc words (word ∷ []) others) ∙ ap (λ z. z ++ others) (sym m))
-      (r.leads (word ∷ others) far x (next word blanks bytes further (e ∙ ap (λ z. blanks ++ z) f) h i t (subst (λ z. InputItems z further others far x) (q ∙ ap (λ z. after z bytes) p) items)));
-}
+reads_word at place after_blanks after_item text words more rest blanks front bytes further word r e h p f i t
+    q m = record {
+      leads = λ others far x items.
+          subst (λ ws. InputItems at text ws far x) (sym (append_assoc words (word ∷ []) others)
+          ∙ ap (λ z. z ++ others) (sym m))
+          (r.leads (word ∷ others) far x (next word blanks bytes further (e ∙ ap (λ z. blanks ++ z) f) h i t
+          (subst (λ z. InputItems z further others far x) (q ∙ ap (λ z. after z bytes) p) items)));
+    }
 
 pub empty_is : (xs : List ℕ) (b : Bool) → b ≡ (length xs == 0) → b ≡ true → xs ≡ []
 empty_is xs b e h = nil_from_length xs (eqb-true (length xs) 0 (sym e ∙ h))
 
 -- two readings that end at items that are no words end at one place
-same_fault : (at : Place) (text ws vs : List ℕ) (p q : Place) (r s bad far ill away : List ℕ) → InputItems at text ws p r → InputItems at text vs q s → r ≡ bad ++ far → s ≡ ill ++ away
-    → IsItem bad far → IsItem ill away → ((w : ℕ) → IsWordText bad w → ⊥) → ((w : ℕ) → IsWordText ill w → ⊥) → p ≡ q
-same_fault at text ws vs p q r s bad far ill away (stop a e h n o) (stop b f k m u) x y item other wrong mistaken =
+same_fault : (at : Place) (text ws vs : List ℕ) (p q : Place) (r s bad far ill away : List ℕ)
+    → InputItems at text ws p r → InputItems at text vs q s → r ≡ bad ++ far → s ≡ ill ++ away
+    → IsItem bad far → IsItem ill away → ((w : ℕ) → IsWordText bad w → ⊥) → ((w : ℕ) → IsWordText ill w → ⊥)
+    → p ≡ q
+same_fault at text ws vs p q r s bad far ill away (stop a e h n o) (stop b f k m u) x y item other wrong
+    mistaken =
     let same = run_same is_blank a b r s h k n m (sym e ∙ f) in
     o ∙ ap (after at) same.run ∙ sym u
-same_fault at text ws vs p q r s bad far ill away (stop a e h n o) (next w b bytes further f k i t more) x y item other wrong mistaken =
+same_fault at text ws vs p q r s bad far ill away (stop a e h n o) (next w b bytes further f k i t more) x y
+    item other wrong mistaken =
     let same = run_same is_blank a b r (bytes ++ further) h k n (item_starts bytes further i) (sym e ∙ f) in
-    let items = run_same is_dense bytes bad further far i.dense item.dense i.longest item.longest (sym same.rest ∙ x) in
+    let items = run_same is_dense bytes bad further far i.dense item.dense i.longest item.longest
+    (sym same.rest ∙ x) in
     absurd (wrong w (subst (λ z. IsWordText z w) items.run t))
-same_fault at text ws vs p q r s bad far ill away (next w b bytes further f k i t more) (stop a e h n o) x y item other wrong mistaken =
+same_fault at text ws vs p q r s bad far ill away (next w b bytes further f k i t more) (stop a e h n o) x y
+    item other wrong mistaken =
     let same = run_same is_blank a b s (bytes ++ further) h k n (item_starts bytes further i) (sym e ∙ f) in
-    let items = run_same is_dense bytes ill further away i.dense other.dense i.longest other.longest (sym same.rest ∙ y) in
+    let items = run_same is_dense bytes ill further away i.dense other.dense i.longest other.longest
+    (sym same.rest ∙ y) in
     absurd (mistaken w (subst (λ z. IsWordText z w) items.run t))
-same_fault at text ws vs p q r s bad far ill away (next {words = us} w b bytes further f k i t more) (next {words = zs} v c others along g l j u rest) x y item other wrong mistaken =
-    let same = run_same is_blank b c (bytes ++ further) (others ++ along) k l (item_starts bytes further i) (item_starts others along j) (sym f ∙ g) in
+same_fault at text ws vs p q r s bad far ill away (next {words = us} w b bytes further f k i t more)
+    (next {words = zs} v c others along g l j u rest) x y item other wrong mistaken =
+    let same = run_same is_blank b c (bytes ++ further) (others ++ along) k l (item_starts bytes further i)
+    (item_starts others along j) (sym f ∙ g) in
     let items = run_same is_dense bytes others further along i.dense j.dense i.longest j.longest same.rest in
-    let again : InputItems (after (after at b) bytes) further zs q s = subst (λ z. InputItems (after (after at z) bytes) further zs q s) (sym same.run)
-    (subst (λ z. InputItems (after (after at c) z) further zs q s) (sym items.run) (subst (λ z. InputItems (after (after at c) others) z zs q s) (sym items.rest) rest)) in
+    let again : InputItems (after (after at b) bytes) further zs q s =
+    subst (λ z. InputItems (after (after at z) bytes) further zs q s) (sym same.run)
+    (subst (λ z. InputItems (after (after at c) z) further zs q s) (sym items.run)
+    (subst (λ z. InputItems (after (after at c) others) z zs q s) (sym items.rest) rest)) in
     same_fault _ further us zs p q r s bad far ill away more again x y item other wrong mistaken
 
 -- an input section has at most one first item that is no word
-pub one_fault : (at : Place) (text : List ℕ) (p q : Place) → InputFault at text p → InputFault at text q → p ≡ q
+pub one_fault : (at : Place) (text : List ℕ) (p q : Place) → InputFault at text p → InputFault at text q
+    → p ≡ q
 one_fault at text p q a b =
-    same_fault at text a.words b.words p q (a.bytes ++ a.further) (b.bytes ++ b.further) a.bytes a.further b.bytes b.further a.items b.items refl refl a.item b.item a.wrong b.wrong
+    same_fault at text a.words b.words p q (a.bytes ++ a.further) (b.bytes ++ b.further) a.bytes a.further
+    b.bytes b.further a.items b.items refl refl a.item b.item a.wrong b.wrong
 
 -- an input section has words, or a first item that is none
 abbrev Found : Place → List ℕ → Type 0
 Found at text = ((words : List ℕ) × InputWords at text words) ⊎ ((p : Place) × InputFault at text p)
 
-module _ (at : Place) (text blanks bytes further : List ℕ) (split : text ≡ blanks ++ (bytes ++ further)) (blank : IsTrue (list_all is_blank blanks)) (item : IsItem bytes further) where
+module _ (at : Place) (text blanks bytes further : List ℕ) (split : text ≡ blanks ++ (bytes ++ further))
+    (blank : IsTrue (list_all is_blank blanks)) (item : IsItem bytes further) where
   -- an item that is no word
   found_fault : ((w : ℕ) → IsWordText bytes w → ⊥) → Found at text
   found_fault wrong = inr (
@@ -200,7 +263,15 @@ module _ (at : Place) (text blanks bytes further : List ℕ) (split : text ≡ b
 
   -- a word, and what is found after it
   found_more : (w : ℕ) → IsWordText bytes w → Found (after (after at blanks) bytes) further → Found at text
-  found_more w t (inl f) = inl (w ∷ f.0, record { place = f.1.place; items = next w blanks bytes further split blank item t f.1.items })
+  found_more w t (inl f) =
+      inl (
+        w ∷ f.0,
+        record {
+          place = f.1.place;
+          items = next w blanks bytes further split blank item t
+              f.1.items;
+        },
+      )
   found_more w t (inr f) = inr (
     f.0,
     record {
@@ -214,19 +285,31 @@ module _ (at : Place) (text blanks bytes further : List ℕ) (split : text ≡ b
   )
 
   -- an item is a word, or none
-  found_item : (b c : Bool) → is_number bytes ≡ b → ltb (value_of bytes) (2 ^ 64) ≡ c → Found (after (after at blanks) bytes) further → Found at text
+  found_item : (b c : Bool) → is_number bytes ≡ b → ltb (value_of bytes) (2 ^ 64) ≡ c
+      → Found (after (after at blanks) bytes) further → Found at text
   found_item false c e f rest = found_fault (λ w t. let bad : false ≡ true = sym e ∙ t.0 in cc)
-  found_item true false e f rest = found_fault (λ w t. let bad : false ≡ true = sym f ∙ lt-ltb (value_of bytes) (2 ^ 64) (omega (arith, t.1, t.2)) in cc)
-  found_item true true e f rest = found_more (value_of bytes) (e, refl, ltb-true (value_of bytes) (2 ^ 64) f) rest
+  found_item true false e f rest = found_fault (λ w t. let bad : false ≡ true = sym f
+      ∙ lt-ltb (value_of bytes) (2 ^ 64) (omega (arith, t.1, t.2)) in cc)
+  found_item true true e f rest = found_more (value_of bytes) (e, refl, ltb-true (value_of bytes) (2 ^ 64) f)
+      rest
 
 -- a text without items
-found_end : (at : Place) (text blanks front : List ℕ) → text ≡ blanks ++ front → IsTrue (list_all is_blank blanks) → front ≡ [] → Found at text
+found_end : (at : Place) (text blanks front : List ℕ) → text ≡ blanks ++ front
+    → IsTrue (list_all is_blank blanks) → front ≡ [] → Found at text
 found_end at text blanks front e h n =
-    inl ([], record { place = after at blanks; items = stop blanks (e ∙ ap (λ x. blanks ++ x) n) h refl refl })
+    inl (
+      [],
+      record {
+        place = after at blanks;
+        items = stop blanks (e ∙ ap (λ x. blanks ++ x) n) h refl refl;
+      },
+    )
 
 -- what is found where blanks are over, if it is known what is found in shorter texts
-found_front : (fuel : ℕ) → ((at : Place) (text : List ℕ) → length text ≤ fuel → Found at text) → (at : Place) (text blanks front : List ℕ) → text ≡ blanks ++ front
-    → IsTrue (list_all is_blank blanks) → IsTrue (starts_without is_blank front) → length front ≤ suc fuel → Found at text
+found_front : (fuel : ℕ) → ((at : Place) (text : List ℕ) → length text ≤ fuel → Found at text)
+    → (at : Place) (text blanks front : List ℕ) → text ≡ blanks ++ front
+    → IsTrue (list_all is_blank blanks) → IsTrue (starts_without is_blank front) → length front ≤ suc fuel
+    → Found at text
 found_front fuel shorter at text blanks [] e h s short = found_end at text blanks [] e h refl
 found_front fuel shorter at text blanks (b ∷ rest) e h s short =
     let n = prefix_len is_dense (b ∷ rest) in
@@ -235,8 +318,15 @@ found_front fuel shorter at text blanks (b ∷ rest) e h s short =
     let split : bytes ++ further ≡ b ∷ rest = take-append-drop n (b ∷ rest) in
     let item = item_run (b ∷ rest) bytes further n (omega arith) s refl refl refl in
     let whole : text ≡ blanks ++ (bytes ++ further) = e ∙ ap (λ x. blanks ++ x) (sym split) in
-    let less : length further ≤ fuel = omega (arith, short, item.0, length-append bytes further, ap length split) in
-    found_item at text blanks bytes further whole h item.1 (is_number bytes) (ltb (value_of bytes) (2 ^ 64)) refl refl (shorter (after (after at blanks) bytes) further less)
+    let less : length further ≤ fuel = omega (
+      arith,
+      short,
+      item.0,
+      length-append bytes further,
+      ap length split,
+    ) in
+    found_item at text blanks bytes further whole h item.1 (is_number bytes) (ltb (value_of bytes) (2 ^ 64))
+    refl refl (shorter (after (after at blanks) bytes) further less)
 
 -- what is found in a text of at most so many bytes
 found_in : (fuel : ℕ) (at : Place) (text : List ℕ) → length text ≤ fuel → Found at text
@@ -245,18 +335,26 @@ found_in zero at (b ∷ text) h = absurd (omega arith)
 found_in (suc fuel) at text h =
     let n = prefix_len is_blank text in
     let split : take n text ++ drop n text ≡ text = take-append-drop n text in
-    let less : length (drop n text) ≤ suc fuel = omega (arith, h, length-append (take n text) (drop n text), ap length split) in
-    found_front fuel (found_in fuel) at text (take n text) (drop n text) (sym split) (prefix_all is_blank text) (prefix_stops is_blank text) less
+    let less : length (drop n text) ≤ suc fuel = omega (
+      arith,
+      h,
+      length-append (take n text) (drop n text),
+      ap length split,
+    ) in
+    found_front fuel (found_in fuel) at text (take n text) (drop n text) (sym split)
+    (prefix_all is_blank text) (prefix_stops is_blank text) less
 
 -- each input section comes to one thing alone
 pub one_answer : (at : Place) (text : List ℕ) → ExactlyOne (IsInputAnswer at text)
 one_answer at text = go (found_in (length text) at text (omega arith))
   where
-    only_words : (ws : List ℕ) → InputWords at text ws → (other : Result (List ℕ) Place) → IsInputAnswer at text other → other ≡ Ok ws
+    only_words : (ws : List ℕ) → InputWords at text ws → (other : Result (List ℕ) Place)
+        → IsInputAnswer at text other → other ≡ Ok ws
     only_words ws h (Ok vs) k = ap Ok (one_list at text vs ws k h)
     only_words ws h (Err p) k = absurd (no_fault_in_words at text ws p h k)
 
-    only_fault : (p : Place) → InputFault at text p → (other : Result (List ℕ) Place) → IsInputAnswer at text other → other ≡ Err p
+    only_fault : (p : Place) → InputFault at text p → (other : Result (List ℕ) Place)
+        → IsInputAnswer at text other → other ≡ Err p
     only_fault p h (Ok ws) k = absurd (no_fault_in_words at text ws p k h)
     only_fault p h (Err q) k = ap Err (one_fault at text q p k h)
 

@@ -1,5 +1,6 @@
 -- The jobs of a text.
-use Rattle.std.specs.Prelude.{◌≡◌, ◌⊎◌, ℕ, zero, suc, ◌≤◌, ◌<◌, ◌&&◌, ◌==◌, Bool, true, false, if◌then◌else◌, List, [], ◌∷◌, ◌++◌, length, map, refl}
+use Rattle.std.specs.Prelude.{◌≡◌, ◌⊎◌, ℕ, zero, suc, ◌≤◌, ◌<◌, ◌&&◌, ◌==◌, Bool, true, false, if◌then◌else◌}
+use Rattle.std.specs.Prelude.{List, [], ◌∷◌, ◌++◌, length, map, refl}
 use Rattle.std.specs.List.{AllByRecursion}
 use Rattle.std.proofs.Common.{sym, ap, ◌∙◌, subst, inl, inr, arith}
 use Rattle.src_ast.specs.declared.lexeme.Place.{Place}
@@ -11,7 +12,9 @@ use Rattle.wsc_top.specs.declared.batch.JobsRefusal.TheVariants as refusal
 use Rattle.wsc_top.specs.Sections.{is_line, after_line, rest_of}
 use Rattle.wsc_top.specs.Job.{IsJob, Refuses}
 use Rattle.wsc_top.specs.Answers.{IsCompiled}
-use Rattle.wsc_top.specs.Jobs.{separator, most_jobs, Piece, IsLast, first_job, behind, place_behind, JobsFrom, last, next, Jobs, ProgramAndInput, EachIsJob, IsCrowded, RefusesJobs, faulty, IsJobsFault}
+use Rattle.wsc_top.specs.Jobs.{separator, most_jobs, Piece, IsLast, first_job, behind, place_behind, JobsFrom}
+use Rattle.wsc_top.specs.Jobs.{last, next, Jobs, ProgramAndInput, EachIsJob, IsCrowded, RefusesJobs, faulty}
+use Rattle.wsc_top.specs.Jobs.{IsJobsFault}
 use Rattle.wsc_top.specs.Threads.{Thread, HasJob, pieces_of, images_of, inputs_of}
 use Rattle.wsc_top.specs.Running.{IsRead, IsPieceFault, AreRead}
 use Rattle.ws_words.proofs.Lists.{map_push}
@@ -22,34 +25,41 @@ after_le : (bytes : List ℕ) → length (after_line bytes) ≤ length bytes
 after_le [] = omega arith
 after_le (b ∷ bytes) = go (b == 10) (after_le bytes)
   where
-    go : (c : Bool) → length (after_line bytes) ≤ length bytes → length (if c then bytes else after_line bytes) ≤ length (b ∷ bytes)
+    go : (c : Bool) → length (after_line bytes) ≤ length bytes
+        → length (if c then bytes else after_line bytes) ≤ length (b ∷ bytes)
     go true h = omega arith
     go false h = omega (arith, h)
 
 after_short : (b : ℕ) (bytes : List ℕ) → length (after_line (b ∷ bytes)) ≤ length bytes
 after_short b bytes = go (b == 10) (after_le bytes)
   where
-    go : (c : Bool) → length (after_line bytes) ≤ length bytes → length (if c then bytes else after_line bytes) ≤ length bytes
+    go : (c : Bool) → length (after_line bytes) ≤ length bytes
+        → length (if c then bytes else after_line bytes) ≤ length bytes
     go true h = omega arith
     go false h = h
 
-rest_le : (marker : List ℕ) (at_line : Bool) (text : List ℕ) → length (rest_of marker at_line text) ≤ length text
+rest_le : (marker : List ℕ) (at_line : Bool) (text : List ℕ) → length (rest_of marker at_line text)
+    ≤ length text
 rest_le marker at_line [] = omega arith
-rest_le marker at_line (b ∷ bytes) = go (at_line && is_line marker (b ∷ bytes)) (rest_le marker (b == 10) bytes)
+rest_le marker at_line (b ∷ bytes) = go (at_line && is_line marker (b ∷ bytes))
+    (rest_le marker (b == 10) bytes)
   where
-    go : (c : Bool) → length (rest_of marker (b == 10) bytes) ≤ length bytes → length (if c then b ∷ bytes else rest_of marker (b == 10) bytes) ≤ length (b ∷ bytes)
+    go : (c : Bool) → length (rest_of marker (b == 10) bytes) ≤ length bytes
+        → length (if c then b ∷ bytes else rest_of marker (b == 10) bytes) ≤ length (b ∷ bytes)
     go true h = omega arith
     go false h = omega (arith, h)
 
 pub behind_short : (text : List ℕ) → (IsLast text → ⊥) → length (behind text) < length text
 behind_short text further = go (rest_of separator true text) further (rest_le separator true text)
   where
-    go : (rest : List ℕ) → (rest ≡ [] → ⊥) → length rest ≤ length text → length (after_line rest) < length text
+    go : (rest : List ℕ) → (rest ≡ [] → ⊥) → length rest ≤ length text → length (after_line rest)
+        < length text
     go [] more le = absurd (more refl)
     go (b ∷ rest) more le = let short = after_short b rest in omega (arith, short, le)
 
 pub behind_le : (text : List ℕ) → length (behind text) ≤ length text
-behind_le text = let one = after_le (rest_of separator true text) in let two = rest_le separator true text in omega (arith, one, two)
+behind_le text = let one = after_le (rest_of separator true text) in let two = rest_le separator true text in
+    omega (arith, one, two)
 
 -- Each text is some jobs, and in one way.
 
@@ -60,51 +70,68 @@ is_none (x ∷ xs) = inr (λ e. cc)
 abbrev pub piece_at : Place → List ℕ → Piece
 piece_at at text = record { at = at; text = first_job text }
 
-pub jobs_exist : (n : ℕ) (at : Place) (text : List ℕ) → length text ≤ n → (more : List Piece) × JobsFrom at text (piece_at at text ∷ more)
+pub jobs_exist : (n : ℕ) (at : Place) (text : List ℕ) → length text ≤ n
+    → (more : List Piece) × JobsFrom at text (piece_at at text ∷ more)
 jobs_exist zero at [] le = ([], last refl)
 jobs_exist zero at (b ∷ text) le = absurd (omega (arith, le))
 jobs_exist (suc n) at text le =
-    go (λ further. jobs_exist n (place_behind at text) (behind text) (let short = behind_short text further in omega (arith, short, le))) (is_none (rest_of separator true text))
+    go (λ further. jobs_exist n (place_behind at text) (behind text) (let short = behind_short text further in
+    omega (arith, short, le))) (is_none (rest_of separator true text))
   where
-    go : ((IsLast text → ⊥) → (more : List Piece) × JobsFrom (place_behind at text) (behind text) (piece_at (place_behind at text) (behind text) ∷ more))
-        → (rest_of separator true text ≡ []) ⊎ (rest_of separator true text ≡ [] → ⊥) → (more : List Piece) × JobsFrom at text (piece_at at text ∷ more)
+    go : ((IsLast text → ⊥) → (more : List Piece) × JobsFrom (place_behind at text) (behind text)
+        (piece_at (place_behind at text) (behind text) ∷ more))
+        → (rest_of separator true text ≡ []) ⊎ (rest_of separator true text ≡ [] → ⊥)
+        → (more : List Piece) × JobsFrom at text (piece_at at text ∷ more)
     go there (inl e) = ([], last e)
-    go there (inr further) = let r = there further in (piece_at (place_behind at text) (behind text) ∷ r.0, next further r.1)
+    go there (inr further) = let r = there further in (
+      piece_at (place_behind at text) (behind text) ∷ r.0,
+      next further r.1,
+    )
 
-pub jobs_once : (at : Place) (text : List ℕ) (ps qs : List Piece) → JobsFrom at text ps → JobsFrom at text qs → ps ≡ qs
+pub jobs_once : (at : Place) (text : List ℕ) (ps qs : List Piece) → JobsFrom at text ps → JobsFrom at text qs
+    → ps ≡ qs
 jobs_once at text ps qs (last e) (last f) = refl
 jobs_once at text ps qs (last e) (next further js) = absurd (further e)
 jobs_once at text ps qs (next further js) (last e) = absurd (further e)
 jobs_once at text ps qs (next {pieces = more} further js) (next {pieces = others} again ks) =
-    ap (λ (l : List Piece). piece_at at text ∷ l) (jobs_once (place_behind at text) (behind text) more others js ks)
+    ap (λ (l : List Piece). piece_at at text ∷ l) (jobs_once (place_behind at text) (behind text) more others
+    js ks)
 
 -- a separator and the jobs behind it
-pub lift : (at place : Place) (text rest : List ℕ) (ps : List Piece) → place ≡ place_behind at text → rest ≡ behind text → (IsLast text → ⊥)
+pub lift : (at place : Place) (text rest : List ℕ) (ps : List Piece) → place ≡ place_behind at text
+    → rest ≡ behind text → (IsLast text → ⊥)
     → JobsFrom place rest ps → JobsFrom at text (piece_at at text ∷ ps)
 lift at place text rest ps e f further js =
-    next further (subst (λ (p : Place). JobsFrom p (behind text) ps) e (subst (λ (r : List ℕ). JobsFrom place r ps) f js))
+    next further (subst (λ (p : Place). JobsFrom p (behind text) ps) e
+    (subst (λ (r : List ℕ). JobsFrom place r ps) f js))
 
 -- A fourth separator.
 
 last_behind : (text rest : List ℕ) → rest ≡ behind text → (IsLast rest → ⊥) → IsLast text → ⊥
 last_behind text rest e further l = further (subst IsLast (sym (e ∙ ap after_line l)) refl)
 
-last_short : (at : Place) (text : List ℕ) (ps : List Piece) → IsLast text → JobsFrom at text ps → length ps ≤ 1
+last_short : (at : Place) (text : List ℕ) (ps : List Piece) → IsLast text → JobsFrom at text ps
+    → length ps ≤ 1
 last_short at text ps l (last e) = omega arith
 last_short at text ps l (next further js) = absurd (further l)
 
-more_short : (n : ℕ) (text rest : List ℕ) → rest ≡ behind text → ((at : Place) (ps : List Piece) → JobsFrom at rest ps → length ps ≤ n)
+more_short : (n : ℕ) (text rest : List ℕ) → rest ≡ behind text
+    → ((at : Place) (ps : List Piece) → JobsFrom at rest ps → length ps ≤ n)
     → (at : Place) (ps : List Piece) → JobsFrom at text ps → length ps ≤ suc n
 more_short n text rest e h at ps (last l) = omega arith
 more_short n text rest e h at ps (next {pieces = more} further js) =
-    let le = h (place_behind at text) more (subst (λ (r : List ℕ). JobsFrom (place_behind at text) r more) (sym e) js) in omega (arith, le)
+    let le = h (place_behind at text) more (subst (λ (r : List ℕ). JobsFrom (place_behind at text) r more)
+    (sym e) js) in omega (arith, le)
 
-module _ (text second third fourth : List ℕ) (is_second : second ≡ behind text) (is_third : third ≡ behind second) (is_fourth : fourth ≡ behind third) where
+module _ (text second third fourth : List ℕ) (is_second : second ≡ behind text)
+    (is_third : third ≡ behind second) (is_fourth : fourth ≡ behind third) where
   pub few_jobs : IsLast fourth → (ps : List Piece) → Jobs text ps → length ps ≤ most_jobs
   few_jobs l ps js =
-      more_short 3 text second is_second (more_short 2 second third is_third (more_short 1 third fourth is_fourth (λ at qs ks. last_short at fourth qs l ks))) start ps js
+      more_short 3 text second is_second (more_short 2 second third is_third
+      (more_short 1 third fourth is_fourth (λ at qs ks. last_short at fourth qs l ks))) start ps js
 
-  pub is_crowded : (two three four : Place) (own : List ℕ) (line : ℕ) → two ≡ place_behind start text → three ≡ place_behind two second → four ≡ place_behind three third
+  pub is_crowded : (two three four : Place) (own : List ℕ) (line : ℕ) → two ≡ place_behind start text
+      → three ≡ place_behind two second → four ≡ place_behind three third
       → (IsLast fourth → ⊥) → own ≡ first_job fourth → line ≡ (after four own).line → IsCrowded text line
   is_crowded two three four own line at_two at_three at_four further own_is line_is =
       let none_third = last_behind third fourth is_fourth further in
@@ -128,11 +155,13 @@ module _ (text second third fourth : List ℕ) (is_second : second ≡ behind te
 abbrev pub Made : Thread → Type 0
 Made thread = IsCompiled thread.parts thread.image
 
-all_more : (P : Thread → Type 0) (xs : List Thread) (x : Thread) → AllByRecursion P xs → P x → AllByRecursion P (xs ++ x ∷ [])
+all_more : (P : Thread → Type 0) (xs : List Thread) (x : Thread) → AllByRecursion P xs → P x
+    → AllByRecursion P (xs ++ x ∷ [])
 all_more P [] x h p = (p, tt)
 all_more P (y ∷ xs) x h p = (h.0, all_more P xs x h.1 p)
 
-put_between : (xs : List Thread) (x : Thread) (ps : List Piece) → pieces_of xs ++ x.piece ∷ ps ≡ pieces_of (xs ++ x ∷ []) ++ ps
+put_between : (xs : List Thread) (x : Thread) (ps : List Piece) → pieces_of xs ++ x.piece ∷ ps ≡ pieces_of
+    (xs ++ x ∷ []) ++ ps
 put_between [] x ps = refl
 put_between (y ∷ xs) x ps = ap (λ (l : List Piece). y.piece ∷ l) (put_between xs x ps)
 
@@ -147,7 +176,8 @@ pub each_of : (xs : List Thread) → AllByRecursion HasJob xs → EachIsJob (pie
 each_of [] h = tt
 each_of (x ∷ xs) h = (h.0, each_of xs h.1)
 
-pub record Reading (text : List ℕ) (images : List Image) (inputs : List (List ℕ)) (at : Place) (rest : List ℕ) : Type 0 where
+pub record Reading (text : List ℕ) (images : List Image) (inputs : List (List ℕ)) (at : Place)
+    (rest : List ℕ) : Type 0 where
   pub done : List Thread
   pub each : AllByRecursion HasJob done
   pub compiled : AllByRecursion Made done
@@ -156,10 +186,20 @@ pub record Reading (text : List ℕ) (images : List Image) (inputs : List (List 
   pub leads : (ps : List Piece) → JobsFrom at rest ps → Jobs text (pieces_of done ++ ps)
 
 pub reads_none : (text : List ℕ) → Reading text [] [] start text
-reads_none text = record { done = []; each = tt; compiled = tt; images_are = refl; inputs_are = refl; leads = λ ps js. js }
+reads_none text = record {
+  done = [];
+  each = tt;
+  compiled = tt;
+  images_are = refl;
+  inputs_are = refl;
+  leads = λ ps js. js;
+}
 
-module _ (text : List ℕ) (images : List Image) (inputs : List (List ℕ)) (at : Place) (rest own : List ℕ) (r : Reading text images inputs at rest) (own_is : own ≡ first_job rest) where
-  module _ (image : Image) (input : List ℕ) (read : IsRead own image input) (more : List Image) (words : List (List ℕ)) (images_more : more ≡ images ++ image ∷ []) (inputs_more : words ≡ inputs ++ input ∷ []) where
+module _ (text : List ℕ) (images : List Image) (inputs : List (List ℕ)) (at : Place) (rest own : List ℕ)
+    (r : Reading text images inputs at rest) (own_is : own ≡ first_job rest) where
+  module _ (image : Image) (input : List ℕ) (read : IsRead own image input) (more : List Image)
+      (words : List (List ℕ)) (images_more : more ≡ images ++ image ∷ [])
+      (inputs_more : words ≡ inputs ++ input ∷ []) where
     thread : Thread
     thread = record { piece = piece_at at rest; parts = read.0; input = input; image = image }
 
@@ -173,17 +213,22 @@ module _ (text : List ℕ) (images : List Image) (inputs : List (List ℕ)) (at 
 
     are_images : images_of (r.done ++ thread ∷ []) ≡ more
     unfolding thread
-    are_images = map_push (λ (x : Thread). x.image) r.done thread ∙ ap (λ (l : List Image). l ++ image ∷ []) r.images_are ∙ sym images_more
+    are_images = map_push (λ (x : Thread). x.image) r.done thread ∙ ap (λ (l : List Image). l ++ image ∷ [])
+        r.images_are ∙ sym images_more
 
     are_inputs : inputs_of (r.done ++ thread ∷ []) ≡ words
     unfolding thread
-    are_inputs = map_push (λ (x : Thread). x.input) r.done thread ∙ ap (λ (l : List (List ℕ)). l ++ input ∷ []) r.inputs_are ∙ sym inputs_more
+    are_inputs = map_push (λ (x : Thread). x.input) r.done thread
+        ∙ ap (λ (l : List (List ℕ)). l ++ input ∷ []) r.inputs_are ∙ sym inputs_more
 
-    lead_on : (ps : List Piece) → JobsFrom at rest (piece_at at rest ∷ ps) → Jobs text (pieces_of (r.done ++ thread ∷ []) ++ ps)
+    lead_on : (ps : List Piece) → JobsFrom at rest (piece_at at rest ∷ ps)
+        → Jobs text (pieces_of (r.done ++ thread ∷ []) ++ ps)
     unfolding thread
-    lead_on ps js = subst (λ (l : List Piece). Jobs text l) (put_between r.done thread ps) (r.leads (piece_at at rest ∷ ps) js)
+    lead_on ps js = subst (λ (l : List Piece). Jobs text l) (put_between r.done thread ps)
+        (r.leads (piece_at at rest ∷ ps) js)
 
-    pub reads_more : (place : Place) (further : List ℕ) → place ≡ place_behind at rest → further ≡ behind rest → (IsLast rest → ⊥) → Reading text more words place further
+    pub reads_more : (place : Place) (further : List ℕ) → place ≡ place_behind at rest → further ≡ behind rest
+        → (IsLast rest → ⊥) → Reading text more words place further
     reads_more place further e f on = record {
       done = r.done ++ thread ∷ [];
       each = all_more HasJob r.done thread r.each is_job;
@@ -193,12 +238,20 @@ module _ (text : List ℕ) (images : List Image) (inputs : List (List ℕ)) (at 
       leads = λ ps js. lead_on ps (lift at place rest further ps e f on js);
     }
 
-    pub reads_last : ((ps : List Piece) → Jobs text ps → length ps ≤ most_jobs) → IsLast rest → AreRead text more words
+    pub reads_last : ((ps : List Piece) → Jobs text ps → length ps ≤ most_jobs) → IsLast rest
+        → AreRead text more words
     reads_last few l =
-        let split : Jobs text (pieces_of (r.done ++ thread ∷ [])) = subst (λ (ps : List Piece). Jobs text ps) (no_more (pieces_of (r.done ++ thread ∷ []))) (lead_on [] (last l)) in
+        let split : Jobs text (pieces_of (r.done ++ thread ∷ [])) = subst (λ (ps : List Piece). Jobs text ps)
+        (no_more (pieces_of (r.done ++ thread ∷ []))) (lead_on [] (last l)) in
         record {
           threads = r.done ++ thread ∷ [];
-          jobs = record { split = split; few = subst (λ (n : ℕ). n ≤ most_jobs) (count_pieces (r.done ++ thread ∷ [])) (few _ split); each = all_more HasJob r.done thread r.each is_job };
+          jobs = record {
+            split = split;
+            few = subst (λ (n : ℕ). n ≤ most_jobs)
+                (count_pieces (r.done ++ thread ∷ [])) (few _ split);
+            each =
+                all_more HasJob r.done thread r.each is_job;
+          };
           compiled = all_more Made r.done thread r.compiled is_made;
           images_are = are_images;
           inputs_are = are_inputs;
@@ -208,12 +261,14 @@ module _ (text : List ℕ) (images : List Image) (inputs : List (List ℕ)) (at 
         no_more [] = refl
         no_more (x ∷ xs) = ap (λ (l : List Piece). x ∷ l) (no_more xs)
 
-  pub reads_fault : ((ps : List Piece) → Jobs text ps → length ps ≤ most_jobs) → (e : JobsFault) → IsPieceFault at own e → IsJobsFault text e
+  pub reads_fault : ((ps : List Piece) → Jobs text ps → length ps ≤ most_jobs) → (e : JobsFault)
+      → IsPieceFault at own e → IsJobsFault text e
   reads_fault few fault.NoMemory h = tt
   reads_fault few (fault.Refused (refusal.Threads line)) h = absurd h
   reads_fault few (fault.Refused (refusal.OfJob place q)) h =
       let more = jobs_exist (length rest) at rest (omega arith) in
       let split = r.leads (piece_at at rest ∷ more.0) more.1 in
       subst (λ (p : Place). RefusesJobs text (refusal.OfJob p q)) (sym h.0)
-      (faulty (pieces_of r.done) (piece_at at rest) more.0 (programs_of r.done) q split (few _ split) (each_of r.done r.each)
+      (faulty (pieces_of r.done) (piece_at at rest) more.0 (programs_of r.done) q split (few _ split)
+      (each_of r.done r.each)
       (subst (λ (t : List ℕ). Refuses t q) own_is h.1))

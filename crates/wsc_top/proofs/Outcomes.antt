@@ -22,18 +22,25 @@ use Rattle.wsc_top.specs.Executions.{EndsRun}
 use Rattle.wsc_top.specs.Traced.{IsTraced, IsReplayed, EndsReplay}
 use Rattle.wsc_top.specs.Clocked.{IsClocked}
 use Rattle.wsc_top.specs.declared.task.GridOptions.{GridOptions}
-use Rattle.wsc_top.specs.Texts.{sound_text, ended_text, faulted_text, going_text, turns_line, names_of, array_name}
+use Rattle.wsc_top.specs.Texts.{sound_text, ended_text, faulted_text, going_text, turns_line, names_of}
+use Rattle.wsc_top.specs.Texts.{array_name}
 use Rattle.wsc_top.specs.Job.{world_of}
 use Rattle.port_set.specs.Ports.{Told}
-use Rattle.wsc_top.specs.Answers.{IsCompiled, Yields, formatted, compiled, ended, faulted, going, AssemblyYields, checked, listed, traced, replayed, gridded}
+use Rattle.wsc_top.specs.Answers.{IsCompiled, Yields, formatted, compiled, ended, faulted, going}
+use Rattle.wsc_top.specs.Answers.{AssemblyYields, checked, listed, traced, replayed, gridded}
 
-pub format_yields : (parts : List Part) (out : List ℕ) → ReadsTheSame parts → out ≡ printed_form parts → (ws : List ℕ) (handed : List (Option Told)) → Yields Format parts ws handed Done out None handed
-format_yields parts out r e ws handed = subst (λ o. Yields Format parts ws handed Done o None handed) (sym e) (formatted r)
+pub format_yields : (parts : List Part) (out : List ℕ) → ReadsTheSame parts → out ≡ printed_form parts
+    → (ws : List ℕ) (handed : List (Option Told)) → Yields Format parts ws handed Done out None handed
+format_yields parts out r e ws handed = subst (λ o. Yields Format parts ws handed Done o None handed) (sym e)
+    (formatted r)
 
 -- the text of an image of the program
-pub compile_yields : (parts : List Part) (image : Image) (out : List ℕ) → IsCompiled parts image → out ≡ printed image
-    → (ws : List ℕ) (handed : List (Option Told)) → Yields Compile parts ws handed Done out (Some image) handed
-compile_yields parts image out h e ws handed = subst (λ o. Yields Compile parts ws handed Done o (Some image) handed) (sym e) (compiled image h)
+pub compile_yields : (parts : List Part) (image : Image) (out : List ℕ) → IsCompiled parts image
+    → out ≡ printed image
+    → (ws : List ℕ) (handed : List (Option Told)) → Yields Compile parts ws handed Done out (Some image)
+    handed
+compile_yields parts image out h e ws handed =
+    subst (λ o. Yields Compile parts ws handed Done o (Some image) handed) (sym e) (compiled image h)
 
 -- so many empty lists
 abbrev pub empties : ℕ → List (List ℕ)
@@ -42,85 +49,129 @@ empties (suc n) = empties n ++ [] ∷ []
 
 -- how the sequential run of a program answers
 abbrev Says : List Part → World → ℕ → Reply → Type 0
-Says parts world most plain = HasEnded parts world most plain ⊎ (HasFaulted parts world most plain ⊎ IsGoing parts world most plain)
+Says parts world most plain = HasEnded parts world most plain
+    ⊎ (HasFaulted parts world most plain ⊎ IsGoing parts world most plain)
 
 -- where the answer says that the run ended, it did, in time
-ended_run : (parts : List Part) (world : World) (most : ℕ) (printed : List ℕ) (arrays took : List (List ℕ)) (turns : ℕ)
-    → Says parts world most (replies.Ended printed arrays took turns) → HasEnded parts world most (replies.Ended printed arrays took turns)
+ended_run : (parts : List Part) (world : World) (most : ℕ) (printed : List ℕ) (arrays took : List (List ℕ))
+    (turns : ℕ)
+    → Says parts world most (replies.Ended printed arrays took turns)
+    → HasEnded parts world most (replies.Ended printed arrays took turns)
 ended_run parts world most printed arrays took turns (inl h) = h
 ended_run parts world most printed arrays took turns (inr (inl h)) = absurd h.says
 ended_run parts world most printed arrays took turns (inr (inr h)) = absurd h.says
 
 -- where it says that the run met an index fault, it did, in time
-faulted_run : (parts : List Part) (world : World) (most array : ℕ) (printed : List ℕ) (arrays took : List (List ℕ)) (turns : ℕ)
-    → Says parts world most (replies.Fault array printed arrays took turns) → HasFaulted parts world most (replies.Fault array printed arrays took turns)
+faulted_run : (parts : List Part) (world : World) (most array : ℕ) (printed : List ℕ)
+    (arrays took : List (List ℕ)) (turns : ℕ)
+    → Says parts world most (replies.Fault array printed arrays took turns)
+    → HasFaulted parts world most (replies.Fault array printed arrays took turns)
 faulted_run parts world most array printed arrays took turns (inl h) = absurd h.says
 faulted_run parts world most array printed arrays took turns (inr (inl h)) = h
 faulted_run parts world most array printed arrays took turns (inr (inr h)) = absurd h.says
 
 -- where it says that the run goes on, it does
-going_run : (parts : List Part) (world : World) (most : ℕ) (printed : List ℕ) → Says parts world most (replies.Going printed) → IsGoing parts world most (replies.Going printed)
+going_run : (parts : List Part) (world : World) (most : ℕ) (printed : List ℕ)
+    → Says parts world most (replies.Going printed) → IsGoing parts world most (replies.Going printed)
 going_run parts world most printed (inl h) = absurd h.says
 going_run parts world most printed (inr (inl h)) = absurd h.says
 going_run parts world most printed (inr (inr h)) = h
 
 -- the text of a run that ended
-pub ended_yields : (options : PlainOptions) (parts : List Part) (input : List ℕ) (world : World) (printed : List ℕ) (arrays took : List (List ℕ)) (turns : ℕ) (out : List ℕ) (handed : List (Option Told))
+pub ended_yields : (options : PlainOptions) (parts : List Part) (input : List ℕ) (world : World)
+    (printed : List ℕ) (arrays took : List (List ℕ)) (turns : ℕ) (out : List ℕ) (handed : List (Option Told))
     → world ≡ world_of input → Says parts world options.turns (replies.Ended printed arrays took turns)
-    → out ≡ ended_text options.memory options.stats (names_of parts) printed arrays (turns_line turns) → Yields (Plain options) parts input handed Done out None handed
+    → out ≡ ended_text options.memory options.stats (names_of parts) printed arrays (turns_line turns)
+    → Yields (Plain options) parts input handed Done out None handed
 ended_yields options parts input world printed arrays took turns out handed w r e =
     let h = ended_run parts world options.turns printed arrays took turns r in
-    let text : ended_text options.memory options.stats (names_of parts) printed arrays (turns_line turns) ≡ ended_text options.memory options.stats (names_of parts) (printed_words h.end.acts) h.end.cells (turns_line h.taken) =
+    let text : ended_text options.memory options.stats (names_of parts) printed arrays (turns_line turns)
+    ≡ ended_text options.memory options.stats (names_of parts) (printed_words h.end.acts) h.end.cells
+    (turns_line h.taken) =
     ap (λ n. ended_text options.memory options.stats (names_of parts) printed arrays (turns_line n)) h.says.0
-    ∙ ap (λ ws. ended_text options.memory options.stats (names_of parts) ws arrays (turns_line h.taken)) h.says.1
-    ∙ ap (λ cells. ended_text options.memory options.stats (names_of parts) (printed_words h.end.acts) cells (turns_line h.taken)) h.says.2 in
-    subst (λ o. Yields (Plain options) parts input handed Done o None handed) (sym (e ∙ text)) (ended h.taken h.end (subst (λ x. Runs parts x h.taken h.end) w h.runs) h.within)
+    ∙ ap (λ ws. ended_text options.memory options.stats (names_of parts) ws arrays (turns_line h.taken))
+    h.says.1
+    ∙ ap (λ cells. ended_text options.memory options.stats (names_of parts) (printed_words h.end.acts) cells
+    (turns_line h.taken)) h.says.2 in
+    subst (λ o. Yields (Plain options) parts input handed Done o None handed) (sym (e ∙ text))
+    (ended h.taken h.end (subst (λ x. Runs parts x h.taken h.end) w h.runs) h.within)
 
 -- the text of a run that met an index fault
-pub faulted_yields : (options : PlainOptions) (parts : List Part) (input : List ℕ) (world : World) (array : ℕ) (printed : List ℕ) (arrays took : List (List ℕ)) (turns : ℕ) (out : List ℕ) (handed : List (Option Told))
+pub faulted_yields : (options : PlainOptions) (parts : List Part) (input : List ℕ) (world : World) (array : ℕ)
+    (printed : List ℕ) (arrays took : List (List ℕ)) (turns : ℕ) (out : List ℕ) (handed : List (Option Told))
     → world ≡ world_of input → Says parts world options.turns (replies.Fault array printed arrays took turns)
-    → out ≡ faulted_text options.memory (array_name (names_of parts) array) (names_of parts) printed arrays → Yields (Plain options) parts input handed Fault out None handed
+    → out ≡ faulted_text options.memory (array_name (names_of parts) array) (names_of parts) printed arrays
+    → Yields (Plain options) parts input handed Fault out None handed
 faulted_yields options parts input world array printed arrays took turns out handed w r e =
     let h = faulted_run parts world options.turns array printed arrays took turns r in
-    let text : faulted_text options.memory (array_name (names_of parts) array) (names_of parts) printed arrays ≡ faulted_text options.memory (array_name (names_of parts) h.array) (names_of parts) (printed_words h.state.acts) h.state.cells =
-    ap (λ n. faulted_text options.memory (array_name (names_of parts) n) (names_of parts) printed arrays) h.says.0
-    ∙ ap (λ ws. faulted_text options.memory (array_name (names_of parts) h.array) (names_of parts) ws arrays) h.says.2
-    ∙ ap (λ cells. faulted_text options.memory (array_name (names_of parts) h.array) (names_of parts) (printed_words h.state.acts) cells) h.says.3 in
-    subst (λ o. Yields (Plain options) parts input handed Fault o None handed) (sym (e ∙ text)) (faulted h.turn h.array h.state (subst (λ x. Faults parts x h.turn h.array h.state) w h.faults) h.within)
+    let text : faulted_text options.memory (array_name (names_of parts) array) (names_of parts) printed arrays
+    ≡ faulted_text options.memory (array_name (names_of parts) h.array) (names_of parts)
+    (printed_words h.state.acts) h.state.cells =
+    ap (λ n. faulted_text options.memory (array_name (names_of parts) n) (names_of parts) printed arrays)
+    h.says.0
+    ∙ ap (λ ws. faulted_text options.memory (array_name (names_of parts) h.array) (names_of parts) ws arrays)
+    h.says.2
+    ∙ ap (λ cells. faulted_text options.memory (array_name (names_of parts) h.array) (names_of parts)
+    (printed_words h.state.acts) cells) h.says.3 in
+    subst (λ o. Yields (Plain options) parts input handed Fault o None handed) (sym (e ∙ text))
+    (faulted h.turn h.array h.state (subst (λ x. Faults parts x h.turn h.array h.state) w h.faults)
+    h.within)
 
 -- the text of a run that goes on
-pub going_yields : (options : PlainOptions) (parts : List Part) (input : List ℕ) (world : World) (printed : List ℕ) (out : List ℕ) (handed : List (Option Told)) → world ≡ world_of input
-    → Says parts world options.turns (replies.Going printed) → out ≡ going_text printed → Yields (Plain options) parts input handed Budget out None handed
+pub going_yields : (options : PlainOptions) (parts : List Part) (input : List ℕ) (world : World)
+    (printed : List ℕ) (out : List ℕ) (handed : List (Option Told)) → world ≡ world_of input
+    → Says parts world options.turns (replies.Going printed) → out ≡ going_text printed
+    → Yields (Plain options) parts input handed Budget out None handed
 going_yields options parts input world printed out handed w r e =
     let h = going_run parts world options.turns printed r in
-    subst (λ o. Yields (Plain options) parts input handed Budget o None handed) (sym (e ∙ ap going_text h.says)) (going h.now (subst (λ x. Goes parts x options.turns h.now) w h.goes))
+    subst (λ o. Yields (Plain options) parts input handed Budget o None handed)
+    (sym (e ∙ ap going_text h.says))
+    (going h.now (subst (λ x. Goes parts x options.turns h.now) w h.goes))
 
 -- what comes of a task to a sound image
 module _ (text : List ℕ) (image : Image) (input : List ℕ) (handed : List (Option Told)) where
-  pub checked_yields : (task : AssemblyTask) (out : List ℕ) → task ≡ Check → out ≡ sound_text → AssemblyYields task text image input handed Done out None handed
+  pub checked_yields : (task : AssemblyTask) (out : List ℕ) → task ≡ Check → out ≡ sound_text
+      → AssemblyYields task text image input handed Done out None handed
   checked_yields task out e f =
-      subst (λ t. AssemblyYields t text image input handed Done out None handed) (sym e) (subst (λ o. AssemblyYields Check text image input handed Done o None handed) (sym f) checked)
+      subst (λ t. AssemblyYields t text image input handed Done out None handed) (sym e)
+      (subst (λ o. AssemblyYields Check text image input handed Done o None handed) (sym f) checked)
 
-  pub listed_yields : (task : AssemblyTask) (out : List ℕ) → task ≡ Listing → out ≡ listing image → AssemblyYields task text image input handed Done out None handed
+  pub listed_yields : (task : AssemblyTask) (out : List ℕ) → task ≡ Listing → out ≡ listing image
+      → AssemblyYields task text image input handed Done out None handed
   listed_yields task out e f =
-      subst (λ t. AssemblyYields t text image input handed Done out None handed) (sym e) (subst (λ o. AssemblyYields Listing text image input handed Done o None handed) (sym f) listed)
+      subst (λ t. AssemblyYields t text image input handed Done out None handed) (sym e)
+      (subst (λ o. AssemblyYields Listing text image input handed Done o None handed) (sym f) listed)
 
   -- here and below it is told by a text with the same bytes
-  told_by : (task : AssemblyTask) (status : Status) (out made : List ℕ) (again : Option Image) → out ≡ made → AssemblyYields task text image input handed status made again handed
+  told_by : (task : AssemblyTask) (status : Status) (out made : List ℕ) (again : Option Image) → out ≡ made
+      → AssemblyYields task text image input handed status made again handed
       → AssemblyYields task text image input handed status out again handed
-  told_by task status out made again e y = subst (λ o. AssemblyYields task text image input handed status o again handed) (sym e) y
+  told_by task status out made again e y =
+      subst (λ o. AssemblyYields task text image input handed status o again handed) (sym e) y
 
-  pub traced_yields : (task : AssemblyTask) (budget : ℕ) (status : Status) (out made : List ℕ) → task ≡ Trace budget → out ≡ made → IsTraced budget image input status made
-      → EndsRun image (world_of input) budget status → AssemblyYields task text image input handed status out (Some image) handed
+  pub traced_yields : (task : AssemblyTask) (budget : ℕ) (status : Status) (out made : List ℕ)
+      → task ≡ Trace budget → out ≡ made → IsTraced budget image input status made
+      → EndsRun image (world_of input) budget status → AssemblyYields task text image input handed status out
+      (Some image) handed
   traced_yields task budget status out made e same h ends =
-      told_by task status out made (Some image) same (subst (λ t. AssemblyYields t text image input handed status made (Some image) handed) (sym e) (traced h ends))
+      told_by task status out made (Some image) same
+      (subst (λ t. AssemblyYields t text image input handed status made (Some image) handed) (sym e)
+      (traced h ends))
 
-  pub replayed_yields : (task : AssemblyTask) (status : Status) (out made : List ℕ) (again : Option Image) → task ≡ Replay → out ≡ made → IsReplayed text image input status made again
-      → EndsReplay text image input status → AssemblyYields task text image input handed status out again handed
+  pub replayed_yields : (task : AssemblyTask) (status : Status) (out made : List ℕ) (again : Option Image)
+      → task ≡ Replay → out ≡ made → IsReplayed text image input status made again
+      → EndsReplay text image input status → AssemblyYields task text image input handed status out again
+      handed
   replayed_yields task status out made again e same h ends =
-      told_by task status out made again same (subst (λ t. AssemblyYields t text image input handed status made again handed) (sym e) (replayed h ends))
+      told_by task status out made again same
+      (subst (λ t. AssemblyYields t text image input handed status made again handed) (sym e)
+      (replayed h ends))
 
-  pub gridded_yields : (task : AssemblyTask) (options : GridOptions) (status : Status) (out made : List ℕ) → task ≡ Grid options → out ≡ made → IsClocked options image input status made
-      → EndsRun image (world_of input) options.budget status → AssemblyYields task text image input handed status out (Some image) handed
+  pub gridded_yields : (task : AssemblyTask) (options : GridOptions) (status : Status) (out made : List ℕ)
+      → task ≡ Grid options → out ≡ made → IsClocked options image input status made
+      → EndsRun image (world_of input) options.budget status → AssemblyYields task text image input handed
+      status out (Some image) handed
   gridded_yields task options status out made e same h ends =
-      told_by task status out made (Some image) same (subst (λ t. AssemblyYields t text image input handed status made (Some image) handed) (sym e) (gridded h ends))
+      told_by task status out made (Some image) same
+      (subst (λ t. AssemblyYields t text image input handed status made (Some image) handed) (sym e)
+      (gridded h ends))

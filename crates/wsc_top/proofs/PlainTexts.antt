@@ -1,5 +1,6 @@
 -- A line for each array, item by item.
-use Rattle.std.specs.Prelude.{◌≡◌, ℕ, zero, suc, ◌+◌, ◌<◌, ◌≤◌, List, [], ◌∷◌, ◌++◌, length, slice_get, slice_index_or, refl}
+use Rattle.std.specs.Prelude.{◌≡◌, ℕ, zero, suc, ◌+◌, ◌<◌, ◌≤◌, List, [], ◌∷◌, ◌++◌, length, slice_get}
+use Rattle.std.specs.Prelude.{slice_index_or, refl}
 use Rattle.std.proofs.Common.{sym, ap, ◌∙◌, drop, arith, append_assoc}
 use Rattle.std.proofs.Math.Seq.{drop-cons}
 use Rattle.std.proofs.lemmas.List.{drop_all}
@@ -11,7 +12,9 @@ use Rattle.src_ast.specs.View as view
 use Rattle.wsc_top.specs.Texts.{names_of, maybe_line, array_lines, name_at}
 
 -- the line of the next array, and the lines of the others
-lines_more : (n : List ℕ) (ns : List (List ℕ)) (rows : List (List ℕ)) (k : ℕ) → array_lines (n ∷ ns) (drop k rows) ≡ maybe_line n (slice_get rows k) ++ array_lines ns (drop (suc k) rows)
+lines_more : (n : List ℕ) (ns : List (List ℕ)) (rows : List (List ℕ)) (k : ℕ)
+    → array_lines (n ∷ ns) (drop k rows) ≡ maybe_line n (slice_get rows k) ++ array_lines ns
+    (drop (suc k) rows)
 lines_more n [] [] zero = refl
 lines_more n (m ∷ ns) [] zero = refl
 lines_more n [] [] (suc k) = refl
@@ -19,36 +22,47 @@ lines_more n (m ∷ ns) [] (suc k) = refl
 lines_more n ns (row ∷ rows) zero = refl
 lines_more n ns (row ∷ rows) (suc k) = lines_more n ns rows k
 
-items_more : (items : List Item) (i : ℕ) (x : Item) → i < length items → x ≡ slice_index_or items i x → drop i items ≡ x ∷ drop (i + 1) items
+items_more : (items : List Item) (i : ℕ) (x : Item) → i < length items → x ≡ slice_index_or items i x
+    → drop i items ≡ x ∷ drop (i + 1) items
 items_more items i x lt is =
-    drop-cons items i x lt ∙ ap (λ y. y ∷ drop (suc i) items) (sym is) ∙ ap (λ j. x ∷ drop j items) (let e : suc i ≡ i + 1 = omega arith in e)
+    drop-cons items i x lt ∙ ap (λ y. y ∷ drop (suc i) items) (sym is) ∙ ap (λ j. x ∷ drop j items)
+    (let e : suc i ≡ i + 1 = omega arith in e)
 
-module _ (items : List Item) (rows : List (List ℕ)) (i k : ℕ) (x : Item) (text whole : List ℕ) (lt : i < length items) (is : x ≡ slice_index_or items i x)
+module _ (items : List Item) (rows : List (List ℕ)) (i k : ℕ) (x : Item) (text whole : List ℕ)
+    (lt : i < length items) (is : x ≡ slice_index_or items i x)
     (so : text ++ array_lines (names_of (view.parts (drop i items))) (drop k rows) ≡ whole) where
   next : text ++ array_lines (names_of (view.parts (x ∷ drop (i + 1) items))) (drop k rows) ≡ whole
-  next = ap (λ rest. text ++ array_lines (names_of (view.parts rest)) (drop k rows)) (sym (items_more items i x lt is)) ∙ so
+  next = ap (λ rest. text ++ array_lines (names_of (view.parts rest)) (drop k rows))
+      (sym (items_more items i x lt is)) ∙ so
 
   -- after the line of an array
-  pub after_array : (name : Name) (n : ℕ) (at : Place) (now : List ℕ) → x ≡ Array name n at → now ≡ text ++ maybe_line name.text (slice_get rows k)
+  pub after_array : (name : Name) (n : ℕ) (at : Place) (now : List ℕ) → x ≡ Array name n at
+      → now ≡ text ++ maybe_line name.text (slice_get rows k)
       → now ++ array_lines (names_of (view.parts (drop (i + 1) items))) (drop (k + 1) rows) ≡ whole
   after_array name n at now e h =
       let rest = names_of (view.parts (drop (i + 1) items)) in
       ap (λ t. t ++ array_lines rest (drop (k + 1) rows)) h
       ∙ append_assoc text (maybe_line name.text (slice_get rows k)) (array_lines rest (drop (k + 1) rows))
-      ∙ ap (λ j. text ++ (maybe_line name.text (slice_get rows k) ++ array_lines rest (drop j rows))) (let e : k + 1 ≡ suc k = omega arith in e)
+      ∙ ap (λ j. text ++ (maybe_line name.text (slice_get rows k) ++ array_lines rest (drop j rows)))
+      (let e : k + 1 ≡ suc k = omega arith in e)
       ∙ ap (λ t. text ++ t) (sym (lines_more name.text rest rows k))
-      ∙ ap (λ y. text ++ array_lines (names_of (view.part y ∷ view.parts (drop (i + 1) items))) (drop k rows)) (sym e)
+      ∙ ap (λ y. text ++ array_lines (names_of (view.part y ∷ view.parts (drop (i + 1) items))) (drop k rows))
+      (sym e)
       ∙ next
 
 -- after a procedure
-pub after_procedure : (items : List Item) (rows : List (List ℕ)) (i k : ℕ) (x : Item) (text whole : List ℕ) → i < length items → x ≡ slice_index_or items i x
-    → text ++ array_lines (names_of (view.parts (drop i items))) (drop k rows) ≡ whole → ((name : Name) (n : ℕ) (at : Place) → x ≡ Array name n at → ⊥)
+pub after_procedure : (items : List Item) (rows : List (List ℕ)) (i k : ℕ) (x : Item) (text whole : List ℕ)
+    → i < length items → x ≡ slice_index_or items i x
+    → text ++ array_lines (names_of (view.parts (drop i items))) (drop k rows) ≡ whole
+    → ((name : Name) (n : ℕ) (at : Place) → x ≡ Array name n at → ⊥)
     → text ++ array_lines (names_of (view.parts (drop (i + 1) items))) (drop k rows) ≡ whole
 after_procedure items rows i k (Array name n at) text whole lt is so none = absurd (none name n at refl)
-after_procedure items rows i k (Proc name params vars body ending) text whole lt is so none = next items rows i k (Proc name params vars body ending) text whole lt is so
+after_procedure items rows i k (Proc name params vars body ending) text whole lt is so none =
+    next items rows i k (Proc name params vars body ending) text whole lt is so
 
 -- the name of the array at a place is the first, or one of the others
-module _ (items : List Item) (i k : ℕ) (x : Item) (whole : List ℕ) (lt : i < length items) (is : x ≡ slice_index_or items i x)
+module _ (items : List Item) (i k : ℕ) (x : Item) (whole : List ℕ) (lt : i < length items)
+    (is : x ≡ slice_index_or items i x)
     (so : name_at (names_of (view.parts (drop i items))) k ≡ whole) where
   name_next : name_at (names_of (view.parts (x ∷ drop (i + 1) items))) k ≡ whole
   name_next = ap (λ rest. name_at (names_of (view.parts rest)) k) (sym (items_more items i x lt is)) ∙ so
@@ -61,19 +75,25 @@ module _ (items : List Item) (i k : ℕ) (x : Item) (whole : List ℕ) (lt : i <
       ∙ name_next
 
   -- after an array that isn't
-  pub name_after_array : (name : Name) (n : ℕ) (at : Place) (left : ℕ) → x ≡ Array name n at → k ≡ suc left → name_at (names_of (view.parts (drop (i + 1) items))) left ≡ whole
+  pub name_after_array : (name : Name) (n : ℕ) (at : Place) (left : ℕ) → x ≡ Array name n at → k ≡ suc left
+      → name_at (names_of (view.parts (drop (i + 1) items))) left ≡ whole
   name_after_array name n at left e z =
       ap (λ j. name_at (name.text ∷ names_of (view.parts (drop (i + 1) items))) j) (sym z)
       ∙ ap (λ y. name_at (names_of (view.part y ∷ view.parts (drop (i + 1) items))) k) (sym e)
       ∙ name_next
 
 -- after a procedure
-pub name_after_procedure : (items : List Item) (i k : ℕ) (x : Item) (whole : List ℕ) → i < length items → x ≡ slice_index_or items i x
-    → name_at (names_of (view.parts (drop i items))) k ≡ whole → ((name : Name) (n : ℕ) (at : Place) → x ≡ Array name n at → ⊥)
+pub name_after_procedure : (items : List Item) (i k : ℕ) (x : Item) (whole : List ℕ) → i < length items
+    → x ≡ slice_index_or items i x
+    → name_at (names_of (view.parts (drop i items))) k ≡ whole
+    → ((name : Name) (n : ℕ) (at : Place) → x ≡ Array name n at → ⊥)
     → name_at (names_of (view.parts (drop (i + 1) items))) k ≡ whole
 name_after_procedure items i k (Array name n at) whole lt is so none = absurd (none name n at refl)
-name_after_procedure items i k (Proc name params vars body ending) whole lt is so none = name_next items i k (Proc name params vars body ending) whole lt is so
+name_after_procedure items i k (Proc name params vars body ending) whole lt is so none =
+    name_next items i k (Proc name params vars body ending) whole lt is so
 
 -- after the last item there is no name
-pub name_none : (items : List Item) (i k : ℕ) (whole : List ℕ) → length items ≤ i → name_at (names_of (view.parts (drop i items))) k ≡ whole → [] ≡ whole
-name_none items i k whole h so = ap (λ rest. name_at (names_of (view.parts rest)) k) (sym (drop_all i items h)) ∙ so
+pub name_none : (items : List Item) (i k : ℕ) (whole : List ℕ) → length items ≤ i
+    → name_at (names_of (view.parts (drop i items))) k ≡ whole → [] ≡ whole
+name_none items i k whole h so = ap (λ rest. name_at (names_of (view.parts rest)) k)
+    (sym (drop_all i items h)) ∙ so

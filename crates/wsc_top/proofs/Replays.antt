@@ -1,5 +1,6 @@
 -- What the statuses of `trace` and `replay` say.
-use Rattle.std.proofs.Common.{◌≡◌, ℕ, ◌+◌, ◌==◌, Bool, true, false, List, [], length, Option, Ok, Err, refl, sym, ap, ◌∙◌, subst, inl}
+use Rattle.std.proofs.Common.{◌≡◌, ℕ, ◌+◌, ◌==◌, Bool, true, false, List, [], length, Option, Ok, Err, refl}
+use Rattle.std.proofs.Common.{sym, ap, ◌∙◌, subst, inl}
 use Rattle.std.proofs.lemmas.Bool.{true≢false}
 use Rattle.ws_words.specs.Outside.{World}
 use Rattle.ws_isa.specs.Image.{Image}
@@ -16,12 +17,14 @@ use Rattle.wsc_top.specs.Job.{world_of}
 use Rattle.wsc_top.specs.Sections.{after_line, before_trace, trace_section, trace_of, trace_line, last_line}
 use Rattle.wsc_top.specs.Executions.{EndsRun}
 use Rattle.wsc_top.specs.Traced as traces
-use Rattle.wsc_top.specs.Traced.{illegal, made, IsReplayed, missing, faulty, trace_status, HasTrace, CanReplay, EndsReplay}
+use Rattle.wsc_top.specs.Traced.{illegal, made, IsReplayed, missing, faulty, trace_status, HasTrace}
+use Rattle.wsc_top.specs.Traced.{CanReplay, EndsReplay}
 use Rattle.wsc_top.proofs.Inputs.{empty_is}
 use Rattle.df_core.proofs.Saying.{no_fault_at}
 
 module _ (image : Image) (world : World) (budget : ℕ) (events : List Event) where
-  pub ends_run : (how : TraceEnd) → Traces image world budget events how → EndsRun image world budget (trace_status how)
+  pub ends_run : (how : TraceEnd) → Traces image world budget events how
+      → EndsRun image world budget (trace_status how)
   ends_run end.Rest t = record {
     done = λ h. inl refl;
     only = λ e. t.rests.0 refl;
@@ -47,13 +50,17 @@ one_trace text a b h k =
     let e : Ok a ≡ Ok b = sym h.events ∙ k.events in cc
 
 module _ (text : List ℕ) (image : Image) (input : List ℕ)
-    (whole : (trace : List Lined) (state : State) (line : ℕ) → Run image (core_opening image (world_of input)) (events_of trace) state →
+    (whole : (trace : List Lined) (state : State) (line : ℕ) → Run image (core_opening image (world_of input))
+    (events_of trace) state →
     StopsAt image (core_opening image (world_of input)) trace line → ⊥) where
-  stops : (trace : List Lined) (line : ℕ) → HasTrace text trace → StopsAt image (core_opening image (world_of input)) trace line → CanReplay text image input → ⊥
+  stops : (trace : List Lined) (line : ℕ) → HasTrace text trace
+      → StopsAt image (core_opening image (world_of input)) trace line → CanReplay text image input → ⊥
   stops trace line h s r = whole r.trace r.state line r.run
-      (subst (λ (t : List Lined). StopsAt image (core_opening image (world_of input)) t line) (one_trace text trace r.trace h r.has) s)
+      (subst (λ (t : List Lined). StopsAt image (core_opening image (world_of input)) t line)
+      (one_trace text trace r.trace h r.has) s)
 
-  pub ends_replay : (status : Status) (out : List ℕ) (again : Option Image) → IsReplayed text image input status out again → EndsReplay text image input status
+  pub ends_replay : (status : Status) (out : List ℕ) (again : Option Image)
+      → IsReplayed text image input status out again → EndsReplay text image input status
   ends_replay status out again (missing e) = record {
     done = λ r. absurd (r.has.there e);
     only = λ f. absurd cc;
@@ -87,7 +94,9 @@ module _ (text section : List ℕ) (empty : Bool) (is : section ≡ trace_sectio
       true≢false (sym zero_long ∙ sym e ∙ not_so)
 
 -- its events, from what was cut of the text
-pub section_events : (text front section behind : List ℕ) (line : ℕ) → front ≡ before_trace text → section ≡ trace_section text → behind ≡ after_line section → line ≡ last_line front
+pub section_events : (text front section behind : List ℕ) (line : ℕ) → front ≡ before_trace text
+    → section ≡ trace_section text → behind ≡ after_line section → line ≡ last_line front
     → events_in (line + 1) behind ≡ events_in (trace_line text) (trace_of text)
 section_events text front section behind line f s b l =
-    ap (λ (n : ℕ). events_in (n + 1) behind) (l ∙ ap last_line f) ∙ ap (events_in (trace_line text)) (b ∙ ap after_line s)
+    ap (λ (n : ℕ). events_in (n + 1) behind) (l ∙ ap last_line f) ∙ ap (events_in (trace_line text))
+    (b ∙ ap after_line s)

@@ -18,19 +18,22 @@ same_task_by one words c d (l, h, e) (m, k, f) =
     cc
 
 -- a line that asks for nothing that is built
-pub not_built : OneLine → (words : List (List ℕ)) (l : Invocation) → lines.IsLine words l → task_of l ≡ None → IsNoLine words
+pub not_built : OneLine → (words : List (List ℕ)) (l : Invocation) → lines.IsLine words l → task_of l ≡ None
+    → IsNoLine words
 not_built one words l h e task (m, k, f) =
     let same : l ≡ m = one words l m h k in
     let bad : None ≡ Some task = sym e ∙ ap task_of same ∙ f in
     absurd cc
 
 -- what a line asks for, where something is found
-pub no_task : OneLine → (words : List (List ℕ)) (l : Invocation) (found : Option Task) → lines.IsLine words l → found ≡ task_of l
+pub no_task : OneLine → (words : List (List ℕ)) (l : Invocation) (found : Option Task) → lines.IsLine words l
+    → found ≡ task_of l
     → IfNone found (IsNoLine words)
 no_task one words l None h e = not_built one words l h (sym e)
 no_task one words l (Some t) h e = tt
 
 -- what is found is asked for
-pub found_line : (words : List (List ℕ)) (found : Option Task) (t : Task) → IfSome found (λ t. AsksFor words t) → found ≡ Some t
+pub found_line : (words : List (List ℕ)) (found : Option Task) (t : Task)
+    → IfSome found (λ t. AsksFor words t) → found ≡ Some t
     → AsksFor words t
 found_line words found t h e = subst (λ f. IfSome f (λ t. AsksFor words t)) e h

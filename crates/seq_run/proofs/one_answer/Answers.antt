@@ -1,4 +1,5 @@
-use Rattle.seq_run.proofs.OneAnswer.{some_answer, one_end, one_fault, one_going, end_no_fault, end_no_going, fault_no_going}
+use Rattle.seq_run.proofs.OneAnswer.{some_answer, one_end, one_fault, one_going, end_no_fault, end_no_going}
+use Rattle.seq_run.proofs.OneAnswer.{fault_no_going}
 use Rattle.seq_run.proofs.one_answer.Goals as goal
 
 pub returns-clause-some : goal.returns-clause-some

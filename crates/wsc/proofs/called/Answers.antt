@@ -12,4 +12,5 @@ wsc-outcome-requires-clause-open g c κs alive = subst AllOpen (sym c.alone.ensu
 
 pub returns : goal.returns
 returns g c =
-    ends_alone _ _ _ _ _ _ _ _ _ _ _ c.others.ensures c.alone.ensures c.wsc-outcome.ensures.ends (c.from.ensures ∙ c.code-code.ensures)
+    ends_alone _ _ _ _ _ _ _ _ _ _ _ c.others.ensures c.alone.ensures c.wsc-outcome.ensures.ends
+    (c.from.ensures ∙ c.code-code.ensures)

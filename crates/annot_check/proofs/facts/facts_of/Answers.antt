@@ -3,7 +3,8 @@ use Rattle.annot_check.proofs.facts.facts_of.Goals as goal
 
 pub loop-block-preserved : goal.loop-block-preserved
 loop-block-preserved c =
-    let f = dropped c.args.image.now.blocks.items c.deref-block-items.result.now c.loop-block.block-index c.block-item.result c.deref-block-items.ensures.value c.loop-block-test.true c.block-item.is in
+    let f = dropped c.args.image.now.blocks.items c.deref-block-items.result.now c.loop-block.block-index
+    c.block-item.result c.deref-block-items.ensures.value c.loop-block-test.true c.block-item.is in
     record {
       ops = append_more c.loop-block.facts.ops.items _ _ _ _ c.in_ok-add_block.ensures.ops
           (rw f at c.loop-block.invariant.ops);

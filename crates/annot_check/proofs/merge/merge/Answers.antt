@@ -29,7 +29,8 @@ returns-in-Err-add_some-clause-refused c image b k s lo mo =
 pub returns-in-Ok-add_some-2-clause-merged : goal.returns-in-Ok-add_some-2-clause-merged
 returns-in-Ok-add_some-2-clause-merged c image b k lo mo =
     let j = c.joint-joint.ensures in
-    merged image b k c.args.lasts.now c.args.others.now c.in-Ok.first c.in-Ok-add_some.second c.in-Ok-add_some-2.third lo mo (rw j at c.in-Ok.ensures.added, rw j at c.in-Ok.ensures.apart)
+    merged image b k c.args.lasts.now c.args.others.now c.in-Ok.first c.in-Ok-add_some.second
+    c.in-Ok-add_some-2.third lo mo (rw j at c.in-Ok.ensures.added, rw j at c.in-Ok.ensures.apart)
     (c.in-Ok-add_some.ensures.added, c.in-Ok-add_some.ensures.apart) (
       c.in-Ok-add_some-2.ensures.added,
       c.in-Ok-add_some-2.ensures.apart,

@@ -4,7 +4,8 @@ use Rattle.ws_isa.specs.Image.{instr_at, first_number}
 use Rattle.ws_isa.specs.Formed.{most_instrs}
 use Rattle.annot_check.specs.Seen.{op_with, PassState}
 use Rattle.annot_check.proofs.Entries.{instrs_read, instrs_count}
-use Rattle.annot_check.proofs.Passing.{instr_here, step_breach, state_init, state_step, state_end, within_read, ends_read}
+use Rattle.annot_check.proofs.Passing.{instr_here, step_breach, state_init, state_step, state_end}
+use Rattle.annot_check.proofs.Passing.{within_read, ends_read}
 use Rattle.annot_check.proofs.sequence.pass_all.Goals as goal
 use Rattle.ws_isa.proofs.Steps.{first_le}
 use Rattle.ws_isa.proofs.Blocks.{number_last}
@@ -26,15 +27,21 @@ returns-in-Err-clause-refused c =
     omega (arith, c.loop-instr.invariant.op, c.requires.first) in
     let at : instr_at (view.image c.args.image.now) c.loop-instr.op ≡ view.instr c.instr-item.result =
     instr_here
-    (view.image c.args.image.now) c.args.number c.loop-instr.op c.loop-instr.instr-index c.deref-instr-items.result.now c.instr-item.result c.requires.block (instrs_read (view.image c.args.image.now) c.args.number c.block.result.now c.deref-instr-items.result.now c.block.ensures e) k c.loop-instr-test.true c.instr-item.is in
+    (view.image c.args.image.now) c.args.number c.loop-instr.op c.loop-instr.instr-index
+    c.deref-instr-items.result.now c.instr-item.result c.requires.block
+    (instrs_read (view.image c.args.image.now) c.args.number c.block.result.now
+    c.deref-instr-items.result.now c.block.ensures e) k c.loop-instr-test.true c.instr-item.is in
     let w : c.loop-instr.op < first_number (view.image c.args.image.now) (suc c.args.number) =
     within_read
     (view.image c.args.image.now) c.args.number c.loop-instr.op c.loop-instr.instr-index _ c.requires.block k
     (instrs_count
-    (view.image c.args.image.now) c.args.number c.block.result.now c.deref-instr-items.result.now c.block.ensures e) c.loop-instr-test.true in
+    (view.image c.args.image.now) c.args.number c.block.result.now c.deref-instr-items.result.now
+    c.block.ensures e) c.loop-instr-test.true in
     step_breach (view.image c.args.image.now) c.args.number c.loop-instr.op c.loop-instr.lasts
     (view.instr c.instr-item.result)
-    (op_with c.loop-instr.seen) c.in-Err.fault at c.requires.block c.loop-instr.invariant.state.low w c.loop-instr.invariant.state.ok c.loop-instr.invariant.state.came c.loop-instr.invariant.state.fewer c.in-Err.ensures.refused
+    (op_with c.loop-instr.seen) c.in-Err.fault at c.requires.block c.loop-instr.invariant.state.low w
+    c.loop-instr.invariant.state.ok c.loop-instr.invariant.state.came c.loop-instr.invariant.state.fewer
+    c.in-Err.ensures.refused
 
 pub overflow_add-op : goal.overflow_add-op
 unfolding most_instrs
@@ -48,7 +55,8 @@ overflow_add-op c =
     within_read
     (view.image c.args.image.now) c.args.number c.loop-instr.op c.loop-instr.instr-index _ c.requires.block k
     (instrs_count
-    (view.image c.args.image.now) c.args.number c.block.result.now c.deref-instr-items.result.now c.block.ensures e) c.loop-instr-test.true in
+    (view.image c.args.image.now) c.args.number c.block.result.now c.deref-instr-items.result.now
+    c.block.ensures e) c.loop-instr-test.true in
     omega (
       arith,
       w,
@@ -67,16 +75,21 @@ loop-instr-preserved c =
     omega (arith, c.loop-instr.invariant.op, c.requires.first) in
     let at : instr_at (view.image c.args.image.now) c.loop-instr.op ≡ view.instr c.instr-item.result =
     instr_here
-    (view.image c.args.image.now) c.args.number c.loop-instr.op c.loop-instr.instr-index c.deref-instr-items.result.now c.instr-item.result c.requires.block (instrs_read (view.image c.args.image.now) c.args.number c.block.result.now c.deref-instr-items.result.now c.block.ensures e) k c.loop-instr-test.true c.instr-item.is in
+    (view.image c.args.image.now) c.args.number c.loop-instr.op c.loop-instr.instr-index
+    c.deref-instr-items.result.now c.instr-item.result c.requires.block
+    (instrs_read (view.image c.args.image.now) c.args.number c.block.result.now
+    c.deref-instr-items.result.now c.block.ensures e) k c.loop-instr-test.true c.instr-item.is in
     let w : c.loop-instr.op < first_number (view.image c.args.image.now) (suc c.args.number) =
     within_read
     (view.image c.args.image.now) c.args.number c.loop-instr.op c.loop-instr.instr-index _ c.requires.block k
     (instrs_count
-    (view.image c.args.image.now) c.args.number c.block.result.now c.deref-instr-items.result.now c.block.ensures e) c.loop-instr-test.true in
+    (view.image c.args.image.now) c.args.number c.block.result.now c.deref-instr-items.result.now
+    c.block.ensures e) c.loop-instr-test.true in
     let next = state_step (view.image c.args.image.now) c.args.number c.loop-instr.op
     (view.instr c.instr-item.result) c.args.start c.loop-instr.lasts (op_with c.args.seen.now)
     (op_with c.loop-instr.seen)
-    (op_with c.pass.new.seen) c.loop-instr.invariant.state w at c.in-Ok.ensures.seen c.in-Ok.more c.in-Ok.ensures.kept c.in-Ok.ensures.ok in
+    (op_with c.pass.new.seen) c.loop-instr.invariant.state w at c.in-Ok.ensures.seen c.in-Ok.more
+    c.in-Ok.ensures.kept c.in-Ok.ensures.ok in
     record {
       op = omega (arith, c.loop-instr.invariant.op);
       state = subst (λ (m : ℕ). PassState (view.image c.args.image.now) c.args.number c.args.start
@@ -96,4 +109,5 @@ returns-clause-state c =
     (ends_read
     (view.image c.args.image.now) c.args.number c.loop-instr.op c.loop-instr.instr-index _ c.requires.block k
     (instrs_count
-    (view.image c.args.image.now) c.args.number c.block.result.now c.deref-instr-items.result.now c.block.ensures e) (omega arith))
+    (view.image c.args.image.now) c.args.number c.block.result.now c.deref-instr-items.result.now
+    c.block.ensures e) (omega arith))

@@ -1,4 +1,5 @@
-use Rattle.std.proofs.Common.{◌≡◌, ◌∙◌, ◌+◌, ◌<◌, ◌++◌, ◌∷◌, [], ℕ, List, length, length-append, get_or, sym, ap, arith}
+use Rattle.std.proofs.Common.{◌≡◌, ◌∙◌, ◌+◌, ◌<◌, ◌++◌, ◌∷◌, [], ℕ, List, length, length-append, get_or, sym}
+use Rattle.std.proofs.Common.{ap, arith}
 use Rattle.ws_isa.specs.View as view
 use Rattle.ws_isa.specs.declared.image.Block.{Block as CodeBlock}
 use Rattle.ws_isa.specs.Image.{first_number}
@@ -61,7 +62,8 @@ loop-block-preserved c =
           (c.loop-block.number ∷ []) ∙ omega (arith, c.loop-block.invariant.size));
       starts = λ b k. pushed
           (first_number
-          (view.image c.args.image.now)) c.loop-block.starts.items c.push-in-loop-block.new.self.items c.loop-block.number (c.loop-block.block-index + 1)
+          (view.image c.args.image.now)) c.loop-block.starts.items c.push-in-loop-block.new.self.items
+          c.loop-block.number (c.loop-block.block-index + 1)
           c.in_ok-push-2.ensures.items c.loop-block.invariant.size (λ q m. c.loop-block.invariant.starts q
           (omega arith)) c.loop-block.invariant.number b (omega arith);
       number = omega (arith, s, c.loop-block.invariant.number);

@@ -7,9 +7,11 @@ use Rattle.annot_check.proofs.targets.edge_later.Goals as goal
 pub starts_wave-requires : goal.starts_wave-requires
 starts_wave-requires c = subst (IsBlock (view.image c.args.image.now)) (sym c.target_of-to.ensures)
     (targets_in
-    (view.image c.args.image.now) c.args.number c.args.choice c.requires.formed.suited c.requires.block c.requires.goes_on)
+    (view.image c.args.image.now) c.args.number c.args.choice c.requires.formed.suited c.requires.block
+    c.requires.goes_on)
 
 pub block-requires : goal.block-requires
 block-requires c = subst (IsBlock (view.image c.args.image.now)) (sym c.target_of-to.ensures)
     (targets_in
-    (view.image c.args.image.now) c.args.number c.args.choice c.requires.formed.suited c.requires.block c.requires.goes_on)
+    (view.image c.args.image.now) c.args.number c.args.choice c.requires.formed.suited c.requires.block
+    c.requires.goes_on)

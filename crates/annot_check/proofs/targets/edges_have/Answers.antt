@@ -8,5 +8,6 @@ pub lands-requires : goal.lands-requires
 lands-requires c = record {
   block = subst (IsBlock (view.image c.args.image.now)) (sym c.target_of.ensures)
       (targets_in
-      (view.image c.args.image.now) c.args.number c.loop-choice.choice c.requires.formed.suited c.requires.block c.requires.goes_on);
+      (view.image c.args.image.now) c.args.number c.loop-choice.choice c.requires.formed.suited
+      c.requires.block c.requires.goes_on);
 }

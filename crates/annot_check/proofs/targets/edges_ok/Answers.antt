@@ -8,5 +8,6 @@ returns-then-stops_at-clause-yes c = λ t. stop_edges (view.image c.args.image.n
     (sym c.stops_at.ensures ∙ c.if-stops_at.true)
 
 pub returns-clause-yes : goal.returns-clause-yes
-returns-clause-yes c = λ t. edge_shape (view.image c.args.image.now) c.args.number c.requires.formed c.requires.block
+returns-clause-yes c = λ t. edge_shape (view.image c.args.image.now) c.args.number c.requires.formed
+    c.requires.block
     (sym c.stops_at.ensures ∙ c.if-stops_at.false) (c.edges_later.ensures.yes t)

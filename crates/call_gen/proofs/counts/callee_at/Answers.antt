@@ -5,4 +5,5 @@ use Rattle.call_gen.proofs.Counting.{exit_of_none}
 use Rattle.call_gen.proofs.counts.callee_at.Goals as goal
 
 pub returns-in-None : goal.returns-in-None
-returns-in-None c = exit_of_none callee (spot_at (view.graph c.args.table.now.graph.now) c.args.b) c.in-None.ensures
+returns-in-None c = exit_of_none callee (spot_at (view.graph c.args.table.now.graph.now) c.args.b)
+    c.in-None.ensures

@@ -18,4 +18,15 @@ returns c =
       known = λ b x lt low l. (c.requires.live b x lt low).1 l;
       only = λ b x lt low h. (c.requires.live b x lt low).0 h;
     }) in
-    record { walks = k.walks; arrays = k.arrays; rules = k.rules; no_call = k.no_call; across = k.across; values = k.values; sizes = k.sizes; charged = k.charged; arms = k.arms; start = k.start }
+    record {
+      walks = k.walks;
+      arrays = k.arrays;
+      rules = k.rules;
+      no_call = k.no_call;
+      across = k.across;
+      values = k.values;
+      sizes = k.sizes;
+      charged = k.charged;
+      arms = k.arms;
+      start = k.start;
+    }

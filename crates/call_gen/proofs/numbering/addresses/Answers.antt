@@ -10,15 +10,21 @@ use Rattle.cfg_core.proofs.Spots.{count_is, rooms_are}
 pub loop-b-init : goal.loop-b-init
 loop-b-init c =
     let t = c.args.table.now in let g = view.graph t.graph.now in let n = c.len.result in
-    let items : c.in_ok-counts.counts.items ≡ replicate n 0 = c.in_ok-counts.ensures.items_if_clones_equal (λ y e. e) in
+    let items : c.in_ok-counts.counts.items ≡ replicate n 0 = c.in_ok-counts.ensures.items_if_clones_equal
+    (λ y e. e) in
     record {
       count = ap length c.new-list.ensures.items;
-      tallied = tallied_none g n (omega (arith, rooms_are t c.requires.table, t.rooms.ok.0)) c.in_ok-counts.counts.items items;
+      tallied = tallied_none g n (omega (arith, rooms_are t c.requires.table, t.rooms.ok.0))
+          c.in_ok-counts.counts.items items;
       list = λ k lt. absurd (omega (arith, lt));
     }
 
 pub next_place-requires-clause-there : goal.next_place-requires-clause-there
-next_place-requires-clause-there c = omega (arith, count_is c.args.table.now c.requires.table, c.args.table.now.spots.ok.0)
+next_place-requires-clause-there c = omega (
+  arith,
+  count_is c.args.table.now c.requires.table,
+  c.args.table.now.spots.ok.0,
+)
 
 pub next_place-requires-clause-counts : goal.next_place-requires-clause-counts
 next_place-requires-clause-counts c = c.loop-b.invariant.tallied
@@ -30,8 +36,14 @@ loop-b-preserved c =
     rw c.in_ok-push.ensures.items (record {
       count = omega (arith, length_push c.loop-b.list.items n, i.count);
       tallied = c.next_place.ensures.counts;
-      list = pushed (λ k v. CallPlaced g k v) c.loop-b.list.items b n i.count i.list c.next_place.ensures.place;
+      list = pushed (λ k v. CallPlaced g k v) c.loop-b.list.items b n i.count i.list
+          c.next_place.ensures.place;
     })
 
 pub returns : goal.returns
-returns c = λ b lt. c.loop-b.invariant.list b (omega (arith, lt, count_is c.args.table.now c.requires.table, c.args.table.now.spots.ok.0))
+returns c = λ b lt. c.loop-b.invariant.list b (omega (
+  arith,
+  lt,
+  count_is c.args.table.now c.requires.table,
+  c.args.table.now.spots.ok.0,
+))

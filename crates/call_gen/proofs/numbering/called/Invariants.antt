@@ -6,5 +6,6 @@ use Rattle.call_gen.proofs.numbering.called.Given as goal
 abbrev pub invariant-loop-f : goal.invariant-loop-f
 invariant-loop-f l = record {
   count : length l.flags.items ≡ l.f;
-  flags : (k : ℕ) → k < l.f → slice_index_or l.flags.items k false ≡ is_called (view.graph l.table.graph.now) k;
+  flags : (k : ℕ) → k < l.f → slice_index_or l.flags.items k false ≡ is_called (view.graph l.table.graph.now)
+      k;
 }

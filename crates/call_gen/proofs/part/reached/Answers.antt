@@ -10,6 +10,19 @@ pub returns : goal.returns
 returns c =
     let g = view.graph c.args.graph.now in
     let flags = c.in_ok-flags.flags.items in
-    let same : view.graph c.in_ok-made.made ≡ part g (flag_at flags) = c.in_ok-made.ensures ∙ ap (λ (x : Graph). part (view.graph x) (flag_at flags)) c.in_ok-table.ensures.graph in
-    let k = reached_kept g (view.graph c.in_ok-made.made) flags same c.requires.rules c.requires.no_send (subst (λ (x : Graph). AreReached (view.graph x) flags) c.in_ok-table.ensures.graph c.in_ok-flags.ensures) in
-    record { walks = k.walks; arrays = k.arrays; all = k.all; rules = k.rules; no_send = k.no_send; shape = k.shape; sizes = k.sizes; arms = k.arms; places = k.places }
+    let same : view.graph c.in_ok-made.made ≡ part g (flag_at flags) = c.in_ok-made.ensures
+    ∙ ap (λ (x : Graph). part (view.graph x) (flag_at flags)) c.in_ok-table.ensures.graph in
+    let k = reached_kept g (view.graph c.in_ok-made.made) flags same c.requires.rules c.requires.no_send
+    (subst (λ (x : Graph). AreReached (view.graph x) flags) c.in_ok-table.ensures.graph
+    c.in_ok-flags.ensures) in
+    record {
+      walks = k.walks;
+      arrays = k.arrays;
+      all = k.all;
+      rules = k.rules;
+      no_send = k.no_send;
+      shape = k.shape;
+      sizes = k.sizes;
+      arms = k.arms;
+      places = k.places;
+    }

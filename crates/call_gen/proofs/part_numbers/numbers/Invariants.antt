@@ -7,7 +7,8 @@ use Rattle.ws_words.specs.Items.{flag_at}
 abbrev pub invariant-loop-f : goal.invariant-loop-f
 invariant-loop-f l = record {
   count : length l.numbers.items ≡ l.f;
-  numbers : (k : ℕ) → k < l.f → slice_index l.numbers.items k ≡ number (view.graph l.table.graph.now) (flag_at l.flags) k;
+  numbers : (k : ℕ) → k < l.f → slice_index l.numbers.items k ≡ number (view.graph l.table.graph.now)
+      (flag_at l.flags) k;
   sum : l.count ≡ number (view.graph l.table.graph.now) (flag_at l.flags) l.f;
   few : l.count ≤ l.f;
 }

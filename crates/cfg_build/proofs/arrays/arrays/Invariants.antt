@@ -5,4 +5,6 @@ use Rattle.cfg_build.specs.Lowered as lowered
 use Rattle.cfg_build.proofs.arrays.arrays.Given as goal
 
 abbrev pub invariant-loop-shape : goal.invariant-loop-shape
-invariant-loop-shape l = map view.array l.list.items ++ lowered.arrays (source.names (drop l.shape-index l.shapes)) (source.lengths (drop l.shape-index l.shapes)) ≡ lowered.arrays (source.names l.shapes) (source.lengths l.shapes)
+invariant-loop-shape l = map view.array l.list.items ++ lowered.arrays
+    (source.names (drop l.shape-index l.shapes)) (source.lengths (drop l.shape-index l.shapes))
+    ≡ lowered.arrays (source.names l.shapes) (source.lengths l.shapes)

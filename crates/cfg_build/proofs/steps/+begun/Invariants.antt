@@ -11,4 +11,5 @@ abbrev pub decreases-begun_by : goal.decreases-begun_by
 decreases-begun_by l = suc (weight (source.step l.step.now))
 
 abbrev pub invariant-begun-loop-step : goal.invariant-begun-loop-step
-invariant-begun-loop-step l = l.count + begun_in (source.steps (drop l.step-index l.steps)) ≡ begun_in (source.steps l.steps)
+invariant-begun-loop-step l = l.count + begun_in (source.steps (drop l.step-index l.steps)) ≡ begun_in
+    (source.steps l.steps)

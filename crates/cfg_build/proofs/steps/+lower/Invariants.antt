@@ -20,7 +20,8 @@ decreases-lower_while l = suc (heft (source.steps l.body.now))
 
 abbrev pub invariant-lower_steps-loop-step : goal.invariant-lower_steps-loop-step
 invariant-lower_steps-loop-step l = record {
-  emitted : emit (source.steps (drop l.step-index l.steps)) (builder_of l.builder) ≡ emit (source.steps l.steps) (builder_of l.initial.builder);
+  emitted : emit (source.steps (drop l.step-index l.steps)) (builder_of l.builder)
+      ≡ emit (source.steps l.steps) (builder_of l.initial.builder);
   room : number (builder_of l.builder) + begun_in (source.steps (drop l.step-index l.steps)) < 2 ^ 32;
   ports : StepsFit (source.steps (drop l.step-index l.steps));
 }

@@ -11,9 +11,13 @@ loop-i-preserved c =
     elim c.if-i-len.branch [
       | then-i-len w ↦
           let x = slice_index named i in
-          let next : drop i named ≡ x ∷ drop (i + 1) named = drop_word named i (omega arith) ∙ ap (λ n. x ∷ drop n named) (sym one) in
-          landed_next named words c.loop-i.vars c.if-i-len.vars _ i (i + 1) x w.word.result one next (omega (arith, w.if-i-len.true, c.len.ensures)) w.word.ensures (w.vars-is ∙ w.set.ensures) c.loop-i.invariant
+          let next : drop i named ≡ x ∷ drop (i + 1) named = drop_word named i (omega arith)
+          ∙ ap (λ n. x ∷ drop n named) (sym one) in
+          landed_next named words c.loop-i.vars c.if-i-len.vars _ i (i + 1) x w.word.result one next
+          (omega (arith, w.if-i-len.true, c.len.ensures)) w.word.ensures (w.vars-is ∙ w.set.ensures)
+          c.loop-i.invariant
       | else-i-len w ↦
           let past : length words ≤ i = omega (arith, w.if-i-len.false, c.len.ensures) in
-          ap (λ vs. walks.landed (drop (i + 1) named) (drop (i + 1) words) vs) w.vars-is ∙ landed_past named words c.loop-i.vars _ i (i + 1) (omega arith) past c.loop-i.invariant
+          ap (λ vs. walks.landed (drop (i + 1) named) (drop (i + 1) words) vs) w.vars-is
+          ∙ landed_past named words c.loop-i.vars _ i (i + 1) (omega arith) past c.loop-i.invariant
     ]

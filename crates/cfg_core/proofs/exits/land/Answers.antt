@@ -6,4 +6,5 @@ use Rattle.cfg_core.proofs.exits.land.Goals as goal
 
 pub returns-in-None : goal.returns-in-None
 unfolding no_spot
-returns-in-None c = c.empty.ensures ∙ sym (ap (λ (x : Spot). walks.landed x.block.named c.args.words.now (zeros x.vars)) c.in-None.ensures)
+returns-in-None c = c.empty.ensures
+    ∙ sym (ap (λ (x : Spot). walks.landed x.block.named c.args.words.now (zeros x.vars)) c.in-None.ensures)

@@ -4,4 +4,5 @@ use Rattle.cfg_core.specs.Shown.{shown_cells}
 use Rattle.cfg_core.proofs.run.shown.Given as goal
 
 abbrev pub invariant-loop-i : goal.invariant-loop-i
-invariant-loop-i l = l.rows ++ shown_cells (map view.array (drop l.i l.arrays)) (drop l.i l.cells) ≡ shown_cells (map view.array l.arrays) l.cells
+invariant-loop-i l = l.rows ++ shown_cells (map view.array (drop l.i l.arrays)) (drop l.i l.cells)
+    ≡ shown_cells (map view.array l.arrays) l.cells

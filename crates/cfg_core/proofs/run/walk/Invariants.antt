@@ -9,7 +9,8 @@ use Rattle.cfg_core.proofs.run.walk.Given as goal
 abbrev pub invariant-loop-b : goal.invariant-loop-b
 invariant-loop-b l = record {
   held : Held l.walker;
-  upto : (s : ProcState) (frames : List walks.Frame) (k : ℕ) → Shows s frames k l.initial.walker → WalkUpto (view.graph l.table.graph.now) (walks.starts l.initial.at s frames k) l.at l.walker;
+  upto : (s : ProcState) (frames : List walks.Frame) (k : ℕ) → Shows s frames k l.initial.walker
+      → WalkUpto (view.graph l.table.graph.now) (walks.starts l.initial.at s frames k) l.at l.walker;
 }
 
 abbrev pub decreases-loop-b : goal.decreases-loop-b

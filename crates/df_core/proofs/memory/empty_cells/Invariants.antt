@@ -4,4 +4,5 @@ use Rattle.ws_isa.specs.View as view
 use Rattle.df_core.proofs.memory.empty_cells.Given as goal
 
 abbrev pub invariant-loop-array : goal.invariant-loop-array
-invariant-loop-array l = l.cells ++ cells_of (map view.array (drop l.array-index l.arrays)) ≡ cells_of (map view.array l.arrays)
+invariant-loop-array l = l.cells ++ cells_of (map view.array (drop l.array-index l.arrays)) ≡ cells_of
+    (map view.array l.arrays)

@@ -7,6 +7,8 @@ abbrev pub invariant-loop-place : goal.invariant-loop-place
 invariant-loop-place l = record {
   same : rows_of l.rows.items ≡ rows_of l.initial.rows.items;
   size : length l.rows.items ≡ l.place-end;
-  later : (p : ℕ) (row : Vec ℕ Global) → l.place ≤ p → nth l.rows.items p ≡ Some row → nth l.initial.rows.items p ≡ Some row;
-  done : (p : ℕ) (row : Vec ℕ Global) → p < l.place → nth l.rows.items p ≡ Some row → vec_len row + l.more ≤ vec_capacity row;
+  later : (p : ℕ) (row : Vec ℕ Global) → l.place ≤ p → nth l.rows.items p ≡ Some row
+      → nth l.initial.rows.items p ≡ Some row;
+  done : (p : ℕ) (row : Vec ℕ Global) → p < l.place → nth l.rows.items p ≡ Some row
+      → vec_len row + l.more ≤ vec_capacity row;
 }

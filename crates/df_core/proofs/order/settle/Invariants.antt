@@ -7,7 +7,8 @@ use Rattle.df_core.proofs.order.settle.Given as goal
 
 abbrev pub invariant-loop-place : goal.invariant-loop-place
 invariant-loop-place l = record {
-  settles : (d : plain.Chain) (left : List ℕ) → Settles (image_of l.program) (chain_of l.at) l.early.items d left → Settles (image_of l.program) (chain_of l.initial.at) l.initial.early.items d left;
+  settles : (d : plain.Chain) (left : List ℕ) → Settles (image_of l.program) (chain_of l.at) l.early.items d
+      left → Settles (image_of l.program) (chain_of l.initial.at) l.initial.early.items d left;
   wave : l.at.wave ≡ l.initial.at.wave;
   fewer : vec_len l.early ≤ vec_len l.initial.early;
   room : vec_capacity l.early ≡ vec_capacity l.initial.early;

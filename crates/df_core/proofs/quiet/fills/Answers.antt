@@ -10,5 +10,7 @@ pub returns : goal.returns
 returns c =
     let t = c.args.token in
     c.is_filled.ensures
-    ∙ ap (is_full (with_at t.wave t.instr t.port (Some t.value) (partial_of c.args.slots.now.slots.items c.args.slots.now.spill)) t.wave t.instr)
+    ∙ ap (is_full
+    (with_at t.wave t.instr t.port (Some t.value)
+    (partial_of c.args.slots.now.slots.items c.args.slots.now.spill)) t.wave t.instr)
     (c.ports.ensures ∙ ap ports_of c.op.ensures ∙ sym (ports_is_op (image_of c.args.program.now) t.instr))

@@ -15,22 +15,32 @@ use Rattle.ws_words.proofs.Lists.{length_map}
 pub of-requires : goal.of-requires
 unfolding most_blocks
 of-requires c =
-    let formed : Formed (view.image c.image.result.now) = subst Formed (sym c.image.ensures.image) c.image.ensures.formed in
+    let formed : Formed (view.image c.image.result.now) = subst Formed (sym c.image.ensures.image)
+    c.image.ensures.formed in
     record { few = omega (arith, formed.few_blocks, length_map view.block c.image.result.now.blocks.items) }
 
 pub run_on-requires-clause-fired : goal.run_on-requires-clause-fired
 run_on-requires-clause-fired c =
-    let e : image_of c.in_ok-program.program ≡ c.args.image.now = ap view.image c.in_ok-program.ensures.image ∙ c.image.ensures.image in
+    let e : image_of c.in_ok-program.program ≡ c.args.image.now = ap view.image c.in_ok-program.ensures.image
+    ∙ c.image.ensures.image in
     let formed : Formed (image_of c.in_ok-program.program) = subst Formed (sym e) c.image.ensures.formed in
     let sound : Sound (image_of c.in_ok-program.program) = subst Sound (sym e) c.image.ensures.sound in
-    let none : c.in_ok-flow.flow.fired ≡ 0 = opened_none (image_of c.in_ok-program.program) (world_of c.args.world.now) c.in_ok-flow.flow (c.in_ok-flow.ensures sound formed) in
+    let none : c.in_ok-flow.flow.fired ≡ 0 = opened_none (image_of c.in_ok-program.program)
+    (world_of c.args.world.now) c.in_ok-flow.flow (c.in_ok-flow.ensures sound formed) in
     omega arith
 
 pub returns : goal.returns
 returns c =
-    let e : image_of c.in_ok-program.program ≡ c.args.image.now = ap view.image c.in_ok-program.ensures.image ∙ c.image.ensures.image in
+    let e : image_of c.in_ok-program.program ≡ c.args.image.now = ap view.image c.in_ok-program.ensures.image
+    ∙ c.image.ensures.image in
     let formed : Formed (image_of c.in_ok-program.program) = subst Formed (sym e) c.image.ensures.formed in
     let sound : Sound (image_of c.in_ok-program.program) = subst Sound (sym e) c.image.ensures.sound in
-    let so : RunSo (image_of c.in_ok-program.program) (world_of c.args.world.now) c.args.budget (run_of c.in_ok-finish.finish c.run_on.new.flow) =
-    answers (image_of c.in_ok-program.program) (world_of c.args.world.now) c.args.budget c.in_ok-finish.finish c.in_ok-flow.flow c.run_on.new.flow _ formed sound (c.in_ok-flow.ensures sound formed) c.in_ok-finish.ensures.within c.in_ok-finish.ensures.finish in
-    ok_so (RunSo c.args.image.now (world_of c.args.world.now) c.args.budget) (run_of c.in_ok-finish.finish c.run_on.new.flow) c.run_of.result c.run_of.ensures (subst (λ (image : plain.Image). RunSo image (world_of c.args.world.now) c.args.budget (run_of c.in_ok-finish.finish c.run_on.new.flow)) e so)
+    let so : RunSo (image_of c.in_ok-program.program) (world_of c.args.world.now) c.args.budget
+    (run_of c.in_ok-finish.finish c.run_on.new.flow) =
+    answers (image_of c.in_ok-program.program) (world_of c.args.world.now) c.args.budget c.in_ok-finish.finish
+    c.in_ok-flow.flow c.run_on.new.flow _ formed sound (c.in_ok-flow.ensures sound formed)
+    c.in_ok-finish.ensures.within c.in_ok-finish.ensures.finish in
+    ok_so (RunSo c.args.image.now (world_of c.args.world.now) c.args.budget)
+    (run_of c.in_ok-finish.finish c.run_on.new.flow) c.run_of.result c.run_of.ensures
+    (subst (λ (image : plain.Image). RunSo image (world_of c.args.world.now) c.args.budget
+    (run_of c.in_ok-finish.finish c.run_on.new.flow)) e so)

@@ -8,14 +8,22 @@ pub loop-phases-init : goal.loop-phases-init
 loop-phases-init g c = steady_start (contents c.args.tables) c.args.budget c.requires.serve c.requires.within
 
 pub loop-phases-preserved : goal.loop-phases-preserved
-loop-phases-preserved g c = steady_more (contents c.args.tables) (contents c.loop-phases.tables) (contents c.turn-after.result.tables) c.args.budget c.loop-phases.phases (c.args.budget - c.fired.result) c.loop-phases.invariant c.turn-after.ensures.grow (ap (λ (n : ℕ). c.args.budget - n) c.fired.ensures) c.in-Go.ensures.0
-    c.turn-after.ensures.serve c.turn-after.ensures.within c.in-Go.token.wave c.in-Go.token.instr c.in-Go.token.port c.in-Go.ensures.1 (c.turn-after.ensures.come c.if-after.false)
+loop-phases-preserved g c = steady_more (contents c.args.tables) (contents c.loop-phases.tables)
+    (contents c.turn-after.result.tables) c.args.budget c.loop-phases.phases (c.args.budget - c.fired.result)
+    c.loop-phases.invariant c.turn-after.ensures.grow (ap (λ (n : ℕ). c.args.budget - n) c.fired.ensures)
+    c.in-Go.ensures.0
+    c.turn-after.ensures.serve c.turn-after.ensures.within c.in-Go.token.wave c.in-Go.token.instr
+    c.in-Go.token.port c.in-Go.ensures.1 (c.turn-after.ensures.come c.if-after.false)
 
 pub returns-then-after-clause-grow : goal.returns-then-after-clause-grow
-returns-then-after-clause-grow g c = all_grow_on (contents c.args.tables) (contents c.loop-phases.tables) (contents c.turn-after.result.tables) c.loop-phases.invariant.grow c.turn-after.ensures.grow
+returns-then-after-clause-grow g c = all_grow_on (contents c.args.tables) (contents c.loop-phases.tables)
+    (contents c.turn-after.result.tables) c.loop-phases.invariant.grow c.turn-after.ensures.grow
 
 pub returns-then-after-clause-moved : goal.returns-then-after-clause-moved
-returns-then-after-clause-moved g c = steady_last (contents c.args.tables) (contents c.loop-phases.tables) (contents c.turn-after.result.tables) c.args.budget c.loop-phases.phases (c.args.budget - c.fired.result) c.loop-phases.invariant c.turn-after.ensures.grow (ap (λ (n : ℕ). c.args.budget - n) c.fired.ensures) c.in-Go.ensures.0
+returns-then-after-clause-moved g c = steady_last (contents c.args.tables) (contents c.loop-phases.tables)
+    (contents c.turn-after.result.tables) c.args.budget c.loop-phases.phases (c.args.budget - c.fired.result)
+    c.loop-phases.invariant c.turn-after.ensures.grow (ap (λ (n : ℕ). c.args.budget - n) c.fired.ensures)
+    c.in-Go.ensures.0
 
 pub returns-clause-moved : goal.returns-clause-moved
 returns-clause-moved g c =

@@ -8,4 +8,6 @@ pub all_run-requires-clause-come : goal.all_run-requires-clause-come
 all_run-requires-clause-come g c = c.requires.none c.in-None.ensures.1
 
 pub some_run-requires-clause-missing : goal.some_run-requires-clause-missing
-some_run-requires-clause-missing g c = (All-pop (IsMissing (part_of c.args.tables.now).held) c.args.owed c.pop.new.self (Some c.in-Some.token) c.in-Some.ensures c.requires.missing).1
+some_run-requires-clause-missing g c =
+    (All-pop (IsMissing (part_of c.args.tables.now).held) c.args.owed c.pop.new.self (Some c.in-Some.token)
+    c.in-Some.ensures c.requires.missing).1

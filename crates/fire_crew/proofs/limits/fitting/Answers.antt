@@ -7,4 +7,5 @@ pub returns-clause-serve : goal.returns-clause-serve
 returns-clause-serve g c = fit_serve 0 (contents c.args.tables.now) c.args.limits.now c.requires.fits
 
 pub returns-clause-within : goal.returns-clause-within
-returns-clause-within g c = all_within (contents c.args.tables.now) c.args.limits.now (sym c.requires.count) (fit_within 0 (contents c.args.tables.now) c.args.limits.now c.requires.fits)
+returns-clause-within g c = all_within (contents c.args.tables.now) c.args.limits.now (sym c.requires.count)
+    (fit_within 0 (contents c.args.tables.now) c.args.limits.now c.requires.fits)

@@ -6,11 +6,12 @@ use Rattle.fire_crew.proofs.missing.longest.Goals as goal
 use Rattle.match_table.specs.Tables.{TableContent}
 
 pub loop-number-preserved : goal.loop-number-preserved
-loop-number-preserved g c = λ k lt. (let more = c.max-longest.ensures in elim (cases_lt k c.loop-number.number) [
-  | inl x ↦ (let before = c.loop-number.invariant k x in omega (arith, before, more))
-  | inr x ↦ (let e : c.loop-number.number ≡ k = omega (arith, lt, x) in
-      let here = ap (λ (x : TableContent). length x.fired) c.table_at.ensures in
-      let count = c.fired_count.ensures in
-      let same = ap (λ (j : ℕ). length (content_at (contents c.args.tables.now) j).fired) e in
-      omega (arith, here, count, same, more))
-])
+loop-number-preserved g c = λ k lt. (let more = c.max-longest.ensures in
+    elim (cases_lt k c.loop-number.number) [
+      | inl x ↦ (let before = c.loop-number.invariant k x in omega (arith, before, more))
+      | inr x ↦ (let e : c.loop-number.number ≡ k = omega (arith, lt, x) in
+          let here = ap (λ (x : TableContent). length x.fired) c.table_at.ensures in
+          let count = c.fired_count.ensures in
+          let same = ap (λ (j : ℕ). length (content_at (contents c.args.tables.now) j).fired) e in
+          omega (arith, here, count, same, more))
+    ])

@@ -4,4 +4,5 @@ use Rattle.match_table.specs.Rows.{contents}
 use Rattle.fire_crew.proofs.missing.longest.Given as goal
 
 abbrev pub invariant-loop-number : goal.invariant-loop-number
-invariant-loop-number g l = (k : ℕ) → k < l.number → length (content_at (contents l.tables) k).fired ≤ l.longest
+invariant-loop-number g l = (k : ℕ) → k < l.number → length (content_at (contents l.tables) k).fired
+    ≤ l.longest

@@ -7,8 +7,11 @@ use Rattle.fire_crew.proofs.missing.look_along.Goals as goal
 pub loop-at-preserved : goal.loop-at-preserved
 loop-at-preserved g c = (
   c.in_ok-look_across.ensures.missing,
-  λ e. (let a = c.in_ok-look_across.ensures.none e in let b = c.loop-at.invariant.1 a.0 in
-      (b.0, λ k lt. told_join g.J.Job.image (part_behind c.args.tables.now).held c.args.from c.loop-at.at c.min-next.result (content_at (behind c.args.tables.now) k) (b.1 k lt) (a.1 k lt))),
+  λ e. (let a = c.in_ok-look_across.ensures.none e in let b = c.loop-at.invariant.1 a.0 in (
+    b.0,
+    λ k lt. told_join g.J.Job.image (part_behind c.args.tables.now).held c.args.from c.loop-at.at
+        c.min-next.result (content_at (behind c.args.tables.now) k) (b.1 k lt) (a.1 k lt),
+  )),
 )
 
 pub returns-clause-none : goal.returns-clause-none

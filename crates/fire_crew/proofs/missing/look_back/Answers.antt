@@ -12,8 +12,12 @@ look_up-requires g c = (
   (
     c.loop-kept.invariant.0,
     (
-      memory_at g.J.Job.image g.J.Job.world c.program.ensures.formed c.program.ensures.sound c.args.buffer.now c.facts.ensures.stands.0 c.facts.ensures.stands.1.ok c.facts.ensures.once c.kept-kept-items.result.now c.kept-kept-items.ensures c.loop-kept.kept-index c.loop-kept-test.true,
-      answers_at g.J.Job.image g.J.Job.world c.program.ensures.formed c.program.ensures.sound c.args.buffer.now c.facts.ensures.stands.0 c.facts.ensures.stands.1.ok c.facts.ensures.once c.kept-kept-items.result.now c.kept-kept-items.ensures c.loop-kept.kept-index c.loop-kept-test.true,
+      memory_at g.J.Job.image g.J.Job.world c.program.ensures.formed c.program.ensures.sound c.args.buffer.now
+          c.facts.ensures.stands.0 c.facts.ensures.stands.1.ok c.facts.ensures.once
+          c.kept-kept-items.result.now c.kept-kept-items.ensures c.loop-kept.kept-index c.loop-kept-test.true,
+      answers_at g.J.Job.image g.J.Job.world c.program.ensures.formed c.program.ensures.sound
+          c.args.buffer.now c.facts.ensures.stands.0 c.facts.ensures.stands.1.ok c.facts.ensures.once
+          c.kept-kept-items.result.now c.kept-kept-items.ensures c.loop-kept.kept-index c.loop-kept-test.true,
     ),
   ),
 )
@@ -21,12 +25,19 @@ look_up-requires g c = (
 pub loop-kept-preserved : goal.loop-kept-preserved
 loop-kept-preserved g c = (
   c.in_ok-look_up.ensures.missing,
-  λ e. (let a = c.in_ok-look_up.ensures.none e in let b = c.loop-kept.invariant.1 a.0 in
-      (b.0, one_more (HasAnswered g.J.Job.image (part_behind c.args.tables.now).held) c.kept-kept-items.result.now c.args.buffer.now.kept c.loop-kept.kept-index no_request c.kept-kept-items.ensures c.loop-kept-test.true b.1 a.1)),
+  λ e. (let a = c.in_ok-look_up.ensures.none e in let b = c.loop-kept.invariant.1 a.0 in (
+    b.0,
+    one_more (HasAnswered g.J.Job.image (part_behind c.args.tables.now).held)
+        c.kept-kept-items.result.now c.args.buffer.now.kept c.loop-kept.kept-index no_request
+        c.kept-kept-items.ensures c.loop-kept-test.true b.1 a.1,
+  )),
 )
 
 pub returns-clause-none : goal.returns-clause-none
 returns-clause-none g c = λ e. (let b = c.loop-kept.invariant.1 e in
     let t = c.loop-kept-test.false in
-    let l = ap length c.kept-kept-items.ensures in
-    (b.0, all_done (HasAnswered g.J.Job.image (part_behind c.args.tables.now).held) c.args.buffer.now.kept c.loop-kept.kept-index (omega (arith, t, l)) b.1))
+    let l = ap length c.kept-kept-items.ensures in (
+      b.0,
+      all_done (HasAnswered g.J.Job.image (part_behind c.args.tables.now).held) c.args.buffer.now.kept
+          c.loop-kept.kept-index (omega (arith, t, l)) b.1,
+    ))

@@ -4,15 +4,23 @@ use Rattle.fire_crew.proofs.Paid.{told_more}
 use Rattle.fire_crew.proofs.missing.look_through.Goals as goal
 
 pub see_at-requires : goal.see_at-requires
-see_at-requires g c = let end = c.min-end.ensures in let count = c.fired_count.ensures in let t = c.loop-place-test.true in
+see_at-requires g c = let end = c.min-end.ensures in let count = c.fired_count.ensures in
+    let t = c.loop-place-test.true in
     (omega arith, (c.loop-place.invariant.0, omega (arith, end, count, t)))
 
 pub loop-place-preserved : goal.loop-place-preserved
 loop-place-preserved g c = (
   c.in_ok-see_at.ensures.missing,
-  λ e. (let a = c.in_ok-see_at.ensures.none e in let b = c.loop-place.invariant.1 a.0 in
-      (b.0, told_more g.J.Job.image (part_behind c.args.tables.now).held c.args.from c.loop-place.place c.args.table.now b.1 a.1)),
+  λ e. (let a = c.in_ok-see_at.ensures.none e in let b = c.loop-place.invariant.1 a.0 in (
+    b.0,
+    told_more g.J.Job.image (part_behind c.args.tables.now).held c.args.from c.loop-place.place
+        c.args.table.now b.1 a.1,
+  )),
 )
 
 pub returns-clause-none : goal.returns-clause-none
-returns-clause-none g c = λ e. (let b = c.loop-place.invariant.1 e in (b.0, λ k d low high within. (let end = c.min-end.ensures in let count = c.fired_count.ensures in let t = c.loop-place-test.false in b.1 k d low (omega (arith, end, count, t, high, within)) within)))
+returns-clause-none g c = λ e. (let b = c.loop-place.invariant.1 e in (
+  b.0,
+  λ k d low high within. (let end = c.min-end.ensures in let count = c.fired_count.ensures in
+      let t = c.loop-place-test.false in b.1 k d low (omega (arith, end, count, t, high, within)) within),
+))

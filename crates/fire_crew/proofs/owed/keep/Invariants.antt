@@ -5,7 +5,9 @@ use Rattle.fire_crew.specs.Owing.{HaveCome, IsMissing}
 use Rattle.fire_crew.proofs.owed.keep.Given as goal
 
 abbrev pub invariant-loop-token : goal.invariant-loop-token
-invariant-loop-token g l = All (IsMissing (part_behind l.tables).held) l.found × ((rest : List Token) × (l.initial.tokens ≡ l.tokens ++ rest) × (l.found ≡ [] → (l.initial.found ≡ []) × HaveCome (part_behind l.tables).held rest))
+invariant-loop-token g l = All (IsMissing (part_behind l.tables).held) l.found
+    × ((rest : List Token) × (l.initial.tokens ≡ l.tokens ++ rest)
+    × (l.found ≡ [] → (l.initial.found ≡ []) × HaveCome (part_behind l.tables).held rest))
 
 abbrev pub decreases-loop-token : goal.decreases-loop-token
 decreases-loop-token g l = length l.tokens

@@ -9,7 +9,9 @@ use Rattle.fire_crew.proofs.owed.keep_sent.Goals.{then-not-holds+in_ok-push, els
 use Rattle.fire_crew.proofs.owed.keep_sent.Goals as goal
 
 pub right-requires : goal.right-requires
-right-requires g c = c.requires.right _ _ _ _ (sent_at c.args.wave c.args.word c.args.dests.now c.loop-dest.dest-index _ c.loop-dest-test.true)
+right-requires g c =
+    c.requires.right _ _ _ _ (sent_at c.args.wave c.args.word c.args.dests.now c.loop-dest.dest-index _
+    c.loop-dest-test.true)
 
 pub loop-dest-preserved : goal.loop-dest-preserved
 loop-dest-preserved g c =
@@ -17,13 +19,19 @@ loop-dest-preserved g c =
     let d : Dest = slice_index_or c.args.dests.now c.loop-dest.dest-index (record { instr = 0; port = 0 }) in
     let t : Token = record { wave = c.args.wave; instr = d.instr; port = d.port; value = c.args.word } in
     elim c.if-not-holds.branch [
-      | then-not-holds+in_ok-push w ↦ (let n : c.if-not-holds.found ≡ c.loop-dest.found ++ t ∷ [] = w.found-is ∙ w.in_ok-push.ensures.ok ∙ ap (λ (x : Token). c.loop-dest.found ++ x ∷ []) w.right.ensures in (
-        found_missing held c.loop-dest.found c.if-not-holds.found t n (sym c.holds.ensures ∙ w.if-not-holds.true) c.loop-dest.invariant.0,
-        λ e. absurd (not_empty c.loop-dest.found t (sym n ∙ e)),
-      ))
+      | then-not-holds+in_ok-push w ↦ (let n : c.if-not-holds.found ≡ c.loop-dest.found ++ t ∷ [] = w.found-is
+          ∙ w.in_ok-push.ensures.ok ∙ ap (λ (x : Token). c.loop-dest.found ++ x ∷ []) w.right.ensures in (
+            found_missing held c.loop-dest.found c.if-not-holds.found t n (sym c.holds.ensures
+                ∙ w.if-not-holds.true) c.loop-dest.invariant.0,
+            λ e. absurd (not_empty c.loop-dest.found t (sym n ∙ e)),
+          ))
       | else-not-holds w ↦ (
         subst (λ (l : List Token). All (IsMissing held) l) (sym w.found-is) c.loop-dest.invariant.0,
-        λ e. (let b = c.loop-dest.invariant.1 (sym w.found-is ∙ e) in
-            (b.0, come_sent held c.args.wave c.args.word c.args.dests.now c.loop-dest.dest-index (record { instr = 0; port = 0 }) c.loop-dest-test.true (sym c.holds.ensures ∙ w.if-not-holds.false) b.1)),
+        λ e. (let b = c.loop-dest.invariant.1 (sym w.found-is ∙ e) in (
+          b.0,
+          come_sent held c.args.wave c.args.word c.args.dests.now c.loop-dest.dest-index
+              (record { instr = 0; port = 0 }) c.loop-dest-test.true (sym c.holds.ensures
+              ∙ w.if-not-holds.false) b.1,
+        )),
       )
     ]

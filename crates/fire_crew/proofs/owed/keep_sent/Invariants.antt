@@ -5,4 +5,6 @@ use Rattle.fire_crew.specs.Owing.{HaveCome, IsMissing}
 use Rattle.fire_crew.proofs.owed.keep_sent.Given as goal
 
 abbrev pub invariant-loop-dest : goal.invariant-loop-dest
-invariant-loop-dest g l = All (IsMissing (part_behind l.tables).held) l.found × (l.found ≡ [] → (l.initial.found ≡ []) × HaveCome (part_behind l.tables).held (tokens_to l.wave l.word (take l.dest-index l.dests)))
+invariant-loop-dest g l = All (IsMissing (part_behind l.tables).held) l.found
+    × (l.found ≡ [] → (l.initial.found ≡ []) × HaveCome (part_behind l.tables).held
+    (tokens_to l.wave l.word (take l.dest-index l.dests)))

@@ -15,17 +15,29 @@ keep_sent-requires g c = (
     c.requires.missing,
     λ w i p v s. c.requires.right c.in-Some.word w i p v c.in-Some.is
         (subst (λ (ts : List Token). IsSent ts w i p v)
-        (code_sent g.J.Job.image (image_of c.program-program.result.now) c.args.kept.wave c.args.kept.instr c.op.result c.in-Some-number_of.number c.in-Some.word 0 c.destinations.result.now (code_op g.J.Job.image (image_of c.program-program.result.now) c.args.kept.instr c.op.result c.op.ensures c.program-program.ensures.image) c.in-Some-number_of.ensures.number c.destinations.ensures c.program-program.ensures.image
-        ∙ answer_is g.J.Job.image c.args.kept.wave c.args.kept.instr (operands_of (ports g.J.Job.image c.args.kept.instr) c.args.kept.first c.args.kept.second) c.in-Some.word c.requires.memory) s),
+        (code_sent g.J.Job.image (image_of c.program-program.result.now) c.args.kept.wave c.args.kept.instr
+        c.op.result c.in-Some-number_of.number c.in-Some.word 0 c.destinations.result.now
+        (code_op g.J.Job.image (image_of c.program-program.result.now) c.args.kept.instr c.op.result
+        c.op.ensures c.program-program.ensures.image) c.in-Some-number_of.ensures.number
+        c.destinations.ensures c.program-program.ensures.image
+        ∙ answer_is g.J.Job.image c.args.kept.wave c.args.kept.instr
+        (operands_of (ports g.J.Job.image c.args.kept.instr) c.args.kept.first c.args.kept.second)
+        c.in-Some.word c.requires.memory) s),
   ),
 )
 
 pub returns-clause-none : goal.returns-clause-none
 returns-clause-none g c = λ e. (let r = c.in_ok-keep_sent.ensures.none e in (
   r.0,
-  λ a is. (let xs = operands_of (ports g.J.Job.image c.args.kept.instr) c.args.kept.first c.args.kept.second in
+  λ a is. (let xs = operands_of (ports g.J.Job.image c.args.kept.instr) c.args.kept.first
+      c.args.kept.second in
       let word : c.in-Some.word ≡ a = (let q : Some c.in-Some.word ≡ Some a = sym c.in-Some.is ∙ is in cc) in
       subst (λ (ts : List Token). HaveCome (part_behind c.args.tables.now).held ts)
-      (code_sent g.J.Job.image (image_of c.program-program.result.now) c.args.kept.wave c.args.kept.instr c.op.result c.in-Some-number_of.number c.in-Some.word 0 c.destinations.result.now (code_op g.J.Job.image (image_of c.program-program.result.now) c.args.kept.instr c.op.result c.op.ensures c.program-program.ensures.image) c.in-Some-number_of.ensures.number c.destinations.ensures c.program-program.ensures.image
-      ∙ answer_is g.J.Job.image c.args.kept.wave c.args.kept.instr xs c.in-Some.word c.requires.memory ∙ ap (λ (n : ℕ). sends g.J.Job.image c.args.kept.wave c.args.kept.instr xs n) word) r.1),
+      (code_sent g.J.Job.image (image_of c.program-program.result.now) c.args.kept.wave c.args.kept.instr
+      c.op.result c.in-Some-number_of.number c.in-Some.word 0 c.destinations.result.now
+      (code_op g.J.Job.image (image_of c.program-program.result.now) c.args.kept.instr c.op.result
+      c.op.ensures c.program-program.ensures.image) c.in-Some-number_of.ensures.number
+      c.destinations.ensures c.program-program.ensures.image
+      ∙ answer_is g.J.Job.image c.args.kept.wave c.args.kept.instr xs c.in-Some.word c.requires.memory
+      ∙ ap (λ (n : ℕ). sends g.J.Job.image c.args.kept.wave c.args.kept.instr xs n) word) r.1),
 ))

@@ -12,18 +12,29 @@ use Rattle.fire_crew.proofs.told.has_told.Goals as goal
 pub returns-then-is_memory : goal.returns-then-is_memory
 returns-then-is_memory g c =
     let key : Key = record { wave = c.key_at-wave.result.0; instr = c.key_at-wave.result.1 } in
-    λ _. told_key g.J.Job.image (part_behind c.args.tables.now).held c.args.place c.args.table.now key c.key_at-wave.ensures
-    (λ m. absurd (true≢false (sym (code_memory g.J.Job.image (image_of c.program.result.now) key.instr c.op-op.result c.is_memory.result c.op-op.ensures c.program.ensures.image c.is_memory.ensures ∙ c.if-is_memory.true) ∙ m)))
+    λ _. told_key g.J.Job.image (part_behind c.args.tables.now).held c.args.place c.args.table.now key
+    c.key_at-wave.ensures
+    (λ m. absurd
+    (true≢false
+    (sym (code_memory g.J.Job.image (image_of c.program.result.now) key.instr c.op-op.result
+    c.is_memory.result c.op-op.ensures c.program.ensures.image c.is_memory.ensures ∙ c.if-is_memory.true)
+    ∙ m)))
 
 pub returns : goal.returns
 returns g c =
     let key : Key = record { wave = c.key_at-wave.result.0; instr = c.key_at-wave.result.1 } in
     let op = c.op-op.result in
     let of : Key → List ℕ = λ k. operands_in g.J.Job.image (held c.args.table.now) k.wave k.instr in
-    let is = code_op g.J.Job.image (image_of c.program.result.now) key.instr op c.op-op.ensures c.program.ensures.image in
-    let chosen = c.choice_at-choice.ensures key ∙ ap (λ (k : Key). selector_of op (of k)) (c.key_at-wave.ensures key) in
-    λ come. told_key g.J.Job.image (part_behind c.args.tables.now).held c.args.place c.args.table.now key c.key_at-wave.ensures
+    let is = code_op g.J.Job.image (image_of c.program.result.now) key.instr op c.op-op.ensures
+    c.program.ensures.image in
+    let chosen = c.choice_at-choice.ensures key ∙ ap (λ (k : Key). selector_of op (of k))
+    (c.key_at-wave.ensures key) in
+    λ come. told_key g.J.Job.image (part_behind c.args.tables.now).held c.args.place c.args.table.now key
+    c.key_at-wave.ensures
     (λ m. subst (λ (ts : List Token). HaveCome (part_behind c.args.tables.now).held ts)
-    (code_sent g.J.Job.image (image_of c.program-2.result.now) key.wave key.instr op c.in-Some.number (result_of_op op (of key)) c.choice_at-choice.result c.destinations-dests.result.now is c.in-Some.ensures.number c.destinations-dests.ensures c.program-2.ensures.image
-    ∙ sent_is g.J.Job.image key.wave key.instr op (of key) c.choice_at-choice.result (result_of_op op (of key)) is chosen refl)
+    (code_sent g.J.Job.image (image_of c.program-2.result.now) key.wave key.instr op c.in-Some.number
+    (result_of_op op (of key)) c.choice_at-choice.result c.destinations-dests.result.now is
+    c.in-Some.ensures.number c.destinations-dests.ensures c.program-2.ensures.image
+    ∙ sent_is g.J.Job.image key.wave key.instr op (of key) c.choice_at-choice.result
+    (result_of_op op (of key)) is chosen refl)
     (c.have_come.ensures come (result_of_op op (of key))))

@@ -5,4 +5,5 @@ use Rattle.fire_crew.specs.Owing.{HaveCome}
 use Rattle.fire_crew.proofs.told.have_come.Given as goal
 
 abbrev pub invariant-loop-dest : goal.invariant-loop-dest
-invariant-loop-dest g l = (word : ℕ) → HaveCome (part_behind l.tables).held (tokens_to l.wave word (take l.dest-index l.dests))
+invariant-loop-dest g l = (word : ℕ) → HaveCome (part_behind l.tables).held
+    (tokens_to l.wave word (take l.dest-index l.dests))

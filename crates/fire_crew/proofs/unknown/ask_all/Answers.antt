@@ -9,15 +9,24 @@ use Rattle.fire_crew.proofs.unknown.ask_all.Goals as goal
 
 pub ask-requires : goal.ask-requires
 ask-requires g c = let t = c.loop-place-test.true in let count = c.asked_count-place-end.ensures in
-    asks_at g.J.Job.image g.J.Job.world c.program.ensures.formed c.program.ensures.sound c.args.table.now c.facts.ensures.part c.asked_at.result c.asked_at.ensures.operands c.loop-place.place (omega (arith, t, count)) c.asked_at.ensures.at
+    asks_at g.J.Job.image g.J.Job.world c.program.ensures.formed c.program.ensures.sound c.args.table.now
+    c.facts.ensures.part c.asked_at.result c.asked_at.ensures.operands c.loop-place.place
+    (omega (arith, t, count)) c.asked_at.ensures.at
 
 pub loop-place-preserved : goal.loop-place-preserved
 loop-place-preserved g c = λ e. (let a = c.in_ok-ask.ensures e in let b = c.loop-place.invariant a.0 in
-    let t = c.loop-place-test.true in let count = c.asked_count-place-end.ensures in
-    (b.0, All-more (IsKnown c.args.buffer.now.kept) (of_memory g.J.Job.image c.args.table.now.fired) c.loop-place.place none_fired (omega (arith, t, count)) b.1 (subst (IsKnown c.args.buffer.now.kept) (sym (c.asked_at.ensures.at none_fired)) a.1)))
+    let t = c.loop-place-test.true in let count = c.asked_count-place-end.ensures in (
+      b.0,
+      All-more (IsKnown c.args.buffer.now.kept) (of_memory g.J.Job.image c.args.table.now.fired)
+          c.loop-place.place none_fired (omega (arith, t, count)) b.1
+          (subst (IsKnown c.args.buffer.now.kept) (sym (c.asked_at.ensures.at none_fired)) a.1),
+    ))
 
 pub returns : goal.returns
 returns g c = λ e. (let b = c.loop-place.invariant e in
     let t = c.loop-place-test.false in
-    let count = c.asked_count-place-end.ensures in
-    (b.0, all_done (IsKnown c.args.buffer.now.kept) (of_memory g.J.Job.image c.args.table.now.fired) c.loop-place.place (omega (arith, t, count)) b.1))
+    let count = c.asked_count-place-end.ensures in (
+      b.0,
+      all_done (IsKnown c.args.buffer.now.kept) (of_memory g.J.Job.image c.args.table.now.fired)
+          c.loop-place.place (omega (arith, t, count)) b.1,
+    ))

@@ -7,7 +7,9 @@ use Rattle.fire_crew.proofs.unknown.unknown.Goals as goal
 
 pub loop-number-preserved : goal.loop-number-preserved
 loop-number-preserved g c = λ e. (let a = c.in_ok-ask_all.ensures e in
-    next_table (λ (x : TableContent). All (IsKnown c.args.buffer.now.kept) (of_memory g.J.Job.image x.fired)) (contents c.args.tables.now) c.loop-number.number c.table_at.result.now c.table_at.ensures (c.loop-number.invariant a.0) a.1)
+    next_table (λ (x : TableContent). All (IsKnown c.args.buffer.now.kept) (of_memory g.J.Job.image x.fired))
+    (contents c.args.tables.now) c.loop-number.number c.table_at.result.now c.table_at.ensures
+    (c.loop-number.invariant a.0) a.1)
 
 pub returns : goal.returns
 returns g c = λ e. known_all g.J.Job.image c.args.buffer.now.kept (contents c.args.tables.now) refl

@@ -6,4 +6,5 @@ use Rattle.fire_crew.specs.Owing.{IsKnown}
 use Rattle.fire_crew.proofs.unknown.unknown.Given as goal
 
 abbrev pub invariant-loop-number : goal.invariant-loop-number
-invariant-loop-number g l = l.requests.items ≡ [] → (k : ℕ) → k < l.number → All (IsKnown l.buffer.kept) (of_memory g.J.Job.image (content_at (contents l.tables) k).fired)
+invariant-loop-number g l = l.requests.items ≡ [] → (k : ℕ) → k < l.number
+    → All (IsKnown l.buffer.kept) (of_memory g.J.Job.image (content_at (contents l.tables) k).fired)

@@ -4,13 +4,21 @@ use Rattle.match_table.proofs.Coming.{brought_grow, brought_one, brought_serve, 
 use Rattle.match_table.proofs.bring.bring.Goals as goal
 
 pub returns-clause-serve : goal.returns-clause-serve
-returns-clause-serve g c = brought_serve g.J.Job.image (contents c.args.tables.now) (contents c.bring_to.new.tables) refl c.args.token.now c.bring_to.new.results c.bring_to.result c.bring_to.ensures c.requires
+returns-clause-serve g c = brought_serve g.J.Job.image (contents c.args.tables.now)
+    (contents c.bring_to.new.tables) refl c.args.token.now c.bring_to.new.results c.bring_to.result
+    c.bring_to.ensures c.requires
 
 pub returns-clause-grow : goal.returns-clause-grow
-returns-clause-grow g c = brought_grow g.J.Job.image (contents c.args.tables.now) (contents c.bring_to.new.tables) refl c.args.token.now c.bring_to.new.results c.bring_to.result c.bring_to.ensures
+returns-clause-grow g c = brought_grow g.J.Job.image (contents c.args.tables.now)
+    (contents c.bring_to.new.tables) refl c.args.token.now c.bring_to.new.results c.bring_to.result
+    c.bring_to.ensures
 
 pub returns-clause-one : goal.returns-clause-one
-returns-clause-one g c = brought_one g.J.Job.image (contents c.args.tables.now) (contents c.bring_to.new.tables) refl c.args.token.now c.bring_to.new.results c.bring_to.result c.bring_to.ensures c.requires
+returns-clause-one g c = brought_one g.J.Job.image (contents c.args.tables.now)
+    (contents c.bring_to.new.tables) refl c.args.token.now c.bring_to.new.results c.bring_to.result
+    c.bring_to.ensures c.requires
 
 pub returns-clause-come : goal.returns-clause-come
-returns-clause-come g c = brought_there g.J.Job.image (contents c.args.tables.now) (contents c.bring_to.new.tables) refl c.args.token.now c.bring_to.new.results c.bring_to.result c.bring_to.ensures
+returns-clause-come g c = brought_there g.J.Job.image (contents c.args.tables.now)
+    (contents c.bring_to.new.tables) refl c.args.token.now c.bring_to.new.results c.bring_to.result
+    c.bring_to.ensures

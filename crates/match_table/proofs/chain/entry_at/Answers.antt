@@ -13,4 +13,5 @@ returns-in_err-first-clause-none c = let slots : List (Option Entry) = map Some 
 
 pub returns-clause-none : goal.returns-clause-none
 returns-clause-none c = let slots : List (Option Entry) = map Some c.args.entries.now in
-    none_map c.entry_of.result (λ none. absent_arrived slots c.args.wave c.args.instr none) c.entry_of.ensures.none
+    none_map c.entry_of.result (λ none. absent_arrived slots c.args.wave c.args.instr none)
+    c.entry_of.ensures.none

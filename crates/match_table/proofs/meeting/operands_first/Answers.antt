@@ -5,4 +5,5 @@ pub returns-then-ports-eq1 : goal.returns-then-ports-eq1
 returns-then-ports-eq1 c = first_full c.args.port c.args.value c.args.ports c.requires.0 c.if-ports-eq1.true
 
 pub returns-else-ports-eq1 : goal.returns-else-ports-eq1
-returns-else-ports-eq1 c = first_open c.args.port c.args.value c.args.ports c.requires.0 c.requires.1 c.if-ports-eq1.false
+returns-else-ports-eq1 c = first_open c.args.port c.args.value c.args.ports c.requires.0 c.requires.1
+    c.if-ports-eq1.false

@@ -10,22 +10,36 @@ use Rattle.match_table.proofs.ops.dests_of.Goals as goal
 
 pub returns-then-selector-eq0 : goal.returns-then-selector-eq0
 returns-then-selector-eq0 c = let p = c.in-Some.placed in let i = p.instr.now in
-    let place : PlaceIs (image_of c.args.program.now) c.args.instr (view.instr i) p.block = subst (λ (o : Option PlacedInstr). IsPlacedAt (image_of c.args.program.now) c.args.instr o) c.in-Some.is c.requires.placed in
-    c.deref.ensures.value ∙ sym (cond-true (eqb c.args.selector 0) i.others.items i.dests.items (eq-eqb c.args.selector 0 c.if-selector-eq0.true))
-    ∙ to_steer (image_of c.args.program.now) c.args.instr c.args.selector (view.instr i) place.instr c.in-Steer.is
+    let place : PlaceIs (image_of c.args.program.now) c.args.instr (view.instr i) p.block =
+    subst (λ (o : Option PlacedInstr). IsPlacedAt (image_of c.args.program.now) c.args.instr o)
+    c.in-Some.is c.requires.placed in
+    c.deref.ensures.value ∙ sym (cond-true (eqb c.args.selector 0) i.others.items i.dests.items
+    (eq-eqb c.args.selector 0 c.if-selector-eq0.true))
+    ∙ to_steer (image_of c.args.program.now) c.args.instr c.args.selector (view.instr i) place.instr
+    c.in-Steer.is
 
 pub returns-else-selector-eq0 : goal.returns-else-selector-eq0
 returns-else-selector-eq0 c = let p = c.in-Some.placed in let i = p.instr.now in
-    let place : PlaceIs (image_of c.args.program.now) c.args.instr (view.instr i) p.block = subst (λ (o : Option PlacedInstr). IsPlacedAt (image_of c.args.program.now) c.args.instr o) c.in-Some.is c.requires.placed in
-    c.deref-else-selector-eq0.ensures.value ∙ sym (cond-false (eqb c.args.selector 0) i.others.items i.dests.items (ne_eqb c.args.selector 0 c.if-selector-eq0.false))
-    ∙ to_steer (image_of c.args.program.now) c.args.instr c.args.selector (view.instr i) place.instr c.in-Steer.is
+    let place : PlaceIs (image_of c.args.program.now) c.args.instr (view.instr i) p.block =
+    subst (λ (o : Option PlacedInstr). IsPlacedAt (image_of c.args.program.now) c.args.instr o)
+    c.in-Some.is c.requires.placed in
+    c.deref-else-selector-eq0.ensures.value
+    ∙ sym (cond-false (eqb c.args.selector 0) i.others.items i.dests.items
+    (ne_eqb c.args.selector 0 c.if-selector-eq0.false))
+    ∙ to_steer (image_of c.args.program.now) c.args.instr c.args.selector (view.instr i) place.instr
+    c.in-Steer.is
 
 pub returns-in_default : goal.returns-in_default
 returns-in_default c = let p = c.in-Some.placed in let i = p.instr.now in
-    let place : PlaceIs (image_of c.args.program.now) c.args.instr (view.instr i) p.block = subst (λ (o : Option PlacedInstr). IsPlacedAt (image_of c.args.program.now) c.args.instr o) c.in-Some.is c.requires.placed in
-    c.deref-in_default.ensures.value ∙ to_all (image_of c.args.program.now) c.args.instr c.args.selector (view.instr i) place.instr c.in_default.not-Steer (λ q. c.in_default.not-Send q)
+    let place : PlaceIs (image_of c.args.program.now) c.args.instr (view.instr i) p.block =
+    subst (λ (o : Option PlacedInstr). IsPlacedAt (image_of c.args.program.now) c.args.instr o)
+    c.in-Some.is c.requires.placed in
+    c.deref-in_default.ensures.value ∙ to_all (image_of c.args.program.now) c.args.instr c.args.selector
+    (view.instr i) place.instr c.in_default.not-Steer (λ q. c.in_default.not-Send q)
 
 pub returns-in-None : goal.returns-in-None
 returns-in-None c =
-    let none : instr_at (image_of c.args.program.now) c.args.instr ≡ no_instr = subst (λ (o : Option PlacedInstr). IsPlacedAt (image_of c.args.program.now) c.args.instr o) c.in-None.is c.requires.placed in
+    let none : instr_at (image_of c.args.program.now) c.args.instr ≡ no_instr =
+    subst (λ (o : Option PlacedInstr). IsPlacedAt (image_of c.args.program.now) c.args.instr o)
+    c.in-None.is c.requires.placed in
     to_none (image_of c.args.program.now) c.args.instr c.args.selector none

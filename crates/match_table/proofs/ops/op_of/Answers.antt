@@ -7,4 +7,6 @@ use Rattle.match_table.proofs.ops.op_of.Goals as goal
 
 pub returns-in-None : goal.returns-in-None
 unfolding no_instr
-returns-in-None c = λ image number placed. sym (op_none image number (subst (λ (o : Option PlacedInstr). IsPlacedAt image number o) c.in-None.is placed))
+returns-in-None c = λ image number placed.
+    sym (op_none image number (subst (λ (o : Option PlacedInstr). IsPlacedAt image number o) c.in-None.is
+    placed))

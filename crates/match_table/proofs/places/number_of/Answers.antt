@@ -5,4 +5,5 @@ use Rattle.match_table.proofs.places.number_of.Goals as goal
 
 pub returns : goal.returns
 unfolding page_number
-returns c = mod-add-mod (c.args.wave * 2 ^ 29) (2 ^ 64) c.from.result ∙ ap (λ k. (c.args.wave * 2 ^ 29 + k) % 2 ^ 64) c.from.ensures
+returns c = mod-add-mod (c.args.wave * 2 ^ 29) (2 ^ 64) c.from.result
+    ∙ ap (λ k. (c.args.wave * 2 ^ 29 + k) % 2 ^ 64) c.from.ensures

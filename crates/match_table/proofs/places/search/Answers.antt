@@ -3,24 +3,31 @@ use Rattle.match_table.proofs.Numbers.{below_more, above_more, in_order}
 use Rattle.match_table.proofs.places.search.Goals as goal
 
 pub loop-low-preserved-then-pages-middle : goal.loop-low-preserved-then-pages-middle
-loop-low-preserved-then-pages-middle c = let inv = c.loop-low.invariant in let t = c.loop-low-test.true in let o = inv.order in let b = inv.bound in record {
-  order = omega (arith, t, o);
-  bound = b;
-  below = below_more c.args.pages.now (c.loop-low.low + (c.loop-low.high - c.loop-low.low) / 2) c.args.number _ c.requires (omega (arith, t, o, b)) c.if-pages-middle.true;
-  above = inv.above;
-}
+loop-low-preserved-then-pages-middle c = let inv = c.loop-low.invariant in let t = c.loop-low-test.true in
+    let o = inv.order in let b = inv.bound in record {
+      order = omega (arith, t, o);
+      bound = b;
+      below = below_more c.args.pages.now (c.loop-low.low + (c.loop-low.high - c.loop-low.low) / 2)
+          c.args.number
+          _ c.requires (omega (arith, t, o, b)) c.if-pages-middle.true;
+      above = inv.above;
+    }
 
 pub loop-low-preserved : goal.loop-low-preserved
-loop-low-preserved c = let inv = c.loop-low.invariant in let t = c.loop-low-test.true in let o = inv.order in let b = inv.bound in record {
-  order = omega (arith, t, o);
-  bound = omega (arith, t, o, b);
-  below = inv.below;
-  above = above_more c.args.pages.now (c.loop-low.low + (c.loop-low.high - c.loop-low.low) / 2) c.args.number _ c.requires c.if-pages-middle.false;
-}
+loop-low-preserved c = let inv = c.loop-low.invariant in let t = c.loop-low-test.true in let o = inv.order in
+    let b = inv.bound in record {
+      order = omega (arith, t, o);
+      bound = omega (arith, t, o, b);
+      below = inv.below;
+      above = above_more c.args.pages.now (c.loop-low.low + (c.loop-low.high - c.loop-low.low) / 2)
+          c.args.number
+          _ c.requires c.if-pages-middle.false;
+    }
 
 pub loop-low-init : goal.loop-low-init
 loop-low-init c = record {
-  order = in_order c.args.pages.now c.floor-low.result c.ceiling-high.result c.args.number c.floor-low.ensures.bound c.floor-low.ensures.below c.ceiling-high.ensures.above;
+  order = in_order c.args.pages.now c.floor-low.result c.ceiling-high.result c.args.number
+      c.floor-low.ensures.bound c.floor-low.ensures.below c.ceiling-high.ensures.above;
   bound = c.ceiling-high.ensures.bound;
   below = c.floor-low.ensures.below;
   above = c.ceiling-high.ensures.above;

@@ -4,4 +4,5 @@ use Rattle.phi_conv.specs.Short as short
 use Rattle.phi_conv.proofs.find.after_ops.Given as goal
 
 abbrev pub invariant-loop-op : goal.invariant-loop-op
-invariant-loop-op l = l.rest + short.all_nodes (map view.op l.ops) ≡ l.left + short.all_nodes (map view.op (drop l.op-index l.ops))
+invariant-loop-op l = l.rest + short.all_nodes (map view.op l.ops) ≡ l.left + short.all_nodes
+    (map view.op (drop l.op-index l.ops))

@@ -35,6 +35,7 @@ returns c =
       arms = λ alone. subst ArmsAlone (sym same) (arms_alone g live alone);
       copies = subst (NoCopyLive g) (sym same) (no_copy_live g live c.requires.rules);
       turns = λ two. subst TwoBlocksATurn (sym same) (two_blocks_still g live c.requires.rules two);
-      work = λ most pays. subst (λ (x : plain.Graph). TurnsPayMost x most) (sym same) (turns_pay_most g live most pays);
+      work = λ most pays. subst (λ (x : plain.Graph). TurnsPayMost x most) (sym same)
+          (turns_pay_most g live most pays);
       blocks = subst (PassesNoMore g) (sym same) (no_more g c.requires.rules live c.requires.live);
     }

@@ -5,5 +5,7 @@ use Rattle.phi_conv.proofs.make.joined_proc.Given as goal
 
 abbrev pub invariant-loop-block : goal.invariant-loop-block
 invariant-loop-block l =
-    map view.block l.blocks.items ++ map (joined.joined_block (view.graph l.table.graph.now) l.live l.proc.vars) (map view.block (drop l.block-index l.proc.blocks.items))
-    ≡ map (joined.joined_block (view.graph l.table.graph.now) l.live l.proc.vars) (map view.block l.proc.blocks.items)
+    map view.block l.blocks.items ++ map (joined.joined_block (view.graph l.table.graph.now) l.live
+    l.proc.vars) (map view.block (drop l.block-index l.proc.blocks.items))
+    ≡ map (joined.joined_block (view.graph l.table.graph.now) l.live l.proc.vars)
+    (map view.block l.proc.blocks.items)

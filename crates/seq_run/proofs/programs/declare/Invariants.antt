@@ -6,5 +6,6 @@ use Rattle.seq_run.proofs.programs.declare.Given as goal
 abbrev pub invariant-loop-name : goal.invariant-loop-name
 invariant-loop-name l = record {
   next : l.table.next ≡ l.initial.table.next + l.name-index;
-  table : (first : ℕ) (names : List Name) → IsTable first names l.initial.table → IsTable first (names ++ take l.name-index l.list) l.table;
+  table : (first : ℕ) (names : List Name) → IsTable first names l.initial.table
+      → IsTable first (names ++ take l.name-index l.list) l.table;
 }

@@ -11,5 +11,7 @@ abbrev pub invariant-loop-item : goal.invariant-loop-item
 invariant-loop-item l = record {
   arrays : l.names.arrays ≡ l.initial.names.arrays;
   procs : l.names.procs ≡ l.initial.names.procs;
-  list : (arrays procs : List Name) → IsTable 1 arrays l.initial.names.arrays → IsTable 0 procs l.initial.names.procs → view.procs l.list.items ≡ resolving.procs arrays procs (procs_of (ast.parts (take l.item-index l.items)));
+  list : (arrays procs : List Name) → IsTable 1 arrays l.initial.names.arrays
+      → IsTable 0 procs l.initial.names.procs → view.procs l.list.items ≡ resolving.procs arrays procs
+      (procs_of (ast.parts (take l.item-index l.items)));
 }

@@ -16,7 +16,8 @@ pub returns-clause-in_range : goal.returns-clause-in_range
 returns-clause-in_range c =
     let program = c.program.result.now in
     subst (λ (p : ResolvedProgram). ProgramIn p)
-    (sym (c.in_ok-resolved.ensures ∙ ap (λ (items : List Item). resolving.program (ast.parts items)) c.deref.ensures.value))
+    (sym (c.in_ok-resolved.ensures ∙ ap (λ (items : List Item). resolving.program (ast.parts items))
+    c.deref.ensures.value))
     (accepted_in (ast.parts program.items.items) program.finish c.program.ensures.accepted)
 
 pub numbered-requires-clause-few : goal.numbered-requires-clause-few

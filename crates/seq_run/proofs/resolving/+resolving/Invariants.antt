@@ -7,4 +7,5 @@ use Rattle.seq_run.specs.Tables.{AreNames}
 use Rattle.seq_run.proofs.resolving.+resolving.Given as goal
 
 abbrev pub invariant-steps-loop-s : goal.invariant-steps-loop-s
-invariant-steps-loop-s l = (scope : Scope) → AreNames scope l.names → view.steps l.list.items ≡ resolving.all scope (ast.statements (take l.s-index l.body))
+invariant-steps-loop-s l = (scope : Scope) → AreNames scope l.names → view.steps l.list.items ≡ resolving.all
+    scope (ast.statements (take l.s-index l.body))

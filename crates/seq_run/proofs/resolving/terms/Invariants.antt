@@ -7,4 +7,5 @@ use Rattle.seq_run.specs.Tables.{AreNames}
 use Rattle.seq_run.proofs.resolving.terms.Given as goal
 
 abbrev pub invariant-loop-e : goal.invariant-loop-e
-invariant-loop-e l = (scope : Scope) → AreNames scope l.names → map graph.term l.list.items ≡ resolving.terms scope (map ast.expression (take l.e-index l.es))
+invariant-loop-e l = (scope : Scope) → AreNames scope l.names → map graph.term l.list.items ≡ resolving.terms
+    scope (map ast.expression (take l.e-index l.es))

@@ -15,8 +15,14 @@ loop-term-preserved c =
     record {
       words =
           c.in_ok-push.ensures.ok ∙ ap (λ (v : ℕ). c.loop-term.words ++ v ∷ []) c.value.ensures.value
-          ∙ values_more c.args.terms.now vars cells c.loop-term.term-index c.term-item.result c.loop-term.words c.loop-term-test.true c.term-item.is c.loop-term.invariant.words;
+          ∙ values_more c.args.terms.now vars cells c.loop-term.term-index c.term-item.result
+          c.loop-term.words c.loop-term-test.true c.term-item.is c.loop-term.invariant.words;
       past =
-          noted_then (lengths_of cells) (all_loads (map graph.term (take c.loop-term.term-index c.args.terms.now)) vars cells) (loads_of (graph.term c.term-item.result) vars cells) c.args.past.now c.loop-term.past c.value.new.past c.loop-term.invariant.past c.value.ensures.past
-          ∙ ap (λ (acts : List Act). first_some c.args.past.now (first_past (lengths_of cells) acts)) (sym (loads_more c.args.terms.now vars cells c.loop-term.term-index c.term-item.result c.loop-term-test.true c.term-item.is));
+          noted_then (lengths_of cells)
+          (all_loads (map graph.term (take c.loop-term.term-index c.args.terms.now)) vars cells)
+          (loads_of (graph.term c.term-item.result) vars cells) c.args.past.now c.loop-term.past
+          c.value.new.past c.loop-term.invariant.past c.value.ensures.past
+          ∙ ap (λ (acts : List Act). first_some c.args.past.now (first_past (lengths_of cells) acts))
+          (sym (loads_more c.args.terms.now vars cells c.loop-term.term-index c.term-item.result
+          c.loop-term-test.true c.term-item.is));
     }

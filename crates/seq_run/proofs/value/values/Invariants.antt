@@ -9,5 +9,6 @@ use Rattle.ws_words.specs.Items.{first_some}
 abbrev pub invariant-loop-term : goal.invariant-loop-term
 invariant-loop-term l = record {
   words : l.words ≡ walks.values (map graph.term (take l.term-index l.terms)) l.vars l.memory.cells;
-  past : l.past ≡ first_some l.initial.past (first_past (lengths_of l.memory.cells) (walks.all_loads (map graph.term (take l.term-index l.terms)) l.vars l.memory.cells));
+  past : l.past ≡ first_some l.initial.past (first_past (lengths_of l.memory.cells)
+      (walks.all_loads (map graph.term (take l.term-index l.terms)) l.vars l.memory.cells));
 }

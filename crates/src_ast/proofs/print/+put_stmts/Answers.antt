@@ -19,5 +19,6 @@ put_stmt-returns-in_ok-put_stmts-in-If t c =
 pub put_else-returns : goal.put_else-returns
 put_else-returns t c =
     let some : 0 < length c.args.stmts.now = search rules in
-    let e = else_full c.args.level c.args.stmts.now (spec.body_lines c.args.inner (view.statements c.args.stmts.now)) some in
+    let e = else_full c.args.level c.args.stmts.now
+    (spec.body_lines c.args.inner (view.statements c.args.stmts.now)) some in
     grind (arith, common_steps, e)

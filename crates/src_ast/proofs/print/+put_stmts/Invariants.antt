@@ -5,4 +5,5 @@ use Rattle.src_ast.proofs.print.+put_stmts.Given as goal
 
 abbrev pub invariant-put_stmts-loop-stmt : goal.invariant-put_stmts-loop-stmt
 invariant-put_stmts-loop-stmt l =
-    l.out ++ spec.body_lines l.level (view.statements (drop l.stmt-index l.stmts)) ≡ l.initial.out ++ spec.body_lines l.level (view.statements l.stmts)
+    l.out ++ spec.body_lines l.level (view.statements (drop l.stmt-index l.stmts)) ≡ l.initial.out
+    ++ spec.body_lines l.level (view.statements l.stmts)

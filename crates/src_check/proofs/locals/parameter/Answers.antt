@@ -11,38 +11,61 @@ use Rattle.src_check.proofs.locals.parameter.Goals.{then-main, else-main}
 pub returns-in_err-require-clause-rules : goal.returns-in_err-require-clause-rules
 returns-in_err-require-clause-rules c = λ visible st.
     let barred : c.if-main.require ≡ (c.args.main && (c.args.before == 0)) =
-    elim c.if-main.branch [ then-main w ↦ rw w.if-main.true w.require-is | else-main w ↦ rw w.if-main.false (w.require-is ∙ w.if-main.false) ] in
+    elim c.if-main.branch [
+      | then-main w ↦ rw w.if-main.true w.require-is
+      | else-main w ↦
+          rw w.if-main.false (w.require-is ∙ w.if-main.false)
+    ] in
     leaves_in_memory _ _ _ c.from_residual.ensures.1
     (ap first_broken (parameter_rules_as visible c.args.before c.args.name.now _ refl c.args.main _ barred)
-    ∙ before_broken (rule c.args.name.now.place Main (not c.if-main.require) ∷ []) _ _ c.in_err-require.ensures.rule)
+    ∙ before_broken (rule c.args.name.now.place Main (not c.if-main.require) ∷ []) _ _
+    c.in_err-require.ensures.rule)
 
 pub returns-in_err-require-2-clause-rules : goal.returns-in_err-require-2-clause-rules
 returns-in_err-require-2-clause-rules c = λ visible st.
     let barred : c.if-main.require ≡ (c.args.main && (c.args.before == 0)) =
-    elim c.if-main.branch [ then-main w ↦ rw w.if-main.true w.require-is | else-main w ↦ rw w.if-main.false (w.require-is ∙ w.if-main.false) ] in
-    let known = c.contains-known.ensures ∙ ap (λ t. passes (λ _. true) (seen c.args.names.now t)) c.as_slice.ensures ∙ sym (visible_where_found c.args.name.now.text st) in
+    elim c.if-main.branch [
+      | then-main w ↦ rw w.if-main.true w.require-is
+      | else-main w ↦
+          rw w.if-main.false (w.require-is ∙ w.if-main.false)
+    ] in
+    let known = c.contains-known.ensures ∙ ap (λ t. passes (λ _. true) (seen c.args.names.now t))
+    c.as_slice.ensures ∙ sym (visible_where_found c.args.name.now.text st) in
     leaves_in_memory _ _ _ c.from_residual-in_err-require-2.ensures.1
     (ap first_broken (parameter_rules_as visible c.args.before c.args.name.now _ known c.args.main _ barred)
     ∙ after_kept (rule c.args.name.now.place Main (not c.if-main.require) ∷ []) _ c.in_ok-require.ensures.rule
-    ∙ before_broken (rule c.args.name.now.place Twice (not c.contains-known.result) ∷ []) _ _ c.in_err-require-2.ensures.rule)
+    ∙ before_broken (rule c.args.name.now.place Twice (not c.contains-known.result) ∷ []) _ _
+    c.in_err-require-2.ensures.rule)
 
 pub returns-in_err-require-3-clause-rules : goal.returns-in_err-require-3-clause-rules
 returns-in_err-require-3-clause-rules c = λ visible st.
     let barred : c.if-main.require ≡ (c.args.main && (c.args.before == 0)) =
-    elim c.if-main.branch [ then-main w ↦ rw w.if-main.true w.require-is | else-main w ↦ rw w.if-main.false (w.require-is ∙ w.if-main.false) ] in
-    let known = c.contains-known.ensures ∙ ap (λ t. passes (λ _. true) (seen c.args.names.now t)) c.as_slice.ensures ∙ sym (visible_where_found c.args.name.now.text st) in
+    elim c.if-main.branch [
+      | then-main w ↦ rw w.if-main.true w.require-is
+      | else-main w ↦
+          rw w.if-main.false (w.require-is ∙ w.if-main.false)
+    ] in
+    let known = c.contains-known.ensures ∙ ap (λ t. passes (λ _. true) (seen c.args.names.now t))
+    c.as_slice.ensures ∙ sym (visible_where_found c.args.name.now.text st) in
     leaves_in_memory _ _ _ c.from_residual-in_err-require-3.ensures.1
     (ap first_broken (parameter_rules_as visible c.args.before c.args.name.now _ known c.args.main _ barred)
     ∙ after_kept (rule c.args.name.now.place Main (not c.if-main.require) ∷ []) _ c.in_ok-require.ensures.rule
-    ∙ after_kept (rule c.args.name.now.place Twice (not c.contains-known.result) ∷ []) _ c.in_ok-require-2.ensures.rule
+    ∙ after_kept (rule c.args.name.now.place Twice (not c.contains-known.result) ∷ []) _
+    c.in_ok-require-2.ensures.rule
     ∙ c.in_err-require-3.ensures.rule)
 
 pub returns-clause-rules : goal.returns-clause-rules
 returns-clause-rules c = λ visible st.
     let barred : c.if-main.require ≡ (c.args.main && (c.args.before == 0)) =
-    elim c.if-main.branch [ then-main w ↦ rw w.if-main.true w.require-is | else-main w ↦ rw w.if-main.false (w.require-is ∙ w.if-main.false) ] in
-    let known = c.contains-known.ensures ∙ ap (λ t. passes (λ _. true) (seen c.args.names.now t)) c.as_slice.ensures ∙ sym (visible_where_found c.args.name.now.text st) in
+    elim c.if-main.branch [
+      | then-main w ↦ rw w.if-main.true w.require-is
+      | else-main w ↦
+          rw w.if-main.false (w.require-is ∙ w.if-main.false)
+    ] in
+    let known = c.contains-known.ensures ∙ ap (λ t. passes (λ _. true) (seen c.args.names.now t))
+    c.as_slice.ensures ∙ sym (visible_where_found c.args.name.now.text st) in
     ap first_broken (parameter_rules_as visible c.args.before c.args.name.now _ known c.args.main _ barred)
     ∙ after_kept (rule c.args.name.now.place Main (not c.if-main.require) ∷ []) _ c.in_ok-require.ensures.rule
-    ∙ after_kept (rule c.args.name.now.place Twice (not c.contains-known.result) ∷ []) _ c.in_ok-require-2.ensures.rule
+    ∙ after_kept (rule c.args.name.now.place Twice (not c.contains-known.result) ∷ []) _
+    c.in_ok-require-2.ensures.rule
     ∙ c.in_ok-require-3.ensures.rule

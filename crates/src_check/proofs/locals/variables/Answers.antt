@@ -13,25 +13,34 @@ use Rattle.src_check.proofs.locals.variables.Goals as goal
 pub returns-in_err-variable-clause-rules : goal.returns-in_err-variable-clause-rules
 returns-in_err-variable-clause-rules c = λ visible st.
     let now = pushed (take c.loop-name.name-index c.args.vars.now) visible in
-    let left = drop_next c.args.vars.now c.loop-name.name-index c.name-item.result (omega arith) c.name-item.is in
+    let left = drop_next c.args.vars.now c.loop-name.name-index c.name-item.result (omega arith)
+    c.name-item.is in
     passes_on _ _ _ c.from_residual.ensures.1
-    (stop_as _ _ _ (c.loop-name.invariant.rules visible st ∙ ap (λ (l : List Name). first_broken (variable_rules now c.loop-name.count l)) left)
-    (stop_before (variable_rules now c.loop-name.count (c.name-item.result ∷ [])) _ _ (c.in_err-variable.ensures.rules now (c.loop-name.invariant.stands visible st))))
+    (stop_as _ _ _ (c.loop-name.invariant.rules visible st
+    ∙ ap (λ (l : List Name). first_broken (variable_rules now c.loop-name.count l)) left)
+    (stop_before (variable_rules now c.loop-name.count (c.name-item.result ∷ [])) _ _
+    (c.in_err-variable.ensures.rules now (c.loop-name.invariant.stands visible st))))
 
 pub loop-name-preserved : goal.loop-name-preserved
 loop-name-preserved c =
-    let left = drop_next c.args.vars.now c.loop-name.name-index c.name-item.result (omega arith) c.name-item.is in
+    let left = drop_next c.args.vars.now c.loop-name.name-index c.name-item.result (omega arith)
+    c.name-item.is in
     record {
       rules = λ visible st.
           let now = pushed (take c.loop-name.name-index c.args.vars.now) visible in
-          let next = pushed_next c.args.vars.now c.loop-name.name-index c.name-item.result visible (omega arith) c.name-item.is in
+          let next = pushed_next c.args.vars.now c.loop-name.name-index c.name-item.result visible
+          (omega arith) c.name-item.is in
           c.loop-name.invariant.rules visible st
           ∙ ap (λ (l : List Name). first_broken (variable_rules now c.loop-name.count l)) left
-          ∙ after_kept (variable_rules now c.loop-name.count (c.name-item.result ∷ [])) _ (c.in_ok-variable.ensures.rules now (c.loop-name.invariant.stands visible st))
-          ∙ (λ i. first_broken (variable_rules (sym next i) (sym (add-one c.loop-name.count) i) (drop (c.loop-name.name-index + 1) c.args.vars.now)));
+          ∙ after_kept (variable_rules now c.loop-name.count (c.name-item.result ∷ [])) _
+          (c.in_ok-variable.ensures.rules now (c.loop-name.invariant.stands visible st))
+          ∙ (λ i. first_broken (variable_rules (sym next i) (sym (add-one c.loop-name.count) i)
+          (drop (c.loop-name.name-index + 1) c.args.vars.now)));
       stands = λ visible st.
-          let next = pushed_next c.args.vars.now c.loop-name.name-index c.name-item.result visible (omega arith) c.name-item.is in
-          subst (λ v. StandsFor (seen c.variable.new.names) v) (sym next) (c.in_ok-variable.ensures.stands _ (c.loop-name.invariant.stands visible st));
+          let next = pushed_next c.args.vars.now c.loop-name.name-index c.name-item.result visible
+          (omega arith) c.name-item.is in
+          subst (λ v. StandsFor (seen c.variable.new.names) v) (sym next)
+          (c.in_ok-variable.ensures.stands _ (c.loop-name.invariant.stands visible st));
       outer = c.in_ok-variable.ensures.outer ∙ c.loop-name.invariant.outer;
     }
 
@@ -39,9 +48,14 @@ pub returns-clause-rules : goal.returns-clause-rules
 unfolding first_broken
 returns-clause-rules c = λ visible st.
     c.loop-name.invariant.rules visible st
-    ∙ ap (λ (l : List Name). first_broken (variable_rules (pushed (take c.loop-name.name-index c.args.vars.now) visible) c.loop-name.count l)) (drop_of_length-le c.args.vars.now {i = c.loop-name.name-index} c.loop-name-test.false)
+    ∙ ap (λ (l : List Name).
+    first_broken (variable_rules (pushed (take c.loop-name.name-index c.args.vars.now) visible)
+    c.loop-name.count l)) (drop_of_length-le c.args.vars.now {i = c.loop-name.name-index}
+    c.loop-name-test.false)
 
 pub returns-clause-stands : goal.returns-clause-stands
 returns-clause-stands c = λ visible st.
     stands_for_pushed c.args.vars.now visible
-    (subst (λ (l : List Name). StandsFor (seen c.loop-name.names) (pushed l visible)) (take_all c.loop-name.name-index c.args.vars.now c.loop-name-test.false) (c.loop-name.invariant.stands visible st))
+    (subst (λ (l : List Name). StandsFor (seen c.loop-name.names) (pushed l visible))
+    (take_all c.loop-name.name-index c.args.vars.now c.loop-name-test.false)
+    (c.loop-name.invariant.stands visible st))

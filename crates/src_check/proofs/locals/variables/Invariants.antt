@@ -9,7 +9,9 @@ use Rattle.src_check.proofs.locals.variables.Given as goal
 abbrev pub invariant-loop-name : goal.invariant-loop-name
 invariant-loop-name l = record {
   rules : (visible : List Declared) → StandsFor (seen l.fn.names) visible →
-      first_broken (variable_rules visible l.fn.before l.vars) ≡ first_broken (variable_rules (pushed (take l.name-index l.vars) visible) l.count (drop l.name-index l.vars));
-  stands : (visible : List Declared) → StandsFor (seen l.fn.names) visible → StandsFor (seen l.names) (pushed (take l.name-index l.vars) visible);
+      first_broken (variable_rules visible l.fn.before l.vars) ≡ first_broken
+      (variable_rules (pushed (take l.name-index l.vars) visible) l.count (drop l.name-index l.vars));
+  stands : (visible : List Declared) → StandsFor (seen l.fn.names) visible
+      → StandsFor (seen l.names) (pushed (take l.name-index l.vars) visible);
   outer : l.names.outer ≡ l.fn.names.outer;
 }

@@ -9,6 +9,8 @@ use Rattle.src_check.proofs.statements.+body.Given as goal
 abbrev pub invariant-body-loop-stmt : goal.invariant-body-loop-stmt
 invariant-body-loop-stmt l = record {
   rules : (visible : List Declared) → StandsFor (seen l.fn.names) visible →
-      first_broken (body_rules visible l.fn.before (view.statements l.stmts)) ≡ first_broken (body_rules visible l.count (view.statements (drop l.stmt-index l.stmts)));
-  count : l.count + size_of_all (view.statements (drop l.stmt-index l.stmts)) ≡ l.fn.before + size_of_all (view.statements l.stmts);
+      first_broken (body_rules visible l.fn.before (view.statements l.stmts)) ≡ first_broken
+      (body_rules visible l.count (view.statements (drop l.stmt-index l.stmts)));
+  count : l.count + size_of_all (view.statements (drop l.stmt-index l.stmts)) ≡ l.fn.before + size_of_all
+      (view.statements l.stmts);
 }

@@ -11,7 +11,8 @@ returns-in_default-clause-rules c = λ visible st. rw c.in_default.is refl
 pub returns-in_err-count-clause-rules : goal.returns-in_err-count-clause-rules
 returns-in_err-count-clause-rules c = λ visible st.
     leaves _ _ _ c.from_residual.ensures.1
-    (rw c.in-Some.is (before_broken (statement_rule c.args.before c.in-Some.last.place ∷ []) _ _ c.in_err-count.ensures.rules))
+    (rw c.in-Some.is (before_broken (statement_rule c.args.before c.in-Some.last.place ∷ []) _ _
+    c.in_err-count.ensures.rules))
 
 pub returns-in_err-expression-clause-rules : goal.returns-in_err-expression-clause-rules
 returns-in_err-expression-clause-rules c = λ visible st.

@@ -9,4 +9,5 @@ returns-clause-some c =
     let text = c.args.text.now in
     let front : mark_of_front text ≡ None = search rules in
     let one : mark_of_one c.in_ok-first.first.now ≡ Some c.in_ok-mark.mark = search rules in
-    reads_one text c.in_ok-first.first.now c.in_ok-first.field-0-1.now c.in_ok-mark.mark (search rules) front one
+    reads_one text c.in_ok-first.first.now c.in_ok-first.field-0-1.now c.in_ok-mark.mark (search rules) front
+    one

@@ -7,7 +7,8 @@ use Rattle.src_parse.proofs.list.expressions.Given as goal
 abbrev pub invariant-items : goal.invariant-items
 invariant-items l = record {
   shorter : length l.rest < length l.fn.lexemes;
-  same : separated_at (expression_at 0) l.fn.lexemes ≡ going_on (expression_at 0) (map view.expression l.all.items) l.rest;
+  same : separated_at (expression_at 0) l.fn.lexemes ≡ going_on (expression_at 0)
+      (map view.expression l.all.items) l.rest;
 }
 
 abbrev pub decreases-items : goal.decreases-items

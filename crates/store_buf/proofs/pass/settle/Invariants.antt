@@ -9,7 +9,9 @@ use Rattle.store_buf.proofs.pass.settle.Given as goal
 
 abbrev pub invariant-loop-number : goal.invariant-loop-number
 invariant-loop-number l = record {
-  settles : (d : plain.Chain) (left : List ℕ) → Settles (image_of l.program) (chain_of l.at) (early_ops l.early) d left → Settles (image_of l.program) (chain_of l.initial.at) (early_ops l.initial.early) d left;
+  settles : (d : plain.Chain) (left : List ℕ) → Settles (image_of l.program) (chain_of l.at)
+      (early_ops l.early) d left → Settles (image_of l.program) (chain_of l.initial.at)
+      (early_ops l.initial.early) d left;
   numbered : Numbered (image_of l.program) l.early;
   wave : l.at.wave ≡ l.initial.at.wave;
   fewer : heap_len l.early.heap ≤ heap_len l.initial.early.heap;

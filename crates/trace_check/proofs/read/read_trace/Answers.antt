@@ -10,7 +10,8 @@ pub lines-init : goal.lines-init
 unfolding events_in
 lines-init c = record {
   same = rw c.empty-trace.ensures (nothing_before (events_from c.args.first_line (lines_of c.args.text.now)));
-  few = (let e : length (lines_of c.args.text.now) ≡ count_by (λ b. b == 10) c.args.text.now + 1 = line_count c.args.text.now in omega (arith, c.requires));
+  few = (let e : length (lines_of c.args.text.now) ≡ count_by (λ b. b == 10) c.args.text.now + 1 =
+      line_count c.args.text.now in omega (arith, c.requires));
 }
 
 pub returns-in-Err : goal.returns-in-Err
@@ -24,7 +25,8 @@ pub overflow_add-line : goal.overflow_add-line
 overflow_add-line c =
     let k = rw c.in-Some.is at c.cut.ensures in
     let e = ap length k.0 in
-    let n : length (lines_of c.in-Some.more.now) ≡ count_by (λ b. b == 10) c.in-Some.more.now + 1 = line_count c.in-Some.more.now in
+    let n : length (lines_of c.in-Some.more.now) ≡ count_by (λ b. b == 10) c.in-Some.more.now + 1 =
+    line_count c.in-Some.more.now in
     omega (arith, c.lines.invariant.few)
 
 pub lines-preserved : goal.lines-preserved
@@ -39,4 +41,5 @@ lines-preserved c =
 pub returns-in-None : goal.returns-in-None
 returns-in-None c =
     let k = rw c.in-None.is at c.cut.ensures in
-    rw c.in_ok-add-in-Ok.ensures.added (sym c.lines.invariant.same ∙ on_last c.lines.trace c.lines.line c.lines.rest.now _ c.in-Ok.event k c.in-Ok.ensures)
+    rw c.in_ok-add-in-Ok.ensures.added (sym c.lines.invariant.same ∙ on_last c.lines.trace c.lines.line
+    c.lines.rest.now _ c.in-Ok.event k c.in-Ok.ensures)

@@ -8,18 +8,23 @@ use Rattle.trace_check.proofs.replaying.replay.Goals as goal
 
 pub returns-in-Err-clause-refused : goal.returns-in-Err-clause-refused
 returns-in-Err-clause-refused c =
-    fault_told c.args.image.now (world_of c.args.world.now) c.in_ok-core.core c.args.trace.now c.as_slice.result.now c.in-Err.fault
+    fault_told c.args.image.now (world_of c.args.world.now) c.in_ok-core.core c.args.trace.now
+    c.as_slice.result.now c.in-Err.fault
     c.as_slice.ensures c.in_ok-core.ensures.opening c.in-Err.ensures.refused
 
 pub returns-clause-replayed : goal.returns-clause-replayed
 returns-clause-replayed c =
     let image = c.args.image.now in
     let world = world_of c.args.world.now in
-    let made = c.in_default.ensures.made image world (core_opening image world) c.in_ok-core.ensures.opening in
+    let made = c.in_default.ensures.made image world (core_opening image world)
+    c.in_ok-core.ensures.opening in
     let s = made.0 in
     let at = made.2 in
-    let run : Run image (core_opening image world) (events_of c.args.trace.now) s = subst (λ (ls : List Lined). Run image (core_opening image world) (events_of ls) s) c.as_slice.ensures made.1 in
-    let reached = c.every_list_of_events.ensures.reach image world at.formed at.sound s (events_of c.args.trace.now, run) in
+    let run : Run image (core_opening image world) (events_of c.args.trace.now) s =
+    subst (λ (ls : List Lined). Run image (core_opening image world) (events_of ls) s) c.as_slice.ensures
+    made.1 in
+    let reached = c.every_list_of_events.ensures.reach image world at.formed at.sound s
+    (events_of c.args.trace.now, run) in
     let facts : Facts image world s = record {
       fit = reached.0;
       ends = c.every_list_of_events.ensures.rest image world at.formed at.sound s reached.0;
@@ -31,4 +36,5 @@ returns-clause-replayed c =
     replay_told image world c.args.trace.now _ s run facts
     (c.fired.ensures.state image world s at)
     (c.printed.ensures.state image world s at ∙ sym c.in_ok-from_slice.ensures)
-    (rest_told c.pick.result c.is_none.result c.make_all.new.core c.is_none.ensures c.pick.ensures image world s at)
+    (rest_told c.pick.result c.is_none.result c.make_all.new.core c.is_none.ensures c.pick.ensures image world
+    s at)

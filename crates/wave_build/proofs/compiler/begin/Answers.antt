@@ -12,8 +12,25 @@ returns c =
     let h = view.graph c.in_ok-joined.joined in
     record {
       lowered = view.graph c.in_ok-lowered.lowered;
-      lowering = record { rules = l.rules; shape = l.shape; turns = l.turns; work = l.work; small = l.small; form = l.form };
-      joining = record { sets = _; is = j.joined; rules = j.rules; short = j.short; sizes = j.sizes; copies = j.copies; arms = j.arms; turns = j.turns };
+      lowering = record {
+        rules = l.rules;
+        shape = l.shape;
+        turns = l.turns;
+        work = l.work;
+        small = l.small;
+        form = l.form;
+      };
+      joining = record {
+        sets = _;
+        is = j.joined;
+        rules = j.rules;
+        short = j.short;
+        sizes = j.sizes;
+        copies = j.copies;
+        arms = j.arms;
+        turns = j.turns;
+      };
       no_send = joined_none g h l.form j.exits;
-      shows = next_shows parts g h (first_shows parts g l.run l.shown l.inside (shown_so parts g l.arrays)) j.walks j.arrays;
+      shows = next_shows parts g h (first_shows parts g l.run l.shown l.inside (shown_so parts g l.arrays))
+          j.walks j.arrays;
     }

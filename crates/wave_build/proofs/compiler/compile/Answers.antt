@@ -6,10 +6,12 @@ use Rattle.wave_build.specs.Compiled.{ShowsArrays, DoesAs, KeepsBound, HasDraft}
 use Rattle.wave_build.proofs.compiler.compile.Goals as goal
 
 pub returns-clause-arrays : goal.returns-clause-arrays
-returns-clause-arrays c = subst (ShowsArrays (ast.parts c.args.accepted.now.program.items.items)) (sym c.from_sound.ensures) c.in_ok-made.ensures.arrays
+returns-clause-arrays c = subst (ShowsArrays (ast.parts c.args.accepted.now.program.items.items))
+    (sym c.from_sound.ensures) c.in_ok-made.ensures.arrays
 
 pub returns-clause-walk : goal.returns-clause-walk
-returns-clause-walk c = subst (DoesAs (ast.parts c.args.accepted.now.program.items.items)) (sym c.from_sound.ensures) c.in_ok-made.ensures.walk
+returns-clause-walk c = subst (DoesAs (ast.parts c.args.accepted.now.program.items.items))
+    (sym c.from_sound.ensures) c.in_ok-made.ensures.walk
 
 pub returns-clause-numbers : goal.returns-clause-numbers
 returns-clause-numbers c = subst NumberedInOrder (sym c.from_sound.ensures) c.in_ok-made.ensures.numbers
@@ -21,4 +23,5 @@ pub returns-clause-draft : goal.returns-clause-draft
 returns-clause-draft c = subst HasDraft (sym c.from_sound.ensures) c.in_ok-made.ensures.draft
 
 pub returns-clause-cost : goal.returns-clause-cost
-returns-clause-cost c = subst (KeepsBound (ast.parts c.args.accepted.now.program.items.items)) (sym c.from_sound.ensures) c.in_ok-made.ensures.cost
+returns-clause-cost c = subst (KeepsBound (ast.parts c.args.accepted.now.program.items.items))
+    (sym c.from_sound.ensures) c.in_ok-made.ensures.cost

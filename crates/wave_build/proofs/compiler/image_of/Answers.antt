@@ -13,7 +13,8 @@ use Rattle.wave_build.proofs.Forming.{leaves_room}
 use Rattle.wave_build.proofs.compiler.image_of.Goals as goal
 
 pub generate-requires-clause-arms : goal.generate-requires-clause-arms
-generate-requires-clause-arms c = arms_alone (ast.parts c.args.accepted.now.program.items.items) (view.graph c.in_ok-graph.graph) c.in_ok-graph.ensures
+generate-requires-clause-arms c = arms_alone (ast.parts c.args.accepted.now.program.items.items)
+    (view.graph c.in_ok-graph.graph) c.in_ok-graph.ensures
 
 pub returns-clause-formed : goal.returns-clause-formed
 returns-clause-formed c =
@@ -21,10 +22,12 @@ returns-clause-formed c =
     let g = view.graph c.in_ok-graph.graph in
     let d = c.in_ok-draft.ensures in
     let p = c.in_ok-graph.ensures in
-    let few = c.accepted_has_few_variables.ensures parts c.args.accepted.now.program.finish c.args.accepted.now.accepted in
+    let few = c.accepted_has_few_variables.ensures parts c.args.accepted.now.program.finish
+    c.args.accepted.now.accepted in
     c.in_ok-made.ensures.formed (leaves_room parts p.begun.lowered p.joined p.kept g p.needed _ _
     (all_passed parts g p _ _ c.in_ok-live.ensures c.in_ok-waves.ensures.rule c.in_ok-waves.ensures.waves)
-    c.requires (c.written_is_narrow.ensures parts c.requires) few p.shows.arrays c.see_words.ensures (image.draft c.in_ok-draft.draft) d.limits d.lists d.arrays)
+    c.requires (c.written_is_narrow.ensures parts c.requires) few p.shows.arrays c.see_words.ensures
+    (image.draft c.in_ok-draft.draft) d.limits d.lists d.arrays)
 
 pub returns-clause-arrays : goal.returns-clause-arrays
 returns-clause-arrays c =
@@ -62,6 +65,8 @@ returns-clause-draft c =
 pub returns-clause-cost : goal.returns-clause-cost
 returns-clause-cost c =
     let parts = ast.parts c.args.accepted.now.program.items.items in
-    keeps_bound parts (view.graph c.in_ok-graph.graph) c.in_ok-graph.ensures _ _ c.in_ok-live.ensures c.in_ok-waves.ensures.rule c.in_ok-waves.ensures.waves
-    (c.written_is_narrow.ensures parts c.requires) (image.draft c.in_ok-draft.draft) (image.image c.in_ok-made.made)
+    keeps_bound parts (view.graph c.in_ok-graph.graph) c.in_ok-graph.ensures _ _ c.in_ok-live.ensures
+    c.in_ok-waves.ensures.rule c.in_ok-waves.ensures.waves
+    (c.written_is_narrow.ensures parts c.requires) (image.draft c.in_ok-draft.draft)
+    (image.image c.in_ok-made.made)
     (c.in_ok-draft.ensures.cost c.see_words.ensures) c.in_ok-made.ensures.walk

@@ -19,6 +19,15 @@ returns c =
       begun = b;
       keeping = record { rules = k.rules; arms = k.arms; sizes = k.sizes; places = k.places };
       needing = c.in_ok-needed.ensures;
-      spelling = record { rules = s.rules; no_call = s.no_call; across = s.across; values = s.values; sizes = s.sizes; arms = s.arms; start = s.start; charged = s.charged };
+      spelling = record {
+        rules = s.rules;
+        no_call = s.no_call;
+        across = s.across;
+        values = s.values;
+        sizes = s.sizes;
+        arms = s.arms;
+        start = s.start;
+        charged = s.charged;
+      };
       shows = next_shows parts h i (next_shows parts g h b.shows k.walks k.arrays) s.walks s.arrays;
     }

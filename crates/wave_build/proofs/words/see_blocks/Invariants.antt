@@ -6,4 +6,5 @@ use Rattle.wave_build.proofs.words.see_blocks.Given as goal
 
 -- those before are of words
 abbrev pub invariant-loop-block : goal.invariant-loop-block
-invariant-loop-block l = AllByRecursion BlockOfWords (map view.block (drop l.block-index l.blocks)) → AllByRecursion BlockOfWords (map view.block l.blocks)
+invariant-loop-block l = AllByRecursion BlockOfWords (map view.block (drop l.block-index l.blocks))
+    → AllByRecursion BlockOfWords (map view.block l.blocks)

@@ -6,4 +6,5 @@ use Rattle.wave_build.proofs.words.see_ops.Given as goal
 
 -- those before are of words
 abbrev pub invariant-loop-op : goal.invariant-loop-op
-invariant-loop-op l = AllByRecursion OpOfWords (map view.op (drop l.op-index l.ops)) → AllByRecursion OpOfWords (map view.op l.ops)
+invariant-loop-op l = AllByRecursion OpOfWords (map view.op (drop l.op-index l.ops))
+    → AllByRecursion OpOfWords (map view.op l.ops)

@@ -6,4 +6,5 @@ use Rattle.wave_build.proofs.words.see_terms.Given as goal
 
 -- those before are of words
 abbrev pub invariant-loop-term : goal.invariant-loop-term
-invariant-loop-term l = AllByRecursion TermOfWords (map view.term (drop l.term-index l.terms)) → AllByRecursion TermOfWords (map view.term l.terms)
+invariant-loop-term l = AllByRecursion TermOfWords (map view.term (drop l.term-index l.terms))
+    → AllByRecursion TermOfWords (map view.term l.terms)

@@ -7,4 +7,6 @@ use Rattle.wave_build.proofs.CompilingWords.{graph_words}
 use Rattle.wave_build.proofs.words.see_words.Goals as goal
 
 pub returns : goal.returns
-returns c = graph_words (view.graph c.args.graph.now) (subst (λ (xs : List GraphProc). AllByRecursion ProcOfWords (map view.proc xs)) c.deref.ensures.value c.see_procs.ensures)
+returns c = graph_words (view.graph c.args.graph.now)
+    (subst (λ (xs : List GraphProc). AllByRecursion ProcOfWords (map view.proc xs)) c.deref.ensures.value
+    c.see_procs.ensures)

@@ -25,11 +25,21 @@ returns c kept ahead =
       wants = e.past;
     } in
     let hung = c.in_ok-select.ensures b (end_wants n starts (view.leaves p.exit)) begin in
-    let sent = subst (λ (ts : List Tail). HasMade b c.select.new.self (selected b p.test ts (end_wants n starts (view.leaves p.exit)))) e.tails hung in
+    let sent =
+    subst (λ (ts : List Tail). HasMade b c.select.new.self
+    (selected b p.test ts (end_wants n starts (view.leaves p.exit)))) e.tails hung in
     let left = c.in_ok-behind.ensures.made b (behind_source n starts b (view.plan p)) sent in
     let s = leaves_made b p.test (view.leaves p.exit) (behind_source n starts b (view.plan p)) in
-    let wired = subst (λ (is : List Item). HasMade b c.wire.new.self (wire b (map view.item is) s)) c.deref.ensures.value (c.in_ok-wire.ensures b s left) in
+    let wired = subst (λ (is : List Item). HasMade b c.wire.new.self (wire b (map view.item is) s))
+    c.deref.ensures.value (c.in_ok-wire.ensures b s left) in
     let made = c.in_ok-begin.ensures b (wire b (map view.item p.items.items) s) wired in
-    let is : view.plan p ≡ plan_at ps b = sym (plan_is c.args.plans.now b (b - 1) c.index-plans-block.result (omega arith) c.requires.there c.index-plans-block.is) in
-    let k : Kept = record { code = c.begin.new.self.code; behind = c.in_ok-behind.behind; wants = c.in_ok-wants.wants } in
-    block_kept n ps b (view.plan p) k c.begin.new.self is ahead made refl c.in_ok-wants.ensures (c.in_ok-behind.ensures.behind b (behind_source n starts b (view.plan p)) sent)
+    let is : view.plan p ≡ plan_at ps b =
+    sym (plan_is c.args.plans.now b (b - 1) c.index-plans-block.result (omega arith) c.requires.there
+    c.index-plans-block.is) in
+    let k : Kept = record {
+      code = c.begin.new.self.code;
+      behind = c.in_ok-behind.behind;
+      wants = c.in_ok-wants.wants;
+    } in
+    block_kept n ps b (view.plan p) k c.begin.new.self is ahead made refl c.in_ok-wants.ensures
+    (c.in_ok-behind.ensures.behind b (behind_source n starts b (view.plan p)) sent)

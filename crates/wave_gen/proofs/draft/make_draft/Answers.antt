@@ -13,5 +13,7 @@ returns c =
     let ds = c.args.plans.now in let n = c.args.width in
     draft_is n ds (map isa.array c.args.arrays.items) (map isa.block c.in_ok-blocks.blocks.items)
     (c.in_ok-blocks.ensures n
-    (subst (λ (ks : List Kept). AreKept n (map view.plan ds) 1 (reverse ks) (mades n (map view.plan ds))) (sym c.deref-2.ensures.value) c.in_ok-kept.ensures.kept)
-    (c.deref-3.ensures.value ∙ c.in_ok-numbers.ensures ∙ ap (λ (ks : List Kept). numbers_from 1 (reverse ks)) (c.deref.ensures.value ∙ sym c.deref-2.ensures.value)))
+    (subst (λ (ks : List Kept). AreKept n (map view.plan ds) 1 (reverse ks) (mades n (map view.plan ds)))
+    (sym c.deref-2.ensures.value) c.in_ok-kept.ensures.kept)
+    (c.deref-3.ensures.value ∙ c.in_ok-numbers.ensures ∙ ap (λ (ks : List Kept). numbers_from 1 (reverse ks))
+    (c.deref.ensures.value ∙ sym c.deref-2.ensures.value)))

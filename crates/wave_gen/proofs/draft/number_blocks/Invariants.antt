@@ -8,5 +8,7 @@ use Rattle.wave_gen.proofs.draft.number_blocks.Given as goal
 
 abbrev pub invariant-loop-place : goal.invariant-loop-place
 invariant-loop-place l =
-    (width : ℕ) → AreKept width (map view.plan l.plans) 1 (reverse l.kept) (mades width (map view.plan l.plans)) → l.numbers ≡ numbers_from 1 (reverse l.kept)
-    → map isa.block l.blocks.items ++ blocks_of width (map view.plan l.plans) (suc l.place) (length l.plans - l.place) ≡ blocks_of width (map view.plan l.plans) 1 (length l.plans)
+    (width : ℕ) → AreKept width (map view.plan l.plans) 1 (reverse l.kept)
+    (mades width (map view.plan l.plans)) → l.numbers ≡ numbers_from 1 (reverse l.kept)
+    → map isa.block l.blocks.items ++ blocks_of width (map view.plan l.plans) (suc l.place)
+    (length l.plans - l.place) ≡ blocks_of width (map view.plan l.plans) 1 (length l.plans)

@@ -23,7 +23,8 @@ make_draft-requires c =
     ∙ ap (λ (k : Graph). plans_of k (has o.live.now) o.waves.now) same
     ∙ ap (λ (l : List (List ℕ)). plans_of g (has l) o.waves.now) h.live
     ∙ ap (λ (w : Cut). plans_of g (has c.args.live.now) w) h.waves in
-    leads g (has c.args.live.now) cut (fits g c.args.live.now cut r.rules r.live r.cut r.waves r.no_call r.across r.arms) (map shown.plan c.deref.result.now) plans
+    leads g (has c.args.live.now) cut (fits g c.args.live.now cut r.rules r.live r.cut r.waves r.no_call
+    r.across r.arms) (map shown.plan c.deref.result.now) plans
 
 pub returns : goal.returns
 returns c =
@@ -36,10 +37,21 @@ returns c =
     ∙ ap (λ (k : Graph). plans_of k (has o.live.now) o.waves.now) same
     ∙ ap (λ (l : List (List ℕ)). plans_of g (has l) o.waves.now) h.live
     ∙ ap (λ (w : Cut). plans_of g (has c.args.live.now) w) h.waves in
-    let draft : image.draft c.in_ok-draft.draft ≡ draft_of (arrays_of g) (width_of g) (plans_of g (has c.args.live.now) cut) =
+    let draft : image.draft c.in_ok-draft.draft ≡ draft_of (arrays_of g) (width_of g)
+    (plans_of g (has c.args.live.now) cut) =
     c.in_ok-draft.ensures
     ∙ ap (λ (xs : List Array). draft_of xs o.width (map shown.plan c.deref.result.now)) c.in_ok-arrays.ensures
     ∙ ap (λ (n : ℕ). draft_of (arrays_of g) n (map shown.plan c.deref.result.now)) width
     ∙ ap (λ (ps : List Plan). draft_of (arrays_of g) (width_of g) ps) plans in
-    let k = kept g (has c.args.live.now) cut (fits g c.args.live.now cut r.rules r.live r.cut r.waves r.no_call r.across r.arms) (image.draft c.in_ok-draft.draft) draft in
-    record { open_to_notes = k.open_to_notes; lists = k.lists; no_nop = k.no_nop; limits = k.limits; arrays = k.arrays; walk = k.walk; endless = k.endless; cost = k.cost }
+    let k = kept g (has c.args.live.now) cut (fits g c.args.live.now cut r.rules r.live r.cut r.waves
+    r.no_call r.across r.arms) (image.draft c.in_ok-draft.draft) draft in
+    record {
+      open_to_notes = k.open_to_notes;
+      lists = k.lists;
+      no_nop = k.no_nop;
+      limits = k.limits;
+      arrays = k.arrays;
+      walk = k.walk;
+      endless = k.endless;
+      cost = k.cost;
+    }

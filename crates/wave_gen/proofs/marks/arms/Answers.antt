@@ -12,5 +12,8 @@ loop-i-preserved c =
     record {
       count = c.mark_arms_at.ensures.count ∙ h.count;
       marked = λ b l. (let m : b < length c.loop-i.flags.items = omega (arith, l, h.count) in
-          some_next arms_of g c.loop-i.i b (flag_at c.loop-i.flags.items b) (flag_at c.mark_arms_at.new.flags.items b) (omega arith) (omega (arith, spots_there t c.requires, t.spots.ok.0, c.len-i.ensures)) (h.marked b l) (c.mark_arms_at.ensures.marked b m));
+          some_next arms_of g c.loop-i.i b (flag_at c.loop-i.flags.items b)
+          (flag_at c.mark_arms_at.new.flags.items b) (omega arith)
+          (omega (arith, spots_there t c.requires, t.spots.ok.0, c.len-i.ensures)) (h.marked b l)
+          (c.mark_arms_at.ensures.marked b m));
     }

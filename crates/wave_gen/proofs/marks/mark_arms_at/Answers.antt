@@ -6,4 +6,6 @@ use Rattle.wave_gen.proofs.Marked.{none_marked}
 use Rattle.wave_gen.proofs.marks.mark_arms_at.Goals as goal
 
 pub returns-in-None-clause-marked : goal.returns-in-None-clause-marked
-returns-in-None-clause-marked c = λ b l. none_marked arms_of (spot_at (view.graph c.args.table.now.graph.now) c.args.i) b _ refl c.in-None.ensures
+returns-in-None-clause-marked c =
+    λ b l. none_marked arms_of (spot_at (view.graph c.args.table.now.graph.now) c.args.i) b _ refl
+    c.in-None.ensures

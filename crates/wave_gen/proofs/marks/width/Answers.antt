@@ -7,9 +7,13 @@ use Rattle.wave_gen.proofs.marks.width.Goals as goal
 pub loop-i-preserved-then-most-vars : goal.loop-i-preserved-then-most-vars
 loop-i-preserved-then-most-vars c =
     let t = c.args.table.now in
-    vars_more (view.graph t.graph.now) c.loop-i.i c.loop-i.most c.vars_at-vars.result (omega arith) (omega (arith, spots_there t c.requires, t.spots.ok.0, c.len-i.ensures)) c.loop-i.invariant c.vars_at-vars.ensures c.if-most-vars.true
+    vars_more (view.graph t.graph.now) c.loop-i.i c.loop-i.most c.vars_at-vars.result (omega arith)
+    (omega (arith, spots_there t c.requires, t.spots.ok.0, c.len-i.ensures)) c.loop-i.invariant
+    c.vars_at-vars.ensures c.if-most-vars.true
 
 pub loop-i-preserved : goal.loop-i-preserved
 loop-i-preserved c =
     let t = c.args.table.now in
-    vars_less (view.graph t.graph.now) c.loop-i.i c.loop-i.most c.vars_at-vars.result (omega arith) (omega (arith, spots_there t c.requires, t.spots.ok.0, c.len-i.ensures)) c.loop-i.invariant c.vars_at-vars.ensures c.if-most-vars.false
+    vars_less (view.graph t.graph.now) c.loop-i.i c.loop-i.most c.vars_at-vars.result (omega arith)
+    (omega (arith, spots_there t c.requires, t.spots.ok.0, c.len-i.ensures)) c.loop-i.invariant
+    c.vars_at-vars.ensures c.if-most-vars.false

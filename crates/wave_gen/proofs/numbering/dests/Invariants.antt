@@ -4,4 +4,5 @@ use Rattle.wave_gen.specs.Numbered.{number_at}
 use Rattle.wave_gen.proofs.numbering.dests.Given as goal
 
 abbrev pub invariant-loop-spot : goal.invariant-loop-spot
-invariant-loop-spot l = l.dests.items ++ dests_of (number_at l.numbers) (drop l.spot-index l.spots) ≡ dests_of (number_at l.numbers) l.spots
+invariant-loop-spot l = l.dests.items ++ dests_of (number_at l.numbers) (drop l.spot-index l.spots) ≡ dests_of
+    (number_at l.numbers) l.spots

@@ -7,5 +7,6 @@ use Rattle.wave_gen.proofs.share.share_constants.Given as goal
 abbrev pub invariant-loop-i : goal.invariant-loop-i
 invariant-loop-i l = record {
   count : length l.list.items ≡ l.i-end;
-  items : map plans.item (take l.i l.list.items) ++ shared (known_name l.known) (map plans.item (drop l.i l.list.items)) ≡ shared none_known (map plans.item l.initial.list.items);
+  items : map plans.item (take l.i l.list.items) ++ shared (known_name l.known)
+      (map plans.item (drop l.i l.list.items)) ≡ shared none_known (map plans.item l.initial.list.items);
 }

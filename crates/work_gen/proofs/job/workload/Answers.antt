@@ -8,5 +8,6 @@ pub returns : goal.returns
 returns c =
     let n = c.from-number.result in
     subst (λ (m : ℕ). c.put_input.new.text ≡ job_text m) c.from-number.ensures
-    (job_is n (2 * square n - 1) _ _ _ (c.in_ok-put_program.ensures ∙ ap (λ (t : List ℕ). t ++ program_text (size n) (square n)) c.empty-text.ensures)
+    (job_is n (2 * square n - 1) _ _ _ (c.in_ok-put_program.ensures
+    ∙ ap (λ (t : List ℕ). t ++ program_text (size n) (square n)) c.empty-text.ensures)
     c.in_ok-extend.ensures.ok refl c.in_ok-put_input.ensures)

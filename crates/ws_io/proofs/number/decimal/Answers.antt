@@ -12,6 +12,7 @@ loop-byte-preserved c = record {
 
 pub returns-in_err-value-clause-none : goal.returns-in_err-value-clause-none
 returns-in_err-value-clause-none c =
-    let front : value_of (take (c.loop-byte.byte-index + 1) c.args.text.now) ≤ value_of c.args.text.now = value_of_front c.args.text.now (c.loop-byte.byte-index + 1) in
+    let front : value_of (take (c.loop-byte.byte-index + 1) c.args.text.now) ≤ value_of c.args.text.now =
+    value_of_front c.args.text.now (c.loop-byte.byte-index + 1) in
     let more = value_of_more c.args.text.now c.loop-byte.byte-index c.loop-byte-test.true in
     rw c.from_residual.ensures (λ _. omega (arith, front, more, c.in_err-value.ensures))

@@ -7,4 +7,9 @@ pub returns-in_err-extend-clause-memory : goal.returns-in_err-extend-clause-memo
 returns-in_err-extend-clause-memory g c =
     let piece = take c.in_ok-count.count c.read.new.into in
     let few : length (c.pieces.text ++ piece) ≤ c.args.limit + 1 = grind (arith, common_steps) in
-    λ _. (c.pieces.text ++ piece, few, Takes-more _ c.pieces.text _ piece _ c.pieces.invariant.taken c.in_ok-count.ensures.taken)
+    λ _. (
+      c.pieces.text ++ piece,
+      few,
+      Takes-more _ c.pieces.text _ piece _ c.pieces.invariant.taken
+          c.in_ok-count.ensures.taken,
+    )

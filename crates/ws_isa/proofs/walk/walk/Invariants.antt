@@ -9,7 +9,8 @@ invariant-loop-walker l = record {
   place : l.place < length l.program.blocks.now;
   left : l.walker.fired ≤ l.firings;
   alive : Alive l.program l.place;
-  walk : (world : Given) → AtStart (image_of l.program) world 0 1 l.initial.walker → (t : ℕ) × AtStart (image_of l.program) world t (suc l.place) l.walker;
+  walk : (world : Given) → AtStart (image_of l.program) world 0 1 l.initial.walker
+      → (t : ℕ) × AtStart (image_of l.program) world t (suc l.place) l.walker;
 }
 
 abbrev pub decreases-loop-walker : goal.decreases-loop-walker

@@ -4,5 +4,6 @@ use Rattle.ws_isa.proofs.walker.landing.Goals as goal
 
 pub returns : goal.returns
 returns c =
-    let e : c.unwrap_or.result ≡ slice_index c.args.landings.now (min c.args.address (length c.args.landings.now - 1)) = search rules in
+    let e : c.unwrap_or.result ≡ slice_index c.args.landings.now
+    (min c.args.address (length c.args.landings.now - 1)) = search rules in
     e ∙ landing_found c.args.landings.now c.args.address

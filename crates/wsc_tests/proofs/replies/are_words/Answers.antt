@@ -4,4 +4,6 @@ use Rattle.wave_gen.specs.Words.{IsWord}
 use Rattle.wsc_tests.proofs.replies.are_words.Goals as goal
 
 pub returns : goal.returns
-returns c = recursion_from_All IsWord c.args.words.now (All-from_get_or IsWord c.args.words.now 0 (λ (k : ℕ) (h : k < length c.args.words.now). omega (arith, c.type_inv.words k)))
+returns c = recursion_from_All IsWord c.args.words.now
+    (All-from_get_or IsWord c.args.words.now 0 (λ (k : ℕ) (h : k < length c.args.words.now).
+    omega (arith, c.type_inv.words k)))

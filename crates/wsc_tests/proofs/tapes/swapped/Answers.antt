@@ -5,4 +5,6 @@ use Rattle.port_set.specs.Tape.{TapeState, tape_tells}
 use Rattle.wsc_tests.proofs.tapes.swapped.Goals as goal
 
 pub returns : goal.returns
-returns c = let o = c.requires.open in subst (λ (l : List (Option TapeState)). AllByRecursion IsOpen (told_all tape_tells l)) (sym c.swap.ensures.new) (o.0, (c.requires.tape, o.1.1))
+returns c = let o = c.requires.open in
+    subst (λ (l : List (Option TapeState)). AllByRecursion IsOpen (told_all tape_tells l))
+    (sym c.swap.ensures.new) (o.0, (c.requires.tape, o.1.1))

@@ -10,5 +10,6 @@ returns-in_ok-text-in-Err-Refused c =
       refl,
       c.in-Err-Refused.refusal,
       subst (IsJobsFault c.args.text.now) is c.in-Err-Refused.ensures.refused,
-      c.built.ensures ∙ c.in_ok-text-in-Err-Refused.ensures ∙ ap jobs_refusal_text c.in-Err-Refused.refusal-is,
+      c.built.ensures ∙ c.in_ok-text-in-Err-Refused.ensures ∙ ap jobs_refusal_text
+          c.in-Err-Refused.refusal-is,
     )

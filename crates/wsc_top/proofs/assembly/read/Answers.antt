@@ -12,8 +12,10 @@ returns-in-Ok-input_words-clause-only c image words a =
 
 pub returns-in-Err-input_words-clause-only : goal.returns-in-Err-input_words-clause-only
 returns-in-Err-input_words-clause-only c image words a =
-    no_words c.in-Err-input_words.fault _ image words c.input_fault.ensures (c.in-Err-input_words.ensures.only words a.words)
+    no_words c.in-Err-input_words.fault _ image words c.input_fault.ensures
+    (c.in-Err-input_words.ensures.only words a.words)
 
 pub returns-in-Err-input_words-clause-refused : goal.returns-in-Err-input_words-clause-refused
 returns-in-Err-input_words-clause-refused c =
-    input_refused c.args.text.now _ c.in-Err-input_words.fault _ c.input_fault.ensures c.in-Ok.ensures.ok c.in-Ok.ensures.sound c.in-Err-input_words.ensures.refused
+    input_refused c.args.text.now _ c.in-Err-input_words.fault _ c.input_fault.ensures c.in-Ok.ensures.ok
+    c.in-Ok.ensures.sound c.in-Err-input_words.ensures.refused

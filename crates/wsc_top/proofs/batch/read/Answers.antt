@@ -7,15 +7,20 @@ pub returns-in-Some-clause-refused : goal.returns-in-Some-clause-refused
 returns-in-Some-clause-refused c = crowded c.in-Some.line c.in-Some.ensures.some
 
 pub returns-in-Err-clause-refused : goal.returns-in-Err-clause-refused
-returns-in-Err-clause-refused c = reads_fault _ _ _ _ _ _ c.jobs.invariant.read c.split.ensures.job c.in_default.ensures.none _ c.in-Err.ensures.refused
+returns-in-Err-clause-refused c = reads_fault _ _ _ _ _ _ c.jobs.invariant.read c.split.ensures.job
+    c.in_default.ensures.none _ c.in-Err.ensures.refused
 
 pub returns-then-is_last-clause-ok : goal.returns-then-is_last-clause-ok
 returns-then-is_last-clause-ok c =
-    reads_last _ _ _ _ _ _ c.jobs.invariant.read c.split.ensures.job _ _ c.in-Ok.ensures.ok _ _ c.in_ok-keep.ensures.images c.in_ok-keep.ensures.inputs c.in_default.ensures.none (c.is_last.ensures.last c.if-is_last.true)
+    reads_last _ _ _ _ _ _ c.jobs.invariant.read c.split.ensures.job _ _ c.in-Ok.ensures.ok _ _
+    c.in_ok-keep.ensures.images c.in_ok-keep.ensures.inputs c.in_default.ensures.none
+    (c.is_last.ensures.last c.if-is_last.true)
 
 pub jobs-preserved : goal.jobs-preserved
 jobs-preserved c = record {
-  read = reads_more _ _ _ _ _ _ c.jobs.invariant.read c.split.ensures.job _ _ c.in-Ok.ensures.ok _ _ c.in_ok-keep.ensures.images c.in_ok-keep.ensures.inputs _ _ c.next.ensures.place c.next.ensures.rest (c.is_last.ensures.further c.if-is_last.false);
+  read = reads_more _ _ _ _ _ _ c.jobs.invariant.read c.split.ensures.job _ _ c.in-Ok.ensures.ok _ _
+      c.in_ok-keep.ensures.images c.in_ok-keep.ensures.inputs _ _ c.next.ensures.place c.next.ensures.rest
+      (c.is_last.ensures.further c.if-is_last.false);
   line = c.next.ensures.line;
   column = c.next.ensures.column;
   room = c.next.ensures.room;

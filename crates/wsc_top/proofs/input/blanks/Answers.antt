@@ -2,7 +2,9 @@ use Rattle.wsc_top.proofs.Inputs.{blank_run}
 use Rattle.wsc_top.proofs.input.blanks.Goals as goal
 
 pub returns-clause-blank : goal.returns-clause-blank
-returns-clause-blank c = (blank_run _ _ _ _ c.blanks_length.ensures.longest c.split_at.ensures.front c.split_at.ensures.back).0
+returns-clause-blank c =
+    (blank_run _ _ _ _ c.blanks_length.ensures.longest c.split_at.ensures.front c.split_at.ensures.back).0
 
 pub returns-clause-longest : goal.returns-clause-longest
-returns-clause-longest c = (blank_run _ _ _ _ c.blanks_length.ensures.longest c.split_at.ensures.front c.split_at.ensures.back).1
+returns-clause-longest c =
+    (blank_run _ _ _ _ c.blanks_length.ensures.longest c.split_at.ensures.front c.split_at.ensures.back).1

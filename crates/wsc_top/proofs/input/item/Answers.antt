@@ -2,7 +2,9 @@ use Rattle.wsc_top.proofs.Inputs.{item_run}
 use Rattle.wsc_top.proofs.input.item.Goals as goal
 
 pub returns-clause-item : goal.returns-clause-item
-returns-clause-item c = (item_run _ _ _ _ c.requires.some c.requires.no_blank c.item_length.ensures.longest c.split_at.ensures.front c.split_at.ensures.back).1
+returns-clause-item c = (item_run _ _ _ _ c.requires.some c.requires.no_blank c.item_length.ensures.longest
+    c.split_at.ensures.front c.split_at.ensures.back).1
 
 pub returns-clause-some : goal.returns-clause-some
-returns-clause-some c = (item_run _ _ _ _ c.requires.some c.requires.no_blank c.item_length.ensures.longest c.split_at.ensures.front c.split_at.ensures.back).0
+returns-clause-some c = (item_run _ _ _ _ c.requires.some c.requires.no_blank c.item_length.ensures.longest
+    c.split_at.ensures.front c.split_at.ensures.back).0

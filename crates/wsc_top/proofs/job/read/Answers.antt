@@ -13,7 +13,8 @@ returns-in-Err-input_words-clause-only c = words_only _ _ c.in-Err-input_words.e
 
 pub returns-in-Err-input_words-clause-refused : goal.returns-in-Err-input_words-clause-refused
 returns-in-Err-input_words-clause-refused c =
-    words_refused _ (view.parts c.in-Ok.accepted.program.items.items) _ c.in-Ok.ensures.ok c.in-Err-input_words.ensures.refused
+    words_refused _ (view.parts c.in-Ok.accepted.program.items.items) _ c.in-Ok.ensures.ok
+    c.in-Err-input_words.ensures.refused
 
 pub returns-in-Ok-input_words-clause-same : goal.returns-in-Ok-input_words-clause-same
 returns-in-Ok-input_words-clause-same c parts input j = (

@@ -15,5 +15,6 @@ returns c task text handed one =
       no_end_on_the_way = runs.no_end_on_the_way;
       no_fault_on_the_way = runs.no_fault_on_the_way;
     })
-    (λ parts bytes input job. c.printed_reads_the_same.ensures parts (job_written bytes parts input c.read_is_written.ensures job))
+    (λ parts bytes input job. c.printed_reads_the_same.ensures parts
+    (job_written bytes parts input c.read_is_written.ensures job))
     task text handed one (c.each_text_is_a_job_or_refused.ensures text)

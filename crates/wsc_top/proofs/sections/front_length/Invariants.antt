@@ -4,6 +4,7 @@ use Rattle.wsc_top.proofs.sections.front_length.Given as goal
 
 abbrev pub invariant-loop-place : goal.invariant-loop-place
 invariant-loop-place l = record {
-  front : take l.place l.text ++ front_of l.marker l.at_line (drop l.place l.text) ≡ front_of l.marker true l.text;
+  front : take l.place l.text ++ front_of l.marker l.at_line (drop l.place l.text) ≡ front_of l.marker true
+      l.text;
   rest : rest_of l.marker l.at_line (drop l.place l.text) ≡ rest_of l.marker true l.text;
 }

@@ -6,5 +6,6 @@ use Rattle.wsc_top.proofs.texts.put_arrays.Given as goal
 abbrev pub invariant-loop-item : goal.invariant-loop-item
 invariant-loop-item l = record {
   place : l.count ≤ l.item-index;
-  text : l.text ++ array_lines (names_of (view.parts (drop l.item-index l.items))) (drop l.count l.arrays) ≡ l.initial.text ++ array_lines (names_of (view.parts l.items)) l.arrays;
+  text : l.text ++ array_lines (names_of (view.parts (drop l.item-index l.items))) (drop l.count l.arrays)
+      ≡ l.initial.text ++ array_lines (names_of (view.parts l.items)) l.arrays;
 }

@@ -10,18 +10,21 @@ loop-at-init c = halt_begin (view.image c.args.image.now) c.args.number c.args.f
 
 pub loop-at-preserved : goal.loop-at-preserved
 loop-at-preserved c = halt_next
-    (view.image c.args.image.now) c.args.number c.args.first c.loop-at.at c.loop-at.halted c.in-Some.next c.op.result c.stops_at-stops.result c.loop-at.invariant c.requires.one c.loop-at.auto.at
+    (view.image c.args.image.now) c.args.number c.args.first c.loop-at.at c.loop-at.halted c.in-Some.next
+    c.op.result c.stops_at-stops.result c.loop-at.invariant c.requires.one c.loop-at.auto.at
     (c.op.ensures ∙ c.requires.facts.ops c.loop-at.at) c.stops_at-stops.ensures c.in-Some.ensures.some
 
 pub returns-in-None-clause-no : goal.returns-in-None-clause-no
 returns-in-None-clause-no c x shape = halt_broken
-    (view.image c.args.image.now) c.args.number c.args.first c.loop-at.at c.loop-at.halted c.op.result c.stops_at-stops.result c.loop-at.invariant c.requires.first
+    (view.image c.args.image.now) c.args.number c.args.first c.loop-at.at c.loop-at.halted c.op.result
+    c.stops_at-stops.result c.loop-at.invariant c.requires.first
     (omega (arith, c.requires.next)) c.loop-at.auto.at (c.op.ensures ∙
     c.requires.facts.ops c.loop-at.at) c.stops_at-stops.ensures c.in-None.ensures.none shape
 
 pub returns-then-halted-ne0-clause-yes : goal.returns-then-halted-ne0-clause-yes
 returns-then-halted-ne0-clause-yes c x = halt_shape
-    (view.image c.args.image.now) c.args.number c.args.first c.loop-at.at c.loop-at.halted c.loop-at.invariant c.requires.first
+    (view.image c.args.image.now) c.args.number c.args.first c.loop-at.at c.loop-at.halted c.loop-at.invariant
+    c.requires.first
     (omega (
       arith,
       c.requires.next,
@@ -34,7 +37,8 @@ returns-then-halted-ne0-clause-yes c x = halt_shape
 
 pub returns-clause-yes : goal.returns-clause-yes
 returns-clause-yes c x = halt_shape
-    (view.image c.args.image.now) c.args.number c.args.first c.loop-at.at c.loop-at.halted c.loop-at.invariant c.requires.first
+    (view.image c.args.image.now) c.args.number c.args.first c.loop-at.at c.loop-at.halted c.loop-at.invariant
+    c.requires.first
     (omega (
       arith,
       c.requires.next,
@@ -47,7 +51,8 @@ returns-clause-yes c x = halt_shape
 
 pub returns-clause-no : goal.returns-clause-no
 returns-clause-no c x shape = halt_lacks
-    (view.image c.args.image.now) c.args.number c.args.first c.loop-at.at c.loop-at.halted c.loop-at.invariant c.requires.first
+    (view.image c.args.image.now) c.args.number c.args.first c.loop-at.at c.loop-at.halted c.loop-at.invariant
+    c.requires.first
     (omega (
       arith,
       c.requires.next,

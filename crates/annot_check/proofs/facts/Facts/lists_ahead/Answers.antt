@@ -19,13 +19,18 @@ returns-then-not-all_ahead-clause-no c x all =
     omega (arith, c.loop-instr.invariant.op, c.requires.first) in
     let at : instr_at (view.image c.args.image.now) c.loop-instr.op ≡ view.instr c.instr-item.result =
     instr_here
-    (view.image c.args.image.now) c.args.number c.loop-instr.op c.loop-instr.instr-index c.deref-instr-items.result.now c.instr-item.result c.requires.block (instrs_read (view.image c.args.image.now) c.args.number c.block.result.now c.deref-instr-items.result.now c.block.ensures e) k c.loop-instr-test.true c.instr-item.is in
+    (view.image c.args.image.now) c.args.number c.loop-instr.op c.loop-instr.instr-index
+    c.deref-instr-items.result.now c.instr-item.result c.requires.block
+    (instrs_read (view.image c.args.image.now) c.args.number c.block.result.now
+    c.deref-instr-items.result.now c.block.ensures e) k c.loop-instr-test.true c.instr-item.is in
     let w : c.loop-instr.op < first_number (view.image c.args.image.now) (suc c.args.number) =
     within_read
     (view.image c.args.image.now) c.args.number c.loop-instr.op c.loop-instr.instr-index _ c.requires.block k
     (instrs_count
-    (view.image c.args.image.now) c.args.number c.block.result.now c.deref-instr-items.result.now c.block.ensures e) c.loop-instr-test.true in
-    c.all_ahead.ensures.no c.if-not-all_ahead.true (λ j q h. all.dests c.loop-instr.op j q (omega arith, w) (subst
+    (view.image c.args.image.now) c.args.number c.block.result.now c.deref-instr-items.result.now
+    c.block.ensures e) c.loop-instr-test.true in
+    c.all_ahead.ensures.no c.if-not-all_ahead.true (λ j q h. all.dests c.loop-instr.op j q (omega arith, w)
+    (subst
     (λ (i : Instr). HasDest i.dests j q) (sym at) (rw c.deref.ensures.value at h)))
 
 pub returns-then-not-all_ahead-2-clause-no : goal.returns-then-not-all_ahead-2-clause-no
@@ -37,13 +42,18 @@ returns-then-not-all_ahead-2-clause-no c x all =
     omega (arith, c.loop-instr.invariant.op, c.requires.first) in
     let at : instr_at (view.image c.args.image.now) c.loop-instr.op ≡ view.instr c.instr-item.result =
     instr_here
-    (view.image c.args.image.now) c.args.number c.loop-instr.op c.loop-instr.instr-index c.deref-instr-items.result.now c.instr-item.result c.requires.block (instrs_read (view.image c.args.image.now) c.args.number c.block.result.now c.deref-instr-items.result.now c.block.ensures e) k c.loop-instr-test.true c.instr-item.is in
+    (view.image c.args.image.now) c.args.number c.loop-instr.op c.loop-instr.instr-index
+    c.deref-instr-items.result.now c.instr-item.result c.requires.block
+    (instrs_read (view.image c.args.image.now) c.args.number c.block.result.now
+    c.deref-instr-items.result.now c.block.ensures e) k c.loop-instr-test.true c.instr-item.is in
     let w : c.loop-instr.op < first_number (view.image c.args.image.now) (suc c.args.number) =
     within_read
     (view.image c.args.image.now) c.args.number c.loop-instr.op c.loop-instr.instr-index _ c.requires.block k
     (instrs_count
-    (view.image c.args.image.now) c.args.number c.block.result.now c.deref-instr-items.result.now c.block.ensures e) c.loop-instr-test.true in
-    c.all_ahead-in-loop-instr.ensures.no c.if-not-all_ahead-2.true (λ j q h. all.others c.loop-instr.op j q (omega arith, w) (subst
+    (view.image c.args.image.now) c.args.number c.block.result.now c.deref-instr-items.result.now
+    c.block.ensures e) c.loop-instr-test.true in
+    c.all_ahead-in-loop-instr.ensures.no c.if-not-all_ahead-2.true
+    (λ j q h. all.others c.loop-instr.op j q (omega arith, w) (subst
     (λ (i : Instr). HasDest i.others j q) (sym at) (rw c.deref-in-loop-instr.ensures.value at h)))
 
 pub overflow_add-op : goal.overflow_add-op
@@ -58,7 +68,8 @@ overflow_add-op c =
     within_read
     (view.image c.args.image.now) c.args.number c.loop-instr.op c.loop-instr.instr-index _ c.requires.block k
     (instrs_count
-    (view.image c.args.image.now) c.args.number c.block.result.now c.deref-instr-items.result.now c.block.ensures e) c.loop-instr-test.true in
+    (view.image c.args.image.now) c.args.number c.block.result.now c.deref-instr-items.result.now
+    c.block.ensures e) c.loop-instr-test.true in
     omega (
       arith,
       w,
@@ -77,19 +88,25 @@ loop-instr-preserved c =
     omega (arith, c.loop-instr.invariant.op, c.requires.first) in
     let at : instr_at (view.image c.args.image.now) c.loop-instr.op ≡ view.instr c.instr-item.result =
     instr_here
-    (view.image c.args.image.now) c.args.number c.loop-instr.op c.loop-instr.instr-index c.deref-instr-items.result.now c.instr-item.result c.requires.block (instrs_read (view.image c.args.image.now) c.args.number c.block.result.now c.deref-instr-items.result.now c.block.ensures e) k c.loop-instr-test.true c.instr-item.is in
+    (view.image c.args.image.now) c.args.number c.loop-instr.op c.loop-instr.instr-index
+    c.deref-instr-items.result.now c.instr-item.result c.requires.block
+    (instrs_read (view.image c.args.image.now) c.args.number c.block.result.now
+    c.deref-instr-items.result.now c.block.ensures e) k c.loop-instr-test.true c.instr-item.is in
     record {
       op = omega (arith, c.loop-instr.invariant.op);
       dests = λ n j q i l h. elim (cases_eq n c.loop-instr.op) [
         | inl f ↦ subst (λ m. IsAhead (view.image c.args.image.now) c.args.number m j) (sym f)
             (c.all_ahead.ensures.yes c.if-not-all_ahead.false j q (rw c.deref.ensures.value
-            (subst (λ (x : Instr). HasDest x.dests j q) (ap (instr_at (view.image c.args.image.now)) f ∙ at) h)))
+            (subst (λ (x : Instr). HasDest x.dests j q) (ap (instr_at (view.image c.args.image.now)) f ∙ at)
+            h)))
         | inr d ↦ c.loop-instr.invariant.dests n j q i (omega arith) h
       ];
       others = λ n j q i l h. elim (cases_eq n c.loop-instr.op) [
         | inl f ↦ subst (λ m. IsAhead (view.image c.args.image.now) c.args.number m j) (sym f)
-            (c.all_ahead-in-loop-instr.ensures.yes c.if-not-all_ahead-2.false j q (rw c.deref-in-loop-instr.ensures.value
-            (subst (λ (x : Instr). HasDest x.others j q) (ap (instr_at (view.image c.args.image.now)) f ∙ at) h)))
+            (c.all_ahead-in-loop-instr.ensures.yes c.if-not-all_ahead-2.false j q
+            (rw c.deref-in-loop-instr.ensures.value
+            (subst (λ (x : Instr). HasDest x.others j q) (ap (instr_at (view.image c.args.image.now)) f ∙ at)
+            h)))
         | inr d ↦ c.loop-instr.invariant.others n j q i (omega arith) h
       ];
     }
@@ -102,7 +119,9 @@ returns-clause-dests c x n j q i =
     (view.image c.args.image.now) c.args.number + c.loop-instr.instr-index =
     omega (arith, c.loop-instr.invariant.op, c.requires.first) in
     let w : c.loop-instr.op ≡ first_number (view.image c.args.image.now) (suc c.args.number) =
-    ends_read (view.image c.args.image.now) c.args.number c.loop-instr.op c.loop-instr.instr-index _ c.requires.block k (instrs_count (view.image c.args.image.now) c.args.number c.block.result.now c.deref-instr-items.result.now c.block.ensures e) (omega arith) in
+    ends_read (view.image c.args.image.now) c.args.number c.loop-instr.op c.loop-instr.instr-index _
+    c.requires.block k (instrs_count (view.image c.args.image.now) c.args.number c.block.result.now
+    c.deref-instr-items.result.now c.block.ensures e) (omega arith) in
     c.loop-instr.invariant.dests n j q i (omega (arith, w, i.1))
 
 pub returns-clause-others : goal.returns-clause-others
@@ -113,5 +132,7 @@ returns-clause-others c x n j q i =
     (view.image c.args.image.now) c.args.number + c.loop-instr.instr-index =
     omega (arith, c.loop-instr.invariant.op, c.requires.first) in
     let w : c.loop-instr.op ≡ first_number (view.image c.args.image.now) (suc c.args.number) =
-    ends_read (view.image c.args.image.now) c.args.number c.loop-instr.op c.loop-instr.instr-index _ c.requires.block k (instrs_count (view.image c.args.image.now) c.args.number c.block.result.now c.deref-instr-items.result.now c.block.ensures e) (omega arith) in
+    ends_read (view.image c.args.image.now) c.args.number c.loop-instr.op c.loop-instr.instr-index _
+    c.requires.block k (instrs_count (view.image c.args.image.now) c.args.number c.block.result.now
+    c.deref-instr-items.result.now c.block.ensures e) (omega arith) in
     c.loop-instr.invariant.others n j q i (omega (arith, w, i.1))

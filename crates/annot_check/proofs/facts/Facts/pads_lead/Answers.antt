@@ -14,11 +14,13 @@ returns-then-not-pad_leads-clause-no c x all = c.pad_leads.ensures.no c.if-not-p
 pub loop-pad-preserved : goal.loop-pad-preserved
 loop-pad-preserved c = record {
   here = λ p h. c.loop-pad.invariant.here p
-      (pad_more c.args.pads.now c.loop-pad.pad-index c.pad-item.result p c.loop-pad-test.true c.pad-item.is h);
+      (pad_more c.args.pads.now c.loop-pad.pad-index c.pad-item.result p c.loop-pad-test.true c.pad-item.is
+      h);
   rest = λ p j q h d. elim (c.loop-pad.invariant.rest p j q h d) [
     | inl f ↦ inl f
     | inr g ↦ elim
-        (pad_rest c.args.pads.now c.loop-pad.pad-index c.pad-item.result p c.loop-pad-test.true c.pad-item.is g) [
+        (pad_rest c.args.pads.now c.loop-pad.pad-index c.pad-item.result p c.loop-pad-test.true c.pad-item.is
+        g) [
           | inl e ↦ inl (c.pad_leads.ensures.yes c.if-not-pad_leads.false j q (rw c.deref.ensures.value
               (subst (λ (x : Pad). HasDest x.dests j q) e d)))
           | inr r ↦ inr r

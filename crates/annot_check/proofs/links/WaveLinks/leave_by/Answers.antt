@@ -22,12 +22,15 @@ deliver-requires-clause-comes c =
     (sym c.starts_wave.ensures ∙ c.if-starts_wave.false) in
     subst (λ (m : ℕ). LastsOk (order_image c.args.self.now) m
     (first_number (order_image c.args.self.now) m) c.args.lasts.now) (sym c.target_of-to.ensures)
-    (edge_ok (order_image c.args.self.now) c.args.number c.args.choice c.args.lasts.now c.requires.goes_on f c.requires.comes)
+    (edge_ok (order_image c.args.self.now) c.args.number c.args.choice c.args.lasts.now c.requires.goes_on f
+    c.requires.comes)
 
 pub starts_wave-requires : goal.starts_wave-requires
 starts_wave-requires c = subst (IsBlock (order_image c.args.self.now)) (sym c.target_of-to.ensures)
-    ((c.requires.ready.shape.blocks c.args.number c.requires.block).edges.there c.args.choice c.requires.goes_on)
+    ((c.requires.ready.shape.blocks c.args.number c.requires.block).edges.there c.args.choice
+    c.requires.goes_on)
 
 pub deliver-requires-clause-block : goal.deliver-requires-clause-block
 deliver-requires-clause-block c = subst (IsBlock (order_image c.args.self.now)) (sym c.target_of-to.ensures)
-    ((c.requires.ready.shape.blocks c.args.number c.requires.block).edges.there c.args.choice c.requires.goes_on)
+    ((c.requires.ready.shape.blocks c.args.number c.requires.block).edges.there c.args.choice
+    c.requires.goes_on)

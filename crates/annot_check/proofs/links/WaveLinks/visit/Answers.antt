@@ -35,4 +35,6 @@ returns-clause-ok c =
     let e = entry_read c.enter.new.self c.args.number _ (Some c.in-Some.start) c.enter.ensures.entered h
     (sym c.in-Some.is ∙ c.index.ensures) in
     on_ok_three c.end.result c.end.ensures.ready c.end.ensures.left c.end.ensures.left
-    (λ r s u. visit_some c.enter.new.self c.end.new.self c.args.number c.in-Some.start c.in_ok-lasts.lasts c.enter.ensures.entered h e (rw c.end.ensures.same.2 c.in_ok-lasts.ensures.state) c.end.ensures.same.0 r s)
+    (λ r s u. visit_some c.enter.new.self c.end.new.self c.args.number c.in-Some.start c.in_ok-lasts.lasts
+    c.enter.ensures.entered h e (rw c.end.ensures.same.2 c.in_ok-lasts.ensures.state) c.end.ensures.same.0
+    r s)

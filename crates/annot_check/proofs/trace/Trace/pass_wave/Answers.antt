@@ -5,7 +5,9 @@ use Rattle.ws_isa.specs.Image.{is_first, IsBlock}
 use Rattle.annot_check.specs.declared.trace.Trace.{Trace}
 use Rattle.annot_check.specs.Done.{CameTo, WaveDone}
 use Rattle.annot_check.specs.Table.{HasNumber, Ready}
-use Rattle.annot_check.proofs.Whole.{InTable, begun_wave, begun_in, passed_more, all_in_grown, all_in_front, all_in_more, todo_in, came_in, all_left_passed, wave_done, ends_number, nil_left, none_has}
+use Rattle.annot_check.proofs.Whole.{InTable, begun_wave, begun_in, passed_more, all_in_grown, all_in_front}
+use Rattle.annot_check.proofs.Whole.{all_in_more, todo_in, came_in, all_left_passed, wave_done, ends_number}
+use Rattle.annot_check.proofs.Whole.{nil_left, none_has}
 use Rattle.annot_check.proofs.Entries.{ready_stays}
 use Rattle.annot_check.proofs.trace.Trace.pass_wave.Goals as goal
 
@@ -14,9 +16,11 @@ loop-number-init c = record {
   image = c.in_ok-begin_wave.ensures.grows.image;
   ready = c.in_ok-begin_wave.ensures.ready;
   shut = c.in_ok-begin_wave.ensures.shut;
-  all_passed = begun_wave c.args.self.now c.begin_wave.new.self c.args.first _ c.requires.between.blank c.in_ok-begin_wave.ensures.grows;
+  all_passed = begun_wave c.args.self.now c.begin_wave.new.self c.args.first _ c.requires.between.blank
+      c.in_ok-begin_wave.ensures.grows;
   todo_in =
-      begun_in c.args.self.now c.begin_wave.new.self c.requires.between.no_todo c.in_ok-begin_wave.ensures.grows;
+      begun_in c.args.self.now c.begin_wave.new.self c.requires.between.no_todo
+      c.in_ok-begin_wave.ensures.grows;
   passed_in = λ b h. absurd (none_has _ b c.new-passed.ensures.items h);
   entered = c.in_ok-begin_wave.ensures.entered;
 }
@@ -56,9 +60,14 @@ loop-number-preserved c =
       image = g.image ∙ c.loop-number.invariant.image;
       ready = c.in_ok-pass.ensures.ready;
       shut = c.in_ok-pass.ensures.shut;
-      all_passed = passed_more t c.pass.new.self c.loop-number.self.todo.items c.in-Some.number c.args.first c.loop-number.passed.items _ c.in-Some.ensures.items c.in_ok-add.ensures r g c.loop-number.invariant.all_passed c.in_ok-pass.ensures.done;
-      todo_in = todo_in t c.pass.new.self g (all_in_front c.loop-number.self c.loop-number.self.todo.items c.pop.new.self.items c.in-Some.number c.in-Some.ensures.items c.loop-number.invariant.todo_in);
-      passed_in = all_in_grown t c.pass.new.self _ g (all_in_more c.loop-number.self c.loop-number.passed.items _ c.in-Some.number c.in_ok-add.ensures c.loop-number.invariant.passed_in i);
+      all_passed = passed_more t c.pass.new.self c.loop-number.self.todo.items c.in-Some.number c.args.first
+          c.loop-number.passed.items _ c.in-Some.ensures.items c.in_ok-add.ensures r g
+          c.loop-number.invariant.all_passed c.in_ok-pass.ensures.done;
+      todo_in = todo_in t c.pass.new.self g (all_in_front c.loop-number.self c.loop-number.self.todo.items
+          c.pop.new.self.items c.in-Some.number c.in-Some.ensures.items c.loop-number.invariant.todo_in);
+      passed_in = all_in_grown t c.pass.new.self _ g
+          (all_in_more c.loop-number.self c.loop-number.passed.items _ c.in-Some.number c.in_ok-add.ensures
+          c.loop-number.invariant.passed_in i);
       entered = let e = c.loop-number.invariant.entered in (e.0, g.table.keeps c.args.first e.0 e.1);
     }
 
@@ -90,7 +99,8 @@ returns-clause-came c b h f =
 
 pub returns-clause-done : goal.returns-clause-done
 returns-clause-done c =
-    subst (λ (x : CodeImage). WaveDone (view.image x) (λ b. HasNumber c.loop-number.passed.items b) c.args.first)
+    subst (λ (x : CodeImage). WaveDone (view.image x) (λ b. HasNumber c.loop-number.passed.items b)
+    c.args.first)
     c.loop-number.invariant.image
     (wave_done c.loop-number.self c.args.first c.loop-number.passed.items
     (nil_left c.loop-number.self.todo.items c.pop.new.self.items _

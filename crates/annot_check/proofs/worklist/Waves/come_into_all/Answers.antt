@@ -17,14 +17,16 @@ loop-number-preserved c =
     let made = c.in_ok-come_into.ensures in
     let number : ℕ = get_or c.args.numbers.now c.loop-number.number-index 0 in
     record {
-      more = come_twice c.args.self.now c.loop-number.self c.come_into.new.self c.loop-number.invariant.more made.more;
+      more = come_twice c.args.self.now c.loop-number.self c.come_into.new.self c.loop-number.invariant.more
+          made.more;
       there = λ b h f. elim (c.loop-number.invariant.there b h f) [
         | inl m ↦ inl (made.more.keeps b m)
-        | inr m ↦ elim (number_step c.args.numbers.now c.loop-number.number-index 0 b c.loop-number-test.true m) [
-          | inl s ↦ inl (subst (λ (x : ℕ). flag_at c.come_into.new.self.come.items x ≡ true) s
-              (made.there (ap (is_first (view.image c.args.image.now)) s ∙ f)))
-          | inr y ↦ inr y
-        ]
+        | inr m ↦ elim (number_step c.args.numbers.now c.loop-number.number-index 0 b c.loop-number-test.true
+            m) [
+              | inl s ↦ inl (subst (λ (x : ℕ). flag_at c.come_into.new.self.come.items x ≡ true) s
+                  (made.there (ap (is_first (view.image c.args.image.now)) s ∙ f)))
+              | inr y ↦ inr y
+            ]
       ];
       is_new = λ b h. elim (made.is_new b h) [
         | inl m ↦ c.loop-number.invariant.is_new b m

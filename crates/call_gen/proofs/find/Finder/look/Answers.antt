@@ -3,4 +3,5 @@ use Rattle.call_gen.proofs.Marking.{marks_beyond}
 use Rattle.call_gen.proofs.find.Finder.look.Goals as goal
 
 pub returns-in-None : goal.returns-in-None
-returns-in-None c = marks_beyond (view.graph c.args.table.now.graph.now) c.args.b c.args.self.now.flags.items c.args.self.now.waits.items c.in-None.ensures
+returns-in-None c = marks_beyond (view.graph c.args.table.now.graph.now) c.args.b c.args.self.now.flags.items
+    c.args.self.now.waits.items c.in-None.ensures

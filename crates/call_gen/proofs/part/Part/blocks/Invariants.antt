@@ -6,7 +6,10 @@ use Rattle.ws_words.specs.Items.{flag_at}
 
 abbrev pub invariant-loop-i : goal.invariant-loop-i
 invariant-loop-i l = record {
-  made : map view.block l.made.items ++ part_blocks (flag_at l.self.flags.items) (name (view.graph l.self.table.graph.now) (flag_at l.self.flags.items)) (l.first + l.i) (map view.block (drop l.i l.blocks))
-      ≡ part_blocks (flag_at l.self.flags.items) (name (view.graph l.self.table.graph.now) (flag_at l.self.flags.items)) l.first (map view.block l.blocks);
+  made : map view.block l.made.items ++ part_blocks (flag_at l.self.flags.items)
+      (name (view.graph l.self.table.graph.now) (flag_at l.self.flags.items)) (l.first + l.i)
+      (map view.block (drop l.i l.blocks))
+      ≡ part_blocks (flag_at l.self.flags.items) (name (view.graph l.self.table.graph.now)
+      (flag_at l.self.flags.items)) l.first (map view.block l.blocks);
   there : BlocksThere (view.graph l.self.table.graph.now) (map view.block (drop l.i l.blocks));
 }

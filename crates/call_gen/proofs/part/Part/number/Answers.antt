@@ -9,5 +9,6 @@ pub overflow_cast-result : goal.overflow_cast-result
 overflow_cast-result c =
     let p = c.args.self.now in let f = c.args.f in let g = view.graph p.table.graph.now in
     let is : c.number_at.result ≡ number g (flag_at p.flags.items) f =
-    c.number_at.ensures ∙ ap (λ (ns : List ℕ). slice_index ns f) c.deref.ensures.value ∙ c.requires.part.numbers f c.requires.there in
+    c.number_at.ensures ∙ ap (λ (ns : List ℕ). slice_index ns f) c.deref.ensures.value
+    ∙ c.requires.part.numbers f c.requires.there in
     omega (arith, is, before_most (keeps g (flag_at p.flags.items)) f)

@@ -8,5 +8,6 @@ pub overflow_cast-result : goal.overflow_cast-result
 overflow_cast-result c =
     let p = c.args.self.now in let b = c.args.b in
     let is : c.number_at.result ≡ before (flag_at p.flags.items) b =
-    c.number_at.ensures ∙ ap (λ (ns : List ℕ). slice_index ns b) c.deref.ensures.value ∙ c.requires.part.places b (omega (arith, c.requires.part.count, c.requires.there)) in
+    c.number_at.ensures ∙ ap (λ (ns : List ℕ). slice_index ns b) c.deref.ensures.value
+    ∙ c.requires.part.places b (omega (arith, c.requires.part.count, c.requires.there)) in
     omega (arith, is, before_most (flag_at p.flags.items) b)

@@ -10,25 +10,41 @@ use Rattle.ws_words.proofs.Lists.{drop_next}
 use Rattle.ws_words.specs.Items.{flag_at}
 
 pub loop-proc-init : goal.loop-proc-init
-loop-proc-init c = record { made = search rules; there = all_there (view.graph c.args.self.now.table.graph.now) c.requires.rules; count = omega arith }
+loop-proc-init c =
+    record {
+      made = search rules;
+      there = all_there (view.graph c.args.self.now.table.graph.now)
+          c.requires.rules;
+      count = omega arith;
+    }
 
 pub add_proc-requires-clause-count : goal.add_proc-requires-clause-count
 add_proc-requires-clause-count c =
-    let items = c.args.self.now.table.graph.now.procs.items in let i = c.loop-proc.proc-index in let p = c.proc-item.result in
+    let items = c.args.self.now.table.graph.now.procs.items in let i = c.loop-proc.proc-index in
+    let p = c.proc-item.result in
     let one : i + 1 ≡ suc i = omega arith in
-    let next : drop i items ≡ p ∷ drop (i + 1) items = drop_next items i (i + 1) p one (rw c.deref-proc-items.ensures.value at c.loop-proc-test.true) (rw c.deref-proc-items.ensures.value at c.proc-item.is) in
+    let next : drop i items ≡ p ∷ drop (i + 1) items = drop_next items i (i + 1) p one
+    (rw c.deref-proc-items.ensures.value at c.loop-proc-test.true)
+    (rw c.deref-proc-items.ensures.value at c.proc-item.is) in
     omega (arith, count_next items i (i + 1) p one next, c.loop-proc.invariant.count, c.requires.part.count)
 
 pub loop-proc-preserved : goal.loop-proc-preserved
 loop-proc-preserved c =
     let g = view.graph c.args.self.now.table.graph.now in let keep = flag_at c.args.self.now.flags.items in
-    let items = c.args.self.now.table.graph.now.procs.items in let i = c.loop-proc.proc-index in let p = c.proc-item.result in
+    let items = c.args.self.now.table.graph.now.procs.items in let i = c.loop-proc.proc-index in
+    let p = c.proc-item.result in
     let one : i + 1 ≡ suc i = omega arith in
-    let next : drop i items ≡ p ∷ drop (i + 1) items = drop_next items i (i + 1) p one (rw c.deref-proc-items.ensures.value at c.loop-proc-test.true) (rw c.deref-proc-items.ensures.value at c.proc-item.is) in
-    let len : c.len-first.result ≡ length p.blocks.items = omega (arith, c.len-first.ensures, p.blocks.ok.0) in
-    let there : AllByRecursion (λ (q : plain.GraphProc). BlocksThere g q.blocks) (map view.proc (p ∷ drop (i + 1) items)) = rw next at c.loop-proc.invariant.there in
+    let next : drop i items ≡ p ∷ drop (i + 1) items = drop_next items i (i + 1) p one
+    (rw c.deref-proc-items.ensures.value at c.loop-proc-test.true)
+    (rw c.deref-proc-items.ensures.value at c.proc-item.is) in
+    let len : c.len-first.result ≡ length p.blocks.items =
+    omega (arith, c.len-first.ensures, p.blocks.ok.0) in
+    let there : AllByRecursion (λ (q : plain.GraphProc). BlocksThere g q.blocks)
+    (map view.proc (p ∷ drop (i + 1) items)) = rw next at c.loop-proc.invariant.there in
     record {
-      made = part_next items i (i + 1) p next keep (name g keep) c.loop-proc.first (c.loop-proc.first + c.len-first.result) c.len-first.result c.loop-proc.procs.items c.add_proc.new.procs.items _ refl len c.in_ok-add_proc.ensures c.loop-proc.invariant.made;
+      made = part_next items i (i + 1) p next keep (name g keep) c.loop-proc.first
+          (c.loop-proc.first + c.len-first.result) c.len-first.result c.loop-proc.procs.items
+          c.add_proc.new.procs.items _ refl len c.in_ok-add_proc.ensures c.loop-proc.invariant.made;
       there = there.1;
       count = omega (arith, count_next items i (i + 1) p one next, c.loop-proc.invariant.count, len);
     }

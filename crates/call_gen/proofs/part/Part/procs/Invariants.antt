@@ -8,8 +8,14 @@ use Rattle.ws_words.specs.Items.{flag_at}
 
 abbrev pub invariant-loop-proc : goal.invariant-loop-proc
 invariant-loop-proc l = record {
-  made : map view.proc l.procs.items ++ part_procs (flag_at l.self.flags.items) (name (view.graph l.self.table.graph.now) (flag_at l.self.flags.items)) l.first (map view.proc (drop l.proc-index l.self.table.graph.now.procs.items))
-      ≡ part_procs (flag_at l.self.flags.items) (name (view.graph l.self.table.graph.now) (flag_at l.self.flags.items)) 0 (map view.proc l.self.table.graph.now.procs.items);
-  there : AllByRecursion (λ p. BlocksThere (view.graph l.self.table.graph.now) p.blocks) (map view.proc (drop l.proc-index l.self.table.graph.now.procs.items));
-  count : l.first + length (spots_from l.proc-index (map view.proc (drop l.proc-index l.self.table.graph.now.procs.items))) ≡ length (spots (view.graph l.self.table.graph.now));
+  made : map view.proc l.procs.items ++ part_procs (flag_at l.self.flags.items)
+      (name (view.graph l.self.table.graph.now) (flag_at l.self.flags.items)) l.first
+      (map view.proc (drop l.proc-index l.self.table.graph.now.procs.items))
+      ≡ part_procs (flag_at l.self.flags.items) (name (view.graph l.self.table.graph.now)
+      (flag_at l.self.flags.items)) 0 (map view.proc l.self.table.graph.now.procs.items);
+  there : AllByRecursion (λ p. BlocksThere (view.graph l.self.table.graph.now) p.blocks)
+      (map view.proc (drop l.proc-index l.self.table.graph.now.procs.items));
+  count : l.first + length
+      (spots_from l.proc-index (map view.proc (drop l.proc-index l.self.table.graph.now.procs.items)))
+      ≡ length (spots (view.graph l.self.table.graph.now));
 }

@@ -4,4 +4,6 @@ use Rattle.call_gen.specs.Spelled.{save}
 use Rattle.call_gen.proofs.plan.CallPlan.add_saves.Given as goal
 
 abbrev pub invariant-loop-x : goal.invariant-loop-x
-invariant-loop-x l = map view.op l.ops.items ++ map (save (view.graph l.self.table.graph.now) l.home) (drop l.x-index l.xs) ≡ map view.op l.initial.ops.items ++ map (save (view.graph l.self.table.graph.now) l.home) l.xs
+invariant-loop-x l = map view.op l.ops.items ++ map (save (view.graph l.self.table.graph.now) l.home)
+    (drop l.x-index l.xs) ≡ map view.op l.initial.ops.items ++ map
+    (save (view.graph l.self.table.graph.now) l.home) l.xs

@@ -4,4 +4,11 @@ use Rattle.call_gen.proofs.Planning.{first_in_all}
 use Rattle.call_gen.proofs.plan.CallPlan.cell.Goals as goal
 
 pub overflow_add-number : goal.overflow_add-number
-overflow_add-number c = omega (arith, first_in_all (view.graph c.args.self.now.table.graph.now) c.args.home (omega (arith, c.requires.there)), c.requires.plan.total, c.requires.plan.some, c.first_cell.ensures)
+overflow_add-number c = omega (
+  arith,
+  first_in_all (view.graph c.args.self.now.table.graph.now) c.args.home
+      (omega (arith, c.requires.there)),
+  c.requires.plan.total,
+  c.requires.plan.some,
+  c.first_cell.ensures,
+)

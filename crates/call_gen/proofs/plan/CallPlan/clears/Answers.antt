@@ -7,4 +7,6 @@ use Rattle.call_gen.proofs.plan.CallPlan.clears.Goals as goal
 pub loop-x-preserved : goal.loop-x-preserved
 loop-x-preserved c =
     let s = c.args.self.now in let g = view.graph s.table.graph.now in
-    clears_next (is_unset g s.live.now c.args.f c.args.params) c.loop-x.x (c.loop-x.x + 1) (map view.op c.loop-x.ops.items) (map view.op c.clear_if.new.ops.items) c.is_unset-hit.result (omega arith) c.is_unset-hit.ensures c.loop-x.invariant c.in_ok-clear_if.ensures
+    clears_next (is_unset g s.live.now c.args.f c.args.params) c.loop-x.x (c.loop-x.x + 1)
+    (map view.op c.loop-x.ops.items) (map view.op c.clear_if.new.ops.items) c.is_unset-hit.result
+    (omega arith) c.is_unset-hit.ensures c.loop-x.invariant c.in_ok-clear_if.ensures

@@ -5,4 +5,5 @@ use Rattle.call_gen.specs.Spelled.{below, is_unset, clear}
 use Rattle.call_gen.proofs.plan.CallPlan.clears.Given as goal
 
 abbrev pub invariant-loop-x : goal.invariant-loop-x
-invariant-loop-x l = map view.op l.ops.items ≡ map clear (filter (is_unset (view.graph l.self.table.graph.now) l.self.live.now l.f l.params) (below l.x))
+invariant-loop-x l = map view.op l.ops.items ≡ map clear
+    (filter (is_unset (view.graph l.self.table.graph.now) l.self.live.now l.f l.params) (below l.x))

@@ -5,17 +5,35 @@ use Rattle.call_gen.proofs.Planning.{entry_there, door_is}
 use Rattle.call_gen.proofs.plan.CallPlan.door.Goals as goal
 
 pub overflow_cast-entry : goal.overflow_cast-entry
-overflow_cast-entry c = omega (arith, entry_there (view.graph c.args.self.now.table.graph.now) c.args.f c.requires.rules c.requires.there, c.room-entry.ensures.entry, c.requires.plan.few.blocks)
+overflow_cast-entry c = omega (
+  arith,
+  entry_there (view.graph c.args.self.now.table.graph.now) c.args.f
+      c.requires.rules c.requires.there,
+  c.room-entry.ensures.entry,
+  c.requires.plan.few.blocks,
+)
 
 pub place-requires-clause-there : goal.place-requires-clause-there
-place-requires-clause-there c = omega (arith, entry_there (view.graph c.args.self.now.table.graph.now) c.args.f c.requires.rules c.requires.there, c.room-entry.ensures.entry)
+place-requires-clause-there c =
+    omega (
+      arith,
+      entry_there (view.graph c.args.self.now.table.graph.now) c.args.f c.requires.rules
+          c.requires.there,
+      c.room-entry.ensures.entry,
+    )
 
 pub overflow_sub-result : goal.overflow_sub-result
 overflow_sub-result c =
     let g = view.graph c.args.self.now.table.graph.now in
-    omega (arith, door_is g c.args.f (entry_there g c.args.f c.requires.rules c.requires.there).1, c.place.ensures, ap (moved g) c.room-entry.ensures.entry)
+    omega (
+      arith,
+      door_is g c.args.f (entry_there g c.args.f c.requires.rules c.requires.there).1,
+      c.place.ensures,
+      ap (moved g) c.room-entry.ensures.entry,
+    )
 
 pub returns : goal.returns
 returns c =
     let g = view.graph c.args.self.now.table.graph.now in
-    ap (λ n. n - 1) (c.place.ensures ∙ ap (moved g) c.room-entry.ensures.entry) ∙ (door_is g c.args.f (entry_there g c.args.f c.requires.rules c.requires.there).1).1
+    ap (λ n. n - 1) (c.place.ensures ∙ ap (moved g) c.room-entry.ensures.entry)
+    ∙ (door_is g c.args.f (entry_there g c.args.f c.requires.rules c.requires.there).1).1

@@ -5,4 +5,5 @@ use Rattle.call_gen.specs.Spelled.{landings_from}
 use Rattle.call_gen.proofs.plan.CallPlan.landings.Given as goal
 
 abbrev pub invariant-loop-b : goal.invariant-loop-b
-invariant-loop-b l = l.points.items ≡ landings_from l.f 0 0 (take l.b (spots (view.graph l.self.table.graph.now)))
+invariant-loop-b l = l.points.items ≡ landings_from l.f 0 0
+    (take l.b (spots (view.graph l.self.table.graph.now)))

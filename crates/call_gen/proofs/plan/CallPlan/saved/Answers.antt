@@ -7,4 +7,5 @@ use Rattle.call_gen.proofs.plan.CallPlan.saved.Goals as goal
 pub returns : goal.returns
 returns c =
     let s = c.args.self.now in
-    saved_end (is_saved (view.graph s.table.graph.now) s.live.now c.args.home c.args.vars c.args.target c.args.back) c.loop-x.x c.args.vars c.loop-x.list.items (omega arith) c.loop-x.invariant
+    saved_end (is_saved (view.graph s.table.graph.now) s.live.now c.args.home c.args.vars c.args.target
+    c.args.back) c.loop-x.x c.args.vars c.loop-x.list.items (omega arith) c.loop-x.invariant

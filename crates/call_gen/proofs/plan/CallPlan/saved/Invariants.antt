@@ -5,4 +5,5 @@ use Rattle.call_gen.specs.Spelled.{below, is_saved}
 use Rattle.call_gen.proofs.plan.CallPlan.saved.Given as goal
 
 abbrev pub invariant-loop-x : goal.invariant-loop-x
-invariant-loop-x l = l.list.items ≡ filter (is_saved (view.graph l.self.table.graph.now) l.self.live.now l.home l.vars l.target l.back) (below l.x)
+invariant-loop-x l = l.list.items ≡ filter (is_saved (view.graph l.self.table.graph.now) l.self.live.now
+    l.home l.vars l.target l.back) (below l.x)

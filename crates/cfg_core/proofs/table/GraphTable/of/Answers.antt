@@ -14,9 +14,15 @@ loop-proc-preserved c =
     let i = c.loop-proc.proc-index in
     let p = c.proc-item.result in
     let one : i + 1 ≡ suc i = omega arith in
-    let next : drop i items ≡ p ∷ drop (i + 1) items = drop_next items i (i + 1) p one (omega arith) c.proc-item.is in
+    let next : drop i items ≡ p ∷ drop (i + 1) items = drop_next items i (i + 1) p one (omega arith)
+    c.proc-item.is in
     let count : c.len.result ≡ length c.loop-proc.spots.items = omega (arith, c.loop-proc.spots.ok.0) in
     record {
-      spots = spots_more items i (i + 1) p _ _ _ one next (c.in_ok-add_blocks.ensures) c.loop-proc.invariant.spots;
-      rooms = rooms_more items i (i + 1) p (length c.loop-proc.spots.items) _ _ _ _ (record { entry = c.len.result; params = p.params; vars = p.vars }) next (count_more p.vars c.loop-proc.spots.items c.add_blocks.new.spots.items p.blocks.items c.in_ok-add_blocks.ensures) c.in_ok-push.ensures.items (ap (room_at p) count) c.loop-proc.invariant.rooms;
+      spots = spots_more items i (i + 1) p _ _ _ one next (c.in_ok-add_blocks.ensures)
+          c.loop-proc.invariant.spots;
+      rooms = rooms_more items i (i + 1) p (length c.loop-proc.spots.items) _ _ _ _
+          (record { entry = c.len.result; params = p.params; vars = p.vars }) next
+          (count_more p.vars c.loop-proc.spots.items c.add_blocks.new.spots.items p.blocks.items
+          c.in_ok-add_blocks.ensures) c.in_ok-push.ensures.items (ap (room_at p) count)
+          c.loop-proc.invariant.rooms;
     }

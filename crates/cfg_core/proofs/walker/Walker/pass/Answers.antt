@@ -9,4 +9,5 @@ use Rattle.cfg_core.proofs.walker.Walker.pass.Goals as goal
 pub returns-in-None : goal.returns-in-None
 unfolding no_spot
 returns-in-None c = λ s frames k sh.
-    subst (λ (x : Spot). NextIs (passed (view.graph c.args.table.now.graph.now) (run_ops x.block.ops s k) x.block.exit frames) Over c.args.self.now) (sym c.in-None.ensures) (sh.outside, sh.turns)
+    subst (λ (x : Spot). NextIs (passed (view.graph c.args.table.now.graph.now) (run_ops x.block.ops s k)
+    x.block.exit frames) Over c.args.self.now) (sym c.in-None.ensures) (sh.outside, sh.turns)

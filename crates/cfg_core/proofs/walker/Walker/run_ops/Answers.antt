@@ -7,17 +7,23 @@ pub loop-op-preserved : goal.loop-op-preserved
 loop-op-preserved c = λ s frames k sh.
     let ops = c.args.ops.now in
     let i = c.loop-op.op-index in
-    let next : drop i ops ≡ c.op-item.result ∷ drop (i + 1) ops = drop_next ops i (i + 1) c.op-item.result (omega arith) (omega arith) c.op-item.is in
-    one_more ops i (i + 1) c.op-item.result frames c.loop-op.self c.run_op.new.self _ next (c.loop-op.invariant s frames k sh)
-    (λ t j st. is_done _ frames c.in_ok-pace.pace c.run_op.new.self (sym c.is_out.ensures ∙ c.if-is_out.false) (c.in_ok-pace.ensures t frames j st))
+    let next : drop i ops ≡ c.op-item.result ∷ drop (i + 1) ops = drop_next ops i (i + 1) c.op-item.result
+    (omega arith) (omega arith) c.op-item.is in
+    one_more ops i (i + 1) c.op-item.result frames c.loop-op.self c.run_op.new.self _ next
+    (c.loop-op.invariant s frames k sh)
+    (λ t j st. is_done _ frames c.in_ok-pace.pace c.run_op.new.self (sym c.is_out.ensures ∙ c.if-is_out.false)
+    (c.in_ok-pace.ensures t frames j st))
 
 pub returns-then-is_out : goal.returns-then-is_out
 returns-then-is_out c = λ s frames k sh.
     let ops = c.args.ops.now in
     let i = c.loop-op.op-index in
-    let next : drop i ops ≡ c.op-item.result ∷ drop (i + 1) ops = drop_next ops i (i + 1) c.op-item.result (omega arith) (omega arith) c.op-item.is in
-    stopped_at ops i (i + 1) c.op-item.result frames c.loop-op.self c.run_op.new.self _ next (c.loop-op.invariant s frames k sh)
-    (λ t j st. is_out _ frames c.in_ok-pace.pace c.run_op.new.self (sym c.is_out.ensures ∙ c.if-is_out.true) (c.in_ok-pace.ensures t frames j st))
+    let next : drop i ops ≡ c.op-item.result ∷ drop (i + 1) ops = drop_next ops i (i + 1) c.op-item.result
+    (omega arith) (omega arith) c.op-item.is in
+    stopped_at ops i (i + 1) c.op-item.result frames c.loop-op.self c.run_op.new.self _ next
+    (c.loop-op.invariant s frames k sh)
+    (λ t j st. is_out _ frames c.in_ok-pace.pace c.run_op.new.self (sym c.is_out.ensures ∙ c.if-is_out.true)
+    (c.in_ok-pace.ensures t frames j st))
 
 pub returns : goal.returns
 returns c = λ s frames k sh.

@@ -7,5 +7,6 @@ use Rattle.ws_words.proofs.Lists.{length_map}
 pub of-requires : goal.of-requires
 unfolding most_blocks
 of-requires c =
-    let formed : Formed (view.image c.image.result.now) = subst Formed (sym c.image.ensures.image) c.image.ensures.formed in
+    let formed : Formed (view.image c.image.result.now) = subst Formed (sym c.image.ensures.image)
+    c.image.ensures.formed in
     record { few = omega (arith, formed.few_blocks, length_map view.block c.image.result.now.blocks.items) }

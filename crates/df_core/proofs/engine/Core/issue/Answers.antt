@@ -11,7 +11,11 @@ use Rattle.df_core.proofs.engine.Core.issue.Goals as goal
 pub returns-in-Some : goal.returns-in-Some
 returns-in-Some c =
     let flow = c.args.self.now.flow in
-    let a_is : c.index-asked.result.now ≡ asked_at flow c.in-Some.place = or_any flow.asked.items c.in-Some.place c.index-asked.result.now no_asked c.in-Some.ensures.0 c.index-asked.ensures in
+    let a_is : c.index-asked.result.now ≡ asked_at flow c.in-Some.place =
+    or_any flow.asked.items c.in-Some.place c.index-asked.result.now no_asked c.in-Some.ensures.0
+    c.index-asked.ensures in
     issue_quietly c.args.self.now c.index-asked.result.now.wave c.index-asked.result.now.instr
-    (may_enabled c.args.self.now c.in-Some.place c.index-asked.result.now c.in-Some.ensures.0 c.index-asked.ensures c.in-Some.ensures.1
-    (subst (λ (b : Asked). may_flag (image_of c.args.self.now.program) (chain_of flow.chain) b.wave b.instr b.operands.first ≡ true) (sym a_is) c.in-Some.ensures.2))
+    (may_enabled c.args.self.now c.in-Some.place c.index-asked.result.now c.in-Some.ensures.0
+    c.index-asked.ensures c.in-Some.ensures.1
+    (subst (λ (b : Asked). may_flag (image_of c.args.self.now.program) (chain_of flow.chain) b.wave b.instr
+    b.operands.first ≡ true) (sym a_is) c.in-Some.ensures.2))

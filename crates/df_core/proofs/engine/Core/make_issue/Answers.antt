@@ -1,4 +1,5 @@
-use Rattle.std.proofs.Common.{◌≡◌, ◌∙◌, List, slice_index_or, ap, refl, false, true, arith, sym, Result, Ok, Err, IsOk}
+use Rattle.std.proofs.Common.{◌≡◌, ◌∙◌, List, slice_index_or, ap, refl, false, true, arith, sym, Result, Ok}
+use Rattle.std.proofs.Common.{Err, IsOk}
 use Rattle.std.specs.Result.{is_err}
 use Rattle.std.proofs.lemmas.Bool.{both_ways}
 use Rattle.df_core.specs.declared.plain.Asked.{Asked}
@@ -11,14 +12,18 @@ pub returns-in-None-clause-refused : goal.returns-in-None-clause-refused
 returns-in-None-clause-refused c = λ e. not_ready c.args.self.now c.args.wave c.args.instr c.in-None.ensures
 
 pub issue-requires-clause-going : goal.issue-requires-clause-going
-issue-requires-clause-going c = going_prepared c.args.self.now c.prepare.new.self c.prepare.ensures.same c.requires
+issue-requires-clause-going c = going_prepared c.args.self.now c.prepare.new.self c.prepare.ensures.same
+    c.requires
 
 pub returns-else-is_err-clause-made : goal.returns-else-is_err-clause-made
 returns-else-is_err-clause-made c =
     let at = λ (xs : List Asked). slice_index_or xs c.in-Some.place no_asked in
-    let e : asked_at c.prepare.new.self c.in-Some.place ≡ asked_at c.args.self.now.flow c.in-Some.place = ap at c.prepare.ensures.same.asked in
-    makes_issue c.args.self.now c.prepare.new.self c.prepare.ensures.same _ (asked_at c.prepare.new.self c.in-Some.place) c.args.wave c.args.instr refl
-    (ap (λ (a : Asked). a.wave) e ∙ c.in-Some.ensures.3) (ap (λ (a : Asked). a.instr) e ∙ c.in-Some.ensures.4) c.issue.ensures.leads
+    let e : asked_at c.prepare.new.self c.in-Some.place ≡ asked_at c.args.self.now.flow c.in-Some.place =
+    ap at c.prepare.ensures.same.asked in
+    makes_issue c.args.self.now c.prepare.new.self c.prepare.ensures.same _
+    (asked_at c.prepare.new.self c.in-Some.place) c.args.wave c.args.instr refl
+    (ap (λ (a : Asked). a.wave) e ∙ c.in-Some.ensures.3) (ap (λ (a : Asked). a.instr) e ∙ c.in-Some.ensures.4)
+    c.issue.ensures.leads
 
 not_both : {A E : Type 0} (r : Result A E) → IsOk r → is_err r ≡ true → ⊥
 not_both (Ok a) o e = both_ways false refl e

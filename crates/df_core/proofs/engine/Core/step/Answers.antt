@@ -6,13 +6,20 @@ use Rattle.df_core.proofs.Stepping.{runs_on}
 use Rattle.df_core.proofs.engine.Core.step.Goals as goal
 
 pub returns-in-Match-clause-made : goal.returns-in-Match-clause-made
-returns-in-Match-clause-made c = subst (λ (e : Event). OnOk c.make_match.result (Makes (event_of e) c.args.self.now c.make_match.new.self)) (sym c.in-Match.is) c.make_match.ensures.made
+returns-in-Match-clause-made c =
+    subst (λ (e : Event). OnOk c.make_match.result (Makes (event_of e) c.args.self.now c.make_match.new.self))
+    (sym c.in-Match.is) c.make_match.ensures.made
 
 pub returns-in-Issue-clause-made : goal.returns-in-Issue-clause-made
-returns-in-Issue-clause-made c = subst (λ (e : Event). OnOk c.make_issue.result (Makes (event_of e) c.args.self.now c.make_issue.new.self)) (sym c.in-Issue.is) c.make_issue.ensures.made
+returns-in-Issue-clause-made c =
+    subst (λ (e : Event). OnOk c.make_issue.result (Makes (event_of e) c.args.self.now c.make_issue.new.self))
+    (sym c.in-Issue.is) c.make_issue.ensures.made
 
 pub returns-in-Match-clause-core : goal.returns-in-Match-clause-core
-returns-in-Match-clause-core c = runs_on (Match c.in-Match.wave c.in-Match.instr c.in-Match.port) c.args.self.now c.make_match.new.self c.make_match.result c.requires c.make_match.ensures.made c.make_match.ensures.kept
+returns-in-Match-clause-core c = runs_on (Match c.in-Match.wave c.in-Match.instr c.in-Match.port)
+    c.args.self.now c.make_match.new.self c.make_match.result c.requires c.make_match.ensures.made
+    c.make_match.ensures.kept
 
 pub returns-in-Issue-clause-core : goal.returns-in-Issue-clause-core
-returns-in-Issue-clause-core c = runs_on (Issue c.in-Issue.wave c.in-Issue.instr) c.args.self.now c.make_issue.new.self c.make_issue.result c.requires c.make_issue.ensures.made c.make_issue.ensures.kept
+returns-in-Issue-clause-core c = runs_on (Issue c.in-Issue.wave c.in-Issue.instr) c.args.self.now
+    c.make_issue.new.self c.make_issue.result c.requires c.make_issue.ensures.made c.make_issue.ensures.kept

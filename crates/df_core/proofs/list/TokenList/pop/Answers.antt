@@ -6,5 +6,6 @@ use Rattle.df_core.proofs.list.TokenList.pop.Goals as goal
 pub invariant_of-self-2 : goal.invariant_of-self-2
 invariant_of-self-2 g c = (
   (let e = c.pop.ensures.capacity in let k = c.self.invariant.0 in omega (arith, e, k)),
-  front_right (IsRight g.J.Job.image g.J.Job.world) c.self.inside.raw.items c.pop.new.self.items _ c.in_ok-wave.ensures.items c.self.invariant.1,
+  front_right (IsRight g.J.Job.image g.J.Job.world) c.self.inside.raw.items c.pop.new.self.items _
+      c.in_ok-wave.ensures.items c.self.invariant.1,
 )

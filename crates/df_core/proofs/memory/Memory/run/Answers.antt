@@ -8,23 +8,28 @@ pub returns-in-Load-clause-answer : goal.returns-in-Load-clause-answer
 returns-in-Load-clause-answer c = λ o third h.
     let m = c.args.self.now in
     from_op (code.Load c.in-Load.array) c.args.op _ o _ _ c.in-Load.is
-    (load_is o m h c.in-Load.array c.args.first c.args.second third c.word.result (c.word.ensures ∙ ap (λ n. slice_index (row m.cells n) c.args.first) c.place_of.ensures))
+    (load_is o m h c.in-Load.array c.args.first c.args.second third c.word.result
+    (c.word.ensures ∙ ap (λ n. slice_index (row m.cells n) c.args.first) c.place_of.ensures))
 
 pub returns-in-Store-clause-answer : goal.returns-in-Store-clause-answer
 returns-in-Store-clause-answer c = λ o third h.
     let m = c.args.self.now in
     from_op (code.Store c.in-Store.array) c.args.op _ o _ _ c.in-Store.is
-    (store_is o m h c.in-Store.array c.args.first c.args.second third c.set.new.self (c.set.ensures ∙ ap (λ n. with_row m.cells n (slice_set (row m.cells n) c.args.first c.args.second)) c.place_of-in-Store.ensures))
+    (store_is o m h c.in-Store.array c.args.first c.args.second third c.set.new.self
+    (c.set.ensures ∙ ap (λ n. with_row m.cells n (slice_set (row m.cells n) c.args.first c.args.second))
+    c.place_of-in-Store.ensures))
 
 pub returns-in-Input-clause-answer : goal.returns-in-Input-clause-answer
 returns-in-Input-clause-answer c = λ o third h.
     from_op code.Input c.args.op _ o _ _ c.in-Input.is
-    (read_is o c.args.self.now h c.args.first c.args.second third c.next.result c.next.new.self c.next.ensures.word c.next.ensures.rest)
+    (read_is o c.args.self.now h c.args.first c.args.second third c.next.result c.next.new.self
+    c.next.ensures.word c.next.ensures.rest)
 
 pub returns-in-Output-clause-answer : goal.returns-in-Output-clause-answer
 returns-in-Output-clause-answer c = λ o third h.
     from_op code.Output c.args.op _ o _ _ c.in-Output.is
-    (print_is o c.args.self.now h c.args.first c.args.second third c.push_reserved.new.self c.push_reserved.ensures.items)
+    (print_is o c.args.self.now h c.args.first c.args.second third c.push_reserved.new.self
+    c.push_reserved.ensures.items)
 
 pub returns-in-Give-clause-answer : goal.returns-in-Give-clause-answer
 returns-in-Give-clause-answer c = λ o third h.

@@ -7,8 +7,11 @@ use Rattle.df_core.proofs.program.Program.landed.Goals as goal
 
 pub returns-in-Some : goal.returns-in-Some
 returns-in-Some c = let image = image_of c.args.self.now in
-    c.pad.ensures ∙ ap (λ n. pad_of (block_at image n).pads c.args.pad) (c.target_of.ensures ∙ target_is image c.args.number c.args.answer (view.block c.in-Some.block.now) c.in-Some.ensures)
+    c.pad.ensures ∙ ap (λ n. pad_of (block_at image n).pads c.args.pad)
+    (c.target_of.ensures ∙ target_is image c.args.number c.args.answer (view.block c.in-Some.block.now)
+    c.in-Some.ensures)
 
 pub returns-in-None : goal.returns-in-None
 returns-in-None c = let image = image_of c.args.self.now in
-    c.pad-in-None.ensures ∙ ap (λ n. pad_of (block_at image n).pads c.args.pad) (target_none image c.args.number c.args.answer c.in-None.ensures)
+    c.pad-in-None.ensures ∙ ap (λ n. pad_of (block_at image n).pads c.args.pad)
+    (target_none image c.args.number c.args.answer c.in-None.ensures)

@@ -19,7 +19,8 @@ returns-clause-failed g c = subst (PartFailedSo g.J.Job.image g.J.Job.began) c.s
     c.self.invariant.failed
 
 pub returns-clause-once : goal.returns-clause-once
-returns-clause-once g c = subst (λ (x : PartContent). All (λ k. entry_of x.kept k.wave k.instr ≡ Some k) x.kept)
+returns-clause-once g c =
+    subst (λ (x : PartContent). All (λ k. entry_of x.kept k.wave k.instr ≡ Some k) x.kept)
     c.self.view_is
     (own c.self.inside.parts.order.kept.items
     (place_in c.self.inside.parts.order.index) c.self.invariant.ok.order.index)

@@ -20,8 +20,10 @@ pub invariant_of-answers : goal.invariant_of-answers
 invariant_of-answers g c = (
   (let e = c.answers.invariant.0 in let k = c.clear.ensures.capacity in
       let m = c.submit.ensures.room in omega (arith, e, k, m)),
-  all_right g.J.Job.image g.J.Job.world (tokens_of c.submit.new.told.items) (A.submit_told (image_of c.program.result.now) g.J.Job.image g.J.Job.world
-      g.J.Job.began c.program.ensures.image c.program.ensures.formed c.program.ensures.sound c.self.inside.parts
+  all_right g.J.Job.image g.J.Job.world (tokens_of c.submit.new.told.items)
+      (A.submit_told (image_of c.program.result.now) g.J.Job.image g.J.Job.world
+      g.J.Job.began c.program.ensures.image c.program.ensures.formed c.program.ensures.sound
+      c.self.inside.parts
       c.submit.new.self c.kept_request-kept.result (request_of c.args.request)
       (tokens_of c.submit.new.told.items) c.submit.result c.kept_request-kept.ensures.kept c.submit.ensures.ok
       c.submit.ensures.filed

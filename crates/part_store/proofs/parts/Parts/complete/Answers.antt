@@ -38,7 +38,8 @@ returns-clause-leads g c = λ world began formed sound right calm idle.
     )
 
 pub drain-requires-clause-filed : goal.drain-requires-clause-filed
-drain-requires-clause-filed g c = let f = c.put_data.ensures.filed (image_of c.args.program.now) c.requires.filed in record {
-  filed = f.filed;
-  stores = f.stores;
-}
+drain-requires-clause-filed g c = let f = c.put_data.ensures.filed (image_of c.args.program.now)
+    c.requires.filed in record {
+      filed = f.filed;
+      stores = f.stores;
+    }

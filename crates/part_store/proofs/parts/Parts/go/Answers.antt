@@ -110,7 +110,8 @@ run-requires-clause-port g c = subst PortIn (sym c.op-op.ensures)
 
 pub run-requires-clause-room : goal.run-requires-clause-room
 run-requires-clause-room g c = let s = C.some_wait
-    (image_of c.args.program.now) c.args.self.now.order c.requires.ok.order c.args.place c.requires.goes.may in
+    (image_of c.args.program.now) c.args.self.now.order c.requires.ok.order c.args.place
+    c.requires.goes.may in
     omega (arith, s, c.requires.ok.printed)
 
 pub returns-in_err-word-clause-stays : goal.returns-in_err-word-clause-stays

@@ -15,7 +15,9 @@ add_bare-requires-clause-kept g c =
     (sym c.in_ok-keep.ensures.keeps.kept_are) (C.kept_now ks c.args.kept fresh)
 
 pub returns-in_err-reserve_bare-clause-filed : goal.returns-in_err-reserve_bare-clause-filed
-returns-in_err-reserve_bare-clause-filed g c = c.in_err-reserve_bare.ensures.filed (image_of c.args.program.now) c.requires.filed
+returns-in_err-reserve_bare-clause-filed g c = c.in_err-reserve_bare.ensures.filed
+    (image_of c.args.program.now) c.requires.filed
 
 pub keep-requires-clause-filed : goal.keep-requires-clause-filed
-keep-requires-clause-filed g c = c.in_ok-reserve_bare.ensures.filed (image_of c.args.program.now) c.requires.filed
+keep-requires-clause-filed g c = c.in_ok-reserve_bare.ensures.filed (image_of c.args.program.now)
+    c.requires.filed

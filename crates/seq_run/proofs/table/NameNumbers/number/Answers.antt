@@ -6,4 +6,7 @@ use Rattle.seq_run.proofs.table.NameNumbers.number.Goals as goal
 
 pub returns : goal.returns
 returns c = λ first names is. number_is c.args.self.now first names c.args.name.now.text c.unwrap_or.result is
-    (c.unwrap_or.ensures ∙ ap (λ (o : Option ℕ). unwrap_or o c.args.self.now.next) (c.copied.ensures ∙ c.get.ensures.value ∙ ap (λ (text : List ℕ). get_by (λ k. bytes_eq text k.now) c.args.self.now.numbers) c.as_slice-text.ensures))
+    (c.unwrap_or.ensures ∙ ap (λ (o : Option ℕ). unwrap_or o c.args.self.now.next)
+    (c.copied.ensures ∙ c.get.ensures.value
+    ∙ ap (λ (text : List ℕ). get_by (λ k. bytes_eq text k.now) c.args.self.now.numbers)
+    c.as_slice-text.ensures))

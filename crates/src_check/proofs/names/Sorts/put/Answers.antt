@@ -7,6 +7,8 @@ use Rattle.src_check.proofs.names.Sorts.put.Goals as goal
 pub returns-clause-ok : goal.returns-clause-ok
 unfolding found
 returns-clause-ok c = λ text.
-    subst (λ t. found (record { sorts = c.insert.new.self }) text ≡ (if pointwise nat_eq t text then Some (sort_of c.args.sort) else found c.args.self.now text))
+    subst (λ t. found (record { sorts = c.insert.new.self }) text ≡ (if pointwise nat_eq t text
+    then Some (sort_of c.args.sort) else found c.args.self.now text))
     (c.in_ok-text.ensures.items ∙ c.as_slice.ensures)
-    (found_after_put (λ k. k.items) sort_of c.args.self.now.sorts.entries c.insert.new.self.entries c.in_ok-text.text c.args.sort text c.in_ok-insert.ensures.updates.1 c.in_ok-insert.ensures.updates.3)
+    (found_after_put (λ k. k.items) sort_of c.args.self.now.sorts.entries c.insert.new.self.entries
+    c.in_ok-text.text c.args.sort text c.in_ok-insert.ensures.updates.1 c.in_ok-insert.ensures.updates.3)

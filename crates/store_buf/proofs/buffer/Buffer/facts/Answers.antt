@@ -6,11 +6,14 @@ use Rattle.store_buf.specs.Contents.{Content, FailedSo, Idle}
 use Rattle.store_buf.proofs.buffer.Buffer.facts.Goals as goal
 
 pub returns-clause-idle : goal.returns-clause-idle
-returns-clause-idle g c = subst (λ (x : Content). x.failed ≡ None → x.starved ≡ false → Idle g.J.Job.image x) c.self.view_is c.self.invariant.idle
+returns-clause-idle g c = subst (λ (x : Content). x.failed ≡ None → x.starved ≡ false → Idle g.J.Job.image x)
+    c.self.view_is c.self.invariant.idle
 
 pub returns-clause-once : goal.returns-clause-once
-returns-clause-once g c = subst (λ (x : Content). All (λ k. entry_of x.kept k.wave k.instr ≡ Some k) x.kept) c.self.view_is
-    (own c.self.inside.store.order.kept.items (place_in c.self.inside.store.order.index) c.self.invariant.ok.order.index)
+returns-clause-once g c = subst (λ (x : Content). All (λ k. entry_of x.kept k.wave k.instr ≡ Some k) x.kept)
+    c.self.view_is
+    (own c.self.inside.store.order.kept.items (place_in c.self.inside.store.order.index)
+    c.self.invariant.ok.order.index)
 
 pub returns-clause-failed : goal.returns-clause-failed
 returns-clause-failed g c =

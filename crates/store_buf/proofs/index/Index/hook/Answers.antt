@@ -13,44 +13,71 @@ loop-left-init c = record {
 
 pub returns-then-is_of : goal.returns-then-is_of
 returns-then-is_of c = let ns = c.args.self.now.nodes.items in
-    let e : c.index-node.result.now ≡ node_at ns c.loop-left.at = c.index-node.ensures ∙ or_any ns c.loop-left.at _ no_node c.loop-left.invariant.within in
-    (c.loop-left.invariant.within, subst (λ x. same_key x.wave x.instr c.args.wave c.args.instr ≡ true) e (sym c.is_of.ensures ∙ c.if-is_of.true), (c.loop-left.left, c.loop-left.key, c.loop-left.invariant.leads))
+    let e : c.index-node.result.now ≡ node_at ns c.loop-left.at = c.index-node.ensures
+    ∙ or_any ns c.loop-left.at _ no_node c.loop-left.invariant.within in (
+      c.loop-left.invariant.within,
+      subst (λ x. same_key x.wave x.instr c.args.wave c.args.instr ≡ true) e
+          (sym c.is_of.ensures ∙ c.if-is_of.true),
+      (c.loop-left.left, c.loop-left.key, c.loop-left.invariant.leads),
+    )
 
 pub returns-then-next-len : goal.returns-then-next-len
-returns-then-next-len c = let ns = c.args.self.now.nodes.items in let w = c.args.wave in let i = c.args.instr in
+returns-then-next-len c = let ns = c.args.self.now.nodes.items in let w = c.args.wave in
+    let i = c.args.instr in
     let root = root_of c.args.self.now.roots.items w in
-    let e : c.index-node.result.now ≡ node_at ns c.loop-left.at = c.index-node.ensures ∙ or_any ns c.loop-left.at _ no_node c.loop-left.invariant.within in
-    let b : c.child-next.result ≡ child_of (node_at ns c.loop-left.at) c.loop-left.key = c.child-next.ensures ∙ ap (λ x. child_of x c.loop-left.key) e in
-    let n : suc c.loop-left.left ≡ suc (suc (c.loop-left.left - 1)) = omega (arith, c.loop-left-test.true) in (
+    let e : c.index-node.result.now ≡ node_at ns c.loop-left.at = c.index-node.ensures
+    ∙ or_any ns c.loop-left.at _ no_node c.loop-left.invariant.within in
+    let b : c.child-next.result ≡ child_of (node_at ns c.loop-left.at) c.loop-left.key = c.child-next.ensures
+    ∙ ap (λ x. child_of x c.loop-left.key) e in
+    let n : suc c.loop-left.left ≡ suc (suc (c.loop-left.left - 1)) =
+    omega (arith, c.loop-left-test.true) in (
       c.loop-left.invariant.within,
       subst (λ x. same_key x.wave x.instr w i ≡ false) e (sym c.is_of.ensures ∙ c.if-is_of.false),
       omega (arith, b, c.if-next-len.true, c.len-in-loop-left.ensures),
-      (c.loop-left.left - 1, subst (λ x. LeadsTo ns root w i x c.loop-left.at c.loop-left.key) n c.loop-left.invariant.leads),
+      (
+        c.loop-left.left - 1,
+        subst (λ x. LeadsTo ns root w i x c.loop-left.at c.loop-left.key) n
+            c.loop-left.invariant.leads,
+      ),
     )
 
 pub loop-left-preserved : goal.loop-left-preserved
 loop-left-preserved c = let ns = c.args.self.now.nodes.items in let w = c.args.wave in let i = c.args.instr in
     let root = root_of c.args.self.now.roots.items w in
-    let e : c.index-node.result.now ≡ node_at ns c.loop-left.at = c.index-node.ensures ∙ or_any ns c.loop-left.at _ no_node c.loop-left.invariant.within in
-    let b : c.child-next.result ≡ child_of (node_at ns c.loop-left.at) c.loop-left.key = c.child-next.ensures ∙ ap (λ x. child_of x c.loop-left.key) e in
-    let other : same_key (node_at ns c.loop-left.at).wave (node_at ns c.loop-left.at).instr w i ≡ false = subst (λ x. same_key x.wave x.instr w i ≡ false) e (sym c.is_of.ensures ∙ c.if-is_of.false) in
+    let e : c.index-node.result.now ≡ node_at ns c.loop-left.at = c.index-node.ensures
+    ∙ or_any ns c.loop-left.at _ no_node c.loop-left.invariant.within in
+    let b : c.child-next.result ≡ child_of (node_at ns c.loop-left.at) c.loop-left.key = c.child-next.ensures
+    ∙ ap (λ x. child_of x c.loop-left.key) e in
+    let other : same_key (node_at ns c.loop-left.at).wave (node_at ns c.loop-left.at).instr w i ≡ false =
+    subst (λ x. same_key x.wave x.instr w i ≡ false) e (sym c.is_of.ensures ∙ c.if-is_of.false) in
     let n : c.loop-left.left ≡ suc (c.loop-left.left - 1) = omega (arith, c.loop-left-test.true) in
     record {
       within = omega (arith, c.if-next-len.false, c.len-in-loop-left.ensures);
-      leads = subst (λ x. LeadsTo ns root w i x c.child-next.result (c.loop-left.key / 2)) n (subst (λ x. LeadsTo ns root w i c.loop-left.left x (c.loop-left.key / 2)) (sym b)
-          (leads_on ns root w i c.loop-left.left c.loop-left.at c.loop-left.key c.loop-left.invariant.leads c.loop-left.invariant.within other (omega (arith, b, c.if-next-len.false, c.len-in-loop-left.ensures))));
+      leads = subst (λ x. LeadsTo ns root w i x c.child-next.result (c.loop-left.key / 2)) n
+          (subst (λ x. LeadsTo ns root w i c.loop-left.left x (c.loop-left.key / 2)) (sym b)
+          (leads_on ns root w i c.loop-left.left c.loop-left.at c.loop-left.key c.loop-left.invariant.leads
+          c.loop-left.invariant.within other
+          (omega (arith, b, c.if-next-len.false, c.len-in-loop-left.ensures))));
     }
 
 pub returns-then-is_of-2 : goal.returns-then-is_of-2
 returns-then-is_of-2 c = let ns = c.args.self.now.nodes.items in
-    let e : c.index.result.now ≡ node_at ns c.loop-left.at = c.index.ensures ∙ or_any ns c.loop-left.at _ no_node c.loop-left.invariant.within in
-    (c.loop-left.invariant.within, subst (λ x. same_key x.wave x.instr c.args.wave c.args.instr ≡ true) e (sym c.is_of-2.ensures ∙ c.if-is_of-2.true), (c.loop-left.left, c.loop-left.key, c.loop-left.invariant.leads))
+    let e : c.index.result.now ≡ node_at ns c.loop-left.at = c.index.ensures
+    ∙ or_any ns c.loop-left.at _ no_node c.loop-left.invariant.within in (
+      c.loop-left.invariant.within,
+      subst (λ x. same_key x.wave x.instr c.args.wave c.args.instr ≡ true) e
+          (sym c.is_of-2.ensures ∙ c.if-is_of-2.true),
+      (c.loop-left.left, c.loop-left.key, c.loop-left.invariant.leads),
+    )
 
 pub returns : goal.returns
 returns c = let ns = c.args.self.now.nodes.items in let w = c.args.wave in let i = c.args.instr in
     let root = root_of c.args.self.now.roots.items w in
-    let e : c.index.result.now ≡ node_at ns c.loop-left.at = c.index.ensures ∙ or_any ns c.loop-left.at _ no_node c.loop-left.invariant.within in
-    let other : same_key (node_at ns c.loop-left.at).wave (node_at ns c.loop-left.at).instr w i ≡ false = subst (λ x. same_key x.wave x.instr w i ≡ false) e (sym c.is_of-2.ensures ∙ c.if-is_of-2.false) in
+    let e : c.index.result.now ≡ node_at ns c.loop-left.at = c.index.ensures
+    ∙ or_any ns c.loop-left.at _ no_node c.loop-left.invariant.within in
+    let other : same_key (node_at ns c.loop-left.at).wave (node_at ns c.loop-left.at).instr w i ≡ false =
+    subst (λ x. same_key x.wave x.instr w i ≡ false) e (sym c.is_of-2.ensures ∙ c.if-is_of-2.false) in
     let n : suc c.loop-left.left ≡ 1 = omega (arith, c.loop-left-test.false) in
-    subst (λ x. LeadsTo ns root w i x c.loop-left.at c.loop-left.key) n c.loop-left.invariant.leads ns (grown_same ns)
+    subst (λ x. LeadsTo ns root w i x c.loop-left.at c.loop-left.key) n c.loop-left.invariant.leads ns
+    (grown_same ns)
     ∙ seek_on ns 0 c.loop-left.at c.loop-left.key w i c.loop-left.invariant.within (is_other _ _ w i other)

@@ -1,4 +1,5 @@
-use Rattle.std.proofs.Common.{ℕ, ◌<◌, Some, refl, cond, ◌≡◌, ◌+◌, vec_len, vec_capacity, ◌≤◌, ◌∙◌, true, false, [], ◌∷◌, length, ap, sym, subst, inl, inr, arith}
+use Rattle.std.proofs.Common.{ℕ, ◌<◌, Some, refl, cond, ◌≡◌, ◌+◌, vec_len, vec_capacity, ◌≤◌, ◌∙◌, true}
+use Rattle.std.proofs.Common.{false, [], ◌∷◌, length, ap, sym, subst, inl, inr, arith}
 use Rattle.std.proofs.lemmas.List.{append-nil}
 use Rattle.std.proofs.lemmas.Result.{err_from_is_err_and}
 use Rattle.ws_isa.specs.declared.instr.Op.{Op}
@@ -28,17 +29,20 @@ use Rattle.df_core.proofs.Few.{few_sent}
 use Rattle.ws_words.proofs.Results.{on_err}
 
 pub run-requires-clause-port : goal.run-requires-clause-port
-run-requires-clause-port g c = subst PortIn (sym c.op-op.ensures) (port_in (image_of c.args.program.now) c.request-kept.result.instr c.requires.formed)
+run-requires-clause-port g c = subst PortIn (sym c.op-op.ensures)
+    (port_in (image_of c.args.program.now) c.request-kept.result.instr c.requires.formed)
 
 pub run-requires-clause-room : goal.run-requires-clause-room
-run-requires-clause-room g c = let s = C.some_wait (image_of c.args.program.now) c.args.self.now.order c.requires.ok.order c.args.place c.requires.may in omega (arith, s, c.requires.ok.printed)
+run-requires-clause-room g c = let s = C.some_wait (image_of c.args.program.now) c.args.self.now.order
+    c.requires.ok.order c.args.place c.requires.may in omega (arith, s, c.requires.ok.printed)
 
 pub returns-in_err-word-clause-ok : goal.returns-in_err-word-clause-ok
 returns-in_err-word-clause-ok g c = record {
   order = c.requires.ok.order;
   filed = c.requires.ok.filed;
   early = c.requires.ok.early;
-  printed = subst (λ v. vec_len v + c.args.self.now.order.waiting ≤ vec_capacity v) (sym c.in_err-word.ensures.unprinted) c.requires.ok.printed;
+  printed = subst (λ v. vec_len v + c.args.self.now.order.waiting ≤ vec_capacity v)
+      (sym c.in_err-word.ensures.unprinted) c.requires.ok.printed;
 }
 
 pub returns-then-is_past-clause-leads : goal.returns-then-is_past-clause-leads
@@ -51,19 +55,27 @@ returns-then-is_past-clause-leads g c = (
       let p = c.args.place in
       let k = c.request-kept.ensures in
       let array_is : c.array_of.result ≡ array_of_op (instr_at image (kept_at o c.args.place).instr).op =
-      c.array_of.ensures ∙ ap array_of_op c.op-op.ensures ∙ ap (λ x. array_of_op (instr_at image x.instr).op) k in
-      let past : is_past_op image.arrays (instr_at image (kept_at o c.args.place).instr).op ((kept_at o c.args.place).first ∷ []) ≡ true =
+      c.array_of.ensures ∙ ap array_of_op c.op-op.ensures ∙ ap (λ x. array_of_op (instr_at image x.instr).op)
+      k in
+      let past : is_past_op image.arrays (instr_at image (kept_at o c.args.place).instr).op
+      ((kept_at o c.args.place).first ∷ []) ≡ true =
       subst (λ x. is_past_op image.arrays (instr_at image x.instr).op (x.first ∷ []) ≡ true) k
-      (subst (λ op. is_past_op image.arrays op (c.request-kept.result.first ∷ []) ≡ true) c.op-op.ensures (sym c.is_past.ensures ∙ c.if-is_past.true)) in
-      let hold : Holds image world began o false (holding c.args.self.now.outer) m = subst (λ f. Holds image world began o (has f) (holding c.args.self.now.outer) m) c.requires.going stands in
-      let r = S.stops image world formed sound began o (holding c.args.self.now.outer) m hold c.requires.ok.order p c.requires.may.within c.requires.may.ready past in
+      (subst (λ op. is_past_op image.arrays op (c.request-kept.result.first ∷ []) ≡ true) c.op-op.ensures
+      (sym c.is_past.ensures ∙ c.if-is_past.true)) in
+      let hold : Holds image world began o false (holding c.args.self.now.outer) m =
+      subst (λ f. Holds image world began o (has f) (holding c.args.self.now.outer) m) c.requires.going
+      stands in
+      let r = S.stops image world formed sound began o (holding c.args.self.now.outer) m hold
+      c.requires.ok.order p c.requires.may.within c.requires.may.ready past in
       record {
         wave = (kept_at o c.args.place).wave;
         instr = (kept_at o c.args.place).instr;
         memory = m;
         event = inr (rw c.requires.going r.0, refl);
         right = λ w i p v e. absurd e;
-        fault = subst (λ a. FaultIs image world (Some a)) (sym array_is) (S.fault_is image world formed sound began o (holding c.args.self.now.outer) m hold c.requires.ok.order p c.requires.may.within c.requires.may.ready past);
+        fault = subst (λ a. FaultIs image world (Some a)) (sym array_is)
+            (S.fault_is image world formed sound began o (holding c.args.self.now.outer) m hold
+            c.requires.ok.order p c.requires.may.within c.requires.may.ready past);
         stands = r.1;
       },
 )
@@ -84,66 +96,113 @@ returns-clause-leads g c = (
       let image = image_of c.args.program.now in
       let p = c.args.place in
       let k = c.request-kept.ensures in
-      let within : is_past_op image.arrays (instr_at image (kept_at o c.args.place).instr).op ((kept_at o c.args.place).first ∷ []) ≡ false =
+      let within : is_past_op image.arrays (instr_at image (kept_at o c.args.place).instr).op
+      ((kept_at o c.args.place).first ∷ []) ≡ false =
       subst (λ x. is_past_op image.arrays (instr_at image x.instr).op (x.first ∷ []) ≡ false) k
-      (subst (λ op. is_past_op image.arrays op (c.request-kept.result.first ∷ []) ≡ false) c.op-op.ensures (sym c.is_past.ensures ∙ c.if-is_past.false)) in
-      let answers : Performed began (instr_at image (kept_at o c.args.place).instr).op ((kept_at o c.args.place).first ∷ (kept_at o c.args.place).second ∷ 0 ∷ []) m c.in_ok-word.word (holding c.run.new.self) =
-      subst (λ x. Performed began (instr_at image x.instr).op (x.first ∷ x.second ∷ 0 ∷ []) m c.in_ok-word.word (holding c.run.new.self)) k
-      (subst (λ op. Performed began op (c.request-kept.result.first ∷ c.request-kept.result.second ∷ 0 ∷ []) m c.in_ok-word.word (holding c.run.new.self)) c.op-op.ensures (c.in_ok-word.ensures.answer began m 0 stands.outside)) in
-      let hold : Holds image world began o false (holding c.args.self.now.outer) m = subst (λ f. Holds image world began o (has f) (holding c.args.self.now.outer) m) c.requires.going stands in
-      let r = S.issues image world formed sound began o (holding c.args.self.now.outer) m hold c.requires.ok.order p c.requires.may.within c.requires.may.ready within c.in_ok-word.word c.issue.new.self (holding c.run.new.self) answers c.issue.ensures.kept c.issue.ensures.passed in
-      let xs = operands_of (ports image (kept_at o c.args.place).instr) (kept_at o c.args.place).first (kept_at o c.args.place).second in
+      (subst (λ op. is_past_op image.arrays op (c.request-kept.result.first ∷ []) ≡ false) c.op-op.ensures
+      (sym c.is_past.ensures ∙ c.if-is_past.false)) in
+      let answers : Performed began (instr_at image (kept_at o c.args.place).instr).op
+      ((kept_at o c.args.place).first ∷ (kept_at o c.args.place).second ∷ 0 ∷ []) m c.in_ok-word.word
+      (holding c.run.new.self) =
+      subst (λ x. Performed began (instr_at image x.instr).op (x.first ∷ x.second ∷ 0 ∷ []) m
+      c.in_ok-word.word (holding c.run.new.self)) k
+      (subst (λ op. Performed began op (c.request-kept.result.first ∷ c.request-kept.result.second ∷ 0 ∷ []) m
+      c.in_ok-word.word (holding c.run.new.self)) c.op-op.ensures
+      (c.in_ok-word.ensures.answer began m 0 stands.outside)) in
+      let hold : Holds image world began o false (holding c.args.self.now.outer) m =
+      subst (λ f. Holds image world began o (has f) (holding c.args.self.now.outer) m) c.requires.going
+      stands in
+      let r = S.issues image world formed sound began o (holding c.args.self.now.outer) m hold
+      c.requires.ok.order p c.requires.may.within c.requires.may.ready within c.in_ok-word.word
+      c.issue.new.self (holding c.run.new.self) answers c.issue.ensures.kept c.issue.ensures.passed in
+      let xs = operands_of (ports image (kept_at o c.args.place).instr) (kept_at o c.args.place).first
+      (kept_at o c.args.place).second in
       let word = c.in_ok-word.word in
-      let told : tokens_to c.request-kept.result.wave word c.destinations.result.now ≡ sends image (kept_at o c.args.place).wave (kept_at o c.args.place).instr xs (answer image (kept_at o c.args.place).instr xs m) =
+      let told : tokens_to c.request-kept.result.wave word c.destinations.result.now ≡ sends image
+      (kept_at o c.args.place).wave (kept_at o c.args.place).instr xs
+      (answer image (kept_at o c.args.place).instr xs m) =
       ap (tokens_to c.request-kept.result.wave word) c.destinations.ensures
       ∙ ap (λ x. tokens_to x.wave word (destinations image x.instr 0)) k
-      ∙ S.tokens_are image world formed sound began o (holding c.args.self.now.outer) m hold c.requires.ok.order p c.requires.may.within c.requires.may.ready within word c.issue.new.self (holding c.run.new.self) answers c.issue.ensures.kept c.issue.ensures.passed in
+      ∙ S.tokens_are image world formed sound began o (holding c.args.self.now.outer) m hold
+      c.requires.ok.order p c.requires.may.within c.requires.may.ready within word c.issue.new.self
+      (holding c.run.new.self) answers c.issue.ensures.kept c.issue.ensures.passed in
       let e : false ≡ has c.args.self.now.fault = ap has (sym c.requires.going) in
       record {
         wave = (kept_at o c.args.place).wave;
         instr = (kept_at o c.args.place).instr;
         memory = effect_after image (kept_at o c.args.place).instr xs m;
-        event = inl (subst (λ ts. Issued image (part image o.kept.items (chain_of o.chain) (has c.args.self.now.fault) m) (kept_at o c.args.place).wave (kept_at o c.args.place).instr ts
-            (part image c.issue.new.self.kept.items (chain_of c.issue.new.self.chain) (has c.args.self.now.fault) (effect_after image (kept_at o c.args.place).instr xs m))) (sym told)
-            (subst (λ f. Issued image (part image o.kept.items (chain_of o.chain) f m) (kept_at o c.args.place).wave (kept_at o c.args.place).instr
-            (sends image (kept_at o c.args.place).wave (kept_at o c.args.place).instr xs (answer image (kept_at o c.args.place).instr xs m))
-            (part image c.issue.new.self.kept.items (chain_of c.issue.new.self.chain) f (effect_after image (kept_at o c.args.place).instr xs m))) e r.0));
-        right = subst (RightTokens image world) (sym told) (S.sent_right image world formed sound began o (holding c.args.self.now.outer) m hold c.requires.ok.order p c.requires.may.within c.requires.may.ready);
+        event = inl
+            (subst (λ ts. Issued image (part image o.kept.items (chain_of o.chain) (has c.args.self.now.fault)
+            m) (kept_at o c.args.place).wave (kept_at o c.args.place).instr ts
+            (part image c.issue.new.self.kept.items (chain_of c.issue.new.self.chain)
+            (has c.args.self.now.fault) (effect_after image (kept_at o c.args.place).instr xs m)))
+            (sym told)
+            (subst (λ f. Issued image (part image o.kept.items (chain_of o.chain) f m)
+            (kept_at o c.args.place).wave (kept_at o c.args.place).instr
+            (sends image (kept_at o c.args.place).wave (kept_at o c.args.place).instr xs
+            (answer image (kept_at o c.args.place).instr xs m))
+            (part image c.issue.new.self.kept.items (chain_of c.issue.new.self.chain) f
+            (effect_after image (kept_at o c.args.place).instr xs m))) e r.0));
+        right = subst (RightTokens image world) (sym told) (S.sent_right image world formed sound began o
+            (holding c.args.self.now.outer) m hold c.requires.ok.order p c.requires.may.within
+            c.requires.may.ready);
         fault = subst (FaultIs image world) (sym c.requires.going) tt;
-        stands = subst (λ f. Holds image world began c.issue.new.self f (holding c.run.new.self) (effect_after image (kept_at o c.args.place).instr xs m)) e r.1;
+        stands = subst (λ f. Holds image world began c.issue.new.self f (holding c.run.new.self)
+            (effect_after image (kept_at o c.args.place).instr xs m)) e r.1;
       },
 )
 
 pub tell-requires : goal.tell-requires
-tell-requires g c = let f = few_sent (image_of c.args.program.now) c.requires.formed c.destinations.result.now c.request-kept.result.instr c.destinations.ensures in
-    let s = C.some_wait (image_of c.args.program.now) c.args.self.now.order c.requires.ok.order c.args.place c.requires.may in
+tell-requires g c = let f = few_sent (image_of c.args.program.now) c.requires.formed c.destinations.result.now
+    c.request-kept.result.instr c.destinations.ensures in
+    let s = C.some_wait (image_of c.args.program.now) c.args.self.now.order c.requires.ok.order c.args.place
+    c.requires.may in
     let r = c.requires.room in omega (arith, f, s, r)
 
 pub returns-clause-room : goal.returns-clause-room
-returns-clause-room g c = let f = few_sent (image_of c.args.program.now) c.requires.formed c.destinations.result.now c.request-kept.result.instr c.destinations.ensures in
+returns-clause-room g c = let f = few_sent (image_of c.args.program.now) c.requires.formed
+    c.destinations.result.now c.request-kept.result.instr c.destinations.ensures in
     let l = c.issue.ensures.fewer in let n = c.tell.ensures.count in let q = c.tell.ensures.room in
     let r = c.requires.room in omega (arith, f, l, n, q, r)
 
-silent_so : (image : Image) {P : Type 0} (old new : Store P) (op : Op) (k : Kept) (why : Silent) → OrderOk old.order → (q : ℕ) → q < length old.order.kept.items → ready_flag image old.order (kept_at old.order q) ≡ true → k ≡ kept_at old.order q → op ≡ (instr_at image k.instr).op →
+silent_so : (image : Image) {P : Type 0} (old new : Store P) (op : Op) (k : Kept) (why : Silent)
+    → OrderOk old.order → (q : ℕ) → q < length old.order.kept.items
+    → ready_flag image old.order (kept_at old.order q) ≡ true → k ≡ kept_at old.order q
+    → op ≡ (instr_at image k.instr).op →
     new.order ≡ old.order → SilentAt op old.outer.ports new.outer.ports why → SilentSo image old new why
 silent_so image old new op k (Failed p) ok q l ready is at same s = (
-  subst (λ o. PortWaits image o.kept.items (chain_of o.chain) p) (sym same) (port_waits image old.order ok q l ready p (ap (λ x. port_of (instr_at image x.instr).op) (sym is) ∙ ap port_of (sym at) ∙ s.0)),
+  subst (λ o. PortWaits image o.kept.items (chain_of o.chain) p) (sym same)
+      (port_waits image old.order ok q l ready p (ap (λ x. port_of (instr_at image x.instr).op) (sym is)
+      ∙ ap port_of (sym at) ∙ s.0)),
   s.1,
 )
 silent_so image old new op k (NoMemory p) ok q l ready is at same s =
-    subst (λ o. PortWaits image o.kept.items (chain_of o.chain) p) (sym same) (port_waits image old.order ok q l ready p (ap (λ x. port_of (instr_at image x.instr).op) (sym is) ∙ ap port_of (sym at) ∙ s))
+    subst (λ o. PortWaits image o.kept.items (chain_of o.chain) p) (sym same)
+    (port_waits image old.order ok q l ready p (ap (λ x. port_of (instr_at image x.instr).op) (sym is)
+    ∙ ap port_of (sym at) ∙ s))
 
 less : (a b n : ℕ) → a < b → a + n < b + n
 less a b n l = omega arith
 
 pub returns-then-is_past-clause-fewer : goal.returns-then-is_past-clause-fewer
-returns-then-is_past-clause-fewer g c = subst (λ f. c.args.self.now.order.waiting + 0 < c.args.self.now.order.waiting + cond (has f) 0 1) (sym c.requires.going) (omega arith)
+returns-then-is_past-clause-fewer g c =
+    subst (λ f. c.args.self.now.order.waiting + 0 < c.args.self.now.order.waiting + cond (has f) 0 1)
+    (sym c.requires.going) (omega arith)
 
 pub returns-clause-fewer : goal.returns-clause-fewer
-returns-clause-fewer g c = less c.issue.new.self.waiting c.args.self.now.order.waiting (cond (has c.args.self.now.fault) 0 1) c.issue.ensures.fewer
+returns-clause-fewer g c = less c.issue.new.self.waiting c.args.self.now.order.waiting
+    (cond (has c.args.self.now.fault) 0 1) c.issue.ensures.fewer
 
 pub returns-in_err-word-clause-silent : goal.returns-in_err-word-clause-silent
 returns-in_err-word-clause-silent g c = let o = c.args.self.now.order in
-    let new : Store g.row.P.Denot = record { order = o; outer = c.run.new.self; fault = c.args.self.now.fault; failed = c.args.self.now.failed; starved = c.args.self.now.starved } in
+    let new : Store g.row.P.Denot = record {
+      order = o;
+      outer = c.run.new.self;
+      fault = c.args.self.now.fault;
+      failed = c.args.self.now.failed;
+      starved = c.args.self.now.starved;
+    } in
     let e = err_from_is_err_and c.from_residual.result c.from_residual.ensures.1 in
-    rw (e.1, e.2) (silent_so (image_of c.args.program.now) c.args.self.now new c.op-op.result c.request-kept.result _ c.requires.ok.order c.args.place c.requires.may.within c.requires.may.ready c.request-kept.ensures c.op-op.ensures refl c.in_err-word.ensures.silent)
+    rw (e.1, e.2) (silent_so (image_of c.args.program.now) c.args.self.now new c.op-op.result
+    c.request-kept.result _ c.requires.ok.order c.args.place c.requires.may.within c.requires.may.ready
+    c.request-kept.ensures c.op-op.ensures refl c.in_err-word.ensures.silent)

@@ -22,12 +22,20 @@ loop-next-init g c = record {
 
 pub loop-next-preserved : goal.loop-next-preserved
 loop-next-preserved g c =
-    let sought = T.sought (image_of c.args.program.now) c.args.self.now c.loop-next.self c.this_or_issuable.new.self.near (tokens_of c.args.told.now.items) (tokens_of c.loop-next.told.items) c.loop-next.invariant.lead in
-    let found = subst (λ (o : Order). AllLead (image_of c.args.program.now) c.args.self.now (record c.loop-next.self { order = o }) (tokens_of c.args.told.now.items) (tokens_of c.loop-next.told.items)) (sym c.this_or_issuable.ensures.same) sought in
+    let sought = T.sought (image_of c.args.program.now) c.args.self.now c.loop-next.self
+    c.this_or_issuable.new.self.near (tokens_of c.args.told.now.items) (tokens_of c.loop-next.told.items)
+    c.loop-next.invariant.lead in
+    let found = subst (λ (o : Order). AllLead (image_of c.args.program.now) c.args.self.now
+    (record c.loop-next.self { order = o }) (tokens_of c.args.told.now.items)
+    (tokens_of c.loop-next.told.items)) (sym c.this_or_issuable.ensures.same) sought in
     record {
       ok = c.issue.ensures.ok;
-      lead = T.one_more (image_of c.args.program.now) c.args.self.now (record c.loop-next.self { order = c.this_or_issuable.new.self }) c.issue.new.self (tokens_of c.args.told.now.items) (tokens_of c.loop-next.told.items) (tokens_of c.issue.new.told.items) found c.in_ok-issue-in-Some.ensures.leads;
-      grow = λ slot. (let a = c.loop-next.invariant.grow slot in let b = c.issue.ensures.counted slot in omega (arith, a, b));
+      lead = T.one_more (image_of c.args.program.now) c.args.self.now
+          (record c.loop-next.self { order = c.this_or_issuable.new.self }) c.issue.new.self
+          (tokens_of c.args.told.now.items) (tokens_of c.loop-next.told.items)
+          (tokens_of c.issue.new.told.items) found c.in_ok-issue-in-Some.ensures.leads;
+      grow = λ slot. (let a = c.loop-next.invariant.grow slot in let b = c.issue.ensures.counted slot in
+          omega (arith, a, b));
       failed = c.issue.ensures.failed ∙ c.loop-next.invariant.failed;
       starved = c.issue.ensures.starved ∙ c.loop-next.invariant.starved;
       room = c.issue.ensures.room;
@@ -37,18 +45,34 @@ loop-next-preserved g c =
 
 pub returns-in_err-issue-in-Some-clause-lead : goal.returns-in_err-issue-in-Some-clause-lead
 returns-in_err-issue-in-Some-clause-lead g c =
-    let sought = T.sought (image_of c.args.program.now) c.args.self.now c.loop-next.self c.this_or_issuable.new.self.near (tokens_of c.args.told.now.items) (tokens_of c.loop-next.told.items) c.loop-next.invariant.lead in
-    let found = subst (λ (o : Order). AllLead (image_of c.args.program.now) c.args.self.now (record c.loop-next.self { order = o }) (tokens_of c.args.told.now.items) (tokens_of c.loop-next.told.items)) (sym c.this_or_issuable.ensures.same) sought in
-    subst (λ ts. AllLead (image_of c.args.program.now) c.args.self.now c.issue.new.self (tokens_of c.args.told.now.items) ts) (sym (ap tokens_of c.in_err-issue-in-Some.ensures.untold))
-    (T.still (image_of c.args.program.now) c.args.self.now (record c.loop-next.self { order = c.this_or_issuable.new.self }) c.issue.new.self (tokens_of c.args.told.now.items) (tokens_of c.loop-next.told.items) found c.in_err-issue-in-Some.ensures.stays c.in_err-issue-in-Some.ensures.order c.in_err-issue-in-Some.ensures.fault)
+    let sought = T.sought (image_of c.args.program.now) c.args.self.now c.loop-next.self
+    c.this_or_issuable.new.self.near (tokens_of c.args.told.now.items) (tokens_of c.loop-next.told.items)
+    c.loop-next.invariant.lead in
+    let found = subst (λ (o : Order). AllLead (image_of c.args.program.now) c.args.self.now
+    (record c.loop-next.self { order = o }) (tokens_of c.args.told.now.items)
+    (tokens_of c.loop-next.told.items)) (sym c.this_or_issuable.ensures.same) sought in
+    subst (λ ts. AllLead (image_of c.args.program.now) c.args.self.now c.issue.new.self
+    (tokens_of c.args.told.now.items) ts) (sym (ap tokens_of c.in_err-issue-in-Some.ensures.untold))
+    (T.still (image_of c.args.program.now) c.args.self.now
+    (record c.loop-next.self { order = c.this_or_issuable.new.self }) c.issue.new.self
+    (tokens_of c.args.told.now.items) (tokens_of c.loop-next.told.items) found
+    c.in_err-issue-in-Some.ensures.stays c.in_err-issue-in-Some.ensures.order
+    c.in_err-issue-in-Some.ensures.fault)
 
 pub returns-in-None-clause-lead : goal.returns-in-None-clause-lead
 returns-in-None-clause-lead g c =
-    let sought = T.sought (image_of c.args.program.now) c.args.self.now c.loop-next.self c.this_or_issuable.new.self.near (tokens_of c.args.told.now.items) (tokens_of c.loop-next.told.items) c.loop-next.invariant.lead in
-    subst (λ (o : Order). AllLead (image_of c.args.program.now) c.args.self.now (record c.loop-next.self { order = o }) (tokens_of c.args.told.now.items) (tokens_of c.loop-next.told.items)) (sym c.this_or_issuable.ensures.same) sought
+    let sought = T.sought (image_of c.args.program.now) c.args.self.now c.loop-next.self
+    c.this_or_issuable.new.self.near (tokens_of c.args.told.now.items) (tokens_of c.loop-next.told.items)
+    c.loop-next.invariant.lead in
+    subst (λ (o : Order). AllLead (image_of c.args.program.now) c.args.self.now
+    (record c.loop-next.self { order = o }) (tokens_of c.args.told.now.items)
+    (tokens_of c.loop-next.told.items)) (sym c.this_or_issuable.ensures.same) sought
 
 pub returns-in-None-clause-none : goal.returns-in-None-clause-none
 returns-in-None-clause-none g c =
     let o = c.loop-next.invariant.ok.order in
-    let ok : OrderOk c.this_or_issuable.new.self = subst OrderOk (sym c.this_or_issuable.ensures.same) (record { index = o.index; count = o.count; waves = o.waves }) in
-    inr (M.none_so (image_of c.args.program.now) (record c.loop-next.self { order = c.this_or_issuable.new.self }) ok c.loop-next-test.ensures c.in-None.ensures.may)
+    let ok : OrderOk c.this_or_issuable.new.self = subst OrderOk (sym c.this_or_issuable.ensures.same)
+    (record { index = o.index; count = o.count; waves = o.waves }) in
+    inr (M.none_so (image_of c.args.program.now)
+    (record c.loop-next.self { order = c.this_or_issuable.new.self }) ok c.loop-next-test.ensures
+    c.in-None.ensures.may)

@@ -10,7 +10,8 @@ use Rattle.store_buf.proofs.store.Store.issue_all.Given as goal
 abbrev pub invariant-loop-next : goal.invariant-loop-next
 invariant-loop-next g l = record {
   ok : StoreOk (image_of l.program) l.self;
-  lead : AllLead (image_of l.program) l.initial.self l.self (tokens_of l.initial.told.items) (tokens_of l.told.items);
+  lead : AllLead (image_of l.program) l.initial.self l.self (tokens_of l.initial.told.items)
+      (tokens_of l.told.items);
   grow : FaultsGrow l.initial.self.outer.ports l.self.outer.ports;
   failed : l.self.failed ≡ l.initial.self.failed;
   starved : l.self.starved ≡ l.initial.self.starved;

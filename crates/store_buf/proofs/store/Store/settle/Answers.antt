@@ -8,19 +8,27 @@ use Rattle.store_buf.proofs.store.Store.settle.Goals as goal
 
 pub returns-in-Some-clause-lead : goal.returns-in-Some-clause-lead
 returns-in-Some-clause-lead g c = let old = c.args.self.now in let new = c.issue_all.new.self in
-    T.in_mind (image_of c.args.program.now) (record old { starved = false }) new old.failed new.failed old.starved new.starved (tokens_of c.args.told.now.items) (tokens_of c.issue_all.new.told.items) c.issue_all.ensures.lead
+    T.in_mind (image_of c.args.program.now) (record old { starved = false }) new old.failed new.failed
+    old.starved new.starved (tokens_of c.args.told.now.items) (tokens_of c.issue_all.new.told.items)
+    c.issue_all.ensures.lead
 
 pub returns-in-None-clause-lead : goal.returns-in-None-clause-lead
 returns-in-None-clause-lead g c = let old = c.args.self.now in let new = c.issue_all.new.self in
-    T.in_mind (image_of c.args.program.now) (record old { starved = false }) new old.failed new.failed old.starved new.starved (tokens_of c.args.told.now.items) (tokens_of c.issue_all.new.told.items) c.issue_all.ensures.lead
+    T.in_mind (image_of c.args.program.now) (record old { starved = false }) new old.failed new.failed
+    old.starved new.starved (tokens_of c.args.told.now.items) (tokens_of c.issue_all.new.told.items)
+    c.issue_all.ensures.lead
 
 pub returns-in-Err-Failed-clause-lead : goal.returns-in-Err-Failed-clause-lead
 returns-in-Err-Failed-clause-lead g c = let old = c.args.self.now in let new = c.issue_all.new.self in
-    T.in_mind (image_of c.args.program.now) (record old { starved = false }) new old.failed (Some c.in-Err-Failed.port) old.starved new.starved (tokens_of c.args.told.now.items) (tokens_of c.issue_all.new.told.items) c.issue_all.ensures.lead
+    T.in_mind (image_of c.args.program.now) (record old { starved = false }) new old.failed
+    (Some c.in-Err-Failed.port) old.starved new.starved (tokens_of c.args.told.now.items)
+    (tokens_of c.issue_all.new.told.items) c.issue_all.ensures.lead
 
 pub returns-in-Err-NoMemory-clause-lead : goal.returns-in-Err-NoMemory-clause-lead
 returns-in-Err-NoMemory-clause-lead g c = let old = c.args.self.now in let new = c.issue_all.new.self in
-    T.in_mind (image_of c.args.program.now) (record old { starved = false }) new old.failed new.failed old.starved true (tokens_of c.args.told.now.items) (tokens_of c.issue_all.new.told.items) c.issue_all.ensures.lead
+    T.in_mind (image_of c.args.program.now) (record old { starved = false }) new old.failed new.failed
+    old.starved true (tokens_of c.args.told.now.items) (tokens_of c.issue_all.new.told.items)
+    c.issue_all.ensures.lead
 
 pub returns-in-None-clause-settled : goal.returns-in-None-clause-settled
 returns-in-None-clause-settled g c = (

@@ -7,4 +7,5 @@ use Rattle.store_buf.proofs.store.Store.submit.Goals as goal
 
 pub returns-else-lets-clause-leads : goal.returns-else-lets-clause-leads
 returns-else-lets-clause-leads g c = let image = image_of c.args.program.now in
-    subst (λ (ts : List Token). SubmitLeads image c.args.self.now c.args.kept ts c.put_by.result c.put_by.new.self) (sym (ap tokens_of c.requires.told)) c.put_by.ensures.leads
+    subst (λ (ts : List Token). SubmitLeads image c.args.self.now c.args.kept ts c.put_by.result
+    c.put_by.new.self) (sym (ap tokens_of c.requires.told)) c.put_by.ensures.leads

@@ -6,7 +6,9 @@ use Rattle.wave_gen.proofs.body.Body.ops.Given as goal
 
 abbrev pub invariant-loop-op : goal.invariant-loop-op
 invariant-loop-op l = record {
-  items : map plans.item l.self.items.items ++ (gen_ops l.self.next (map view.op (drop l.op-index l.ops))).items
+  items : map plans.item l.self.items.items
+      ++ (gen_ops l.self.next (map view.op (drop l.op-index l.ops))).items
       ≡ map plans.item l.initial.self.items.items ++ (gen_ops l.initial.self.next (map view.op l.ops)).items;
-  next : (gen_ops l.self.next (map view.op (drop l.op-index l.ops))).next ≡ (gen_ops l.initial.self.next (map view.op l.ops)).next;
+  next : (gen_ops l.self.next (map view.op (drop l.op-index l.ops))).next
+      ≡ (gen_ops l.initial.self.next (map view.op l.ops)).next;
 }

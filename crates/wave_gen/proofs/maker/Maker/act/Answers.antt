@@ -12,5 +12,7 @@ returns c =
     let from = c.args.from.now in
     let l : Line = record { op = c.args.op; dests = c.new-dests.result; others = c.new-others.result } in
     on_ok_weaker c.rest.result (λ e b s st.
-    subst (λ (k : plain.WiredInstr). HasMade b c.rest.new.self (rest b k from (with_rooms b (length from) from s))) (bare_line l c.new-dests.ensures.items c.new-others.ensures.items)
+    subst (λ (k : plain.WiredInstr). HasMade b c.rest.new.self
+    (rest b k from (with_rooms b (length from) from s)))
+    (bare_line l c.new-dests.ensures.items c.new-others.ensures.items)
     (e b (with_rooms b (length from) from s) (c.in_ok-make_rooms.ensures b s st))) c.rest.ensures

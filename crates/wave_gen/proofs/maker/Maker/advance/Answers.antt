@@ -9,11 +9,13 @@ loop-left-preserved c = (
   omega arith,
   λ b s st.
       let xs = c.args.entries.now in let k = c.loop-left.left in
-      subst (λ (ys : List ℕ). HasMade b c.emit.new.self (advances b ys s)) (sym (back_number xs k (omega arith) c.loop-left.invariant.0))
+      subst (λ (ys : List ℕ). HasMade b c.emit.new.self (advances b ys s))
+      (sym (back_number xs k (omega arith) c.loop-left.invariant.0))
       (c.in_ok-emit.ensures b (advances b (drop k xs) s) (c.loop-left.invariant.1 b s st)),
 )
 
 pub returns : goal.returns
 returns c b s st =
     let none : c.loop-left.left ≡ 0 = omega arith in
-    subst (λ n. HasMade b c.loop-left.self (advances b (drop n c.args.entries.now) s)) none (c.loop-left.invariant.1 b s st)
+    subst (λ n. HasMade b c.loop-left.self (advances b (drop n c.args.entries.now) s)) none
+    (c.loop-left.invariant.1 b s st)

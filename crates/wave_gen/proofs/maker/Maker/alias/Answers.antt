@@ -12,9 +12,12 @@ pub returns : goal.returns
 returns c =
     let m = c.args.self.now in let k = c.if-is_full.self in
     let x = c.args.name in let y = c.args.other in
-    on_ok_weaker c.copy.result (λ e b s st. alias_stands b x y m k c.copy.new.self s c.is_full.result c.list.result.now c.list.ensures c.is_full.ensures
+    on_ok_weaker c.copy.result (λ e b s st. alias_stands b x y m k c.copy.new.self s c.is_full.result
+    c.list.result.now c.list.ensures c.is_full.ensures
     (elim c.if-is_full.branch [
-      | then-is_full+in_ok-gather+in_ok-gather-2 w ↦ λ t. subst (λ (z : Maker). HasMade b z (gather b y (gather b x s))) (sym w.self-is) (w.in_ok-gather-2.ensures b (gather b x s) (w.in_ok-gather.ensures b s st))
+      | then-is_full+in_ok-gather+in_ok-gather-2 w ↦
+          λ t. subst (λ (z : Maker). HasMade b z (gather b y (gather b x s))) (sym w.self-is)
+          (w.in_ok-gather-2.ensures b (gather b x s) (w.in_ok-gather.ensures b s st))
       | else-is_full w ↦ λ t. absurd (false≢true (sym w.if-is_full.false ∙ t))
     ])
     (elim c.if-is_full.branch [

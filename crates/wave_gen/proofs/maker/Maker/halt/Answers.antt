@@ -11,4 +11,5 @@ use Rattle.wave_gen.proofs.maker.Maker.halt.Goals as goal
 pub returns-clause-made : goal.returns-clause-made
 returns-clause-made c b s st =
     let l : Line = record { op = Halt; dests = c.new.result; others = c.new-2.result } in
-    subst (λ (k : plain.WiredInstr). HasMade b c.rest.new.self (rest b k (pulse ∷ []) s)) (bare_line l c.new.ensures.items c.new-2.ensures.items) (c.in_ok-rest.ensures b s st)
+    subst (λ (k : plain.WiredInstr). HasMade b c.rest.new.self (rest b k (pulse ∷ []) s))
+    (bare_line l c.new.ensures.items c.new-2.ensures.items) (c.in_ok-rest.ensures b s st)

@@ -8,4 +8,6 @@ pub returns : goal.returns
 returns c =
     let m = c.args.self.now in
     let n : Maker = record { block = m.block; code = c.push.new.self; wants = c.add_uses.new.self } in
-    on_ok_weaker c.add_uses.result (λ e b s st. rest_stands b m n s c.args.line c.len-back.result c.args.from.now refl c.in_ok-push.ensures.items (c.len-back.ensures ∙ m.code.ok.0) e st) c.add_uses.ensures
+    on_ok_weaker c.add_uses.result (λ e b s st. rest_stands b m n s c.args.line c.len-back.result
+    c.args.from.now refl c.in_ok-push.ensures.items (c.len-back.ensures ∙ m.code.ok.0) e st)
+    c.add_uses.ensures

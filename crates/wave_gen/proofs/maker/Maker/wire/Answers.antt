@@ -11,11 +11,15 @@ loop-left-preserved c = (
   omega arith,
   λ b s st.
       let items = c.args.items.now in let k = c.loop-left.left in
-      subst (λ (is : List Item). HasMade b c.wire_item.new.self (wire b (map view.item is) s)) (sym (back_one items k c.index-items-left.result (omega arith) c.loop-left.invariant.0 c.index-items-left.is))
-      (c.in_ok-wire_item.ensures b (wire b (map view.item (drop k items)) s) (c.loop-left.invariant.1 b s st)),
+      subst (λ (is : List Item). HasMade b c.wire_item.new.self (wire b (map view.item is) s))
+      (sym (back_one items k c.index-items-left.result (omega arith) c.loop-left.invariant.0
+      c.index-items-left.is))
+      (c.in_ok-wire_item.ensures b (wire b (map view.item (drop k items)) s)
+      (c.loop-left.invariant.1 b s st)),
 )
 
 pub returns : goal.returns
 returns c b s st =
     let none : c.loop-left.left ≡ 0 = omega arith in
-    subst (λ n. HasMade b c.loop-left.self (wire b (map view.item (drop n c.args.items.now)) s)) none (c.loop-left.invariant.1 b s st)
+    subst (λ n. HasMade b c.loop-left.self (wire b (map view.item (drop n c.args.items.now)) s)) none
+    (c.loop-left.invariant.1 b s st)

@@ -5,6 +5,8 @@ use Rattle.std.proofs.Common.{◌∙◌, ◌++◌, ◌∷◌, [], ap, cond, suc,
 
 pub loop-x-preserved : goal.loop-x-preserved
 loop-x-preserved c =
-    entries_next (has c.args.self.now.live.now c.args.b) c.loop-x.x c.args.vars c.loop-x.list.items c.add_if.new.list.items _ c.loop-x-test.true
-    (c.in_ok-add_if.ensures ∙ ap (λ (v : Bool). c.loop-x.list.items ++ cond v (suc c.loop-x.x ∷ []) []) c.has.ensures)
+    entries_next (has c.args.self.now.live.now c.args.b) c.loop-x.x c.args.vars c.loop-x.list.items
+    c.add_if.new.list.items _ c.loop-x-test.true
+    (c.in_ok-add_if.ensures ∙ ap (λ (v : Bool). c.loop-x.list.items ++ cond v (suc c.loop-x.x ∷ []) [])
+    c.has.ensures)
     c.loop-x.invariant

@@ -5,4 +5,5 @@ use Rattle.wave_gen.specs.Words.{live_from}
 use Rattle.wave_gen.proofs.plans.PlanGround.entries.Given as goal
 
 abbrev pub invariant-loop-x : goal.invariant-loop-x
-invariant-loop-x l = l.list.items ++ live_from (has l.self.live.now l.b) l.x (l.vars - l.x) ≡ pulse ∷ live_from (has l.self.live.now l.b) 0 l.vars
+invariant-loop-x l = l.list.items ++ live_from (has l.self.live.now l.b) l.x (l.vars - l.x) ≡ pulse
+    ∷ live_from (has l.self.live.now l.b) 0 l.vars

@@ -5,5 +5,6 @@ use Rattle.wave_gen.proofs.table.Table.put.Goals as goal
 
 pub returns : goal.returns
 returns c =
-    list_set c.reach.new.self.lists.items c.args.name c.args.list c.args.list.items c.in_ok-reach.ensures.room refl
+    list_set c.reach.new.self.lists.items c.args.name c.args.list c.args.list.items c.in_ok-reach.ensures.room
+    refl
     ∙ ap (λ (w : Wants). with_wants w c.args.name c.args.list.items) c.in_ok-reach.ensures.wants

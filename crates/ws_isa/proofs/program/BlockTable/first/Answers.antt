@@ -9,9 +9,11 @@ index-requires c =
     omega (arith, p.firsts.ok.0)
 
 pub returns-clause-number : goal.returns-clause-number
-returns-clause-number c = first_found c.args.self.now c.requires.program c.args.place c.index.result.now c.requires.place c.index.ensures
+returns-clause-number c = first_found c.args.self.now c.requires.program c.args.place c.index.result.now
+    c.requires.place c.index.ensures
 
 pub returns-clause-within : goal.returns-clause-within
 returns-clause-within c =
     let p = c.args.self.now in
-    first_within p c.requires.program c.args.place c.index.result.now c.requires.place (first_found p c.requires.program c.args.place c.index.result.now c.requires.place c.index.ensures)
+    first_within p c.requires.program c.args.place c.index.result.now c.requires.place
+    (first_found p c.requires.program c.args.place c.index.result.now c.requires.place c.index.ensures)

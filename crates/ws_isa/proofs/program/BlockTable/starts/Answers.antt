@@ -13,4 +13,6 @@ pub returns-else-place-eq0 : goal.returns-else-place-eq0
 returns-else-place-eq0 c =
     let blocks = c.args.self.now.blocks.now in
     let s : c.args.place ≡ suc (c.args.place - 1) = omega arith in
-    starts_other (image_of c.args.self.now) c.args.place (c.args.place - 1) _ _ s (block_read blocks (c.args.place - 1) _ (omega arith)) (block_read blocks c.args.place _ (omega arith))
+    starts_other (image_of c.args.self.now) c.args.place (c.args.place - 1) _ _ s
+    (block_read blocks (c.args.place - 1) _ (omega arith))
+    (block_read blocks c.args.place _ (omega arith))

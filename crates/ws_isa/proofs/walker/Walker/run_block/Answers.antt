@@ -12,7 +12,9 @@ returns-then-self-firings-clause-walk c = λ world t at.
       steps = u.0;
       instr = first_number (image_of p) (suc c.args.place) + c.loop-i.i;
       at = u.1;
-      within = number_below p c.requires.program c.args.place c.requires.place c.block.result.now c.block.ensures c.deref-instr-items.result.now c.deref-instr-items.ensures.value c.first-first.result c.first-first.ensures.number c.loop-i.i (omega arith);
+      within = number_below p c.requires.program c.args.place c.requires.place c.block.result.now
+          c.block.ensures c.deref-instr-items.result.now c.deref-instr-items.ensures.value
+          c.first-first.result c.first-first.ensures.number c.loop-i.i (omega arith);
       spent = c.if-self-firings.true;
     }
 
@@ -25,8 +27,11 @@ loop-i-preserved c =
       walk = λ world t at.
           (let u = c.loop-i.invariant.walk world t at in (
             suc u.0,
-            fire_more p c.requires.program c.args.place c.requires.place c.block.result.now c.block.ensures c.deref-instr-items.result.now c.deref-instr-items.ensures.value c.first-first.result c.first-first.ensures.number
-                c.loop-i.i (c.loop-i.i + 1) c.instr-item.result c.loop-i.self c.fire.new.self (omega arith) c.instr-item.is (omega arith) c.in_ok-fire.ensures.walk world u.0 u.1,
+            fire_more p c.requires.program c.args.place c.requires.place c.block.result.now c.block.ensures
+                c.deref-instr-items.result.now c.deref-instr-items.ensures.value c.first-first.result
+                c.first-first.ensures.number
+                c.loop-i.i (c.loop-i.i + 1) c.instr-item.result c.loop-i.self c.fire.new.self (omega arith)
+                c.instr-item.is (omega arith) c.in_ok-fire.ensures.walk world u.0 u.1,
           ));
     }
 
@@ -36,5 +41,7 @@ returns-clause-walk c = λ world t at.
     let u = c.loop-i.invariant.walk world t at in (
       u.0,
       subst (λ (k : ℕ). At (image_of p) world u.0 (suc c.args.place) k c.loop-i.self)
-          (number_end p c.requires.program c.args.place c.requires.place c.block.result.now c.block.ensures c.deref-instr-items.result.now c.deref-instr-items.ensures.value c.first-first.result c.first-first.ensures.number c.loop-i.i (omega arith)) u.1,
+          (number_end p c.requires.program c.args.place c.requires.place c.block.result.now c.block.ensures
+          c.deref-instr-items.result.now c.deref-instr-items.ensures.value c.first-first.result
+          c.first-first.ensures.number c.loop-i.i (omega arith)) u.1,
     )

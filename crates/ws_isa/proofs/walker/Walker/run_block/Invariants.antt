@@ -8,5 +8,7 @@ abbrev pub invariant-loop-i : goal.invariant-loop-i
 invariant-loop-i l = record {
   left : l.self.fired ≤ l.firings;
   count : l.self.fired ≡ l.initial.self.fired + l.i;
-  walk : (world : World) (t : ℕ) → AtStart (image_of l.program) world t (suc l.place) l.initial.self → (u : ℕ) × At (image_of l.program) world u (suc l.place) (first_number (image_of l.program) (suc l.place) + l.i) l.self;
+  walk : (world : World) (t : ℕ) → AtStart (image_of l.program) world t (suc l.place) l.initial.self
+      → (u : ℕ) × At (image_of l.program) world u (suc l.place)
+      (first_number (image_of l.program) (suc l.place) + l.i) l.self;
 }

@@ -7,4 +7,5 @@ pub returns : goal.returns
 returns c = λ o h.
     let m = c.args.self.now in
     stored o m h c.args.array c.args.index c.args.word c.set.new.self
-    (c.set.ensures ∙ ap (λ n. with_row m.cells n (slice_set (row m.cells n) c.args.index c.args.word)) c.place_of.ensures)
+    (c.set.ensures ∙ ap (λ n. with_row m.cells n (slice_set (row m.cells n) c.args.index c.args.word))
+    c.place_of.ensures)
