@@ -1,7 +1,7 @@
 #!/usr/bin/env python3
 """Works out a run of assembly on a clocked grid, by the rules of the grid alone.
 
-    tests/grid_model.py ELEMENTS WAVES [BUDGET] < ASSEMBLY     prints what `wsc grid --stats` answers
+    view/grid_model.py ELEMENTS WAVES [BUDGET] < ASSEMBLY     prints what `wsc grid --stats` answers
 
 An instance is an instruction under a wave number. Instruction I lies on element I mod ELEMENTS. In each
 cycle, in this order:
