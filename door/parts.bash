@@ -12,5 +12,7 @@ parts() {
         *) printf '%s\n' "${it#"$top"/}" ;;
         esac
     done
-    printf '%s\n' tests/grid_model.py
+    for it in "$top"/examples/*.job "$top"/view/examples/*.job; do
+        printf '%s\n' "${it#"$top"/}"
+    done
 }

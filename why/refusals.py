@@ -70,7 +70,11 @@ FOREIGN = [
     (r"", r"return\b", "`return` is the last statement of a procedure, outside of all arms and bodies"),
     (r"\breturn\b[^;{}]*;\s*$", r"", "`return` is the last statement of a procedure"),
     (r"", r"\"", "there are no strings: only words are printed"),
+    (r"\b0$", r"[xXbB]\w", "numbers are decimal"),
+    (r"\b(int|let|const|def|fn|func|function|void)\s*$", r"", "variables are declared by `var`, procedures by `proc`"),
+    (r"", r"(int|let|const|def|fn|func|function|void)\b", "variables are declared by `var`, procedures by `proc`"),
 ]
+BOM = b"\xef\xbb\xbf"
 
 
 def shown(lines, number, column=None):
@@ -148,6 +152,10 @@ def of_place(lines, number, column, words):
     out = shown(lines, number, column) + [said]
     marks = (front[-1:] + rest[:1], rest[:2])
     out += [f"hint: {hint}" for mark, hint in HINTS.items() if mark in marks]
+    if words[0] == "byte" and data.startswith(BOM) and (number, column) == (1, 1):
+        return shown(lines, 1) + ["the text begins with a byte order mark: save it as UTF-8 without one"]
+    if words[0] == "syntax" and line.strip() == "%input":
+        return shown(lines, number, column) + ["the line %input has to be exactly that: a blank stands in it"]
     if words[0] in ("syntax", "byte", "unknown"):
         hints = [hint for before, behind, hint in FOREIGN if re.search(before, front) and re.match(behind, rest)]
         out += [f"hint: {hint}" for hint in hints[:1]]
