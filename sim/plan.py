@@ -1,0 +1,147 @@
+#!/usr/bin/env python3
+"""Timed runs of many jobs on many machines, on one computer or several.
+
+`plan` prints one command a line: each job with each line of sim.py's options that the --do give, where {a,b} stands
+for a and for b. As with view/sweep.py each command stands alone and writes a result file of its own, and the lines
+run in any order, anywhere: by `xargs -d '\\n' -n 1 -P 4 sh -c`, `parallel`, or an array of Slurm.
+
+`one` is such a command. `collect` makes a table of all results, says what is to be looked at, and draws a panel for
+each job: --y over --x, a line for each value of the options --lines, of those results for which --where holds. A
+column that isn't there is written so: an option that no line gives has the machine's value, which --where can't see.
+"""
+
+from __future__ import annotations
+
+import argparse
+import csv
+import hashlib
+import itertools
+import json
+import os
+import pathlib
+import shlex
+import socket
+import sys
+import time
+from typing import Any
+
+import near
+
+near.reach()
+from gather import FIXED, REST, columns, faults, picture, results
+from image import Fault
+from line import Line, add_program, whole
+from sweep import lines_of, name_of, options_of
+from figures import Figures
+from model import run_of
+from parameters import machine_of
+from sim import ask_for, assemblies, parameters_of
+from verify import verified
+
+
+def plan(line: argparse.Namespace) -> int:
+    """Prints the commands."""
+    seen = set()
+    for job, pattern in itertools.product(line.jobs, line.do):
+        for words in lines_of(pattern):
+            result = pathlib.Path(line.out) / name_of(job, ["sim", *words], 1)
+            if result in seen:
+                raise Fault(f"two lines would write {result}; give the jobs other names")
+            seen.add(result)
+            if not (line.left and result.exists()):
+                here = [os.path.relpath(__file__), "one", "--wsc", line.wsc, "--out", str(result)]
+                print(shlex.join(["python3", *here, job, *words]))
+    return 0
+
+
+def one(line: argparse.Namespace) -> int:
+    """Runs one line of a plan, and writes its result."""
+    begun, clock = time.strftime("%Y-%m-%dT%H:%M:%SZ", time.gmtime()), time.perf_counter()
+    told = ask_for().parse_args(["--wsc", line.wsc, line.job, *line.words])
+    run = run_of(assemblies(told), machine_of(told.machine, parameters_of(told)), told.budget)
+    figures = Figures(run)
+    wrong = verified(line.wsc, run) if told.verify else []
+    facts = {name.replace(" ", "-"): value for name, value in figures.facts().items()}
+    facts |= {f"path-{part.replace(' ', '-')}": cycles for part, cycles in figures.path.parts.items()}
+    printed = [word for chain in run.chains for word in chain.printed]
+    words = "\n".join(map(str, printed))
+    result = {
+        "job": pathlib.Path(line.job).stem, "command": "sim",
+        "options": {"machine": told.machine, **options_of(line.words)},
+        "status": 3 if wrong else 0, "end": "; ".join(wrong) or figures.end,
+        "wall": round(time.perf_counter() - clock, 6), "numbers": facts, "words": len(printed),
+        "digest": hashlib.sha256(words.encode()).hexdigest()[:16], "host": socket.gethostname(),
+        "processors": len(os.sched_getaffinity(0)), "begun": begun, "line": line.words,
+    }
+    out = pathlib.Path(line.out)
+    out.parent.mkdir(parents=True, exist_ok=True)
+    part = out.with_suffix(f".part{os.getpid()}")
+    part.write_text(json.dumps(result, indent=1) + "\n")
+    part.replace(out)
+    return 0
+
+
+def chosen(rows: list[dict[str, Any]], line: argparse.Namespace) -> list[dict[str, Any]]:
+    """The rows of a picture, with no more columns than it needs."""
+    wanted = dict(pair.split("=", 1) for pair in line.where)
+    keep = {*FIXED, *REST, "line", line.x, line.y}
+    made = []
+    for row in rows:
+        if all(row.get(key) == value for key, value in wanted.items()) and line.x in row:
+            new = {key: value for key, value in row.items() if key in keep}
+            new["command"] = " ".join(str(row.get(key, "")) for key in line.lines) or "sim"
+            made.append(new)
+    return made
+
+
+def collect(line: argparse.Namespace) -> int:
+    """Makes the table and the picture, and says what is to be looked at."""
+    rows = results(line.dir)
+    if not rows:
+        raise Fault(f"no results in {line.dir}")
+    if line.csv:
+        with open(line.csv, "w", newline="") as out:
+            table = csv.DictWriter(out, columns(rows), restval="", lineterminator="\n")
+            table.writeheader()
+            table.writerows(rows)
+    if line.svg:
+        pathlib.Path(line.svg).write_text(picture(chosen(rows, line), line.x, line.y, line.title))
+    found = faults(rows, line.plan)
+    print("\n".join([*found, f"{len(rows)} results, {len(found)} to be looked at"]), file=sys.stderr)
+    return 3 if found else 0
+
+
+def main() -> int:
+    ask = Line(__doc__)
+    kinds = ask.add_subparsers(required=True, metavar="plan|one|collect")
+    it = kinds.add_parser("plan", help="prints the lines")
+    it.add_argument("--jobs", metavar="FILE", nargs="+", required=True)
+    it.add_argument("--do", metavar="OPTIONS", action="append", required=True,
+                    help="options of sim.py; {a,b} stands for a and for b; may be given several times")
+    it.add_argument("--out", metavar="DIR", default="results", help="the folder of the results (results)")
+    add_program(it)
+    it.add_argument("--left", action="store_true", help="only what has no result")
+    it.set_defaults(act=plan)
+    it = kinds.add_parser("one", help="what a line of the plan calls")
+    add_program(it)
+    it.add_argument("--out", metavar="RESULT", required=True)
+    it.add_argument("job", metavar="FILE")
+    it.add_argument("words", metavar="WORD", nargs=argparse.REMAINDER)
+    it.set_defaults(act=one)
+    it = kinds.add_parser("collect", help="makes a table of all results, and a picture")
+    it.add_argument("dir", metavar="DIR")
+    it.add_argument("--csv", metavar="TABLE", help="a file for the table")
+    it.add_argument("--svg", metavar="PICTURE", help="a file for the picture")
+    it.add_argument("--x", metavar="OPTION", default="waves", help="runs along the picture (waves)")
+    it.add_argument("--y", metavar="COLUMN", default="cycles", help="is drawn (cycles)")
+    it.add_argument("--lines", metavar="OPTION", action="append", default=[], help="a line for each value of it")
+    it.add_argument("--where", metavar="OPTION=VALUE", action="append", default=[], help="only these results")
+    it.add_argument("--title", metavar="TEXT", default="")
+    it.add_argument("--plan", metavar="FILE", help="the plan, to tell which of its lines have no result")
+    it.set_defaults(act=collect)
+    line = ask.parse_args()
+    return int(line.act(line))
+
+
+if __name__ == "__main__":
+    sys.exit(whole(main, images=True))
