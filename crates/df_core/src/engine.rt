@@ -1,7 +1,7 @@
 //! The core, event by event.
 
-ghost use Rattle.std.specs.Prelude.{◌≡◌, true, ◌≤◌, ◌-◌, ◌+◌, ℕ, suc, [], List, length, ◌⊎◌, map, is_some, IfOk, OnOk};
-ghost use Rattle.std.specs.Prelude.{OnErr, IfErr, MatchOption};
+ghost use Rattle.std.specs.Prelude.{◌≡◌, true, ◌≤◌, ◌-◌, ◌+◌, ℕ, suc, [], List, length, ◌⊎◌, map, is_some};
+ghost use Rattle.std.specs.Prelude.{IfOk, OnOk, OnErr, IfErr, MatchOption};
 ghost use Rattle.ws_words.specs.Outside.{World as Given, printed_words, row};
 ghost use Rattle.ws_words.specs.Plain.{took_by_ports, world_of};
 ghost use Rattle.ws_isa.specs.Image.{Image};

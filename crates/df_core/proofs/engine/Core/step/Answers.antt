@@ -30,11 +30,13 @@ returns-in-Match-clause-room c = room_after c.args.self.now c.make_match.new.sel
     c.make_match.ensures.count
 
 pub returns-in-Match-clause-prepared : goal.returns-in-Match-clause-prepared
-returns-in-Match-clause-prepared c = prepared_after c.args.self.now c.make_match.new.self c.make_match.ensures.room
+returns-in-Match-clause-prepared c = prepared_after c.args.self.now c.make_match.new.self
+    c.make_match.ensures.room
 
 pub returns-in-Issue-clause-room : goal.returns-in-Issue-clause-room
 returns-in-Issue-clause-room c = room_after c.args.self.now c.make_issue.new.self c.make_issue.ensures.room
     c.make_issue.ensures.count
 
 pub returns-in-Issue-clause-prepared : goal.returns-in-Issue-clause-prepared
-returns-in-Issue-clause-prepared c = prepared_after c.args.self.now c.make_issue.new.self c.make_issue.ensures.room
+returns-in-Issue-clause-prepared c = prepared_after c.args.self.now c.make_issue.new.self
+    c.make_issue.ensures.room
