@@ -23,8 +23,9 @@ loop-place-preserved c = record {
       (omega (arith, c.loop-place.invariant.size, c.loop-place-test.true)) c.index_mut.ensures.value
       c.reserve.ensures.items ∙ c.loop-place.invariant.same;
   kept = λ n h. kept_space c.loop-place.rows.items c.loop-place.place c.index_mut.result.now
-      c.reserve.new.self n (omega (arith, c.loop-place.invariant.size, c.loop-place-test.true)) c.index_mut.ensures.value
-      c.reserve.ensures.len c.reserve.ensures.capacity (c.loop-place.invariant.kept n h);
+      c.reserve.new.self n (omega (arith, c.loop-place.invariant.size, c.loop-place-test.true))
+      c.index_mut.ensures.value c.reserve.ensures.len c.reserve.ensures.capacity
+      (c.loop-place.invariant.kept n h);
   size = length_set c.loop-place.rows.items c.loop-place.place c.reserve.new.self
       ∙ c.loop-place.invariant.size;
   later = λ p row l e. elim (nth_set c.loop-place.rows.items c.loop-place.place c.reserve.new.self p row e) [
