@@ -90,12 +90,12 @@ def any_machine(dice: random.Random) -> Values:
     return machine_of("", made)
 
 
-def on_any(program: str, text: str, seed: str, many: int) -> list[str]:
-    """What is wrong on machines at random."""
+def on_any(program: str, texts: list[str], seed: str, many: int) -> list[str]:
+    """What is wrong on machines at random, a thread for each text."""
     found = []
     for number in range(many):
         machine = any_machine(random.Random(f"{seed} {number}"))
-        run = run_of(text, machine)
+        run = run_of(texts, machine)
         path = Figures(run).path
         wrong = verified(program, run)
         if run.fired <= MIDDLE and has_trace(run):
@@ -287,9 +287,13 @@ def main() -> int:
     ask.add_argument("folders", metavar="FOLDER", nargs="*")
     line = ask.parse_intermixed_args()
     program, told, seen = str(pathlib.Path(line.wsc).resolve()), [], 0
+    last: list[str] = []
     for name, text in texts(program, line.folders, line.generated):
         seen += 1
-        found = in_general(program, text) + on_any(program, text, f"{line.seed} {name}", line.machines)
+        found = in_general(program, text) + on_any(program, [text], f"{line.seed} {name}", line.machines)
+        # threads: this text, those before it, and this one again
+        last = [text, *last[:2]]
+        found += on_any(program, [*last, text], f"{line.seed} {name} threads", 1)
         told += found
         for it in found:
             print(f"{name}: {it}", flush=True)
@@ -300,7 +304,7 @@ def main() -> int:
         found += put_in(program, assembly_of(program, (near.ROOT / "examples" / "order.job").read_text()))
     told += found
     print("\n".join([*found, f"{seen} texts, {seen * len(GRIDS)} runs on grids, {seen * line.machines} on machines"
-                     f" at random, {len(told)} wrong"]))
+                     f" at random, {seen} of several threads, {len(told)} wrong"]))
     return 1 if told else 0
 
 

@@ -47,24 +47,12 @@ def elements(sheet: Sheet, figures: Figures, box: Box) -> None:
     shape, busy = figures.flat.shape, figures.record.busy
     sheet.text(x - 34, y - 25, "Use of the elements", 14, weight=600)
     most = max(max(busy), 1)
-    top = 100 * most / max(figures.cycles, 1)
-    sheet.text(x - 34, y - 10, f"darkest: busy in {top:.1f}% of the cycles; pale: never or seldom", 11, SOFT)
-    columns, domains = shape.columns, shape.cluster // shape.domain
-    rows = -(-shape.clusters // columns)
-    across = next(k for k in range(1, shape.domain + 1) if k * k >= 2 * shape.domain or k == shape.domain)
-    down = -(-shape.domain // across)
-    domain_columns = 1 if domains == 1 else 2
-    domain_rows = -(-domains // domain_columns)
-    size = min((wide + 34) / (columns * (domain_columns * (across + 0.5) + 1)),
-               tall / (rows * (domain_rows * (down + 0.5) + 1)), 26)
-    for e in range(shape.count):
-        cluster, rest = divmod(e, shape.cluster)
-        domain, place = divmod(rest, shape.domain)
-        left = (cluster % columns) * (domain_columns * (across + 0.5) + 1)
-        left += (domain % domain_columns) * (across + 0.5) + place % across
-        high = (cluster // columns) * (domain_rows * (down + 0.5) + 1)
-        high += (domain // domain_columns) * (down + 0.5) + place // across
-        sheet.rect(x - 34 + left * size, y + high * size, size * 0.9, size * 0.9, paler(busy[e] / most))
+    share = 100 * most / max(figures.cycles, 1)
+    sheet.text(x - 34, y - 10, f"darkest: busy in {share:.1f}% of the cycles; pale: never or seldom", 11, SOFT)
+    places, corners, _, high, across = shape.drawn()
+    size = min((wide + 34) / across, tall / (corners[-1][1] + high + 1), 26)
+    for (left, top), cycles in zip(places, busy):
+        sheet.rect(x - 34 + left * size, y + top * size, size * 0.9, size * 0.9, paler(cycles / most))
 
 
 def path(sheet: Sheet, figures: Figures, box: Box) -> None:

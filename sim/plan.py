@@ -5,7 +5,8 @@
 for a and for b. As with view/sweep.py each command stands alone and writes a result file of its own, and the lines
 run in any order, anywhere: by `xargs -d '\\n' -n 1 -P 4 sh -c`, `parallel`, or an array of Slurm.
 
-`one` is such a command. `collect` makes a table of all results, says what is to be looked at, and draws a panel for
+`one` is such a command; `run` makes all that have no result, one after the other in one process, which is how PyPy gets
+fast. `collect` makes a table of all results, says what is to be looked at, and draws a panel for
 each job: --y over --x, a line for each value of the options --lines, of those results for which --where holds. A
 column that isn't there is written so: an option that no line gives has the machine's value, which --where can't see.
 """
@@ -81,6 +82,18 @@ def one(line: argparse.Namespace) -> int:
     return 0
 
 
+def run(line: argparse.Namespace) -> int:
+    """Runs the lines of a plan that have no result."""
+    for told in pathlib.Path(line.plan).read_text().splitlines():
+        words = shlex.split(told)
+        if words[1:3] != [os.path.relpath(__file__), "one"]:
+            raise Fault(f"{line.plan} is no plan that was made here: {told}")
+        each = lines().parse_args(words[2:])
+        if not pathlib.Path(each.out).exists():
+            one(each)
+    return 0
+
+
 def chosen(rows: list[dict[str, Any]], line: argparse.Namespace) -> list[dict[str, Any]]:
     """The rows of a picture, with no more columns than it needs."""
     wanted = dict(pair.split("=", 1) for pair in line.where)
@@ -111,9 +124,10 @@ def collect(line: argparse.Namespace) -> int:
     return 3 if found else 0
 
 
-def main() -> int:
+def lines() -> argparse.ArgumentParser:
+    """The line of the program."""
     ask = Line(__doc__)
-    kinds = ask.add_subparsers(required=True, metavar="plan|one|collect")
+    kinds = ask.add_subparsers(required=True, metavar="plan|one|run|collect")
     it = kinds.add_parser("plan", help="prints the lines")
     it.add_argument("--jobs", metavar="FILE", nargs="+", required=True)
     it.add_argument("--do", metavar="OPTIONS", action="append", required=True,
@@ -128,6 +142,9 @@ def main() -> int:
     it.add_argument("job", metavar="FILE")
     it.add_argument("words", metavar="WORD", nargs=argparse.REMAINDER)
     it.set_defaults(act=one)
+    it = kinds.add_parser("run", help="runs what has no result, in this process")
+    it.add_argument("plan", metavar="PLAN")
+    it.set_defaults(act=run)
     it = kinds.add_parser("collect", help="makes a table of all results, and a picture")
     it.add_argument("dir", metavar="DIR")
     it.add_argument("--csv", metavar="TABLE", help="a file for the table")
@@ -139,7 +156,11 @@ def main() -> int:
     it.add_argument("--title", metavar="TEXT", default="")
     it.add_argument("--plan", metavar="FILE", help="the plan, to tell which of its lines have no result")
     it.set_defaults(act=collect)
-    line = ask.parse_args()
+    return ask
+
+
+def main() -> int:
+    line = lines().parse_args()
     return int(line.act(line))
 
 

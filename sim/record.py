@@ -51,14 +51,14 @@ class Record:
         self.could.append(could)
         return len(self.when) - 1
 
-    def cycle(self, now: int, *row: int) -> None:
-        """What a cycle came to, at its end."""
-        many, marks = len(self.events), self.marks
-        if row[0] or row[1] or many > (marks[-1] if marks else 0):
-            self.cycles = now
-        marks.append(now)
-        marks.append(many)
-        self.rows.extend(row)
+    def end(self) -> None:
+        """Counts the cycles of the run: to the last one in which something happened."""
+        marks, rows, wide = self.marks, self.rows, len(ROW)
+        at = len(marks) // 2 - 1
+        while at >= 0 and not rows[wide * at] and not rows[wide * at + 1] and (
+                marks[2 * at + 1] == (marks[2 * at - 1] if at else 0)):
+            at -= 1
+        self.cycles = marks[2 * at] if at >= 0 else 0
 
     def by_cycle(self, name: str) -> Iterator[tuple[int, int]]:
         """The cycles in which something was due, with a count of each."""

@@ -63,6 +63,27 @@ class Shape:
         own = element // self.cluster
         return int(self.machine["network.buffer"]) if own == cluster else self.across(own, cluster)
 
+    # A drawing.
+
+    def drawn(self) -> tuple[list[tuple[float, float]], list[tuple[float, float]], float, float, float]:
+        """Where elements and clusters lie in a drawing, in sides of an element's square, from the upper left: clusters
+        apart on their mesh, in them domains two by two, in them pods side by side; and the width and height of a
+        cluster, and the width of a row of clusters."""
+        domains = self.cluster // self.domain
+        across = next(k for k in range(1, self.domain + 1) if k * k >= 2 * self.domain or k == self.domain)
+        down, columns = -(-self.domain // across), 1 if domains == 1 else 2
+        wide, high = columns * (across + 0.5), -(-domains // columns) * (down + 0.5)
+        corners = [((cluster % self.columns) * (wide + 1), (cluster // self.columns) * (high + 1))
+                   for cluster in range(self.clusters)]
+        made = []
+        for element in range(self.count):
+            cluster, rest = divmod(element, self.cluster)
+            domain, place = divmod(rest, self.domain)
+            (left, top) = corners[cluster]
+            made.append((left + (domain % columns) * (across + 0.5) + place % across,
+                         top + (domain // columns) * (down + 0.5) + place // across))
+        return made, corners, wide, high, min(self.columns, self.clusters) * (wide + 1)
+
     # Links.
 
     def mesh(self, a: int, b: int) -> Iterator[Link]:

@@ -13,6 +13,7 @@ from __future__ import annotations
 
 import argparse
 import csv
+import functools
 import pathlib
 import sys
 from typing import Any
@@ -84,12 +85,18 @@ def jobs_of(text: str) -> list[str]:
     return made
 
 
+@functools.lru_cache(maxsize=32)
+def compiled(program: str, text: str) -> str:
+    """The assembly of a text; those asked for last are kept, for a sweep in one process."""
+    return str(assembly_of(program, text))
+
+
 def assemblies(line: argparse.Namespace) -> list[str]:
     """The assembly of each thread."""
     if line.threads < 1:
         raise Fault("--threads is a whole number from 1 on")
     texts = [text for file in line.files or [None] for text in jobs_of(given(file))]
-    return [made for text in texts for made in [assembly_of(line.wsc, text)] * line.threads]
+    return [made for text in texts for made in [compiled(line.wsc, text)] * line.threads]
 
 
 def answer(line: argparse.Namespace, figures: Figures, machine: Values) -> None:
