@@ -11,7 +11,7 @@ from engine import Run
 from flat import Flat
 from homes import Homes
 from model import run_of
-from parameters import machine_of
+from parameters import Values, machine_of
 from record import ISSUE
 from shape import BETWEEN, POD, Links, Shape
 from tables import Tables
@@ -37,7 +37,7 @@ def four_instructions(program: str, folder: pathlib.Path) -> Iterator[str]:
     in the buffer: 23 is its issue. That of 4 came in 9, and is issued in 23 too, or in 24 where one is issued in a
     cycle."""
     (folder / "places").write_text("1 0\n2 2 # another pod\n3 8\n4 0\n")
-    more = {"domains": 4, "pods": 4, "elements": 2, "network.buffer": 4, "buffer.latency": 2, "operations.const": 3,
+    more: Values = {"domains": 4, "pods": 4, "elements": 2, "network.buffer": 4, "buffer.latency": 2, "operations.const": 3,
             "placement.policy": "file", "placement.file": str(folder / "places"), "network.element": 2}
     for issues, cycles in ((0, 23), (1, 24)):
         run = run_of(SEVEN, machine_of("", {**more, "buffer.issues": issues}))
