@@ -5,8 +5,10 @@
    those of `wsc grid --stats`; and its events are those of the viewer's grid, one by one.
 2. On machines with parameters at random `wsc replay` takes the events, to the words and the firings of `wsc exec
    --stats`; they keep the machine's rules (obeyed.py); and the parts of the path add up to its cycles.
-3. Six faults that are put into the model are found by `wsc replay`; what was worked out by hand comes out; tables,
-   pictures, places, traces and a small sweep agree, and docs/TIMING.md has the parameters.
+3. So do runs of several threads, and `wsc multi` prints the words of up to four of them.
+4. Six faults that are put into the model are found by `wsc replay` (planted.py); what was worked out by hand comes out
+   (by_hand.py); tables, pictures, pages, places, traces and a small sweep agree; the events of examples/timing/model.c
+   are those of runs, where there is a C compiler; and docs/TIMING.md has the parameters.
 
 --machines N is the number of machines for each file (3), --generated N adds so many jobs of `wsc gen` (2), --seed N
 begins the numbers (1).
@@ -15,14 +17,16 @@ begins the numbers (1).
 from __future__ import annotations
 
 import pathlib
+import json
 import random
+import re
+import shutil
 import subprocess
 import sys
 import tempfile
 import xml.dom.minidom
 from collections.abc import Iterator
 from typing import Any
-from unittest import mock
 
 import near
 
@@ -30,17 +34,16 @@ near.reach()
 from image import Fault
 from grid import recorded
 from line import Line, given, whole
-from machine import DOES
 from program import assembly_of, call
-from cache import Cache
-from engine import Run
+from by_hand import by_hand
 from figures import Figures
-from model import prepared, run_of
+from judge import judged
+from model import run_of
 from obeyed import broken, timed
 from parameters import HOMES, PARAMETERS, POLICIES, THREADS, Values, machine_of
 from parameters import table as parameters
+from planted import put_in
 from report import table
-from tables import Tables
 from verify import answer_of, has_trace, verified
 
 GRIDS = [(elements, waves) for elements in (1, 2, 4, 16, 64) for waves in (1, 2, 4)]
@@ -67,13 +70,14 @@ def in_general(program: str, text: str) -> list[str]:
 
 def any_machine(dice: random.Random) -> Values:
     """A machine at random."""
-    small: dict[str, Any] = {"clusters": (1, 1, 2, 3, 4, 6), "columns": (0, 0, 1, 2, 3), "domains": (1, 2, 3), "pods": (1, 2, 3),
-             "elements": (1, 2, 3), "waves": (1, 2, 3, 4, 8, 100), "buffer.homes": HOMES, "element.ways": (1, 2, 4),
-             "placement.policy": [name for name in POLICIES if name != "file"], "placement.fill": (1, 2, 4, 9),
-             "placement.seed": range(100), "cache.ways": (1, 2, 4), "cache.line": (1, 2, 4, 16),
-             "cache.sets": (0, 1, 2, 4, 16), "buffer.issues": (0, 1, 1, 2),
-             "element.instructions": (0, 0, 1, 2, 8), "element.inputs": (0, 0, 1, 2), "placement.threads": THREADS,
-             "buffer.queues": (0, 0, 0, 1, 2, 16)}
+    small: dict[str, Any] = {
+        "clusters": (1, 1, 2, 3, 4, 6), "columns": (0, 0, 1, 2, 3), "domains": (1, 2, 3), "pods": (1, 2, 3),
+        "elements": (1, 2, 3), "waves": (1, 2, 3, 4, 8, 100), "buffer.homes": HOMES, "element.ways": (1, 2, 4),
+        "placement.policy": [name for name in POLICIES if name != "file"], "placement.fill": (1, 2, 4, 9),
+        "placement.seed": range(100), "placement.threads": THREADS, "cache.ways": (1, 2, 4),
+        "cache.line": (1, 2, 4, 16), "cache.sets": (0, 1, 2, 4, 16), "buffer.issues": (0, 1, 1, 2),
+        "element.instructions": (0, 0, 1, 2, 8), "element.inputs": (0, 0, 1, 2), "buffer.queues": (0, 0, 0, 1, 2, 16),
+    }
     widths = dice.choice(((0,), (0,), (1,), (0, 1, 2)))
     small |= {name: widths for name in PARAMETERS if name.startswith("width.")}
     made: Values = {}
@@ -106,103 +110,35 @@ def on_any(program: str, texts: list[str], seed: str, many: int) -> list[str]:
     return found
 
 
-SEVEN = """wavescalar 1
-wave 1
-block 1
-pad 0 1.0
-1: advance -> 2.0 4.0
-2: const 7 -> 3.0
-3: out <., 1, 2>.1
-4: halt <1, 2, .>.2
-stop
-end
-"""
+def threads(program: str, job: str) -> list[str]:
+    """The words of up to four threads are those of `wsc multi`."""
+    image, wanted = assembly_of(program, job), call(program, ["multi"], "%job\n".join([job] * 3))[1]
+    run = run_of([image] * 3, machine_of("four-clusters", {"buffer.homes": "table", "width.between": 1}))
+    words = "".join(f"{line}\n" for line in wanted.splitlines() if line.isdecimal())
+    if words != "".join(f"{word}\n" for chain in run.chains for word in chain.printed):
+        return [f"wsc multi prints {wanted!r}"]
+    return []
 
 
-def by_hand(program: str, folder: pathlib.Path) -> list[str]:
-    """Cycles of four instructions. The pulse comes to 1 in cycle 1. Instruction 2 is five cycles away, fires in 6,
-    and takes 3 cycles, to 8; 3 is nine cycles away, and fires in 17; its request is four cycles on its way and two
-    in the buffer: 23 is its issue. That of 4 came in 9, and is issued in 23 too, or in 24 where one is issued in a
-    cycle."""
-    (folder / "places").write_text("1 0\n2 2 # another pod\n3 8\n4 0\n")
-    more = {"domains": 4, "pods": 4, "elements": 2, "network.buffer": 4, "buffer.latency": 2, "operations.const": 3,
-            "placement.policy": "file", "placement.file": str(folder / "places"), "network.element": 2}
-    found = []
-    for issues, cycles in ((0, 23), (1, 24)):
-        run = run_of(SEVEN, machine_of("", {**more, "buffer.issues": issues}))
-        if run.record.cycles != cycles or verified(program, run):
-            found.append(f"by hand: {run.record.cycles} cycles and not {cycles}")
-    return found
-
-
-def no_ripples(run: Run) -> Run:
-    """Loads don't wait for the stores that their ripple numbers name."""
-    run.flat.ripple = [0] * run.flat.count
-    return run.go()
-
-
-def lost(run: Run) -> Run:
-    """A token is lost."""
-    send = run.send
-
-    def but_one(*told: Any) -> None:
-        if run.fired != 40:
-            send(*told)
-    with mock.patch.object(run, "send", but_one):
-        return run.go()
-
-
-def wrong_sums(run: Run) -> Run:
-    """Sums are one too large."""
-    run.flat.does = [(lambda a, b: a + b + 1) if op == "add" else DOES.get(op, DOES["add"]) for op in run.flat.op]
-    return run.go()
-
-
-def stale(run: Run) -> Run:
-    """Loads give 0."""
-    chain = run.chains[0]
-    do = chain.do
-    with mock.patch.object(chain, "do", lambda it: 0 if run.flat.op[it.instr] == "load" else do(it)):
-        return run.go()
-
-
-def turned(run: Run) -> Run:
-    """Two events that depend on each other are told in the wrong order."""
-    events = run.go().record.events
-    events[0], events[1] = events[1], events[0]
-    return run
-
-
-def twice(run: Run) -> Run:
-    """An event is told twice."""
-    events = run.go().record.events
-    events[50] = events[49]
-    return run
-
-
-def put_in(program: str, text: str) -> list[str]:
-    """Faults that are put into the model are found by `wsc replay`, or in what it says."""
-    faults = (no_ripples, lost, wrong_sums, stale, turned, twice)
-    return [f"a fault that is put in isn't found: {fault.__doc__}" for fault in faults
-            if not verified(program, fault(prepared(text, machine_of("far"))))]
-
-
-def small() -> list[str]:
-    """A cache of two lines, and a matching table of one entry, worked out by hand."""
-    more = {"cache.sets": 1, "cache.ways": 2, "cache.line": 4, "cache.hit": 1, "cache.miss": 9}
-    cache = Cache(machine_of("", more), 1)
-    found, cells = list[str](), (0, 5, 3, 8, 4, 8)
-    if (told := [cache.access("load", cell, 0) for cell in cells]) != [9, 9, 1, 9, 9, 1]:
-        found.append(f"the cache takes {told} for {cells}")
-    tables = Tables(machine_of("", {"element.entries": 1, "element.ways": 1, "waves": 1}), 1)
-    # the first of 7 has the entry; 8 takes it; 7 takes it back and is complete, so that 8 stays in memory
-    told = [tables.admit(key, 0, 0, 0) for key in (7, 7, 8, 7)]
-    tables.complete(7)
-    told.append(tables.admit(8, 0, 0, 0))
-    tables.free(7)
-    told += [tables.admit(8, 0, 0, 0), tables.admit(8, 0, 0, 0)]
-    if told != [True, True, False, False, False, False, True]:
-        found.append(f"the matching table tells {told}")
+def own_model(program: str, folder: pathlib.Path, jobs: list[str]) -> list[str]:
+    """The model in C gives the events of each job another order, which wsc takes; and the trace of a run that begins
+    with its second event isn't one."""
+    compiler, found = shutil.which("cc"), []
+    if not compiler:
+        print("there is no C compiler: examples/timing/model.c isn't tried")
+        return []
+    own = folder / "model"
+    subprocess.run([compiler, "-O1", "-Wall", "-Wextra", "-Werror", "-o", own, near.ROOT / "examples/timing/model.c"],
+                   check=True)
+    for job in jobs:
+        _, trace, _ = call(program, ["trace"], assembly_of(program, given(job)))
+        _, made, _ = call(str(own), [], trace)
+        holds, said = judged(program, made)
+        if not holds or "cycles by its comments" not in said or made.count("\nmatch") != trace.count("\nmatch"):
+            found.append(f"model.c, {job}: {said}")
+        lacks, said = judged(program, re.sub(r"(%trace\n)match.*\n", r"\1", trace))
+        if lacks or "a token that isn't on its way" not in said and "ends as open" not in said:
+            found.append(f"a trace without its first event, {job}: {said}")
     return found
 
 
@@ -241,10 +177,13 @@ def files(program: str, folder: pathlib.Path, job: str) -> list[str]:
 
     sim, wsc = here / "sim.py", ["--wsc", program]
     told = do(sim, *wsc, job, "--machine", "four-clusters", "--verify", "--svg", "picture", "--trace", "trace",
-              "--places", "lie")
+              "--places", "lie", "--page", "page.html")
     want("sim.py fails: " + told.stderr, told.returncode == 0 and "verified" in told.stdout)
     xml.dom.minidom.parse(str(folder / "picture"))
     want("the trace", do(program, "replay", stdin=(folder / "trace").read_text()).returncode == 0)
+    shown = json.loads(re.findall(r'id="data">(.*)</script>', (folder / "page.html").read_text())[0])
+    counts = [int(many) for many in re.findall(r"(\d+) (?:firings|memory operations)", told.stdout)]
+    want("the page's events", len(shown["events"]) == sum(counts) and shown["bounds"][-1][0] == shown["all"])
     lines = [do(sim, *wsc, job, "--machine", "four-clusters", "--stats", *more).stdout
              for more in ((), ("--placement-policy", "file", "--placement-file", str(folder / "lie")))]
     want("other cycles with the same places", lines[0] == lines[1] and "cycles" in lines[0])
@@ -299,8 +238,10 @@ def main() -> int:
             print(f"{name}: {it}", flush=True)
     with tempfile.TemporaryDirectory() as folder:
         job = str(near.ROOT / "examples" / "sorting.job")
-        found = by_hand(program, pathlib.Path(folder)) + files(program, pathlib.Path(folder), job)
-        found += small() + sums(assembly_of(program, pathlib.Path(job).read_text()))
+        text, where = pathlib.Path(job).read_text(), pathlib.Path(folder)
+        image = assembly_of(program, text)
+        found = [*by_hand(program, where, image), *files(program, where, job), *sums(image), *threads(program, text)]
+        found += own_model(program, where, [str(near.ROOT / f"examples/{name}.job") for name in ("sum", "calls", "past")])
         found += put_in(program, assembly_of(program, (near.ROOT / "examples" / "order.job").read_text()))
     told += found
     print("\n".join([*found, f"{seen} texts, {seen * len(GRIDS)} runs on grids, {seen * line.machines} on machines"

@@ -1,8 +1,9 @@
-/* A timing model of one's own, driven by a trace: it reads what `wsc trace` prints, gives each event a cycle, and
-   writes the text again with its events in the order of their cycles, for `wsc replay` to judge. Instruction I
-   lies on element I modulo 8, which fires one instance a cycle; an operand takes 1 cycle to its own element, 3 to
-   another; requests take 3, and one is issued a cycle. A token is there when all have sent that may have sent it,
-   of what stands before it in the trace: no value is asked for. At most 1,023 instructions. */
+/* A timing model of one's own, driven by a trace: it reads what `wsc trace` prints, gives each event a
+   cycle, and writes the text again, its events by their cycles, for `wsc replay` to judge. Instruction I
+   lies on element I modulo 8, which fires one instance a cycle; an operand takes 1 cycle to its own
+   element, 3 to another; requests take 3, and one is issued a cycle. A token is there when all have sent
+   that may have sent it, of what stands before it in the trace: no value is asked for. At most 1,023
+   instructions. */
 #include <stdio.h>
 #include <stdlib.h>
 #include <string.h>
@@ -11,8 +12,7 @@ typedef struct { int from, next; } Arc; /* an instruction that sends to a port, 
 typedef struct { int cycle, at; char line[40]; } Event;
 static int first[INSTRS][4], ports[INSTRS], advances[INSTRS], asks[INSTRS]; /* of each instruction */
 static int sends[INSTRS][2], send_count, pads[MOST][3], pad_count, arc_count, event_count, last_issue;
-static Arc arcs[MOST];
-static Event events[MOST];
+static Arc arcs[MOST]; static Event events[MOST];
 static int *sent, *came, *fires, *taken[ELEMENTS]; /* cycles by instance; those in which an element fires */
 static int *table(size_t many) { return calloc(many, sizeof(int)); }
 
