@@ -47,7 +47,7 @@ from report import table
 from verify import answer_of, has_trace, verified
 
 GRIDS = [(elements, waves) for elements in (1, 2, 4, 16, 64) for waves in (1, 2, 4)]
-# what tests/grid_model.py is asked of, which is slow, and what obeyed.py is
+# what view/grid_model.py is asked of, which is slow, and what obeyed.py is
 SHORT, MIDDLE = 300, 6000
 
 

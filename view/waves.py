@@ -1,9 +1,13 @@
 """The layout of a wave from its blocks, and of all waves; makes the drawing's data."""
 
+from typing import Any
+
 from layout import (
     BAND_GAP, LANE, MEM_H, WAVE_GAP, BlockPlan, inversions, label_of, nets_of, note_text, settle,
 )
 
+# All that is drawn, by kind: lists of what each part is, with places and sizes in the units of SVG.
+Drawing = dict[str, list[list[Any]]]
 WAVE_PAD, WAVE_HEAD, SIDE = 22, 40, 18
 KINDS = ("steer", "advance", "send", "phi", "merge", "const")
 

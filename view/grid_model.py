@@ -1,7 +1,7 @@
 #!/usr/bin/env python3
 """Works out a run of assembly on a clocked grid, by the rules of the grid alone.
 
-    tests/grid_model.py ELEMENTS WAVES [BUDGET] < ASSEMBLY     prints what `wsc grid --stats` answers
+    view/grid_model.py ELEMENTS WAVES [BUDGET] < ASSEMBLY     prints what `wsc grid --stats` answers
 
 An instance is an instruction under a wave number. Instruction I lies on element I mod ELEMENTS. In each
 cycle, in this order:
@@ -18,11 +18,14 @@ array is issued. This reads assembly that `wsc check` finds sound, and knows not
 
 import re
 import sys
+from typing import Any, Callable, Iterable
 
 WORD = 1 << 64
 PORTS = {"phi": 3, "steer": 2, "send": 2, "store": 2}
 MEMORY = {"load", "store", "in", "out", "give", "take", "nop", "halt"}
-ALU = {
+# Wave number, instruction and port.
+Token = tuple[int, int, int]
+ALU: dict[str, Callable[[int, int], int]] = {
     "add": lambda a, b: a + b,
     "sub": lambda a, b: a - b,
     "mul": lambda a, b: a * b,
@@ -42,16 +45,20 @@ ALU = {
 }
 
 
-def places(text):
+def places(text: str) -> list[tuple[int, int]]:
     """The destinations in a list: each an instruction with a port."""
-    return [tuple(map(int, place.split("."))) for place in text.split()]
+    return [(int(i), int(port)) for i, port in (place.split(".") for place in text.split())]
 
 
 class Image:
     """Arrays' lengths and names, instructions by number, and of each block its pads and its exit."""
 
-    def __init__(self, text):
-        self.lengths, self.names, self.instrs, self.pads, self.exits = [], [], {}, {}, {}
+    def __init__(self, text: str):
+        self.lengths: list[int] = []
+        self.names: list[str] = []
+        self.instrs: dict[int, dict[str, Any]] = {}
+        self.pads: dict[int, dict[int, list[tuple[int, int]]]] = {}
+        self.exits: dict[int, list[str]] = {}
         block = 0
         for line in text.splitlines():
             parts = line.split()
@@ -69,7 +76,8 @@ class Image:
                 self.exits[block] = parts
         self.start = self.pads[1][0]
 
-    def add(self, line, block):
+    def add(self, line: str, block: int) -> None:
+        """An instruction by its line."""
         number, rest = line.split(":", 1)
         rest, _, lists = rest.partition("->")
         note = re.search(r"<(\S+), (\d+), (\S+)>\.(\d+)", rest)
@@ -87,26 +95,31 @@ class Image:
 class Run:
     """The state of a run: tokens on the way and at ports, requests, the chain, and memory."""
 
-    def __init__(self, image, words, elements, waves, budget):
+    def __init__(self, image: Image, words: Iterable[int], elements: int, waves: int, budget: int):
         self.image, self.words = image, list(words)
         self.elements, self.waves, self.budget = elements, waves, budget
         self.cells = [[0] * length for length in image.lengths]
-        self.way = {(0, i, p): 0 for i, p in image.start}
-        self.held, self.waiting, self.issued = {}, {}, set()
-        self.wave, self.last, self.fault = 1, None, None
-        self.printed, self.fired, self.cycles = [], 0, 0
+        self.way: dict[Token, int] = {(0, i, p): 0 for i, p in image.start}
+        self.held: dict[Token, int] = {}
+        self.waiting: dict[tuple[int, int], list[int]] = {}
+        self.issued: set[tuple[int, int]] = set()
+        self.wave, self.fired, self.cycles = 1, 0, 0
+        self.last: int | None = None
+        self.fault: str | None = None
+        self.printed: list[int] = []
 
-    # The ports of the token's instance are complete with it.
-    def completes(self, token):
+    def completes(self, token: Token) -> bool:
+        """Whether the ports of the token's instance are complete with it."""
         wave, i, port = token
         return all(p == port or (wave, i, p) in self.held for p in range(self.image.instrs[i]["ports"]))
 
-    def send(self, dests, wave, value):
+    def send(self, dests: list[tuple[int, int]], wave: int, value: int) -> None:
+        """Puts a token on the way to each destination."""
         for i, port in dests:
             self.way[wave, i, port] = value
 
-    # The token goes to its port, and its instance fires if it is complete.
-    def match(self, token):
+    def match(self, token: Token) -> None:
+        """The token goes to its port, and its instance fires if it is complete."""
         wave, i, _ = token
         fires = self.completes(token)
         self.held[token] = self.way.pop(token)
@@ -114,7 +127,8 @@ class Run:
             self.fired += 1
             self.fire(wave, i, [self.held[wave, i, p] for p in range(self.image.instrs[i]["ports"])])
 
-    def fire(self, wave, i, values):
+    def fire(self, wave: int, i: int, values: list[int]) -> None:
+        """An instance fires: its result is sent, or its request waits."""
         instr = self.image.instrs[i]
         op, lists = instr["op"], instr["lists"]
         if op in MEMORY:
@@ -134,29 +148,33 @@ class Run:
         else:
             self.send(lists[0], wave + (op == "advance"), values[0])
 
-    def note(self, i):
-        return self.image.instrs[i]["note"]
+    def note(self, i: int) -> tuple[str, int, str, int]:
+        """An operation's predecessor, number, successor and ripple number."""
+        found: tuple[str, int, str, int] = self.image.instrs[i]["note"]
+        return found
 
-    # The operation comes right behind the one that was passed last in the current wave.
-    def is_next(self, i):
+    def is_next(self, i: int) -> bool:
+        """Whether the operation comes right behind the one that was passed last in the current wave."""
         if self.last is None:
             return self.note(i)[0] == "."
         _, number, successor, _ = self.note(self.last)
         return successor == str(self.note(i)[1]) or self.note(i)[0] == str(number)
 
-    def is_past(self, i, values):
+    def is_past(self, i: int, values: list[int]) -> bool:
+        """Whether a load or store is of an index past the end of its array."""
         instr = self.image.instrs[i]
         return instr["op"] in ("load", "store") and values[0] >= self.image.lengths[instr["with"] - 1]
 
-    def may_issue(self, wave, i):
+    def may_issue(self, wave: int, i: int) -> bool:
+        """Whether a request may be issued."""
         position = self.note(self.last)[1] if self.last else 0
         early = self.image.instrs[i]["op"] == "load" and self.note(i)[3] <= position
         return wave == self.wave and (
             self.is_next(i) or early and not self.is_past(i, self.waiting[wave, i])
         )
 
-    # The request's effect on memory, and its answer.
-    def effect(self, i, values):
+    def effect(self, i: int, values: list[int]) -> int:
+        """The request's effect on memory, and its answer."""
         instr = self.image.instrs[i]
         op, number = instr["op"], (instr["with"] or 0) - 1
         if op == "load":
@@ -169,7 +187,8 @@ class Run:
             self.printed.append(values[0])
         return 0
 
-    def issue(self, wave, i):
+    def issue(self, wave: int, i: int) -> None:
+        """A request is issued, and the chain passes what it can."""
         values = self.waiting[wave, i]
         if self.is_past(i, values):
             self.fault = self.image.names[self.image.instrs[i]["with"] - 1]
@@ -183,8 +202,8 @@ class Run:
             if self.note(self.last)[2] == ".":
                 self.wave, self.last = self.wave + 1, None
 
-    # One cycle; whether anything happened.
-    def cycle(self):
+    def cycle(self) -> bool:
+        """One cycle; whether anything happened."""
         old, happened = set(self.way), False
         while not self.fault and (ready := [r for r in self.waiting if self.may_issue(*r)]):
             self.issue(*min(ready, key=lambda request: self.note(request[1])[1]))
@@ -206,19 +225,21 @@ class Run:
                 happened = True
         return happened
 
-    def run(self):
+    def run(self) -> "Run":
+        """Cycle after cycle, until nothing happens."""
         while not self.fault and self.cycle():
             self.cycles += 1
         self.cycles += 1 if self.fault else 0
         return self
 
-    def answer(self):
+    def answer(self) -> str:
+        """What `wsc grid --stats` answers."""
         end = f"fault {self.fault}" if self.fault else "budget" if self.way else "halt"
         stats = [] if self.fault else [f"firings {self.fired}", f"cycles {self.cycles}"]
         return "".join(f"{line}\n" for line in [*self.printed, end, *stats])
 
 
-def run(text, elements, waves, budget=100000):
+def run(text: str, elements: int, waves: int, budget: int = 100000) -> Run:
     """What a run of assembly with its input comes to."""
     text, _, words = text.partition("%input")
     return Run(Image(text), map(int, words.split()), elements, waves, budget).run()
