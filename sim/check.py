@@ -187,6 +187,12 @@ def files(program: str, folder: pathlib.Path, job: str) -> list[str]:
     lines = [do(sim, *wsc, job, "--machine", "four-clusters", "--stats", *more).stdout
              for more in ((), ("--placement-policy", "file", "--placement-file", str(folder / "lie")))]
     want("other cycles with the same places", lines[0] == lines[1] and "cycles" in lines[0])
+    told = do(sim, *wsc, job, job, "--threads", "2", "--verify", "--trace", "each", "--svg", "four")
+    want("four threads: " + told.stderr, "4 traces, a thread each" in told.stdout)
+    want("a trace of four", do(program, "replay", stdin=(folder / "each.4").read_text()).returncode == 0)
+    told = do(sim, *wsc, job, "--buffer-queues", "4", "--verify")
+    want("partial store queues: " + told.stderr, "wsc replay isn't asked" in told.stdout)
+    want("a trace of late stores", do(sim, *wsc, job, "--buffer-queues", "4", "--trace", "none").returncode == 2)
     want("a machine that isn't there", do(sim, *wsc, job, "--machine", "none").returncode == 2)
     want("a parameter out of range", do(sim, *wsc, job, "--waves", "0").returncode == 2)
     options = "--verify --waves {1,2} --clusters {1,4}"

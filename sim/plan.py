@@ -3,12 +3,12 @@
 
 `plan` prints one command a line: each job with each line of sim.py's options that the --do give, where {a,b} stands
 for a and for b. As with view/sweep.py each command stands alone and writes a result file of its own, and the lines
-run in any order, anywhere: by `xargs -d '\\n' -n 1 -P 4 sh -c`, `parallel`, or an array of Slurm.
+run in any order, anywhere: by `xargs -d '\\n' -n 1 -P 4 sh -c`, `parallel`, or an array of Slurm. `one` is such a
+command; `run` makes all that have no result one after the other in one process, which is how PyPy gets fast.
 
-`one` is such a command; `run` makes all that have no result, one after the other in one process, which is how PyPy gets
-fast. `collect` makes a table of all results, says what is to be looked at, and draws a panel for
-each job: --y over --x, a line for each value of the options --lines, of those results for which --where holds. A
-column that isn't there is written so: an option that no line gives has the machine's value, which --where can't see.
+`collect` makes a table of all results, says what is to be looked at, and draws a panel for each job: --y over --x, a
+line for each value of the options --lines, of those results for which --where holds; an option that a line doesn't
+give is in no column. `compare` prints a row for each job: --y of the line --base, and of each other line its part of it.
 """
 
 from __future__ import annotations
@@ -124,10 +124,28 @@ def collect(line: argparse.Namespace) -> int:
     return 3 if found else 0
 
 
+def compare(line: argparse.Namespace) -> int:
+    """Prints a table: a row for each job, with --y of the line --base, and of each other line its part of that."""
+    rows = [row for row in results(line.dir) if row["status"] == 0]
+    told = dict.fromkeys(row["line"] for row in rows)
+    base = shlex.join(shlex.split(line.base))
+    others = [it for it in told if it != base and any(word in it for word in line.only or [""])]
+    value = {(row["job"], row["line"]): float(row[line.y]) for row in rows}
+    names = [" ".join(word.lstrip("-") for word in shlex.split(it) if word != "--verify") for it in others]
+    made = [["job", line.y, *names], ["---"] * (len(names) + 2)]
+    for job in dict.fromkeys(row["job"] for row in rows):
+        if (job, base) in value:
+            first = value[job, base]
+            parts = [value.get((job, it)) for it in others]
+            made.append([job, f"{first:,.0f}", *("" if part is None else f"{part / first:.2f}" for part in parts)])
+    print("\n".join("| " + " | ".join(cells) + " |" for cells in made))
+    return 0
+
+
 def lines() -> argparse.ArgumentParser:
     """The line of the program."""
     ask = Line(__doc__)
-    kinds = ask.add_subparsers(required=True, metavar="plan|one|run|collect")
+    kinds = ask.add_subparsers(required=True, metavar="plan|one|run|collect|compare")
     it = kinds.add_parser("plan", help="prints the lines")
     it.add_argument("--jobs", metavar="FILE", nargs="+", required=True)
     it.add_argument("--do", metavar="OPTIONS", action="append", required=True,
@@ -156,6 +174,12 @@ def lines() -> argparse.ArgumentParser:
     it.add_argument("--title", metavar="TEXT", default="")
     it.add_argument("--plan", metavar="FILE", help="the plan, to tell which of its lines have no result")
     it.set_defaults(act=collect)
+    it = kinds.add_parser("compare", help="prints a table of results beside those of one line")
+    it.add_argument("dir", metavar="DIR")
+    it.add_argument("--base", metavar="OPTIONS", required=True, help="the line that the others are compared with")
+    it.add_argument("--only", metavar="WORD", action="append", help="only lines with such a word")
+    it.add_argument("--y", metavar="COLUMN", default="cycles", help="is compared (cycles)")
+    it.set_defaults(act=compare)
     return ask
 
 
