@@ -36,6 +36,7 @@ from sweep import lines_of, name_of, options_of
 from figures import Figures
 from model import run_of
 from parameters import machine_of
+from shape import CLASSES
 from sim import ask_for, assemblies, parameters_of
 from verify import verified
 
@@ -64,6 +65,7 @@ def one(line: argparse.Namespace) -> int:
     wrong = verified(line.wsc, run) if told.verify else []
     facts = {name.replace(" ", "-"): value for name, value in figures.facts().items()}
     facts |= {f"path-{part.replace(' ', '-')}": cycles for part, cycles in figures.path.parts.items()}
+    facts |= {f"operands-{name}": many for name, many in zip(CLASSES, figures.operands)}
     printed = [word for chain in run.chains for word in chain.printed]
     words = "\n".join(map(str, printed))
     result = {
