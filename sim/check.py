@@ -201,6 +201,9 @@ def files(program: str, folder: pathlib.Path, job: str) -> list[str]:
     told = do(sim, *wsc, job, "--buffer-queues", "4", "--verify")
     want("partial store queues: " + told.stderr, "wsc replay isn't asked" in told.stdout)
     want("a trace of late stores", do(sim, *wsc, job, "--buffer-queues", "4", "--trace", "none").returncode == 2)
+    if pypy := shutil.which("pypy3"):
+        told = do(pypy, sim, *wsc, job, "--machine", "four-clusters", "--stats")
+        want("PyPy: " + told.stderr, told.stdout == lines[0])
     want("a machine that isn't there", do(sim, *wsc, job, "--machine", "none").returncode == 2)
     want("a parameter out of range", do(sim, *wsc, job, "--waves", "0").returncode == 2)
     options = "--verify --waves {1,2} --clusters {1,4}"
