@@ -31,12 +31,14 @@ from typing import Any
 import near
 
 near.reach()
+import browser
 from image import Fault
 from grid import recorded
 from line import Line, given, whole
 from program import assembly_of, call
 from by_hand import by_hand
 from figures import Figures
+from in_browser import tried
 from judge import judged
 from model import run_of
 from obeyed import broken, timed
@@ -136,6 +138,8 @@ def own_model(program: str, folder: pathlib.Path, jobs: list[str]) -> list[str]:
         holds, said = judged(program, made)
         if not holds or "cycles by its comments" not in said or made.count("\nmatch") != trace.count("\nmatch"):
             found.append(f"model.c, {job}: {said}")
+        if job.endswith("sum.job") and said not in (near.ROOT / "docs" / "TIMING.md").read_text():
+            found.append(f"docs/TIMING.md has another answer than {said}")
         lacks, said = judged(program, re.sub(r"(%trace\n)match.*\n", r"\1", trace))
         if lacks or "a token that isn't on its way" not in said and "ends as open" not in said:
             found.append(f"a trace without its first event, {job}: {said}")
@@ -184,9 +188,22 @@ def files(program: str, folder: pathlib.Path, job: str) -> list[str]:
     shown = json.loads(re.findall(r'id="data">(.*)</script>', (folder / "page.html").read_text())[0])
     counts = [int(many) for many in re.findall(r"(\d+) (?:firings|memory operations)", told.stdout)]
     want("the page's events", len(shown["events"]) == sum(counts) and shown["bounds"][-1][0] == shown["all"])
+    if browser.found():
+        found += tried(folder / "page.html")
+    else:
+        print("there is no Chromium: the page of a run isn't tried")
     lines = [do(sim, *wsc, job, "--machine", "four-clusters", "--stats", *more).stdout
              for more in ((), ("--placement-policy", "file", "--placement-file", str(folder / "lie")))]
     want("other cycles with the same places", lines[0] == lines[1] and "cycles" in lines[0])
+    told = do(sim, *wsc, job, job, "--threads", "2", "--verify", "--trace", "each", "--svg", "four")
+    want("four threads: " + told.stderr, "4 traces, a thread each" in told.stdout)
+    want("a trace of four", do(program, "replay", stdin=(folder / "each.4").read_text()).returncode == 0)
+    told = do(sim, *wsc, job, "--buffer-queues", "4", "--verify")
+    want("partial store queues: " + told.stderr, "wsc replay isn't asked" in told.stdout)
+    want("a trace of late stores", do(sim, *wsc, job, "--buffer-queues", "4", "--trace", "none").returncode == 2)
+    if pypy := shutil.which("pypy3"):
+        told = do(pypy, sim, *wsc, job, "--machine", "four-clusters", "--stats")
+        want("PyPy: " + told.stderr, told.stdout == lines[0])
     want("a machine that isn't there", do(sim, *wsc, job, "--machine", "none").returncode == 2)
     want("a parameter out of range", do(sim, *wsc, job, "--waves", "0").returncode == 2)
     options = "--verify --waves {1,2} --clusters {1,4}"
@@ -198,7 +215,10 @@ def files(program: str, folder: pathlib.Path, job: str) -> list[str]:
               "clusters")
     want("results of a plan: " + done.stderr, done.stderr == "4 results, 0 to be looked at\n")
     xml.dom.minidom.parse(str(folder / "sweep"))
-    want("docs/TIMING.md has other parameters", parameters() in (near.ROOT / "docs" / "TIMING.md").read_text())
+    page = re.sub(r"^    ", "", (near.ROOT / "docs" / "TIMING.md").read_text(), flags=re.M)
+    want("docs/TIMING.md has other parameters", parameters() in page)
+    told = do(sim, *wsc, str(near.ROOT / "examples" / "matrix.job"), "--machine", "one-cluster", "--verify")
+    want("docs/TIMING.md has another first run", told.stdout in page)
     return found
 
 

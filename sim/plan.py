@@ -3,12 +3,12 @@
 
 `plan` prints one command a line: each job with each line of sim.py's options that the --do give, where {a,b} stands
 for a and for b. As with view/sweep.py each command stands alone and writes a result file of its own, and the lines
-run in any order, anywhere: by `xargs -d '\\n' -n 1 -P 4 sh -c`, `parallel`, or an array of Slurm.
+run in any order, anywhere: by `xargs -d '\\n' -n 1 -P 4 sh -c`, `parallel`, or an array of Slurm. `one` is such a
+command; `run` makes all that have no result one after the other in one process, which is how PyPy gets fast.
 
-`one` is such a command; `run` makes all that have no result, one after the other in one process, which is how PyPy gets
-fast. `collect` makes a table of all results, says what is to be looked at, and draws a panel for
-each job: --y over --x, a line for each value of the options --lines, of those results for which --where holds. A
-column that isn't there is written so: an option that no line gives has the machine's value, which --where can't see.
+`collect` makes a table of all results, says what is to be looked at, and draws a panel for each job: --y over --x, a
+line for each value of the options --lines, of those results for which --where holds; an option that a line doesn't
+give is in no column. `compare` prints a row for each job: --y of the line --base, and of each other line its part of it.
 """
 
 from __future__ import annotations
@@ -18,6 +18,7 @@ import csv
 import hashlib
 import itertools
 import json
+import math
 import os
 import pathlib
 import shlex
@@ -29,13 +30,15 @@ from typing import Any
 import near
 
 near.reach()
-from gather import FIXED, REST, columns, faults, picture, results
+from gather import FIXED, REST, by_number, columns, faults, picture, results
 from image import Fault
 from line import Line, add_program, whole
+from plot import COLOURS, GRID, INK, SOFT, Sheet
 from sweep import lines_of, name_of, options_of
 from figures import Figures
 from model import run_of
 from parameters import machine_of
+from shape import CLASSES
 from sim import ask_for, assemblies, parameters_of
 from verify import verified
 
@@ -64,6 +67,7 @@ def one(line: argparse.Namespace) -> int:
     wrong = verified(line.wsc, run) if told.verify else []
     facts = {name.replace(" ", "-"): value for name, value in figures.facts().items()}
     facts |= {f"path-{part.replace(' ', '-')}": cycles for part, cycles in figures.path.parts.items()}
+    facts |= {f"operands-{name}": many for name, many in zip(CLASSES, figures.operands)}
     printed = [word for chain in run.chains for word in chain.printed]
     words = "\n".join(map(str, printed))
     result = {
@@ -124,10 +128,54 @@ def collect(line: argparse.Namespace) -> int:
     return 3 if found else 0
 
 
+def compare(line: argparse.Namespace) -> int:
+    """Prints a table: a row for each job, with --y of the line --base, and of each other line its part of that."""
+    rows = [row for row in results(line.dir) if row["status"] == 0]
+    told = sorted({row["line"] for row in rows}, key=by_number)
+    base = shlex.join(shlex.split(line.base))
+    others = [it for it in told if it != base and any(word in it for word in line.only or [""])]
+    value = {(row["job"], row["line"]): float(row[line.y]) for row in rows}
+    names = [" ".join(word.lstrip("-") for word in shlex.split(it) if word != "--verify") for it in others]
+    made = [["job", line.y, *names], ["---"] * (len(names) + 2)]
+    dots: dict[str, dict[str, float]] = {name: {} for name in names}
+    for job in dict.fromkeys(row["job"] for row in rows):
+        if (first := value.get((job, base))) is not None:
+            for name, it in zip(names, others):
+                if (job, it) in value:
+                    dots[name][job] = value[job, it] / first
+            made.append([job, f"{first:,.0f}", *(f"{dots[name][job]:.2f}" if job in dots[name] else "" for name in names)])
+    print("\n".join("| " + " | ".join(cells) + " |" for cells in made))
+    if line.svg:
+        pathlib.Path(line.svg).write_text(dotted(dots, line.title or f"{line.y} beside {line.base}", line.y))
+    return 0
+
+
+def dotted(dots: dict[str, dict[str, float]], title: str, y: str) -> str:
+    """A row for each line of options, with a dot for each job: its part of the base, by powers of two."""
+    dots = {name: those for name, those in dots.items() if those}
+    every = [part for those in dots.values() for part in those.values()]
+    low, high = math.floor(math.log2(min(every))), math.ceil(math.log2(max(every)))
+    left, wide, tall = 330, 560, 26
+    sheet = Sheet(left + wide + 220, 110 + tall * len(dots), title, (
+        f"{y} as a part of those of the first line's machine, a dot for each job; least and most are named",))
+    for power in range(low, high + 1):
+        at = left + wide * (power - low) / (high - low or 1)
+        sheet.line(at, 80, at, 80 + tall * len(dots), SOFT if power == 0 else GRID)
+        sheet.text(at, 98 + tall * len(dots), f"{2.0 ** power:g}", 11, SOFT, "middle")
+    for row, (name, those) in enumerate(dots.items()):
+        middle = 80 + tall * (row + 0.5)
+        sheet.text(left - 14, middle + 4, name, 12, INK, "end")
+        for part in those.values():
+            sheet.dot(left + wide * (math.log2(part) - low) / (high - low or 1), middle, COLOURS[0], 4.0, 0.5)
+        least, most = (pick(those, key=lambda job: those[job]) for pick in (min, max))
+        sheet.text(left + wide + 14, middle + 4, f"{least} {those[least]:.2f}, {most} {those[most]:.2f}", 11, SOFT)
+    return str(sheet.svg())
+
+
 def lines() -> argparse.ArgumentParser:
     """The line of the program."""
     ask = Line(__doc__)
-    kinds = ask.add_subparsers(required=True, metavar="plan|one|run|collect")
+    kinds = ask.add_subparsers(required=True, metavar="plan|one|run|collect|compare")
     it = kinds.add_parser("plan", help="prints the lines")
     it.add_argument("--jobs", metavar="FILE", nargs="+", required=True)
     it.add_argument("--do", metavar="OPTIONS", action="append", required=True,
@@ -156,6 +204,14 @@ def lines() -> argparse.ArgumentParser:
     it.add_argument("--title", metavar="TEXT", default="")
     it.add_argument("--plan", metavar="FILE", help="the plan, to tell which of its lines have no result")
     it.set_defaults(act=collect)
+    it = kinds.add_parser("compare", help="prints a table of results beside those of one line")
+    it.add_argument("dir", metavar="DIR")
+    it.add_argument("--base", metavar="OPTIONS", required=True, help="the line that the others are compared with")
+    it.add_argument("--only", metavar="WORD", action="append", help="only lines with such a word")
+    it.add_argument("--y", metavar="COLUMN", default="cycles", help="is compared (cycles)")
+    it.add_argument("--svg", metavar="PICTURE", help="a file for a picture")
+    it.add_argument("--title", metavar="TEXT", default="")
+    it.set_defaults(act=compare)
     return ask
 
 

@@ -136,11 +136,12 @@ def write_all(line: argparse.Namespace, figures: Figures) -> None:
     if line.trace and not has_trace(run):
         raise Fault("with partial store queues the run's events are none of the core's: it has no trace")
     one = len(run.chains) == 1
-    for number, program in enumerate(run.flat.programs if line.trace else ()):
-        write(line.trace if one else f"{line.trace}.{program.number + 1}", trace_of(run, number))
     if line.places and not one:
         raise Fault("--places is for one thread")
-    write(line.places, places_of(run.flat.programs[0].image, run.flat.place))
+    for number in range(len(run.chains)) if line.trace else ():
+        write(line.trace if one else f"{line.trace}.{number + 1}", trace_of(run, number))
+    if line.places:
+        write(line.places, places_of(run.flat.programs[0].image, run.flat.place))
 
 
 def main() -> int:

@@ -9,7 +9,6 @@ With --verify the run is verified too.
 from __future__ import annotations
 
 import os
-import pathlib
 import subprocess
 import sys
 import tempfile
