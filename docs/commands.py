@@ -9,7 +9,8 @@ What a user meets is copied to a folder, with the program, and `./install` puts 
   a line is a command, with what stands behind it up to the line END where it ends with <<'END', and what it prints
   stands below; a line `..` stands for any lines. All sessions are one shell's.
 - The commands in the blocks of the other pages are run at the top of the copy, and have to end with status 0, or with 2
-  where they show a refusal. Of a plan the first two lines are run. What needs other machines is left out.
+  where they show a refusal, within ten minutes. Of a plan the first two lines are run. What needs other machines, and
+  what serves until it is ended, is left out.
 """
 
 import os
@@ -25,9 +26,9 @@ PROGRAM = pathlib.Path(sys.argv[1] if len(sys.argv) > 1 else ROOT / "crates" / "
 PARTS = ("wsc", "install", "release", "door", "view", "why", "docs/wsc.1", "docs/examples.py", "tests", "examples", "bench", "crates.txt")
 OTHERS = ("README.md", "docs/ASSEMBLY.md", "docs/REFUSALS.md", "docs/EXPERIMENTS.md", "view/README.md")
 BLOCK = re.compile(r"^```\n(\$ .*?)^```$", re.S | re.M)
-# Lines of the other pages that are commands, and words of those that this machine may not have, or that take hours.
+# Lines of the other pages that are commands, and words of those that this machine may not have, or that go on for long.
 BEGINS = re.compile(r"(?:    )?((?:\./wsc|\./install|\(?wsc|view/|why/|xargs|taskset|python3 -c) ?.*)")
-ABSENT = ("parallel", "array.sh", ".ci/run")
+ABSENT = ("parallel", "array.sh", ".ci/run", "serve.py")
 Session = list[tuple[str, list[str]]]
 
 
@@ -96,8 +97,8 @@ def called(page: pathlib.Path, folder: pathlib.Path, env: dict[str, str]) -> tup
     """The number of commands in a page's blocks, and what is wrong with them."""
     asked, wrong = commands(page), []
     for command in asked:
-        done = subprocess.run(["bash", "-o", "pipefail", "-c", command], cwd=folder, env=env, capture_output=True, text=True,
-                              check=False)
+        done = subprocess.run(["bash", "-o", "pipefail", "-c", command], cwd=folder, env=env, stdin=subprocess.DEVNULL,
+                              capture_output=True, text=True, check=False, timeout=600)
         if done.returncode and not (done.returncode == 2 and "refused" in done.stdout):
             wrong.append(f"{page.relative_to(ROOT)}: {command}\nends with status {done.returncode}: {done.stderr[-500:]}")
         plan = folder / "plan.txt"

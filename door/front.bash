@@ -33,6 +33,7 @@ version() {
     else
         commit=$(commit_of)
         proof="not built yet"
+        [ -w "$top/crates/wsc" ] || in_cache || true
         ! is_current "$kept/wsc" || proof="built without proof"
         ! is_current "$proved" || proof=proved
     fi
