@@ -1,7 +1,7 @@
 #!/usr/bin/env python3
 """Makes the pictures of pages that stand in the docs: `docs/pictures/make.py [NAME ..]`. It needs Chromium.
 
-Each is a page of the viewer at an event, as PNG of at most 256 colours. The plots, which are SVG, are made by the
+Each is a page of the viewer, or that of serve.py, at an event, as PNG of at most 256 colours. The plots, which are SVG, are made by the
 lines that EXPERIMENTS.md tells.
 """
 
@@ -16,6 +16,7 @@ HERE = pathlib.Path(__file__).resolve().parent
 ROOT = HERE.parent.parent
 sys.path.insert(0, str(ROOT / "view"))
 
+import try_serve  # noqa: E402
 from browser import Browser  # noqa: E402
 from line import whole  # noqa: E402
 from program import traced, usual  # noqa: E402
@@ -30,6 +31,8 @@ PICTURES: dict[str, tuple[str, Way, str, int, int]] = {
     "grid": (SUM, (4, 2), "event=43&wave=2", 1000, 620),
     "calls": (CALLS, "trace", "event=80&wave=4", 1000, 600),
 }
+# And of the page of serve.py what its address tells, and its size.
+SERVED = {"lesson": ("example=sum&A=trace&B=random-1&by=event&at=60", 1366, 768)}
 
 
 def rows_of(png: bytes) -> tuple[list[bytes], int]:
@@ -92,16 +95,30 @@ def small(png: bytes) -> bytes:
             + part(b"IDAT", zlib.compress(data, 9)) + part(b"IEND", b""))
 
 
+def of_page(name: str, program: str) -> bytes:
+    """The picture of a page of the viewer."""
+    job, way, place, width, height = PICTURES[name]
+    with tempfile.TemporaryDirectory() as folder, Browser(width, height) as browser:
+        file = pathlib.Path(folder) / f"{name}.html"
+        title = "calls" if job is CALLS else "sum"
+        file.write_text(page(traced(program, job), title, 20000, job, program, way)[0])
+        browser.open(f"{file}#{place}")
+        return browser.picture()
+
+
+def of_served(name: str, program: str) -> bytes:
+    """The picture of the page of serve.py, without the time that its answer took."""
+    place, width, height = SERVED[name]
+    with try_serve.Served(program) as served, Browser(width, height) as browser:
+        browser.visit(f"{served.address}#{place}", try_serve.SHOWN)
+        browser.value("state('')")
+        return browser.picture()
+
+
 def main() -> int:
-    program = usual()
-    for name in sys.argv[1:] or PICTURES:
-        job, way, place, width, height = PICTURES[name]
-        with tempfile.TemporaryDirectory() as folder, Browser(width, height) as browser:
-            file = pathlib.Path(folder) / f"{name}.html"
-            title = "calls" if job is CALLS else "sum"
-            file.write_text(page(traced(program, job), title, 20000, job, program, way)[0])
-            browser.open(f"{file}#{place}")
-            (HERE / f"{name}.png").write_bytes(small(browser.picture()))
+    for name in sys.argv[1:] or [*PICTURES, *SERVED]:
+        made = of_page(name, usual()) if name in PICTURES else of_served(name, usual())
+        (HERE / f"{name}.png").write_bytes(small(made))
     return 0
 
 
