@@ -3,7 +3,7 @@ use Rattle.store_buf.specs.Requests.{entry_of}
 use Rattle.store_buf.specs.Finding.{place_in}
 use Rattle.store_buf.proofs.Once.{own}
 use Rattle.store_buf.specs.Contents.{Content, FailedSo, Idle}
-use Rattle.store_buf.proofs.buffer.Buffer.facts.Goals as goal
+use Rattle.store_buf.proofs.buffer.BufferMemoryOrder.facts.Goals as goal
 
 pub returns-clause-idle : goal.returns-clause-idle
 returns-clause-idle g c = subst (λ (x : Content). x.failed ≡ None → x.starved ≡ false → Idle g.J.Job.image x)
