@@ -189,17 +189,19 @@ class BlockPlan:
 
         def sweep(above: bool, sort: bool) -> None:
             for row in self.rows if above else reversed(self.rows):
-                if sort:
-                    row.sort(key=lambda it: mean(it, above))
                 wants = [mean(it, above) for it in row]
+                if sort:
+                    places = sorted(range(len(row)), key=wants.__getitem__)
+                    row[:], wants = [row[k] for k in places], [wants[k] for k in places]
                 for item, x in zip(row, settle(wants, [it.width + GAP for it in row])):
                     item.x = x
 
-        best, kept = self.crossings() + 1, self.kept()
+        best, kept = 0, self.kept()
         for turn in range(20 if len(self.links) < MANY else 6):
             sweep(turn % 2 == 0, True)
-            if turn == 0 or self.crossings() < best:
-                best, kept = self.crossings(), self.kept()
+            found = self.crossings()
+            if turn == 0 or found < best:
+                best, kept = found, self.kept()
         self.rows = kept[0]
         for item, x in kept[1].items():
             item.x = x
