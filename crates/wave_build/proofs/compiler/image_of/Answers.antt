@@ -16,8 +16,8 @@ pub generate-requires-clause-arms : goal.generate-requires-clause-arms
 generate-requires-clause-arms c = arms_alone (ast.parts c.args.accepted.now.program.items.items)
     (view.graph c.in_ok-graph.graph) c.in_ok-graph.ensures
 
-pub annotate-requires-clause-fit : goal.annotate-requires-clause-fit
-annotate-requires-clause-fit c = c.open_drafts_fit.ensures (image.draft c.in_ok-draft.draft)
+pub annotate-requires : goal.annotate-requires
+annotate-requires c = c.open_drafts_fit.ensures (image.draft c.in_ok-draft.draft)
     c.in_ok-draft.ensures.open_to_notes
 
 pub returns-clause-formed : goal.returns-clause-formed
