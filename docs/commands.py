@@ -24,7 +24,7 @@ import tempfile
 ROOT = pathlib.Path(__file__).resolve().parent.parent
 PROGRAM = pathlib.Path(sys.argv[1] if len(sys.argv) > 1 else ROOT / "crates" / "wsc" / "out" / "wsc").resolve()
 PARTS = ("wsc", "install", "release", "door", "view", "why", "docs/wsc.1", "docs/examples.py", "tests", "examples", "bench", "crates.txt")
-OTHERS = ("README.md", "docs/ASSEMBLY.md", "docs/REFUSALS.md", "docs/EXPERIMENTS.md", "view/README.md")
+OTHERS = ("README.md", "docs/ASSEMBLY.md", "docs/LIMITS.md", "docs/EXPERIMENTS.md", "view/README.md")
 BLOCK = re.compile(r"^```\n(\$ .*?)^```$", re.S | re.M)
 # Lines of the other pages that are commands, and words of those that this machine may not have, or that go on for long.
 BEGINS = re.compile(r"(?:    )?((?:\./wsc|\./install|\(?wsc|view/|why/|xargs|taskset|python3 -c) ?.*)")
