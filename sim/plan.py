@@ -43,6 +43,13 @@ from sim import ask_for, assemblies, parameters_of
 from verify import verified
 
 
+def processors() -> int:
+    """How many processors this process may use; PyPy knows those of the machine alone."""
+    if hasattr(os, "sched_getaffinity"):
+        return len(os.sched_getaffinity(0))
+    return os.cpu_count() or 1
+
+
 def plan(line: argparse.Namespace) -> int:
     """Prints the commands."""
     seen = set()
@@ -76,7 +83,7 @@ def one(line: argparse.Namespace) -> int:
         "status": 3 if wrong else 0, "end": "; ".join(wrong) or figures.end,
         "wall": round(time.perf_counter() - clock, 6), "numbers": facts, "words": len(printed),
         "digest": hashlib.sha256(words.encode()).hexdigest()[:16], "host": socket.gethostname(),
-        "processors": len(os.sched_getaffinity(0)), "begun": begun, "line": line.words,
+        "processors": processors(), "begun": begun, "line": line.words,
     }
     out = pathlib.Path(line.out)
     out.parent.mkdir(parents=True, exist_ok=True)
