@@ -49,6 +49,10 @@ SOUND = {
     "ripple": "memory operation {0}: its ripple number is wrong beside the writing operation {1} "
     "(one number twice: that of a writing operation is its own sequence number)",
     "shape": "block {0}: its instructions, pads or exit stand where they may not",
+    "arm": "block {0}: its branch leads neither to two blocks of the wave that no other edge enters, nor to two first "
+    "blocks of waves, and its paths need a no-op: branch to blocks of their own that go on there",
+    "trigger": "block {0} needs a no-op, and nothing in it could trigger one: give it a `merge` of the pulse",
+    "full": "instruction {0}: a list has to name a no-op too, and has 8 destinations: spread them by a `merge`",
 }
 JOBS = ("run", "plain", "format", "compile", "multi")
 WITH_INPUT = "(wsc compile < JOB; sed -n '/^%input/,$p' JOB)"
@@ -166,14 +170,19 @@ def of_trace(text, lines, number, command):
 
 
 def of_rule(text, lines, rule, words):
-    """A rule that an image breaks, with the lines of what its numbers name."""
+    """A rule that an image breaks, with the names and the lines of what its numbers name."""
+    if rule == "many":
+        return ["there is no room for the no-ops: an image has 4,194,304 instructions at most"]
     numbers = [int(word) for word in words]
-    out = [SOUND[rule].format(*numbers)]
     try:
         image = read(text)
     except Fault:
-        return out
-    items = image.blocks if rule in ("pending", "shape") else image.instrs
-    for number in dict.fromkeys(numbers[:1] if rule == "port" else numbers):
+        return [SOUND[rule].format(*numbers)]
+    items = image.blocks if rule in ("pending", "shape", "arm", "trigger") else image.instrs
+    counted = numbers[:1] if rule == "port" else numbers
+    names = [items[n].name if 0 < n < len(items) else None for n in counted]
+    called = [f"{n} ({name})" if name else n for n, name in zip(counted, names)]
+    out = [SOUND[rule].format(*called, *numbers[len(called) :])]
+    for number in dict.fromkeys(counted):
         out += shown(lines, items[number].line) if 0 < number < len(items) else []
     return out
