@@ -3,9 +3,10 @@
 
     tests/allocations.py [PROGRAM]     at the top of the repository, over the program that ./prove builds
 
-A call answers as it does with ample memory, or nothing, with status 7; what it has given to port 1 by then
-is a front of what it gives otherwise. A small library for that, made by cc, stands before malloc. The gate
-doesn't run this.
+Counted are the calls of malloc and of realloc together, from 1 on; each number is refused once, until 32 in a
+row change nothing. A call answers as it does with ample memory, or nothing, with status 7; what it has given to
+port 1 by then is a front of what it gives otherwise. A small library for that, made by cc, stands before malloc.
+The gate doesn't run this.
 """
 
 import os
@@ -13,11 +14,12 @@ import pathlib
 import subprocess
 import sys
 import tempfile
+from concurrent.futures import ThreadPoolExecutor
 
 ROOT = pathlib.Path(__file__).resolve().parent.parent
-PROGRAM = sys.argv[1] if len(sys.argv) > 1 else ROOT / "crates" / "wsc" / "out" / "wsc"
+PROGRAM = pathlib.Path(sys.argv[1] if len(sys.argv) > 1 else ROOT / "crates" / "wsc" / "out" / "wsc")
 NO_MEMORY = 7
-MOST = 600
+IN_A_ROW = 32
 
 SHIM = """
 #define _GNU_SOURCE
@@ -25,55 +27,120 @@ SHIM = """
 #include <stdatomic.h>
 #include <stdlib.h>
 static atomic_long calls;
+static int is_refused(void) {
+    static atomic_long refused = -1;
+    if (refused < 0) refused = atol(getenv("REFUSED"));
+    return atomic_fetch_add(&calls, 1) + 1 == refused;
+}
 void *malloc(size_t size) {
     static void *(*real)(size_t);
-    static long refused;
-    if (!real) { refused = atol(getenv("REFUSED")); real = dlsym(RTLD_NEXT, "malloc"); }
-    return atomic_fetch_add(&calls, 1) + 1 == refused ? 0 : real(size);
+    if (!real) real = dlsym(RTLD_NEXT, "malloc");
+    return is_refused() ? 0 : real(size);
+}
+void *realloc(void *old, size_t size) {
+    static void *(*real)(void *, size_t);
+    if (!real) real = dlsym(RTLD_NEXT, "realloc");
+    return is_refused() ? 0 : real(old, size);
 }
 """
 
-TRACE = "wavescalar 1\nwave 1\nblock 1\npad 0 1.0\n1: advance -> 2.0 4.0\n2: const 7 -> 3.0\n" \
-    "3: out <., 1, 2>.1\n4: halt <1, 2, .>.2\nstop\nend\n%input\n%trace\nmatch 0 1 0\nmatch 1 2 0\n"
-CALLS = [
-    (["run", "--workers", "2"], "proc main() { print 7; }"),
-    (
-        ["run", "--workers", "2"],
-        "proc dbl(x) { return x * 2; } proc main() { var a, b, k; k = 5; a = dbl(k); b = dbl(a); print a + b + k; }",
-    ),
-    (["run", "--workers", "2"], "proc main() { var x; take 1, 7; take 1, 8; give 2, x; print x; }"),
-    (["bench", "2", "--workers", "4"], ""),
-    (["replay"], TRACE),
-    (["multi", "--workers", "2"], "proc main() { take 1, 7; print 7; }\n%job\nproc main() { print 8; }"),
-    (["grid", "--stats"], TRACE.partition("%input")[0]),
-]
+SEVEN = "proc main() { print 7; }"
+DOUBLES = "proc dbl(x) { return x * 2; } proc main() { var a, b, k; k = 5; a = dbl(k); b = dbl(a); print a + b + k; }"
+PORTS = "proc main() { var x; take 1, 7; take 1, 8; give 2, x; print x; }"
+GIVES = "proc main() { var x; give 2, x; print x; give 2, x; print x; give 4, x; print x; take 2, 7; }"
+STORES = """wavescalar 1
+array a 2
+wave 1
+block 1
+pad 0 1.0
+1: advance -> 2.0 3.0
+2: in <., 1, ?>.1 -> 3.1
+3: steer -> 4.0 5.0 8.0 | 7.0 8.0
+if 2 2 3
+block 2
+4: const 0 -> 6.0
+5: const 5 -> 6.1
+6: store 1 <1, 2, 4>.2
+go 4
+block 3
+7: nop <1, 3, 4>.1
+go 4
+block 4
+8: merge -> 9.0 10.0 15.0
+9: const 0 -> 11.0
+10: const 1 -> 12.0
+11: load 1 <?, 4, 5>.2 -> 13.0
+12: load 1 <4, 5, 6>.2 -> 14.0
+13: out <5, 6, 7>.6
+14: out <6, 7, 8>.7
+15: halt <7, 8, .>.8
+stop
+end
+%input
+1
+"""
 
 
-def called(shim, words, text, refused):
+def told(words: list[str], text: str = "") -> str:
+    """What the program answers with ample memory."""
+    ran = subprocess.run([PROGRAM, *words], input=text.encode(), capture_output=True, check=False)
+    return ran.stdout.decode()
+
+
+def calls() -> list[tuple[list[str], str]]:
+    """The words and the text of each call."""
+    matrix = told(["gen", "2"])
+    return [
+        (["run", "--workers", "2"], SEVEN),
+        (["run", "--workers", "2"], DOUBLES),
+        (["run", "--workers", "2"], PORTS),
+        (["run", "--workers", "2"], GIVES),
+        (["run", "--workers", "2"], matrix),
+        (["bench", "2", "--workers", "4"], ""),
+        (["multi", "--workers", "2"], f"{PORTS}\n%job\n{SEVEN}"),
+        (["plain"], matrix),
+        (["format"], matrix),
+        (["compile"], matrix),
+        (["check"], STORES.partition("%input")[0]),
+        (["list"], STORES.partition("%input")[0]),
+        (["exec", "--stats", "--workers", "2"], STORES),
+        (["decouple", "--stats"], STORES),
+        (["grid", "--stats"], STORES),
+        (["trace"], STORES),
+        (["replay"], told(["trace"], STORES)),
+    ]
+
+
+Answer = tuple[int, bytes, bytes]
+
+
+def called(shim: pathlib.Path, words: list[str], text: str, refused: int) -> Answer:
+    """The status, the answer, and what port 1 took, where the allocation with this number is refused; 0 is none."""
     given = {**os.environ, "LD_PRELOAD": str(shim), "REFUSED": str(refused)}
     ran = subprocess.run([PROGRAM, *words], input=text.encode(), capture_output=True, env=given, check=False)
     return ran.returncode, ran.stdout, ran.stderr
 
 
-def tried(shim, words, text):
+def tried(shim: pathlib.Path, words: list[str], text: str) -> tuple[int, int, int]:
     """How many allocations were refused, how often memory ran out then, and how often the answer was wrong."""
     whole = called(shim, words, text, 0)
-    last = 1
-    while any(called(shim, words, text, last + k)[0] == NO_MEMORY for k in range(8)):
-        last *= 2
-    numbers = range(1, last + 1, max(1, last // MOST))
-    found = [called(shim, words, text, number) for number in numbers]
-    wrong = [it for it in found if it != whole and not (it[:2] == (NO_MEMORY, b"") and whole[2].startswith(it[2]))]
-    return len(numbers), sum(it[0] == NO_MEMORY for it in found), len(wrong)
+    found: list[Answer] = []
+    with ThreadPoolExecutor(os.cpu_count()) as pool:
+        while any(answer != whole for answer in found[-IN_A_ROW:]) or not found:
+            numbers = range(len(found) + 1, len(found) + 1 + 4 * IN_A_ROW)
+            found += pool.map(lambda number: called(shim, words, text, number), numbers)
+    starved = [it for it in found if it[:2] == (NO_MEMORY, b"") and whole[2].startswith(it[2])]
+    wrong = [it for it in found if it != whole and it not in starved]
+    return len(found), len(starved), len(wrong)
 
 
-def main():
+def main() -> int:
     bad = 0
     with tempfile.TemporaryDirectory() as folder:
         source, shim = pathlib.Path(folder, "shim.c"), pathlib.Path(folder, "shim.so")
         source.write_text(SHIM)
         subprocess.run(["cc", "-O1", "-shared", "-fPIC", "-o", shim, source, "-ldl"], check=True)
-        for words, text in CALLS:
+        for words, text in calls():
             count, none, wrong = tried(shim, words, text)
             bad += wrong
             print(f"wsc {' '.join(words)}: {count} allocations refused, {none} times no memory, {wrong} wrong", flush=True)
