@@ -21,6 +21,35 @@ stop
 end
 """
 
+# A draft whose block `no` needs a no-op, with no room for it in the list of the merge that would trigger it.
+FULL = """wavescalar 2
+wave 1
+block b
+pad 0 in.0
+in: advance -> s.0 s.1
+s: steer -> y.0 | n.0
+if in yes no
+block yes
+y: merge -> o.0 j.0
+o: out <?, 0, ?>.0
+go join
+block no
+n: merge -> m0.0 m1.0 m2.0 m3.0 m4.0 m5.0 m6.0 j.0
+m0: merge ->
+m1: merge ->
+m2: merge ->
+m3: merge ->
+m4: merge ->
+m5: merge ->
+m6: merge ->
+go join
+block join
+j: merge -> end.0
+end: halt <?, 0, ?>.0
+stop
+end
+"""
+
 
 class Tools(unittest.TestCase):
     def refused(self, text: str) -> ws.Refused:
@@ -63,12 +92,10 @@ class Tools(unittest.TestCase):
         with self.assertRaises(ws.Refused) as caught:
             ws.link(SEVEN.replace("in: advance ->", "in: advance -> 4.0"), wsl=WSL)
         self.assertEqual((caught.exception.rule, caught.exception.instruction), ("port", 4))
-        nine = "wavescalar 2\nwave 1\nblock b\npad 0 in.0\nin: advance -> end.0" + "".join(f" m{k}.0" for k in range(7))
-        nine += "\n" + "".join(f"m{k}: merge ->\n" for k in range(7)) + "end: halt <?, 0, ?>.0\nstop\nend\n"
         with self.assertRaises(ws.Refused) as caught:
-            ws.link(nine, wsl=WSL)
+            ws.link(FULL, wsl=WSL)
         it = caught.exception
-        self.assertEqual((it.answer, it.rule, it.line, it.name), ("refused full 1", "full", 5, "in"))
+        self.assertEqual((it.answer, it.rule, it.line, it.name), ("refused full 5", "full", 13, "n"))
 
     @needs_linker
     def test_link_keeps_sound_images(self) -> None:
@@ -106,6 +133,52 @@ class Tools(unittest.TestCase):
             ws.run(SEVEN, wsc="/nowhere/wsc")
         with self.assertRaises(ws.Fault):
             ws.run(SEVEN, [1 << 64], wsc=WSC)
+
+    def test_other_runs(self) -> None:
+        """Images on a grid, with decoupled stores, and listed."""
+        done = ws.decouple(SEVEN, [1], wsc=WSC)
+        self.assertEqual((done.words, done.ending, done.firings, done.cycles), ((7,), "halt", 4, None))
+        self.assertEqual(ws.decouple(SEVEN, budget=1, wsc=WSC).ending, "budget")
+        # the cycles of docs/GRID.md, and of tests/grid.txt
+        for elements, cycles in ((1, 5), (2, 4)):
+            done = ws.grid(SEVEN, elements=elements, waves=1, wsc=WSC)
+            self.assertEqual((done.words, done.ending, done.firings, done.cycles), ((7,), "halt", 4, cycles))
+        self.assertEqual(ws.grid(SEVEN, budget=0, wsc=WSC).ending, "budget")
+        fault = (ROOT / "examples" / "fault.asm").read_text()
+        for done in (ws.decouple(fault, memory=True, wsc=WSC), ws.grid(fault, memory=True, wsc=WSC)):
+            self.assertEqual((done.ending, done.where, done.cells("a"), done.cycles), ("fault", "a", (0, 9), None))
+        wanted = ("wave 1: 1 blocks", "block 1: 4 instructions, stop", "3 out <., 1, 2>.1", "4 halt <1, 2, .>.2")
+        for told in (ws.listing(SEVEN, wsc=WSC), ws.listing(ws.read(SEVEN), wsc=WSC)):
+            self.assertEqual(tuple(told.splitlines()[:4]), wanted)
+        with self.assertRaises(ws.Refused):
+            ws.listing(SEVEN.replace(" end.0", ""), wsc=WSC)
+
+    def test_jobs(self) -> None:
+        one, two = "array a[2]; proc main() { var x; read x; a[1] = 2; print x; }\n%input\n9\n", "proc main() { print 5; }"
+        endless, past = "proc main() { while (1) { } }", "array a[1]; proc main() { print 3; a[1] = 2; }"
+        first, second = ws.multi([one, two], workers=2, memory=True, wsc=WSC)
+        self.assertEqual((first.words, first.ending, first.cells("a")), ((9,), "halt", (0, 2)))
+        self.assertEqual((second.words, second.ending, second.memory), ((5,), "halt", ()))
+        done = ws.multi([two, endless, past], budget=300, wsc=WSC)
+        self.assertEqual([(it.words, it.ending, it.where) for it in done],
+                         [((5,), "halt", None), ((), "budget", None), ((3,), "fault", "a")])
+        with self.assertRaises(ws.Refused) as caught:
+            ws.multi([two, "proc main() { print x; }"], wsc=WSC)
+        self.assertEqual((caught.exception.rule, caught.exception.line), ("unknown", 3))
+        with self.assertRaises(ws.Refused) as caught:
+            ws.multi([two] * 5, wsc=WSC)
+        self.assertEqual(caught.exception.rule, "threads")
+        with self.assertRaises(ws.Fault):
+            ws.multi([f"{two}\n%job\n{two}"], wsc=WSC)
+
+    @needs_linker
+    def test_page(self) -> None:
+        """The example of docs/PYTHON.md prints what the comment of its last line says."""
+        page = (LIBRARY / "docs" / "PYTHON.md").read_text()
+        example = page.partition("```python\n")[2].partition("```")[0]
+        env = {"PYTHONPATH": str(LIBRARY), "WSC": WSC, "WSL": WSL}
+        done = subprocess.run([sys.executable, "-c", example], capture_output=True, text=True, env=env, check=False)
+        self.assertEqual((done.stdout.strip(), done.stderr), (example.strip().rpartition("# ")[2], ""))
 
     def test_traces(self) -> None:
         trace = ws.trace(SEVEN, [4], wsc=WSC)
