@@ -4,7 +4,7 @@ import subprocess
 import sys
 import unittest
 
-from places import LIBRARY, ROOT, WSC, WSL, needs_linker, texts
+from places import LIBRARY, ROOT, WSC, WSL, answer, needs_linker, texts
 
 import wavescalar as ws
 
@@ -144,6 +144,10 @@ class Tools(unittest.TestCase):
             done = ws.grid(SEVEN, elements=elements, waves=1, wsc=WSC)
             self.assertEqual((done.words, done.ending, done.firings, done.cycles), ((7,), "halt", 4, cycles))
         self.assertEqual(ws.grid(SEVEN, budget=0, wsc=WSC).ending, "budget")
+        # fewer waves in flight take more cycles
+        matrix = answer(["compile"], (ROOT / "examples" / "matrix.job").read_text())
+        counts = [ws.grid(matrix, elements=64, waves=waves, wsc=WSC).cycles or 0 for waves in (1, 4)]
+        self.assertGreater(counts[0], counts[1])
         fault = (ROOT / "examples" / "fault.asm").read_text()
         for done in (ws.decouple(fault, memory=True, wsc=WSC), ws.grid(fault, memory=True, wsc=WSC)):
             self.assertEqual((done.ending, done.where, done.cells("a"), done.cycles), ("fault", "a", (0, 9), None))
@@ -154,7 +158,8 @@ class Tools(unittest.TestCase):
             ws.listing(SEVEN.replace(" end.0", ""), wsc=WSC)
 
     def test_jobs(self) -> None:
-        one, two = "array a[2]; proc main() { var x; read x; a[1] = 2; print x; }\n%input\n9\n", "proc main() { print 5; }"
+        one = "array a[2]; proc main() { var x; read x; a[1] = 2; print x; }\n%input\n9\n"
+        two = "proc main() { print 5; }"
         endless, past = "proc main() { while (1) { } }", "array a[1]; proc main() { print 3; a[1] = 2; }"
         first, second = ws.multi([one, two], workers=2, memory=True, wsc=WSC)
         self.assertEqual((first.words, first.ending, first.cells("a")), ((9,), "halt", (0, 2)))
