@@ -164,6 +164,9 @@ class Tools(unittest.TestCase):
         first, second = ws.multi([one, two], workers=2, memory=True, wsc=WSC)
         self.assertEqual((first.words, first.ending, first.cells("a")), ((9,), "halt", (0, 2)))
         self.assertEqual((second.words, second.ending, second.memory), ((5,), "halt", ()))
+        # the first thread alone has ports
+        gives = "proc main() { take 1, 8; }"
+        self.assertEqual([it.handed for it in ws.multi([gives, gives], wsc=WSC)], [(8,), ()])
         done = ws.multi([two, endless, past], budget=300, wsc=WSC)
         self.assertEqual([(it.words, it.ending, it.where) for it in done],
                          [((5,), "halt", None), ((), "budget", None), ((3,), "fault", "a")])
