@@ -18,7 +18,7 @@ GRIDS = [(elements, waves) for elements in (1, 2, 4, 16, 64) for waves in (1, 2,
 LONGEST = 1500
 
 
-def wrong(program, text, grid):
+def wrong(program: str, text: str, grid: tuple[int, int]) -> list[str]:
     """What is wrong with a run on a grid."""
     elements, waves = grid
     run = recorded(program, text, elements, waves)
@@ -39,8 +39,9 @@ def wrong(program, text, grid):
     return found
 
 
-def main():
-    program, seen, told = sys.argv[1], 0, []
+def main() -> int:
+    program, seen = sys.argv[1], 0
+    told: list[str] = []
     for folder in sys.argv[2:]:
         for file in sorted(pathlib.Path(folder).glob("*.job")):
             job = file.read_text()

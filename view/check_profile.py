@@ -12,6 +12,7 @@ docs/EXPERIMENTS.md are those of today.
 
 import pathlib
 import sys
+from typing import Iterator
 
 from check import jobs_of
 from image import Fault, read
@@ -21,7 +22,7 @@ from program import ROOT, call, traced, with_input
 from tell import picture, told
 
 
-def texts_of(program, path):
+def texts_of(program: str, path: pathlib.Path) -> Iterator[str]:
     """Assemblies with their input sections."""
     for job in jobs_of(path):
         status, image, _ = call(program, ["compile"], job)
@@ -34,7 +35,7 @@ def texts_of(program, path):
             yield part.partition("\n")[2].partition("\n=")[0] + "\n"
 
 
-def in_steps(text):
+def in_steps(text: str) -> int | None:
     """How many steps a run has in which all is done that is enabled when a step begins."""
     machine, count = Machine(read(text)), 0
     while machine.way or machine.asked:
@@ -51,19 +52,19 @@ def in_steps(text):
     return count
 
 
-def flights(text):
+def flights(text: str) -> list[int]:
     """The waves in flight after each event, counted anew from all that is there."""
-    image, counts = read(text), []
+    image, counts = read(text), list[int]()
     machine = Machine(image)
-    for kind, *event in image.trace:
-        (machine.match if kind == "match" else machine.issue)(*event)
+    for kind, *event in image.trace or ():
+        machine.match(*event) if kind == "match" else machine.issue(*event)
         waves = {key[0] for key in machine.way} | {key[0] for key in machine.asked}
         waves |= {key[0] for key, values in machine.ports.items() if len(values) < image.instrs[key[1]].ports}
         counts.append(len(waves))
     return counts
 
 
-def order_holds(profile):
+def order_holds(profile: Profile) -> bool:
     """Whether the events of the path stand in the trace one behind the other."""
     at = {}
     for k, step in enumerate(profile.steps):
@@ -75,7 +76,7 @@ def order_holds(profile):
     return all(a < b for a, b in zip(places, places[1:]))
 
 
-def wrong(program, text):
+def wrong(program: str, text: str) -> list[str] | None:
     """What is wrong, and None where the text doesn't run to an end."""
     status, ran, _ = call(program, ["exec", "--stats", "--budget", "8000"], text)
     if status not in (0, 8):
@@ -101,7 +102,7 @@ def wrong(program, text):
     return found
 
 
-def of_page(program):
+def of_page(program: str) -> list[str]:
     """What is wrong with the profile that docs/EXPERIMENTS.md shows."""
     profile = Profile(traced(program, (ROOT / "examples" / "matrix.job").read_text()))
     shown = told(profile).split("\n\n")[0].splitlines()
@@ -110,11 +111,11 @@ def of_page(program):
     return wrong + ([] if picture(profile, "matrix") == drawn.read_text() else [f"{drawn.name} is another picture"])
 
 
-def main():
+def main() -> int:
     seen, bad, left = 0, 0, 0
-    for found in of_page(sys.argv[1]):
+    for told_wrong in of_page(sys.argv[1]):
         bad += 1
-        print(found)
+        print(told_wrong)
     for folder in sys.argv[2:]:
         for text in texts_of(sys.argv[1], pathlib.Path(folder)):
             try:

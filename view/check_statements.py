@@ -13,7 +13,7 @@ from image import kind_of, read
 from program import ROOT, call
 from statements import FIRST, Trial, statements_of
 
-OTHER = {"number": None, "binary": ("+", "*"), "unary": ("!", "~"), "give": ("7", "6"), "take": ("7", "6"),
+OTHER: dict[str, tuple[str, str]] = {"binary": ("+", "*"), "unary": ("!", "~"), "give": ("7", "6"), "take": ("7", "6"),
          "print": ("take 7,", "take 6,"), "read": ("give 7,", "give 6,")}
 # For two jobs of examples/: the instructions that are exact, by their statement.
 BY_HAND = {
@@ -24,7 +24,7 @@ BY_HAND = {
 }
 
 
-def of_site(trial, k):
+def of_site(trial: Trial, k: int) -> set[int] | None:
     """The instructions that change where this site alone does, or nothing where the image does."""
     site = trial.source.sites[k]
     if site.kind in ("load", "store"):
@@ -33,7 +33,9 @@ def of_site(trial, k):
     other = trial.compiled({k: word})
     pairs = trial.paired(other, lambda it: True)
     # constants have no pairs: they are looked at where all others keep their numbers
-    if pairs is None or len(other.instrs) != len(trial.image.instrs) or any(i != k for i, k in pairs.items()):
+    if pairs is None or other is None or any(i != k for i, k in pairs.items()):
+        return None
+    if len(other.instrs) != len(trial.image.instrs):
         return None
     both = zip(trial.image.instrs[1:], other.instrs[1:])
     changed = {i for i, (a, b) in enumerate(both, 1) if (a.op, a.arg) != (b.op, b.arg)}
@@ -41,15 +43,16 @@ def of_site(trial, k):
     return {i for i in changed if site.kind != "unary" or trial.image.instrs[i].op != "const"}
 
 
-def of_cell(trial, k):
+def of_cell(trial: Trial, k: int) -> set[int] | None:
     """The same of a site that names an array: here it names one that stands in front of all."""
     other = trial.compiled({k: "first"}, "array first[1]; ")
     pairs = trial.paired(other, lambda it: False)
-    return pairs and {i for new, i in pairs.items() if (other.instrs[new].op in ("load", "store")
-                                                         and other.instrs[new].arg == 1)}
+    if pairs is None or other is None:
+        return None
+    return {i for new, i in pairs.items() if other.instrs[new].op in ("load", "store") and other.instrs[new].arg == 1}
 
 
-def of_job(program, job):
+def of_job(program: str, job: str) -> tuple[int, list[str]]:
     """How many sites were changed, and what is wrong."""
     status, made, _ = call(program, ["compile"], job)
     if status or kind_of(job) != "job":
@@ -68,7 +71,7 @@ def of_job(program, job):
     return seen, wrong
 
 
-def by_hand(program, name):
+def by_hand(program: str, name: str) -> list[str]:
     """What is found otherwise than by hand."""
     job = (ROOT / "examples" / f"{name}.job").read_text()
     ends, told = statements_of(program, job, read(call(program, ["compile"], job)[1]))
@@ -77,7 +80,7 @@ def by_hand(program, name):
     return [] if found == BY_HAND[name] else [f"{name}: {found} and not {BY_HAND[name]}"]
 
 
-def main():
+def main() -> int:
     program, seen = sys.argv[1], 0
     wrong = [told for name in BY_HAND for told in by_hand(program, name)]
     for folder in sys.argv[2:]:

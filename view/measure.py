@@ -1,21 +1,23 @@
 """All numbers of a run, from its trace."""
 
 from collections import Counter
+from typing import Iterable, Sequence
 
 from image import Fault, read
-from machine import rounds, steps
+from machine import Step, Token, rounds, steps
 from paths import Flight, Paths
 
 
 class Profile:
     """All numbers of a run."""
 
-    def __init__(self, text):
+    def __init__(self, text: str):
         self.image = image = read(text)
-        start, self.steps, why = steps(image, len(image.trace))
+        most_shown = len(image.trace or ())
+        start, self.steps, why = steps(image, most_shown)
         if why:
             raise Fault(why)
-        _, self.round_steps, _ = rounds(image, len(image.trace))
+        _, self.round_steps, _ = rounds(image, most_shown)
         self.ended = any(image.instrs[step["i"]].op == "halt" for step in self.steps if step["k"] == "issue")
         self.fault = next((step["fault"] or "hidden" for step in self.steps if "fault" in step), None)
         self.by_instr = Counter(step["i"] for step in self.steps if "full" in step)
@@ -34,16 +36,18 @@ class Profile:
         self.round_waits, _ = self.waiting(self.round_steps, "round")
         self.in_rounds(start)
 
-    def flights(self, start, made):
+    def flights(self, start: list[Token], made: list[Step]) -> list[int]:
+        """How many wave numbers are in flight after each event."""
         flight, counts = Flight(self.image, start), []
         for step in made:
             flight.step(step)
             counts.append(flight.waves)
         return counts
 
-    def waiting(self, made, key):
+    def waiting(self, made: list[Step], key: str | None) -> tuple[list[tuple[int, bool, int]], int]:
         """For each issue its instruction, whether it came early, and how long its request has waited."""
-        asked, waits = {}, []
+        asked: dict[tuple[int, int], int] = {}
+        waits: list[tuple[int, bool, int]] = []
         for at, step in enumerate(made):
             place = step["w"], step["i"]
             now = step[key] if key else at
@@ -53,7 +57,7 @@ class Profile:
                 asked[place] = now
         return waits, len(asked)
 
-    def in_rounds(self, start):
+    def in_rounds(self, start: list[Token]) -> None:
         """For each ideal round the firings in it, and the waves in flight when it begins."""
         total = self.round_steps[-1]["round"] if self.round_steps else 0
         self.fires, self.waves_in = [0] * total, [0] * total
@@ -65,15 +69,18 @@ class Profile:
             self.fires[step["round"] - 1] += "full" in step
             flight.step(step)
 
-    def state(self):
+    def state(self) -> str:
+        """How the run has ended, in words."""
         if self.fault:
             return f"stopped at an index fault on {self.fault}"
         return "at rest" if self.ended else "open: the budget was spent"
 
 
-def mean(values):
+def mean(values: Sequence[float]) -> float:
+    """The mean, or 0 of none."""
     return sum(values) / len(values) if values else 0.0
 
 
-def most(values):
+def most(values: Iterable[int]) -> int:
+    """The greatest, or 0 of none."""
     return max(values, default=0)

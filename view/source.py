@@ -25,7 +25,7 @@ class Site:
     `read` the word is empty.
     """
 
-    def __init__(self, kind, word, statement):
+    def __init__(self, kind: str, word: str, statement: int):
         self.kind, self.word, self.statement = kind, word, statement
 
 
@@ -35,10 +35,14 @@ class Source:
     variable alone. `parts` is the text as it is printed again: words, sites by their numbers, and the ends of
     conditions, each with its statement."""
 
-    def __init__(self, text):
-        self.statements, self.sites, self.roots, self.parts = [], [], {}, []
+    def __init__(self, text: str):
+        self.statements: list[list[int]] = []
+        self.sites: list[Site] = []
+        self.roots: dict[int, int | None] = {}
+        self.parts: list[str | int | tuple[str, int]] = []
         self.text = "\n".join(sections(text)[0][0])
-        self.tokens, data, at = [], self.text.encode(errors="surrogateescape"), 0
+        self.tokens: list[tuple[str, int, int]] = []
+        data, at = self.text.encode(errors="surrogateescape"), 0
         while at < len(data):
             found = LEXEME.match(data, at)
             if not found:
@@ -51,37 +55,42 @@ class Source:
             self.declaration()
 
     # Lexemes.
-    def next(self):
+    def next(self) -> str:
+        """The lexeme that stands here, or nothing at the end."""
         return self.tokens[self.at][0] if self.at < len(self.tokens) else ""
 
-    def take(self, *wanted):
+    def take(self, *wanted: str) -> str:
         """The lexeme that stands here, which is printed again."""
         word = self.lexeme(*wanted)
         self.parts.append(word + " ")
         return word
 
-    def lexeme(self, *wanted):
+    def lexeme(self, *wanted: str) -> str:
+        """The lexeme that stands here, which is one of these, if any are named."""
         word = self.next()
         if not word or wanted and word not in wanted:
             raise Fault("the job can't be read")
         self.at += 1
         return word
 
-    def site(self, kind, word=""):
+    def site(self, kind: str, word: str = "") -> int:
         """A site that is printed here."""
         self.sites.append(Site(kind, word, len(self.statements) - 1))
         self.parts.append(len(self.sites) - 1)
         return len(self.sites) - 1
 
     # Statements.
-    def begin(self):
+    def begin(self) -> int:
+        """A statement begins here: its number."""
         self.statements.append([self.tokens[self.at][1], 0])
         return len(self.statements) - 1
 
-    def end(self, number):
+    def end(self, number: int) -> None:
+        """It ends behind the last lexeme."""
         self.statements[number][1] = self.tokens[self.at - 1][2]
 
-    def declaration(self):
+    def declaration(self) -> None:
+        """An array, or a procedure."""
         if self.next() == "array":
             while self.take() != ";":
                 pass
@@ -94,12 +103,14 @@ class Source:
                 pass
         self.statements_to_brace()
 
-    def statements_to_brace(self):
+    def statements_to_brace(self) -> None:
+        """Statements, up to the brace that closes them."""
         while self.next() != "}":
             self.statement()
         self.take("}")
 
-    def statement(self):
+    def statement(self) -> None:
+        """A statement of any kind."""
         number, word = self.begin(), self.next()
         if word in ("if", "while"):
             self.branch(number, word)
@@ -123,7 +134,8 @@ class Source:
         self.take(";")
         self.end(number)
 
-    def branch(self, number, word):
+    def branch(self, number: int, word: str) -> None:
+        """An `if` or a `while`, with its condition and its blocks."""
         self.take(word)
         self.take("(")
         self.roots[number] = self.expression()
@@ -137,7 +149,7 @@ class Source:
             self.take("{")
             self.statements_to_brace()
 
-    def assignment(self):
+    def assignment(self) -> None:
         """To a variable or a cell, from an expression or a call; or a call alone."""
         if self.tokens[self.at + 1][0] == "[":
             self.site("store", self.lexeme())
@@ -160,7 +172,8 @@ class Source:
         self.take(")")
 
     # Expressions: each gives the site at its root, or nothing; all are printed with parentheses.
-    def expression(self, level=0):
+    def expression(self, level: int = 0) -> int | None:
+        """Operators of this level, and those that bind more."""
         if level == len(LEVELS):
             return self.unary()
         here = len(self.parts)
@@ -172,11 +185,12 @@ class Source:
             self.parts.append(")")
         return root
 
-    def unary(self):
+    def unary(self) -> int | None:
+        """A unary operator with what it stands before, or a word, a cell, or an expression in parentheses."""
         word = self.next()
         if word in ("~", "!", "-"):
             self.parts.append("(")
-            root = self.site("unary", self.lexeme())
+            root: int | None = self.site("unary", self.lexeme())
             self.unary()
             self.parts.append(")")
             return root
@@ -196,7 +210,7 @@ class Source:
         self.take()
         return None
 
-    def printed(self, words, compared=None):
+    def printed(self, words: dict[int, str], compared: dict[int, int] | None = None) -> str:
         """The program with these words at its sites; a site that isn't named keeps its own. The condition of each
         statement in `compared` is compared with a number."""
         out = []
@@ -204,7 +218,7 @@ class Source:
             if isinstance(part, str):
                 out.append(part)
             elif isinstance(part, tuple):
-                out.append(f"== {compared[part[1]]} " if part[1] in (compared or {}) else "")
+                out.append(f"== {compared[part[1]]} " if compared and part[1] in compared else "")
             else:
                 site = self.sites[part]
                 usual = {"print": "print", "read": "read"}.get(site.kind, site.word)

@@ -1,9 +1,10 @@
 """A profile as text, as a table in long form, and as a picture."""
 
 from collections import Counter
+from typing import Any, Iterator
 
-from measure import mean, most
-from plot import COLOURS, Panel, Sheet, bars
+from measure import Profile, mean, most
+from plot import COLOURS, Box, Panel, Sheet, bars
 
 OF_REQUESTS = (
     "issues", "early", "early in ideal rounds", "wait, mean", "wait, most", "wait in ideal rounds, mean",
@@ -12,7 +13,7 @@ OF_REQUESTS = (
 BINS = ((1, 1), (2, 3), (4, 7), (8, 15), (16, 31), (32, 63), (64, 127), (128, 255), (256, 511), (512, None))
 
 
-def kinds_of_requests(profile):
+def kinds_of_requests(profile: Profile) -> list[Any]:
     """For each kind of memory operation: issues, early ones, waits in events and in ideal rounds."""
     rows, op = [], lambda i: profile.image.instrs[i].op
     for kind in sorted({op(i) for i, _, _ in profile.waits}):
@@ -24,7 +25,7 @@ def kinds_of_requests(profile):
     return rows
 
 
-def facts(profile):
+def facts(profile: Profile) -> dict[str, Any]:
     """The numbers of the whole run: a name and a value each."""
     fires = [event for event in profile.path if event[0] == "fire"]
     loads = [row for row in kinds_of_requests(profile) if row[0] == "load"] or [("load", 0, 0, 0)]
@@ -46,7 +47,7 @@ def facts(profile):
     }
 
 
-def told(profile):
+def told(profile: Profile) -> str:
     """The text."""
     f = facts(profile)
     out = [
@@ -80,12 +81,13 @@ def told(profile):
     return "\n".join(out) + "\n"
 
 
-def name_of(profile, i):
+def name_of(profile: Profile, i: int) -> str:
+    """An instruction by its name and what it does."""
     it = profile.image.instrs[i]
     return f"{it.name or i}: {it.op}" + ("" if it.arg is None else f" {it.arg}")
 
 
-def table(profile):
+def table(profile: Profile) -> Iterator[tuple[Any, ...]]:
     """Rows of what a number is of, which one, what it counts, and the number."""
     yield "of", "which", "what", "value"
     for name, value in facts(profile).items():
@@ -107,7 +109,7 @@ def table(profile):
         yield "event", at, "waves in flight", waves
 
 
-def picture(profile, title):
+def picture(profile: Profile, title: str) -> str:
     """Six panels."""
     f = facts(profile)
     sheet = Sheet(1240, 770, title, (
@@ -143,14 +145,14 @@ def picture(profile, title):
     return sheet.svg()
 
 
-def lumped(many, what):
+def lumped(many: int, what: str) -> str:
     """What a line shows where many places fall together."""
     return f"line: mean of {many} {what}, pale: most" if many > 1 else ""
 
 
-def waits(sheet, profile, box):
+def waits(sheet: Sheet, profile: Profile, box: Box) -> None:
     """How many requests waited how long, in events of this trace."""
-    counts = Counter()
+    counts: Counter[tuple[int, bool]] = Counter()
     for i, _, wait in profile.waits:
         load = profile.image.instrs[i].op == "load"
         counts[next(k for k, (_, high) in enumerate(BINS) if high is None or wait <= high), load] += 1

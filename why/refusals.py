@@ -60,6 +60,23 @@ ENDS = {
 }
 
 
+# What a line of another language has where the program finds a fault, with what is written here.
+FOREIGN = [
+    (r"\bfor\s*\($", r"", "there is no `for`: use `while`"),
+    (r"\bfor\s*\(\s*\w+\s*$", r"=", "there is no `for`: use `while`"),
+    (r"\bvar\s+[\w\s,]*$", r"=", "all variables begin at 0; give one another value in a statement"),
+    (r"[^=;{}]*[\w)\]]\s*[-+*/%&|^<>=!(,]\s*\w+\s*$", r"\(", "a call is a statement of its own: `x = f(..);`"),
+    (r"\b(print|return)\s+\w+\s*$", r"\(", "a call is a statement of its own: `x = f(..);`"),
+    (r"", r"return\b", "`return` is the last statement of a procedure, outside of all arms and bodies"),
+    (r"\breturn\b[^;{}]*;\s*$", r"", "`return` is the last statement of a procedure"),
+    (r"", r"\"", "there are no strings: only words are printed"),
+    (r"\b0$", r"[xXbB]\w", "numbers are decimal"),
+    (r"\b(int|let|const|def|fn|func|function|void)\s*$", r"", "variables are declared by `var`, procedures by `proc`"),
+    (r"", r"(int|let|const|def|fn|func|function|void)\b", "variables are declared by `var`, procedures by `proc`"),
+]
+BOM = b"\xef\xbb\xbf"
+
+
 def shown(lines, number, column=None):
     """The line with its number, and a caret."""
     out = [f"{number:6} | {lines[number - 1] if number <= len(lines) else ''}"]
@@ -98,6 +115,18 @@ def led_on(text, command, commands):
     return []
 
 
+def of_answer(told):
+    """What is said of a text that is itself an answer: what a call before it in a pipe was refused for."""
+    said = [f"the text is itself an answer, that of the call before it: {told}"]
+    words = told.split()
+    if words[0] == "refused" and len(words) > 2 and words[1][0].isdigit():
+        said.append(JOB.get(words[2], f"the limit `{words[-1]}` of the language is passed there") if ":" in words[1]
+                    else LINE.get(words[2], words[2]))
+    elif words[0] == "refused" and words[1] in SOUND:
+        said.append(SOUND[words[1]].format(*words[2:]))
+    return said
+
+
 def of_refusal(answer, text, command, commands):
     """What a refusal says, and its place; nothing where the answer is no refusal."""
     words, lines = answer.split(), lines_of(text)
@@ -123,6 +152,13 @@ def of_place(lines, number, column, words):
     out = shown(lines, number, column) + [said]
     marks = (front[-1:] + rest[:1], rest[:2])
     out += [f"hint: {hint}" for mark, hint in HINTS.items() if mark in marks]
+    if words[0] == "byte" and data.startswith(BOM) and (number, column) == (1, 1):
+        return shown(lines, 1) + ["the text begins with a byte order mark: save it as UTF-8 without one"]
+    if words[0] == "syntax" and line.strip() == "%input":
+        return shown(lines, number, column) + ["the line %input has to be exactly that: a blank stands in it"]
+    if words[0] in ("syntax", "byte", "unknown"):
+        hints = [hint for before, behind, hint in FOREIGN if re.search(before, front) and re.match(behind, rest)]
+        out += [f"hint: {hint}" for hint in hints[:1]]
     if words[0] == "syntax" and front.rstrip().endswith("else"):
         out.append("hint: an `if` after `else` needs braces: `else { if .. }`")
     if words[0] == "syntax" and not front.strip() and number > 1:
@@ -145,6 +181,8 @@ def of_line(lines, number, word, text):
         form = FORMS.get(found[1])
         out.append(f"its form is: {form}" if form
                    else f"there is no instruction `{found[1]}`{like(found[1], list(FORMS))}")
+    if word == "line":
+        out += [f"hint: {hint}" for hint in of_form(lines, number, line)[:1]]
     if word == "line" and not line.strip() and number >= len(lines):
         out.append("the text ends too early: is `end` missing?")
     if word == "name":
@@ -153,6 +191,27 @@ def of_line(lines, number, word, text):
             out += [f"hint: `{name}`" + like(name, names)] if name[0].isalpha() and name not in names \
                 and like(name, names) else []
     return out
+
+
+def of_form(lines, number, line):
+    """What is often written in a line of an assembly that has none of the forms."""
+    first = next((it.split("#")[0] for it in lines if it.split("#")[0].strip()), "")
+    if ";" in line:
+        found = ["comments begin with `#`"]
+    elif first.split()[:1] != ["wavescalar"]:
+        found = ["the first line is `wavescalar 1` or `wavescalar 2`"]
+    elif re.search(r"\bconst\s+(-|\+|0[xob])", line):
+        found = ["numbers are decimal, from 0; -1 is 18446744073709551615"]
+    elif re.search(r"\b(load|store)\s+[A-Za-z_]", line):
+        found = ["an array goes by its number, from 1 in the order of the lines `array` and `hidden`"]
+    elif first.split()[1:] == ["1"] and re.search(r"^\s*(block\s+[A-Za-z_]|[A-Za-z_]\w*\s*:|(go|if|send|pad)\b.*[A-Za-z_])"
+                                                r"|->.*[A-Za-z_]", line):
+        found = ["names stand in version 2 alone: begin the text with `wavescalar 2`"]
+    elif re.search(r"^\s*(block|go)\s+\S*[^\w\s]|^\s*\w*[^\w\s:]\S*\s*:", line):
+        found = ["a name is a letter or `_`, then letters, digits and `_`"]
+    else:
+        found = []
+    return found
 
 
 def of_trace(text, lines, number, command):
@@ -167,13 +226,38 @@ def of_trace(text, lines, number, command):
 
 def of_rule(text, lines, rule, words):
     """A rule that an image breaks, with the lines of what its numbers name."""
-    numbers = [int(word) for word in words]
-    out = [SOUND[rule].format(*numbers)]
+    out = [SOUND[rule].format(*words)]
+    for number in lines_of_rule(text, rule, [int(word) for word in words]):
+        out += shown(lines, number)
+    return out
+
+
+def lines_of_rule(text, rule, numbers):
+    """The lines, from 1, of the blocks or instructions that the numbers of a rule name."""
     try:
         image = read(text)
     except Fault:
-        return out
+        return []
     items = image.blocks if rule in ("pending", "shape") else image.instrs
-    for number in dict.fromkeys(numbers[:1] if rule == "port" else numbers):
-        out += shown(lines, items[number].line) if 0 < number < len(items) else []
-    return out
+    named = dict.fromkeys(numbers[:1] if rule == "port" else numbers)
+    return [items[number].line for number in named if 0 < number < len(items)]
+
+
+def places_of(answer, text):
+    """The lines and columns, from 1, that a refusal is about: the start of the text where it has none."""
+    words, last = answer.split(), max(len(lines_of(text)), 1)
+    if place := re.fullmatch(r"(\d+):(\d+)", words[1]):
+        found = [(int(place[1]), int(place[2]))]
+    elif words[1].isdigit():
+        found = [(int(words[1]), 1)]
+    elif words[1] in SOUND:
+        found = [(line, 1) for line in lines_of_rule(text, words[1], [int(word) for word in words[2:]])]
+    else:
+        found = []
+    return [(min(line, last), column) for line, column in found] or [(1, 1)]
+
+
+def in_brief(answer, said, text, name):
+    """A refusal as compilers tell theirs, `NAME:LINE:COLUMN: ..`: a line for each place."""
+    told = "; ".join(line for line in said if not re.match(r" *\d* \| ", line))
+    return [f"{name}:{line}:{column}: {answer.strip()}: {told}" for line, column in places_of(answer, text)]

@@ -3,9 +3,11 @@
 
 WORDS are those of a line of wsc, which is run with standard input and whose answer and status are passed
 on; what is said of it goes to standard error. `--of ANSWER` explains an answer that is there, of the text
-FILE or of standard input, and prints what it says.
+FILE or of standard input, and prints what it says. `--brief` prints no answer, and of a refusal a line
+`FILE:LINE:COLUMN: ..` for each place, as editors read it; lines and columns, in bytes, count from 1.
 
-    why.py run < sum.job
+    why.py run sum.job
+    why.py --brief check sum.asm
     why.py --of 'refused 3:5 unknown' sum.job
     why.py -- --help            words that begin with a dash stand behind --
 """
@@ -16,28 +18,61 @@ import sys
 
 sys.path.insert(0, str(pathlib.Path(__file__).resolve().parent.parent / "view"))
 
-from line import Line, add_program, given, whole  # noqa: E402
+from image import Fault, answered  # noqa: E402
+from line import Line, add_program, text_of, whole  # noqa: E402
 from program import call  # noqa: E402
-from refusals import of_end, of_refusal  # noqa: E402
-from usage import READS_NONE, of_usage  # noqa: E402
+from refusals import in_brief, of_answer, of_end, of_refusal  # noqa: E402
+from usage import RANGES, READS_NONE, of_usage  # noqa: E402
+
+
+def parted(words):
+    """The words of the program, and the file that is named among them, or nothing: what is no option, and no number
+    of one."""
+    if words[0] in READS_NONE:
+        return words, None
+    numbers = [at + 1 for at, word in enumerate(words) if word.removeprefix("--") in RANGES]
+    for at, word in enumerate(words[1:], 1):
+        if at not in numbers and (word == "-" or not word.startswith("-") and pathlib.Path(word).is_file()):
+            return words[:at] + words[at + 1 :], word
+    return words, None
 
 
 def run(program, words):
     """Runs a line of wsc: its status, its answer, the text it was given and what is said of it."""
+    words, file = parted(words)
     # words that are no line are answered before anything is read, and so are commands that read no text
-    begun = subprocess.run([program, *words], stdin=subprocess.DEVNULL, capture_output=True, check=False)
-    told = begun.stdout.decode(errors="replace")
-    if begun.returncode == 1:
-        return 1, begun.stdout, of_usage(words, told)
+    status, told, said = call(program, words, "")
+    if status == 1:
+        return 1, told.encode(), of_usage(words, told)
+    if status == 4:
+        return 4, told.encode(), said.splitlines()
     if words[0] in READS_NONE:
-        return begun.returncode, begun.stdout, of_end(begun.returncode, told, words[0])
-    text = given(None)
+        return status, told.encode(), of_end(status, told, words[0])
+    text = text_of(file)
     data = text.encode(errors="surrogateescape")
+    if told := answered(text):
+        done = subprocess.run([program, *words], input=data, stdout=subprocess.PIPE, stderr=subprocess.DEVNULL, check=False)
+        return done.returncode, done.stdout, of_answer(told)
     done = subprocess.run([program, *words], input=data, stdout=subprocess.PIPE, check=False)
     told = done.stdout.decode(errors="replace")
     if done.returncode == 2:
         return 2, done.stdout, of_refusal(told, text, words[0], commands_of(program))
     return done.returncode, done.stdout, of_end(done.returncode, told, words[0])
+
+
+def brief(program, words):
+    """Prints what editors read of a line of wsc; its status."""
+    file = parted(words)[1]
+    if file in (None, "-"):
+        raise Fault("--brief wants a line with a file")
+    status, told, said = run(program, words)
+    answer = told.decode(errors="replace")
+    if status == 2 and not answered(text_of(file)):
+        said = in_brief(answer, said, text_of(file), file)
+    elif said:
+        said = [f"{file}:1:1: {'; '.join(said)}"]
+    print("".join(f"{line}\n" for line in said), end="")
+    return status
 
 
 def commands_of(program):
@@ -50,15 +85,18 @@ def main():
     ask = Line(__doc__)
     add_program(ask)
     ask.add_argument("--of", metavar="ANSWER", help="explains this answer")
+    ask.add_argument("--brief", action="store_true", help="prints FILE:LINE:COLUMN: .. alone, for editors")
     ask.add_argument("words", metavar="WORDS", nargs="...", help="a line of wsc; with --of a file")
     line = ask.parse_args()
     words = line.words[1:] if line.words[:1] == ["--"] else line.words
     if line.of is not None:
-        said = of_refusal(line.of, given(words[0] if words else None), "", [])
+        said = of_refusal(line.of, text_of(words[0] if words else None), "", [])
         print(*(said or ["this is no refusal"]), sep="\n")
         return 0
     if not words:
         ask.error("words of a line of wsc are missing")
+    if line.brief:
+        return brief(line.wsc, words)
     status, answer, said = run(line.wsc, words)
     sys.stdout.buffer.write(answer)
     sys.stdout.flush()

@@ -1,7 +1,7 @@
 #!/usr/bin/env python3
 """Makes the pictures of pages that stand in the docs: `docs/pictures/make.py [NAME ..]`. It needs Chromium.
 
-Each is a page of the viewer at an event, as PNG of at most 256 colours. The plots, which are SVG, are made by the
+Each is a page of the viewer, or that of serve.py, at an event, as PNG of at most 256 colours. The plots, which are SVG, are made by the
 lines that EXPERIMENTS.md tells.
 """
 
@@ -16,23 +16,26 @@ HERE = pathlib.Path(__file__).resolve().parent
 ROOT = HERE.parent.parent
 sys.path.insert(0, str(ROOT / "view"))
 
+import try_serve  # noqa: E402
 from browser import Browser  # noqa: E402
 from line import whole  # noqa: E402
 from program import traced, usual  # noqa: E402
-from view import page  # noqa: E402
+from view import Way, page  # noqa: E402
 
 SUM = (ROOT / "examples" / "sum.job").read_text().replace("%input\n10\n", "%input\n3\n")
 CALLS = (ROOT / "view" / "examples" / "calls.job").read_text()
 # For each picture the job, in which way its steps are made, where it is opened, and its size.
-PICTURES = {
+PICTURES: dict[str, tuple[str, Way, str, int, int]] = {
     "event": (SUM, "trace", "event=25&wave=2", 1000, 620),
     "rounds": (SUM, "rounds", "event=49&wave=2", 1000, 620),
     "grid": (SUM, (4, 2), "event=43&wave=2", 1000, 620),
     "calls": (CALLS, "trace", "event=80&wave=4", 1000, 600),
 }
+# And of the page of serve.py what its address tells, and its size.
+SERVED = {"lesson": ("example=sum&A=trace&B=random-1&by=event&at=60", 1366, 768)}
 
 
-def rows_of(png):
+def rows_of(png: bytes) -> tuple[list[bytes], int]:
     """The rows of an 8-bit picture in true colour, as bytes, and how many bytes a point has."""
     at, data, width, many = 8, b"", 0, 3
     while at < len(png):
@@ -50,7 +53,7 @@ def rows_of(png):
     return rows, many
 
 
-def unfiltered(kind, row, before, many):
+def unfiltered(kind: int, row: bytearray, before: bytearray, many: int) -> bytearray:
     """A row without its filter: each byte is told by its distance from those beside and above it."""
     if kind == 0:
         return row
@@ -71,7 +74,7 @@ def unfiltered(kind, row, before, many):
     return row
 
 
-def small(png):
+def small(png: bytes) -> bytes:
     """The picture with the 256 colours that it has most, others by the nearest of these."""
     rows, many = rows_of(png)
     points = [[row[k : k + 3] for k in range(0, len(row), many)] for row in rows]
@@ -84,7 +87,7 @@ def small(png):
             place[colour] = place[near]
     data = b"".join(b"\0" + bytes(place[point] for point in row) for row in points)
 
-    def part(kind, told):
+    def part(kind: bytes, told: bytes) -> bytes:
         return struct.pack(">I", len(told)) + kind + told + struct.pack(">I", zlib.crc32(kind + told))
 
     head = struct.pack(">IIBBBBB", len(points[0]), len(points), 8, 3, 0, 0, 0)
@@ -92,16 +95,30 @@ def small(png):
             + part(b"IDAT", zlib.compress(data, 9)) + part(b"IEND", b""))
 
 
-def main():
-    program = usual()
-    for name in sys.argv[1:] or PICTURES:
-        job, way, place, width, height = PICTURES[name]
-        with tempfile.TemporaryDirectory() as folder, Browser(width, height) as browser:
-            file = pathlib.Path(folder) / f"{name}.html"
-            title = "calls" if job is CALLS else "sum"
-            file.write_text(page(traced(program, job), title, 20000, job, program, way)[0])
-            browser.open(f"{file}#{place}")
-            (HERE / f"{name}.png").write_bytes(small(browser.picture()))
+def of_page(name: str, program: str) -> bytes:
+    """The picture of a page of the viewer."""
+    job, way, place, width, height = PICTURES[name]
+    with tempfile.TemporaryDirectory() as folder, Browser(width, height) as browser:
+        file = pathlib.Path(folder) / f"{name}.html"
+        title = "calls" if job is CALLS else "sum"
+        file.write_text(page(traced(program, job), title, 20000, job, program, way)[0])
+        browser.open(f"{file}#{place}")
+        return browser.picture()
+
+
+def of_served(name: str, program: str) -> bytes:
+    """The picture of the page of serve.py, without the time that its answer took."""
+    place, width, height = SERVED[name]
+    with try_serve.Served(program) as served, Browser(width, height) as browser:
+        browser.visit(f"{served.address}#{place}", try_serve.SHOWN)
+        browser.value("state('')")
+        return browser.picture()
+
+
+def main() -> int:
+    for name in sys.argv[1:] or [*PICTURES, *SERVED]:
+        made = of_page(name, usual()) if name in PICTURES else of_served(name, usual())
+        (HERE / f"{name}.png").write_bytes(small(made))
     return 0
 
 

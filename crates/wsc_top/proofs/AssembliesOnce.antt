@@ -172,7 +172,7 @@ module _ (known : WalksOnce) (image : Image) (world : World) where
   no_earlier : (t u : ℕ) → FaultsAt image world t → FaultsAt image world u → t < u → ⊥
   no_earlier t u f g lt = let two : true ≡ false = sym f.is_past ∙ g.first t f.inst lt f.fired in cc
 
-  one_time : (t u : ℕ) → FaultsAt image world t → FaultsAt image world u → t ≡ u
+  pub one_time : (t u : ℕ) → FaultsAt image world t → FaultsAt image world u → t ≡ u
   one_time t u f g = go (three_ways t u)
     where
       go : (t < u) ⊎ ((t ≡ u) ⊎ (u < t)) → t ≡ u
@@ -180,11 +180,11 @@ module _ (known : WalksOnce) (image : Image) (world : World) where
       go (inr (inl e)) = e
       go (inr (inr lt)) = absurd (no_earlier u t g f lt)
 
-  one_inst : (t u : ℕ) (f : FaultsAt image world t) (g : FaultsAt image world u) → t ≡ u → f.inst ≡ g.inst
+  pub one_inst : (t u : ℕ) (f : FaultsAt image world t) (g : FaultsAt image world u) → t ≡ u → f.inst ≡ g.inst
   one_inst t u f g e = let same : Some f.inst ≡ Some g.inst = sym f.fired ∙ ap (fires image world) e
       ∙ g.fired in cc
 
-  no_fault_here : (t : ℕ) → NoFault image world → FaultsAt image world t → ⊥
+  pub no_fault_here : (t : ℕ) → NoFault image world → FaultsAt image world t → ⊥
   no_fault_here t none f = let two : true ≡ false = sym f.is_past ∙ none t f.inst f.fired in cc
 
   module _ (options : RunOptions) (handed : List (Option Told)) where

@@ -88,7 +88,7 @@ never_fails options image world status out back formed (failed t port x fires is
     never_rose _ _ (ap failures (none_at (port - 1))) (no_failures_at port (mem image world t) back ports
     seven.0 seven.1) rose
 
-yields_never_fails : (options : RunOptions) (parts : List Part) (input : List ℕ) (status : Status)
+pub yields_never_fails : (options : RunOptions) (parts : List Part) (input : List ℕ) (status : Status)
     (out : List ℕ) (image : Option Image) (back : List (Option Told))
     → Yields (Run options) parts input no_ports status out image back → IsFailed status → ⊥
 yields_never_fails options parts input status out some back (ran image c e t) f =

@@ -1,0 +1,62 @@
+-- That a job comes to its result: so what OneResult.antt says of results speaks of every job whose sequential
+-- run ends.
+use Rattle.std.specs.Prelude.{◌≡◌, ◌⊎◌, ℕ, suc, ◌*◌, ◌≤◌, Bool, List, ◌++◌, length}
+use Rattle.ws_words.specs.Outside.{Outside}
+use Rattle.src_ast.specs.Bound.{bound}
+use Rattle.src_ast.specs.Runs.{Runs, Goes}
+use Rattle.src_ast.specs.Syntax.{Part}
+use Rattle.wsc_top.specs.declared.status.Status.{Status}
+use Rattle.wsc_top.specs.declared.status.Status.TheVariants.{Done, ReadFault, WriteFault, PortFault, NoMemory}
+use Rattle.wsc_top.specs.declared.task.Task.{Task}
+use Rattle.wsc_top.specs.declared.task.Task.TheVariants.{Job, Assembly}
+use Rattle.wsc_top.specs.declared.task.JobTask.TheVariants.{Run, Plain}
+use Rattle.wsc_top.specs.declared.task.AssemblyTask.TheVariants.{Exec, Grid}
+use Rattle.wsc_top.specs.Tasks.{AsksFor}
+use Rattle.wsc_top.specs.Job.{IsJob, job_limit, world_of}
+use Rattle.wsc_top.specs.Assembly.{assembly_limit}
+use Rattle.one_result.specs.OneResult.{HasWritten, IsCodeOf, JobHasRun, IsResult, job_commands}
+use Rattle.one_result.specs.OneResult.{assembly_commands, input_section}
+
+-- a task may fire so often, or take so many turns where it is `plain`
+abbrev pub MaySpend : ℕ → ℕ → Task → Type 0
+MaySpend firings turns (Job (Run options)) = firings ≤ options.budget
+MaySpend firings turns (Job (Plain options)) = turns ≤ options.turns
+MaySpend firings turns (Assembly (Exec options)) = firings ≤ options.budget
+MaySpend firings turns (Assembly (Grid options)) = firings ≤ options.budget
+MaySpend firings turns _ = ⊥
+
+-- the words ask for such a task
+abbrev pub AskToSpend : ℕ → ℕ → List (List ℕ) → Type 0
+AskToSpend firings turns words = (task : Task) × AsksFor words task × MaySpend firings turns task
+
+-- memory ran out, or the source, the sink or a port failed
+abbrev pub HasFailed : Status → Type 0
+HasFailed status = (status ≡ NoMemory) ⊎ ((status ≡ ReadFault) ⊎ ((status ≡ WriteFault)
+    ⊎ ((port : ℕ) × (status ≡ PortFault port))))
+
+-- A job whose sequential run ends after some turns comes to its end by `run`, where its budget is the bound
+-- of the program for each turn and once more, and by `plain`, where it may take so many turns, want of memory
+-- and failures aside.
+abbrev pub JobsEnd : Type 0
+JobsEnd = (text : List ℕ) (parts : List Part) (input : List ℕ) (turns : ℕ) (end : Outside)
+    (status : Status) (out : List ℕ)
+    → IsJob text parts input → Runs parts (world_of input) turns end → length text ≤ job_limit
+    → HasWritten job_commands (AskToSpend (bound parts * suc turns) turns) text status out
+    → (status ≡ Done) ⊎ HasFailed status
+
+-- So it does by `exec`, `decouple` and `grid` on what `compile` has written of it.
+abbrev pub CodeEnds : Type 0
+CodeEnds = (text code : List ℕ) (parts : List Part) (input : List ℕ) (turns : ℕ) (end : Outside)
+    (status : Status) (out : List ℕ)
+    → IsJob text parts input → Runs parts (world_of input) turns end → IsCodeOf code text
+    → length (code ++ input_section text) ≤ assembly_limit
+    → HasWritten assembly_commands (AskToSpend (bound parts * suc turns) turns) (code ++ input_section text)
+    status out
+    → (status ≡ Done) ⊎ HasFailed status
+
+-- A job whose sequential run never ends never comes to a result, whatever it may spend.
+abbrev pub NeverEnds : Type 0
+NeverEnds = (text : List ℕ) (parts : List Part) (input : List ℕ) (memory : Bool) (status : Status)
+    (out : List ℕ)
+    → IsJob text parts input → ((turns : ℕ) → (now : Outside) × Goes parts (world_of input) turns now)
+    → JobHasRun memory text status out → IsResult status → ⊥

@@ -1,0 +1,18 @@
+# The files that go along with the program, for install and release, which have set top.
+# shellcheck shell=bash disable=SC2154
+
+# The wrapper, its help, the tools and the completions, one a line, as they lie in the repository. What checks the tools
+# stays there.
+parts() {
+    local it
+    printf '%s\n' wsc door/program.bash door/front.bash door/words.bash door/help.txt
+    for it in "$top"/view/*.{py,js,css,html} "$top"/why/*.py; do
+        case ${it##*/} in
+        check*.py | try_*.py | browser.py) ;;
+        *) printf '%s\n' "${it#"$top"/}" ;;
+        esac
+    done
+    for it in "$top"/examples/*.job "$top"/view/examples/*.job; do
+        printf '%s\n' "${it#"$top"/}"
+    done
+}
