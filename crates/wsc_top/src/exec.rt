@@ -37,8 +37,36 @@ pub struct CommandReply<P: Port> {
 // A line has from 1 to 8 workers.
 const MOST_WORKERS: u32 = 8;
 
-/// Runs an image by a crew on these words with these ports.
+/// Runs an image on these words with these ports, by a crew or with decoupled stores.
 pub fn executed<P: Port + Send, G: Gate, R: Threads + Wait + Sync>(
+    rt: &R,
+    alloc: Global,
+    options: RunOptions,
+    image: Checked,
+    input: Words,
+    ports: Slots<P>,
+    gate: &G,
+) -> CommandReply<P>
+    requires told { TellWords (contents P.tells ports) }
+    requires open { AllOpen (contents P.tells ports) }
+    ensures executes { IfOk result.answer (λ y. Executes options image
+        (world_with input (contents P.tells ports)) (contents P.tells ports) y.0 y.1
+        (contents P.tells result.ports)) }
+    ensures begun { OnErr result.answer (HasBegun image
+        (world_with input (contents P.tells ports)) (contents P.tells ports)
+        (contents P.tells result.ports)) }
+    ensures image { result.image ≡ Some image }
+    ensures threads { result.threads.items ≡ [] }
+    ensures open { AllOpen (contents P.tells result.ports) }
+{
+    if options.decoupled {
+        return decoupled(alloc, options, image, input, ports);
+    }
+    crewed(rt, alloc, options, image, input, ports, gate)
+}
+
+// Runs an image by a crew.
+fn crewed<P: Port + Send, G: Gate, R: Threads + Wait + Sync>(
     rt: &R,
     alloc: Global,
     options: RunOptions,
