@@ -3,7 +3,8 @@
 //!
 //! `wsc` ends as `CallEnds` says, whose fields are its clauses. `prepare` is the part of it before ports and
 //! threads: it answers with what is to be done (`StepSo`), an answer that is ready or images that are due; it
-//! is given no `Threads` and no `Wait`, so all that is answered without a run returns. Where memory runs out
+//! is given no `Threads` and no `Wait`, so all that is answered without a run returns. So does `decoupled`,
+//! which is given neither and runs the image of `decouple`. Where memory runs out
 //! in it, an image that it hands back is one that the words and the text ask to be written, or to be run
 //! without ports (`RunsOut`).
 #![tactic(auto)]
@@ -35,6 +36,7 @@ mod yields;
 pub use answer::prepare;
 pub use batch::ReadJobs;
 pub use call::wsc;
+pub use exec::{CommandReply, decoupled};
 pub use laws::{
     assemblies_are_answered_alike, each_answer_has_its_status, each_assembly_is_read_or_refused,
     each_generated_job_is_a_job, each_input_is_read_once, each_run_ends_as_its_walk,
