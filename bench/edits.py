@@ -3,15 +3,14 @@
 
     bench/edits.py             those of the crates whose contracts have changed since they were last tried
     bench/edits.py --all       those of every crate
-    bench/edits.py --fit       none: only whether each can be applied, and whether of some crate they are due
+    bench/edits.py --fit       none: only whether each can be applied, and of which crates they are due
     bench/edits.py NAME..      those of these crates
 
 The edits of crates/*/must-fail are tried by every run of the gate. Those of edits/NAME are tried here, each in the
 form that `rt must-fail` reads, in a copy of the repository that is removed again; the first of a crate costs as much
 as its proof. What the contracts of a crate are is a checksum over its specs/ and over the signatures and contracts of
 its functions; edits/tried.txt has, for each crate, the one over which all its edits were refused, or that of the same
-contracts under new names. The exit status is 1 where an edit wasn't refused, or can't be applied, and with --fit
-where they are due.
+contracts under new names. The exit status is 1 where an edit wasn't refused, or can't be applied.
 """
 
 import argparse
@@ -117,7 +116,7 @@ def main():
     wanted = every if args.all else args.names or [it for it in every if tried.get(it) != sums[it]]
     if args.fit:
         print(f"{len(every)} crates, {len(bad)} misfits, due: {' '.join(wanted) or 'none'}")
-        return 1 if bad or wanted else 0
+        return 1 if bad else 0
     refused = []
     for name in are_refused(wanted) if wanted else []:
         refused.append(name)

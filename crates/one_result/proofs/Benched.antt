@@ -1,6 +1,6 @@
 -- What `bench` tells of a generated job is what its result has.
 use Rattle.std.specs.Prelude.{◌≡◌, ℕ, true, false, List, [], ◌++◌, Option, Some, refl}
-use Rattle.std.proofs.Common.{ap, ◌∙◌, subst, inl, append-nil}
+use Rattle.std.proofs.Common.{sym, ap, ◌∙◌, subst, inl, append-nil}
 use Rattle.ws_words.specs.Digits.{value_of}
 use Rattle.ws_words.specs.Outside.{Outside, World, printed_words}
 use Rattle.src_ast.specs.Once.{ExactlyOne}
@@ -30,7 +30,7 @@ use Rattle.wsc_top.specs.Threads.{Replies, no_ports}
 use Rattle.wsc_top.proofs.AnswersOnce.{RunsOnce}
 use Rattle.wsc_top.proofs.RunsAlike as alike
 use Rattle.wsc_top.proofs.RunsAlike.{one_job}
-use Rattle.one_result.specs.OneResult.{HasWritten}
+use Rattle.one_result.specs.OneResult.{HasWritten, IsResult}
 use Rattle.one_result.specs.Others.{GivesNumber, OneBench, generate_commands, bench_commands}
 use Rattle.one_result.proofs.Words.{asked}
 use Rattle.one_result.proofs.Written.{IsGenerate, IsBench, is_told, told_reply, generate_kind, bench_kind}

@@ -1,5 +1,5 @@
 -- That a job whose sequential run ends comes to its end.
-use Rattle.std.specs.Prelude.{◌≡◌, ◌⊎◌, ℕ, zero, suc, ◌*◌, ◌<◌, ◌≤◌, false, List, ◌++◌, length}
+use Rattle.std.specs.Prelude.{◌≡◌, ◌⊎◌, ℕ, zero, suc, ◌*◌, ◌<◌, ◌≤◌, true, false, List, [], ◌++◌, length}
 use Rattle.std.specs.Prelude.{Bool, Option, Some, refl}
 use Rattle.std.specs.List.{AllByRecursion}
 use Rattle.std.proofs.Common.{sym, ap, ◌∙◌, subst, inl, inr, arith}
@@ -10,10 +10,11 @@ use Rattle.src_ast.specs.Once.{ExactlyOne}
 use Rattle.src_ast.specs.Runs.{Runs}
 use Rattle.src_ast.specs.Syntax.{Part}
 use Rattle.ws_isa.specs.Image.{Image, array_at}
-use Rattle.ws_isa.specs.Walk.{fires, mem, walk}
+use Rattle.ws_isa.specs.Walk.{Inst, fires, mem, walk, CostAtMost}
 use Rattle.ws_isa.specs.Operations.{past, FaultsAt, NoFault}
 use Rattle.df_core.specs.Ends.{FirstWithin}
 use Rattle.port_set.specs.Ports.{Told}
+use Rattle.store_buf.specs.Outdoors.{lefts_of, world_with}
 use Rattle.wave_build.specs.Compiled.{WalksAsRun}
 use Rattle.wave_gen.specs.Words.{IsWord, WorldOfWords}
 use Rattle.wsc_words.specs.Lines.{line_of}
@@ -31,10 +32,11 @@ use Rattle.wsc_top.specs.declared.task.AssemblyTask.TheVariants as task
 use Rattle.wsc_top.specs.Tasks.{AsksFor}
 use Rattle.wsc_top.specs.Job.{IsJob, IsTextAnswer, job_limit, world_of}
 use Rattle.wsc_top.specs.Assembly.{IsAssembly, assembly_limit}
-use Rattle.wsc_top.specs.Executions.{Rests, OrFailed}
+use Rattle.wsc_top.specs.Executions.{EndsRun, Rests, OrFailed}
 use Rattle.wsc_top.specs.Answers.{Answers, JobEndsSo, AssemblyEndsSo, TellWords, IsToldJob, IsToldAssembly}
 use Rattle.wsc_top.specs.Answers.{IsCompiled, ComesToItsEnd}
 use Rattle.wsc_top.specs.Answers as answers
+use Rattle.wsc_top.specs.Threads.{no_ports}
 use Rattle.wsc_top.proofs.AnswersOnce.{RunsOnce}
 use Rattle.wsc_top.proofs.RunsAlike as alike
 use Rattle.wsc_top.proofs.RunsAlike.{one_job}
@@ -42,10 +44,10 @@ use Rattle.wsc_top.proofs.Headline.{fault_told}
 use Rattle.wsc_top.proofs.Tasks.{OneLine}
 use Rattle.wsc_top.proofs.Tells.{input_words}
 use Rattle.wsc_top.proofs.ThreadAnswers.{reply_other}
-use Rattle.one_result.specs.OneResult.{CalledBy, HasWritten, input_section, job_commands}
+use Rattle.one_result.specs.OneResult.{CalledBy, HasWritten, IsCodeOf, input_section, job_commands}
 use Rattle.one_result.specs.OneResult.{assembly_commands}
 use Rattle.one_result.specs.Ends.{MaySpend, AskToSpend, HasFailed, JobsEnd, CodeEnds}
-use Rattle.one_result.proofs.Words.{asked}
+use Rattle.one_result.proofs.Words.{Asked, asked}
 use Rattle.one_result.proofs.Written.{RunsJob, RunsImage, Replied, replied, job_kind, image_kind}
 use Rattle.one_result.proofs.Jobs.{silent_world}
 use Rattle.one_result.proofs.Compiled.{Code, code_of}

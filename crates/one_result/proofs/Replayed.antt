@@ -4,6 +4,7 @@ use Rattle.std.specs.Prelude.{if◌then◌else◌, refl}
 use Rattle.std.proofs.Common.{sym, ap, ◌∙◌, subst, inl, inr, arith, append-nil}
 use Rattle.ws_words.specs.Outside.{printed_words}
 use Rattle.ws_isa.specs.Image.{Image}
+use Rattle.ws_isa.specs.Shown.{shown_cells}
 use Rattle.ws_isa.specs.Walk.{mem, walk, CostAtMost}
 use Rattle.ws_isa.specs.Operations.{NoFault}
 use Rattle.port_set.specs.Ports.{Told}
@@ -12,23 +13,24 @@ use Rattle.trace_check.specs.Replays.{Replays, PrintsAll, PrintsToFault}
 use Rattle.trace_check.specs.Traces.{numbered}
 use Rattle.wsc_top.specs.declared.status.Status.{Status}
 use Rattle.wsc_top.specs.declared.status.Status.TheVariants.{Done}
-use Rattle.wsc_top.specs.declared.task.Task.TheVariants.{Assembly}
+use Rattle.wsc_top.specs.declared.task.Task.TheVariants.{Job, Assembly}
 use Rattle.wsc_top.specs.declared.task.AssemblyTask.{AssemblyTask}
 use Rattle.wsc_top.specs.declared.task.AssemblyTask.TheVariants as task
 use Rattle.wsc_top.specs.Job.{world_of}
 use Rattle.wsc_top.specs.Assembly.{IsAssembly}
 use Rattle.wsc_top.specs.Sections.{trace_line}
-use Rattle.wsc_top.specs.Texts.{done_text, word_line, firings_line}
+use Rattle.wsc_top.specs.Texts.{done_text, word_line, firings_line, shown_names}
 use Rattle.wsc_top.specs.Traced.{IsTraced, replayed_text}
 use Rattle.wsc_top.specs.Executions.{Rests}
 use Rattle.wsc_top.specs.Answers as answers
 use Rattle.wsc_top.specs.Answers.{AssemblyAnswered}
 use Rattle.wsc_top.proofs.AssembliesOnce.{WalksOnce, one_assembly, no_fault_here}
-use Rattle.one_result.specs.Others.{OneTrace, lines_of}
+use Rattle.one_result.specs.OneResult.{HasFlags, HasWritten, IsResult}
+use Rattle.one_result.specs.Others.{OneTrace, lines_of, trace_commands, replay_commands}
 use Rattle.one_result.proofs.Written.{IsTrace, IsReplay, TextTold, trace_written, replay_written}
 use Rattle.one_result.proofs.Written as written
 use Rattle.one_result.proofs.Jobs.{told_result}
-use Rattle.one_result.proofs.Images.{ImageTold, rested, called_image, images_alike}
+use Rattle.one_result.proofs.Images.{ImageTold, rested, TextImage, called_image, images_alike}
 
 -- a trace that has come to rest
 record TraceTold (text events : List ℕ) : Type 0 where

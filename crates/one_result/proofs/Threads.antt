@@ -1,5 +1,5 @@
 -- What the threads of `multi` tell is what their jobs tell by themselves.
-use Rattle.std.specs.Prelude.{◌≡◌, ◌⊎◌, ℕ, suc, Bool, true, false, List, ◌∷◌, Option, Some, refl}
+use Rattle.std.specs.Prelude.{◌≡◌, ◌⊎◌, ℕ, suc, Bool, true, false, List, [], ◌∷◌, Option, Some, refl}
 use Rattle.std.specs.List.{AllByRecursion}
 use Rattle.std.proofs.Common.{sym, ap, ◌∙◌, subst, inl, inr}
 use Rattle.src_ast.specs.Once.{ExactlyOne}
@@ -9,7 +9,7 @@ use Rattle.ws_isa.specs.Image.{Image}
 use Rattle.port_set.specs.Ports.{Told}
 use Rattle.store_buf.specs.Outdoors.{lefts_of, world_with}
 use Rattle.wsc_top.specs.declared.status.Status.{Status}
-use Rattle.wsc_top.specs.declared.status.Status.TheVariants.{Budget}
+use Rattle.wsc_top.specs.declared.status.Status.TheVariants.{Budget, PortFault}
 use Rattle.wsc_top.specs.declared.task.Task.{Task}
 use Rattle.wsc_top.specs.declared.task.Task.TheVariants.{Job, Assembly, Generate, Bench, Multi}
 use Rattle.wsc_top.specs.declared.task.JobTask.TheVariants.{Run}
@@ -28,7 +28,7 @@ use Rattle.wsc_top.proofs.AnswersOnce.{RunsOnce}
 use Rattle.wsc_top.proofs.ThreadAnswers.{yields_never_fails}
 use Rattle.one_result.specs.OneResult.{HasFlags, HasWritten, IsResult}
 use Rattle.one_result.specs.Others as others
-use Rattle.one_result.specs.Others.{IsOfJob, AreOfJobs, texts_of, multi_commands}
+use Rattle.one_result.specs.Others.{IsOfJob, AreOfJobs, texts_of, OneMulti, multi_commands}
 use Rattle.one_result.proofs.Words.{asked}
 use Rattle.one_result.proofs.Written.{IsMulti, is_told, told_reply, multi_kind}
 use Rattle.one_result.proofs.Jobs.{TextJob, told_by_task, told_result, jobs_alike}

@@ -31,4 +31,3 @@ pub mod JobTexts
 pub mod ThreadRuns
 pub mod JobsOnce
 pub mod ThreadAnswers
-pub mod Walked

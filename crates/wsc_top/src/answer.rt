@@ -21,7 +21,7 @@ ghost use Rattle.wsc_top.specs.Threads.{Replies, Falls};
 use crate::assembly::{self, AssemblyFault};
 use crate::batch::{self, JobsFault};
 use crate::bench::generated;
-use crate::exec::{CommandReply, decoupled, executed};
+use crate::exec::{CommandReply, executed};
 use crate::laws::what_is_due_is_answered;
 use crate::multi::all_executed;
 use crate::multi_laws::what_threads_do_is_answered;
@@ -238,11 +238,7 @@ pub fn to_words<S: Source, P: Port + Send, G: Gate, R: Threads + Wait + Sync>(
             ports,
         },
         Ok(CallStep::Run(options, image, input)) => {
-            if options.decoupled {
-                decoupled(alloc, options, image, input, ports)
-            } else {
-                executed(rt, alloc, options, image, input, ports, gate)
-            }
+            executed(rt, alloc, options, image, input, ports, gate)
         }
         Ok(CallStep::Threads(options, jobs)) => all_executed(rt, alloc, options, jobs, ports, gate),
         Err(StarvedCall { image }) => CommandReply {

@@ -37,13 +37,13 @@ pub use batch::ReadJobs;
 pub use call::wsc;
 pub use laws::{
     assemblies_are_answered_alike, each_answer_has_its_status, each_assembly_is_read_or_refused,
-    each_generated_job_is_a_job, each_input_is_read_once, each_run_ends_as_its_walk,
-    each_text_is_a_job_or_refused, every_text_is_answered_once, printed_texts_are_read_again,
-    runs_are_answered_alike, what_is_due_is_answered,
+    each_generated_job_is_a_job, each_input_is_read_once, each_text_is_a_job_or_refused,
+    every_text_is_answered_once, printed_texts_are_read_again, runs_are_answered_alike,
+    what_is_due_is_answered,
 };
 pub use multi_laws::{
     each_answer_of_threads_has_its_status, each_text_is_some_jobs_or_refused,
-    threads_are_answered_alike, threads_end_as_their_walks, what_threads_do_is_answered,
+    threads_are_answered_alike, what_threads_do_is_answered,
 };
 pub use status::{Outcome, Status};
 pub use step::{CallStep, StarvedCall};
