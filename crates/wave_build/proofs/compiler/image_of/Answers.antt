@@ -17,8 +17,9 @@ generate-requires-clause-arms c = arms_alone (ast.parts c.args.accepted.now.prog
     (view.graph c.in_ok-graph.graph) c.in_ok-graph.ensures
 
 pub annotate-requires : goal.annotate-requires
-annotate-requires c = c.open_drafts_fit.ensures (image.draft c.in_ok-draft.draft)
-    c.in_ok-draft.ensures.open_to_notes
+annotate-requires c = record {
+  fit = c.open_drafts_fit.ensures (image.draft c.in_ok-draft.draft) c.in_ok-draft.ensures.open_to_notes;
+}
 
 pub returns-clause-formed : goal.returns-clause-formed
 returns-clause-formed c =
