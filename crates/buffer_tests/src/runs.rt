@@ -9,7 +9,7 @@ use match_table::{Accept, Table};
 use port_set::{Port, Slots};
 use std::alloc::Global;
 use std::marker::Brand;
-use store_buf::{BufFault, Buffer, BufferEnd, told_ports_begin};
+use store_buf::{BufFault, Buffer, BufferEnd, MemoryOrder, told_ports_begin};
 use ws_isa::Checked;
 use ws_words::{NoMemory, Words};
 

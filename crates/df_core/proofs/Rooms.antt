@@ -9,13 +9,36 @@ use Rattle.df_core.specs.declared.plain.Asked.{Asked}
 use Rattle.df_core.specs.declared.memory.Memory.{Memory}
 use Rattle.df_core.specs.declared.slots.MatchStore.{MatchStore}
 use Rattle.df_core.specs.declared.flow.Flow.{Flow}
-use Rattle.df_core.specs.Outdoors.{Space}
+use Rattle.df_core.specs.Outdoors.{Space, HasSpace}
 use Rattle.df_core.specs.Flows.{AskedMore, FlowRoom}
 
 pub space_less : (m : Memory) (a b : ℕ) → b ≤ a → Space m a → Space m b
 space_less m a b l s = record {
   printed = omega (arith, s.printed);
   took = λ p row e. (let c : vec_len row + a ≤ vec_capacity row = s.took p row e in omega arith);
+}
+
+-- more room was made
+pub space_kept : (old new : Memory) (n : ℕ) → vec_len new.printed ≡ vec_len old.printed
+    → vec_capacity old.printed ≤ vec_capacity new.printed
+    → (HasSpace old.took.items n → HasSpace new.took.items n) → Space old n → Space new n
+space_kept old new n len room took s = record { printed = omega (arith, s.printed); took = took s.took }
+
+pub room_kept : (old new : Flow) (n : ℕ) → vec_len new.way.now ≡ vec_len old.way.now
+    → vec_len new.way.later ≡ vec_len old.way.later → vec_len new.asked ≡ vec_len old.asked
+    → vec_len new.early ≡ vec_len old.early → vec_capacity old.way.now ≤ vec_capacity new.way.now
+    → vec_capacity old.way.later ≤ vec_capacity new.way.later
+    → spare old.slots.spill ≤ spare new.slots.spill → vec_capacity old.early ≤ vec_capacity new.early
+    → ((q : ℕ) → Space old.memory q → Space new.memory q) → vec_capacity old.asked ≤ vec_capacity new.asked
+    → FlowRoom old 0 n → FlowRoom new 0 n
+room_kept old new n now later asked early now' later' spill early' memory asked' r = record {
+  now = omega (arith, r.now);
+  later = omega (arith, r.later);
+  spill = omega (arith, r.spill);
+  asked = omega (arith, r.asked);
+  early = omega (arith, r.early);
+  memory = memory (vec_len new.asked + n) (space_less old.memory (vec_len old.asked + n)
+      (vec_len new.asked + n) (omega arith) r.memory);
 }
 
 -- tokens were sent, and the instance that sent them is no more to fire

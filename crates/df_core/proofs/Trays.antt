@@ -48,6 +48,16 @@ set_space rows k v w n l e a b h p r q = elim (nth_set rows k w p r q) [
   | inr g ↦ (let c : vec_len r + suc n ≤ vec_capacity r = h p r g.1 in omega arith)
 ]
 
+-- a row got more room
+pub kept_space : (rows : List (Vec ℕ Global)) (k : ℕ) (v w : Vec ℕ Global) (n : ℕ) → k < length rows
+    → v ≡ slice_index_or rows k v → vec_len w ≡ vec_len v → vec_capacity v ≤ vec_capacity w
+    → HasSpace rows n → HasSpace (slice_set rows k w) n
+kept_space rows k v w n l e a b h p r q = elim (nth_set rows k w p r q) [
+  | inl g ↦ (let c : vec_len v + n ≤ vec_capacity v = h k v (value_nth rows k v l e) in
+      subst (λ (x : Vec ℕ Global). vec_len x + n ≤ vec_capacity x) (sym g.1) (omega (arith, a, b)))
+  | inr g ↦ h p r g.1
+]
+
 pub written_past : (rows : List (Vec ℕ Global)) (k : ℕ) (r : List ℕ) → length rows ≤ k
     → rows_of rows ≡ with_row (rows_of rows) k r
 written_past [] k r l = refl

@@ -1,5 +1,5 @@
 -- The states of a core, and how its calls lead from one to another.
-use Rattle.std.specs.Prelude.{ℕ, ◌≡◌, ◌<◌, ◌≤◌, ◌-◌, ◌^◌, Bool, true, false, []}
+use Rattle.std.specs.Prelude.{ℕ, ◌≡◌, ◌+◌, ◌<◌, ◌≤◌, ◌-◌, ◌^◌, Bool, true, false, []}
 use Rattle.ws_words.specs.Outside.{World}
 use Rattle.ws_isa.specs.Image.{Image}
 use Rattle.ws_isa.specs.Formed.{Formed}
@@ -76,9 +76,17 @@ abbrev pub EventsLead : Core → Core → Type 0
 EventsLead old new = (image : Image) (world : World) (s : State) → IsAt image world old s →
     (t : State) × Reaches image s t × IsAt image world new t
 
+-- there is room for so many more firings, and for all events around them
+abbrev pub RoomFor : Core → ℕ → Type 0
+RoomFor core n = FlowRoom core.flow 0 n
+
 -- there is room for one more firing, and for the events around it
 abbrev pub HasRoom : Core → Type 0
-HasRoom core = FlowRoom core.flow 0 1 × ((done core).fired < 2 ^ 64 - 2)
+HasRoom core = RoomFor core 1 × ((done core).fired < 2 ^ 64 - 2)
+
+-- of the room each firing took that for one, and nothing else took any
+abbrev pub KeepsRoom : Core → Core → Type 0
+KeepsRoom old new = (n m : ℕ) → m + (done new).fired ≡ n + (done old).fired → RoomFor old n → RoomFor new m
 
 -- where the budget is spent, the most operations of the walk that have all fired have been passed, and
 -- memory is what they leave
@@ -90,4 +98,4 @@ SpendsAll finish old new = (image : Image) (world : World) (s : State) → IsAt 
 -- no more than the budget have fired, and there is room for a run until then
 pub record Prepared (core : Core) (budget : ℕ) : Type 0 where
   pub fired : (done core).fired ≤ budget
-  pub room : FlowRoom core.flow 0 (budget - (done core).fired)
+  pub room : RoomFor core (budget - (done core).fired)

@@ -37,6 +37,8 @@ pub fn run(program: &Program<'_>, flow: &mut Flow<'_>, budget: u64) -> Finish
     requires fired { flow.old.fired ≤ budget }
     requires room { FlowRoom flow.old 0 (budget - flow.old.fired) }
     ensures within { flow.new.fired ≤ budget }
+    ensures room { (n m : ℕ) → m + flow.new.fired ≡ n + flow.old.fired → FlowRoom flow.old 0 n →
+        FlowRoom flow.new 0 m }
     ensures spent { is_budget result ≡ true → flow.new.fired ≡ budget }
     ensures stopped { is_some flow.new.fault ≡ is_fault result }
     ensures finish { Ended (image_of program.now) budget flow.old flow.new result }

@@ -1,7 +1,7 @@
 //! The core, event by event.
 
-ghost use Rattle.std.specs.Prelude.{◌≡◌, true, ◌≤◌, ◌-◌, ℕ, [], List, length, ◌⊎◌, map, is_some, IfOk, OnOk};
-ghost use Rattle.std.specs.Prelude.{OnErr, IfErr, MatchOption};
+ghost use Rattle.std.specs.Prelude.{◌≡◌, true, ◌≤◌, ◌-◌, ◌+◌, ℕ, suc, [], List, length, ◌⊎◌, map, is_some};
+ghost use Rattle.std.specs.Prelude.{IfOk, OnOk, OnErr, IfErr, MatchOption};
 ghost use Rattle.ws_words.specs.Outside.{World as Given, printed_words, row};
 ghost use Rattle.ws_words.specs.Plain.{took_by_ports, world_of};
 ghost use Rattle.ws_isa.specs.Image.{Image};
@@ -14,7 +14,7 @@ ghost use Rattle.df_core.specs.Flows.{NoneAskedMay, FlowFaultIs};
 ghost use Rattle.df_core.specs.Quiet.{IsQuietly, OnlyFires};
 ghost use Rattle.df_core.specs.Cores.{IsAt, Prepared, Makes, NotEnabled, IsEnabled, IsAtRest, SpendsAll};
 ghost use Rattle.df_core.specs.Cores.{HasRoom, done, event_of, is_not_ready, EventsLead, IsRunning};
-ghost use Rattle.df_core.specs.Cores.{SameStates};
+ghost use Rattle.df_core.specs.Cores.{SameStates, RoomFor, KeepsRoom};
 
 use crate::drive::{Finish, run};
 use crate::flow::Flow;
@@ -59,7 +59,8 @@ impl<'i> Core<'i> {
         Ok(Core { program, flow })
     }
 
-    /// Makes an event. After an error the state is as before.
+    /// Makes an event. After an error the state is as before. A step takes the room of one firing
+    /// at most, so that what was prepared until a budget stays prepared.
     pub fn step(&mut self, event: Event) -> Result<(), StepFault>
         requires { IsRunning self.old }
         ensures core { IsRunning self.new }
@@ -68,6 +69,9 @@ impl<'i> Core<'i> {
             NotEnabled (event_of event) self.old) }
         ensures kept { OnErr result (SameStates self.old self.new) }
         ensures memory { HasRoom self.old → IfErr result (λ fault. is_not_ready fault ≡ true) }
+        ensures room { (n : ℕ) → RoomFor self.old (suc n) → RoomFor self.new n }
+        ensures prepared { (budget : ℕ) → Prepared self.old budget → (done self.new).fired ≤ budget →
+            Prepared self.new budget }
     {
         match event {
             Event::Match { wave, instr, port } => self.make_match(wave, instr, port),
@@ -110,6 +114,7 @@ impl<'i> Core<'i> {
         requires fired { (done self.old).fired ≤ budget }
         ensures core { IsRunning self.old → IsRunning self.new }
         ensures prepared { OnOk result (Prepared self.new budget) }
+        ensures room { (n : ℕ) → RoomFor self.old n → RoomFor self.new n }
         ensures kept { SameStates self.old self.new }
     {
         let fired = self.flow.fired;
@@ -129,6 +134,7 @@ impl<'i> Core<'i> {
         ensures stopped { (image : Image) (world : Given) (state : State) →
             IsAt image world self.new state → state.stopped ≡ is_fault result }
         ensures spent { SpendsAll result self.old self.new }
+        ensures room { KeepsRoom self.old self.new }
     {
         run(&self.program, &mut self.flow, budget)
     }
@@ -212,6 +218,8 @@ impl<'i> Core<'i> {
             NotEnabled (Match wave instr port) self.old) }
         ensures kept { OnErr result (SameStates self.old self.new) }
         ensures memory { HasRoom self.old → IfErr result (λ fault. is_not_ready fault ≡ true) }
+        ensures room { KeepsRoom self.old self.new }
+        ensures count { (done self.new).fired ≤ (done self.old).fired + 1 }
     {
         if !self.flow.way.has(wave, instr, port) {
             return Err(StepFault::NotReady);
@@ -236,6 +244,8 @@ impl<'i> Core<'i> {
             NotEnabled (Issue wave instr) self.old) }
         ensures kept { OnErr result (SameStates self.old self.new) }
         ensures memory { HasRoom self.old → IfErr result (λ fault. is_not_ready fault ≡ true) }
+        ensures room { KeepsRoom self.old self.new }
+        ensures count { (done self.new).fired ≤ (done self.old).fired + 1 }
     {
         match self.flow.ready(&self.program, wave, instr) {
             Some(place) => {

@@ -81,10 +81,11 @@ impl<'w> Flow<'w> {
         }
     }
 
-    /// Makes room for so many more firings and all events around them.
+    /// Makes room for so many more firings and all events around them. What room there is stays.
     pub fn prepare(&mut self, more: u64) -> Result<(), NoMemory>
         ensures room { OnOk result (FlowRoom self.new 0 more) }
         ensures same { SameParts self.old self.new }
+        ensures kept { (n : ℕ) → FlowRoom self.old 0 n → FlowRoom self.new 0 n }
         ensures succeeds { more < 2 ^ 56 → FlowRoom self.old 0 more → IsOk result }
     {
         if more > MOST {

@@ -15,10 +15,11 @@
 //! otherwise exactly the budget has fired, and what is told is what the walk leaves with its first p
 //! operations, the most that have all fired, none of which is past the end (`RunSo`). `Core` does the same in
 //! steps: `step` makes an event, and answers NotReady exactly where it isn't enabled; where there is room for
-//! one more firing (`HasRoom`) it answers nothing else; `pick` gives an enabled event, `pick_quiet` one that
-//! fires no instance, or says that there is none; `fault` says whether the chain is stopped; `run` takes no
-//! memory after `prepare`, answers Fault exactly where the chain is then stopped, and where it answers Budget
-//! has passed the most operations that have all fired (`spent`).
+//! one more firing (`HasRoom`) it answers nothing else, each step takes the room of one firing at most, and
+//! what was prepared until a budget stays so (`prepared`); `pick` gives an enabled event, `pick_quiet` one
+//! that fires no instance, or says that there is none; `fault` says whether the chain is stopped; `run` takes
+//! no memory after `prepare`, answers Fault exactly where the chain is then stopped, and where it answers
+//! Budget has passed the most operations that have all fired (`spent`).
 //!
 //! A `Job` is a type that stands for one run: its image, its world, and what its ports had done when it
 //! began. A `Token` or `Request` of a job is right, by its type: the walk of the job's image has that

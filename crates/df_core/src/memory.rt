@@ -48,6 +48,7 @@ impl<'a> Memory<'a> {
     pub fn reserve(&mut self, more: usize) -> Result<(), NoMemory>
         ensures space { OnOk result (Space self.new more) }
         ensures same { SameOut self.old self.new }
+        ensures kept { (n : ℕ) → Space self.old n → Space self.new n }
         ensures succeeds { Space self.old more → IsOk result }
     {
         self.printed.reserve(more)?;
@@ -111,6 +112,7 @@ fn add_word(rows: &mut Vec<Vec<u64>>, place: usize, word: u64)
 fn reserve_rows(rows: &mut Vec<Vec<u64>>, more: usize) -> Result<(), NoMemory>
     ensures space { OnOk result (HasSpace rows.new.items more) }
     ensures same { rows_of rows.new.items ≡ rows_of rows.old.items }
+    ensures kept { (n : ℕ) → HasSpace rows.old.items n → HasSpace rows.new.items n }
     ensures succeeds { HasSpace rows.old.items more → IsOk result }
 {
     for place in 0..rows.len() {

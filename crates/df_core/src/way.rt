@@ -88,9 +88,13 @@ impl Way {
         None
     }
 
-    /// Where there are none of the first, the others take their place.
+    /// Where there are none of the first, the others take their place. Takes no room.
     pub fn turn(&mut self)
-        ensures { way_of self.new ≡ way_of self.old }
+        ensures turned { way_of self.new ≡ way_of self.old }
+        ensures both { vec_len self.new.now + vec_len self.new.later
+            ≡ vec_len self.old.now + vec_len self.old.later }
+        ensures room { (n : ℕ) → n ≤ vec_capacity self.old.now → n ≤ vec_capacity self.old.later →
+            (n ≤ vec_capacity self.new.now) × (n ≤ vec_capacity self.new.later) }
     {
         if !self.now.is_empty() {
             return;

@@ -16,7 +16,7 @@ use df_core::{
 use match_table::row::Tables;
 use match_table::together::facts;
 use port_set::Port;
-use store_buf::Buffer;
+use store_buf::{Buffer, MemoryOrder};
 
 /// Where tables and a buffer owe nothing the whole walk has been run.
 pub fn all_run<J: Job, P: Port>(code: &Code<'_, J>, tables: &Tables<J>, buffer: &Buffer<J, P>)

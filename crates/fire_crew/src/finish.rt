@@ -12,7 +12,7 @@ use df_core::{Code, Job};
 use match_table::Tables;
 use match_table::together::fired;
 use port_set::{Port, Slots};
-use store_buf::{BufFault, Buffer};
+use store_buf::{BufFault, Buffer, MemoryOrder};
 use ws_words::{Cells, Words};
 
 /// How a run ended. `Done`: the whole walk has been run. `Budget`: as many instances have fired as

@@ -6,7 +6,7 @@ use match_table::{Offer, Took};
 use port_set::Port;
 use ready_pool::Seat;
 use std::sync::{Mutex, Wait};
-use store_buf::{BufFault, Buffer};
+use store_buf::{BufFault, Buffer, MemoryOrder};
 
 /// Whether a worker goes on: with any token; with none of this job, whose buffer takes no more
 /// requests; or not at all, since memory ran out.

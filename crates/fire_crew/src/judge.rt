@@ -17,7 +17,7 @@ use match_table::Tables;
 use match_table::together::is_there;
 use port_set::Port;
 use std::alloc::Global;
-use store_buf::Buffer;
+use store_buf::{Buffer, MemoryOrder};
 
 /// Why a run has ended: the whole walk has been run; the budget is spent and something is owed; the
 /// buffer is stopped, or a port found no memory; or memory ran out.

@@ -33,8 +33,9 @@
 //! is so is told in the words of the walk alone (`ends_are_told`). **Every phase moves on**: `find_course`
 //! goes on only where some may fire and with a token that no table has had, after `turn` a table has had it
 //! or no more may fire, and `run_on` counts its phases: each but the last has brought a token that no table
-//! had before, no two to one port, and the tables hold all of them in the end (`MovedOn`). So where the walk
-//! has at most n instances there are at most 3 n + 1 phases.
+//! had before, no two to one port, and the tables hold all of them in the end (`MovedOn`). So a run that
+//! returns has had at most 3 n + 1 phases where the walk has at most n instances. That it returns is no
+//! clause, since its workers may wait.
 #![tactic(auto)]
 
 pub mod crew;

@@ -16,7 +16,7 @@ use match_table::together::{all_of, courses_of, facts, table_at};
 use match_table::{Course, Table};
 use port_set::Port;
 use std::alloc::Global;
-use store_buf::Buffer;
+use store_buf::{Buffer, MemoryOrder};
 use ws_words::NoMemory;
 
 /// The tokens that tables and a buffer owe and that no table has had: the start pulse's, and the

@@ -13,7 +13,7 @@ use match_table::together::{fired, is_there};
 use match_table::{Results, Tables, Took};
 use port_set::Port;
 use std::alloc::Global;
-use store_buf::{BufFault, Buffer};
+use store_buf::{BufFault, Buffer, MemoryOrder};
 use ws_words::NoMemory;
 
 /// Brings a token to its table if none has had it and more may fire, and puts what comes of it behind

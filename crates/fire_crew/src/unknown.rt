@@ -13,7 +13,7 @@ use match_table::together::table_at;
 use match_table::{Fired, Table};
 use port_set::Port;
 use std::alloc::Global;
-use store_buf::Buffer;
+use store_buf::{Buffer, MemoryOrder};
 use ws_words::NoMemory;
 
 /// The requests of instances that have fired and that the buffer doesn't know.

@@ -1,7 +1,6 @@
 pub mod Numbers
 pub mod Chains
 pub mod Arrivals
-pub mod Rowed
 pub mod Search
 pub mod Store
 pub mod Held

@@ -1,6 +1,6 @@
 //! Where a page may stand in its list.
 
-use crate::entry::Page;
+use crate::entry::PageKey;
 use crate::places::{PARTS, WAVE};
 
 /// How the places of a table's pages rise with their wave numbers: about how many pages a wave has, and by
@@ -19,13 +19,13 @@ impl Course {
     }
 
     // That of these pages.
-    pub(crate) fn of(pages: &[Page]) -> Course {
-        let (Some(first), Some(last)) = (pages.first(), pages.last()) else {
+    pub(crate) fn of(order: &[PageKey]) -> Course {
+        let (Some(first), Some(last)) = (order.first(), order.last()) else {
             return Course::none();
         };
         let waves = last.number.saturating_sub(first.number) / WAVE;
         Course {
-            pace: ((pages.len() as u64).saturating_add(waves / 2) / waves.max(1)).max(1),
+            pace: ((order.len() as u64).saturating_add(waves / 2) / waves.max(1)).max(1),
             ahead: 0,
         }
     }

@@ -10,9 +10,10 @@
 //! holds; `fired_count` and `fired_at` what it lists, each instance with the operands that it holds, and
 //! `asked_count` and `asked_at` those of memory among them. With room for a token (`reserve`, `spare`)
 //! `accept` isn't want of memory below the last wave number, and takes room for one at most. A table keeps a
-//! page for each wave number and eight instruction numbers, as facts of its type: the numbers of pages rise,
-//! each has the key of its page's first entry, and each entry stands in its page's chain, once. What it holds
-//! is right, and an instance fires once, exactly when it is full (`facts`).
+//! page for each wave number and eight instruction numbers, pages in one slab and entries in another, as
+//! facts of its type: a list of the pages' numbers rises and has the key of each page, under which the page
+//! with that number stands; a page has the key of its first entry, and each entry stands in its page's chain,
+//! once. What it holds is right, and an instance fires once, exactly when it is full (`facts`).
 //!
 //! `Limited` is a table that serves the instances whose wave number plus instruction is K modulo 16, lists no
 //! more that fired than its quota, and has grown from what it was when the phase began (`Grows`), as facts of

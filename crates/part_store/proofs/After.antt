@@ -23,7 +23,7 @@ use Rattle.store_buf.proofs.Within.{port_in}
 use Rattle.part_store.specs.declared.parts.Parts.{Parts}
 use Rattle.part_store.specs.Parted.{IsAddressed, is_store_op}
 use Rattle.part_store.specs.Calls.{AddressSo, AddressedSo, SameAs, SubmittedSo, PartFailedSo, PartIdle}
-use Rattle.part_store.specs.Calls.{PartSubmitSo}
+use Rattle.part_store.specs.Calls.{PartSubmitSo, request_of}
 use Rattle.part_store.specs.Parts.{AddressLeads, Calm, PartsOk, PartsFiled, content_of, PartsStanding}
 use Rattle.part_store.specs.Parts.{PartsSubmitLeads}
 use Rattle.part_store.proofs.Resting as R
@@ -103,6 +103,10 @@ module _ {P : Type 0} (image : Image) (world : World) (began : List (Option Bega
   submitted k tokens (Err fault.Old) a = equal_stands a.3
   submitted k tokens (Err (fault.Stopped port)) a = equal_stands a.2
   submitted k tokens (Err (fault.Ended array)) a = equal_stands a.1
+
+-- a request that waits is as it came
+pub waits_is : (k : Kept) → k.answer ≡ None → k ≡ request_of (asked_of k)
+waits_is k e j = record { wave = k.wave; instr = k.instr; first = k.first; second = k.second; answer = e j }
 
 -- what calls say of a buffer's parts, said of a job
 module _ {P : Type 0} (im image : Image) (world : World) (began : List (Option Began)) (same : im ≡ image)

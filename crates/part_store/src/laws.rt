@@ -1,18 +1,21 @@
 //! What moves keep.
 
-ghost use Rattle.std.specs.Prelude.{◌≡◌, ◌↔◌, ℕ, Bool, List, [], All, Option, Some, None, true, false};
+ghost use Rattle.std.specs.Prelude.{◌≡◌, ◌↔◌, ℕ, Bool, List, [], All, Option, Some, None, Result, true};
+ghost use Rattle.std.specs.Prelude.{false};
 ghost use Rattle.ws_words.specs.Outside.{Outside, World};
 ghost use Rattle.ws_isa.specs.Image.{Image, Token};
 ghost use Rattle.ws_isa.specs.Formed.{Formed};
 ghost use Rattle.ws_isa.specs.Sound.{Sound};
 ghost use Rattle.df_core.specs.Began.{Began};
-ghost use Rattle.store_buf.specs.Contents.{IsBuffer, RightTokens};
+ghost use Rattle.store_buf.specs.Contents.{IsBuffer, RightTokens, SubmitSo};
+ghost use Rattle.store_buf.specs.declared.fault.BufFault.{BufFault};
 ghost use Rattle.store_buf.specs.Requests.{entry_of};
 ghost use Rattle.part_store.specs.Contents.{NoBare, whole_of, PartContent};
 ghost use Rattle.store_buf.specs.declared.kept.Kept.{Kept};
 ghost use Rattle.part_store.specs.Parted.{Fronts, IsKept, Parted, Parting};
 ghost use Rattle.part_store.specs.Rules.{Fills, Moves, ComesIn};
-ghost use Rattle.df_core.specs.Rights.{IsAsked};
+ghost use Rattle.part_store.specs.Calls.{SubmittedSo, request_of};
+ghost use Rattle.df_core.specs.Rights.{Asked, IsAsked};
 ghost use Rattle.store_buf.specs.Stores.{asked_of};
 
 /// Moves by the rules keep what is true of a buffer with partial store queues, and what they tell is
@@ -47,4 +50,16 @@ pub fn no_bare_is_a_store_buffer()
         All (λ k. entry_of c.kept k.wave k.instr ≡ Some k) c.kept →
         Parted image world began c
         ↔ ((c.queued ≡ []) × ((m : Outside) × IsBuffer image world began (whole_of c) m)) }
+{}
+
+/// On a buffer that holds no address without data, what comes of a right request is what comes of it
+/// in the store buffer, and again none is without data.
+pub fn no_bare_submits_as_a_store_buffer()
+    ensures { (image : Image) (world : World) (began : List (Option Began)) → Formed image →
+        Sound image → (old new : PartContent) (r : Asked) → IsAsked image world r → NoBare old →
+        Parted image world began old → Parted image world began new →
+        All (λ k. entry_of old.kept k.wave k.instr ≡ Some k) old.kept →
+        All (λ k. entry_of new.kept k.wave k.instr ≡ Some k) new.kept →
+        (answer : Result (List Token) BufFault) → SubmittedSo image old (request_of r) answer new →
+        NoBare new × SubmitSo image world began (whole_of old) r answer (whole_of new) }
 {}

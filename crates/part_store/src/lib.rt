@@ -13,9 +13,11 @@
 //! was done; `Index` comes exactly where the last rule applies, `Port` only where that port's count of faults
 //! rose, `Old`, `Stopped` and `Ended` as for the store buffer. `answer` is the word that an operation gave,
 //! and none where it waits; `open_queues` counts the cells that are held. `Quiet` is one to which no address
-//! comes alone: its calls have the contracts of the store buffer. A buffer without addresses alone is one of
-//! a run exactly where no queue is open and it is a store buffer of the run (`no_bare_is_a_store_buffer`);
-//! moves, arrivals and data keep what is true (`moves_keep`, `arrivals_keep`, `data_keeps`).
+//! comes alone: it begins as the store buffer does, and answers what every buffer does (`MemoryOrder` of
+//! store_buf). A buffer without addresses alone is one of a run exactly where no queue is open and it is a
+//! store buffer of the run (`no_bare_is_a_store_buffer`), and what comes of a request there is what comes of
+//! it in the store buffer (`no_bare_submits_as_a_store_buffer`); moves, arrivals and data keep what is true
+//! (`moves_keep`, `arrivals_keep`, `data_keeps`).
 //!
 //! `part_image` runs an image on one thread, over one table and one such buffer; `part_run` does so for a job
 //! that names the image. **They tell what `run_image` of fire_crew tells** (`PartTells`, the five cases of

@@ -1,13 +1,14 @@
 //! The store buffer with partial store queues of a job.
 
-ghost use Rattle.std.specs.Prelude.{◌≡◌, ◌&&◌, not, is_some, true, All, Some, IfOk, IfErr};
+ghost use Rattle.std.specs.Prelude.{◌≡◌, ◌≤◌, ◌&&◌, [], not, is_some, true, All, Some, None, IfOk, IfErr};
 ghost use Rattle.ws_isa.specs.Image.{instr_at};
 ghost use Rattle.port_set.specs.Slots.{AllOpen, contents};
-ghost use Rattle.df_core.specs.Rights.{IsAsked};
+ghost use Rattle.df_core.specs.Codes.{IsCode};
+ghost use Rattle.df_core.specs.Rights.{IsAsked, tokens_of};
 ghost use Rattle.store_buf.specs.Stores.{asked_of};
 ghost use Rattle.store_buf.specs.Requests.{entry_of};
 ghost use Rattle.store_buf.specs.Outdoors.{AllBegan};
-ghost use Rattle.store_buf.specs.Contents.{gives_word, stop_of, with_tokens};
+ghost use Rattle.store_buf.specs.Contents.{RightTokens, gives_word, stop_of, with_tokens};
 ghost use Rattle.part_store.specs.Queues.{open_queues};
 ghost use Rattle.part_store.specs.Contents.{answer_of, is_bare, opening_content, PartContent};
 ghost use Rattle.part_store.specs.Parted.{IsAddressed, Parted, is_store_op};
@@ -18,6 +19,7 @@ ghost use Rattle.part_store.specs.Parts.{PartsStanding};
 use crate::bare::Bare;
 use crate::parts::Parts;
 use crate::queues::Queues;
+use df_core::program::Program;
 use df_core::{Code, Job, Request, Token, TokenList, every_list_of_events};
 use port_set::{OpenSet, Port, Slots};
 use std::alloc::Global;
@@ -25,6 +27,7 @@ use std::marker::{Model, PhantomData};
 use store_buf::kept::Kept;
 use store_buf::order::Order;
 use store_buf::outer::{BufferEnd, Outer, empty_cells};
+use store_buf::told::PlainTokens;
 use store_buf::{BufFault, BufferAnswers};
 use ws_isa::Op;
 use ws_words::Words;
@@ -91,6 +94,11 @@ impl<J: Job, P: Port> PartBuffer<J, P> {
         })
     }
 
+    /// The allocator that it was begun with.
+    pub(crate) fn allocator(&self) -> Global {
+        self.alloc
+    }
+
     /// Keeps the address of a store, which is a token at its port 0, and does what the rules let
     /// until they let nothing more. Answers the result tokens of what was done.
     pub fn address(&mut self, code: &Code<'_, J>, token: Token<J>) -> Result<TokenList<J>, BufFault>
@@ -151,7 +159,28 @@ impl<J: Job, P: Port> PartBuffer<J, P> {
     {
         let kept = kept_request(&request);
         answers.told.clear();
-        self.parts.submit(code.program(), kept, &mut answers.told)
+        self.take_whole(code.program(), kept, &mut answers.told)
+    }
+
+    /// The same of a right request that is told as plain data. The result tokens come into the empty
+    /// list.
+    #[inline(always)]
+    pub(crate) fn take_whole(
+        &mut self,
+        program: &Program<'_>,
+        kept: Kept,
+        told: &mut PlainTokens,
+    ) -> Result<(), BufFault>
+        requires code { IsCode J.image program.now }
+        requires right { IsAsked J.image J.world (asked_of kept) }
+        requires waits { kept.answer ≡ None }
+        requires told { told.old.items ≡ [] }
+        ensures submitted { SubmittedSo J.image self.old (request_of (asked_of kept))
+            (with_tokens (tokens_of told.new.items) result) self.new }
+        ensures right { RightTokens J.image J.world (tokens_of told.new.items) }
+        ensures room { told.old.capacity ≤ told.new.capacity }
+    {
+        self.parts.submit(program, kept, told)
     }
 
     /// Whether the whole request of an instance was kept.
@@ -173,7 +202,15 @@ impl<J: Job, P: Port> PartBuffer<J, P> {
     pub fn answer(&self, code: &Code<'_, J>, wave: u64, instr: u32) -> Option<u64>
         ensures { result ≡ answer_of J.image self.now wave instr }
     {
-        if !gives_word(code.program().op(instr)) {
+        self.word(code.program(), wave, instr)
+    }
+
+    /// The same, by the instructions of the job's image.
+    pub(crate) fn word(&self, program: &Program<'_>, wave: u64, instr: u32) -> Option<u64>
+        requires { IsCode J.image program.now }
+        ensures { result ≡ answer_of J.image self.now wave instr }
+    {
+        if !gives_word(program.op(instr)) {
             return None;
         }
         if self.parts.queues.is_queued(wave, instr) {

@@ -1,20 +1,19 @@
 //! A buffer with partial store queues to which no address comes.
 
-ghost use Rattle.std.specs.Prelude.{◌≡◌, is_some, false, All, Some, None, IfOk, IfErr};
-ghost use Rattle.ws_words.specs.Outside.{Outside};
+ghost use Rattle.std.specs.Prelude.{◌≡◌, IfOk, IfErr};
 ghost use Rattle.ws_isa.specs.Walk.{opening_memory};
 ghost use Rattle.port_set.specs.Slots.{AllOpen, contents};
-ghost use Rattle.store_buf.specs.Requests.{entry_of};
 ghost use Rattle.store_buf.specs.Outdoors.{AllBegan};
-ghost use Rattle.store_buf.specs.Contents.{FailedSo, Idle, IsBuffer, SubmitSo, answer_of, opening_content};
-ghost use Rattle.store_buf.specs.Contents.{stop_of};
+ghost use Rattle.store_buf.specs.Contents.{IsBuffer, opening_content};
 
 use crate::part::PartBuffer;
-use df_core::{Code, Job, Request, TokenList};
+use df_core::program::Program;
+use df_core::{Code, Job, every_list_of_events};
 use port_set::{Port, Slots};
 use std::alloc::Global;
 use std::marker::Model;
-use store_buf::{BufFault, BufferEnd, Kept};
+use store_buf::told::PlainTokens;
+use store_buf::{BufFault, BufferEnd, Kept, MemoryOrder};
 use ws_words::Words;
 
 /// It is a store buffer: no address comes without its data.
@@ -24,6 +23,8 @@ pub struct Quiet<J: Job, P: Port> {
 }
 
 impl<J: Job, P: Port> Model for Quiet<J, P> {
+    ghost use Rattle.ws_isa.specs.Formed.{Formed};
+    ghost use Rattle.ws_isa.specs.Sound.{Sound};
     ghost use Rattle.store_buf.specs.Contents.{Content};
     ghost use Rattle.part_store.specs.Contents.{NoBare, whole_of};
 
@@ -31,7 +32,7 @@ impl<J: Job, P: Port> Model for Quiet<J, P> {
 
     ghost view = { λ quiet. whole_of quiet.inner };
 
-    ghost invariant = { λ quiet. NoBare quiet.inner };
+    ghost invariant = { λ quiet. NoBare quiet.inner × Formed J.image × Sound J.image };
 }
 
 impl<J: Job, P: Port> Quiet<J, P> {
@@ -48,82 +49,61 @@ impl<J: Job, P: Port> Quiet<J, P> {
         requires open { AllOpen (contents P.tells ports) }
         ensures opening { IfOk result (λ buffer. buffer
             ≡ opening_content J.image J.world (contents P.tells ports)) }
+        ensures stands { IfOk result (λ buffer. IsBuffer J.image J.world J.began buffer
+            (opening_memory J.image J.world)) }
         ensures back { IfErr result (λ slots.
             contents P.tells slots ≡ contents P.tells ports) }
     {
+        every_list_of_events();
+        let _ = code.program();
         match PartBuffer::begin(alloc, code, input, ports) {
             Ok(inner) => Ok(Quiet { inner }),
             Err(ports) => Err(ports),
         }
     }
+}
 
-    /// Keeps a request, and issues what is issuable until nothing is. Answers the result tokens of
-    /// what it issued.
-    pub fn submit(
+impl<J: Job, P: Port> MemoryOrder<J, P> for Quiet<J, P> {
+    ghost content = { λ quiet. quiet };
+
+    fn allocator(&self) -> Global {
+        self.inner.allocator()
+    }
+
+    fn take_in(
         &mut self,
-        code: &Code<'_, J>,
-        request: Request<J>,
-    ) -> Result<TokenList<J>, BufFault>
-        ensures { SubmitSo J.image J.world J.began self.old request result self.new }
-    {
-        let _ = code.program();
-        let _ = request.wave();
+        program: &Program<'_>,
+        kept: Kept,
+        told: &mut PlainTokens,
+    ) -> Result<(), BufFault> {
         self.inner.facts();
-        let answer = self.inner.submit(code, request);
+        let answer = self.inner.take_whole(program, kept, told);
         self.inner.facts();
         answer
     }
 
-    /// Whether the request of an instance was kept.
-    pub fn knows(&self, wave: u64, instr: u32) -> bool
-        ensures { result ≡ is_some (entry_of self.now.kept wave instr) }
-    {
+    fn knows(&self, wave: u64, instr: u32) -> bool {
         self.inner.knows(wave, instr)
     }
 
-    /// The requests that it keeps, in the order in which they came.
-    pub fn kept(&self) -> &[Kept]
-        ensures { result.now ≡ self.now.kept }
-    {
+    fn kept(&self) -> &[Kept] {
         self.inner.kept()
     }
 
-    /// The word that an issued load, IN or GIVE gave.
-    pub fn answer(&self, code: &Code<'_, J>, wave: u64, instr: u32) -> Option<u64>
-        ensures { result ≡ answer_of J.image self.now wave instr }
-    {
+    fn word(&self, program: &Program<'_>, wave: u64, instr: u32) -> Option<u64> {
         self.inner.facts();
-        self.inner.answer(code, wave, instr)
+        self.inner.word(program, wave, instr)
     }
 
-    /// Why it takes no more requests, or `NoMemory` where a port found no memory and its request
-    /// still waits.
-    pub fn stop(&self) -> Option<BufFault>
-        ensures { result ≡ stop_of self.now.fault self.now.failed self.now.starved }
-    {
+    fn stop(&self) -> Option<BufFault> {
         self.inner.stop()
     }
 
-    /// What is true of every buffer: with some memory it is one of the run, nothing that waits is
-    /// issuable but where a port hasn't answered, and where one has failed the operation that is next
-    /// is on it.
-    pub fn facts(&self, code: &Code<'_, J>)
-        ensures stands { (m : Outside) × IsBuffer J.image J.world J.began self.now m }
-        ensures idle { self.now.failed ≡ None → self.now.starved ≡ false → Idle J.image self.now }
-        ensures failed { FailedSo J.image J.began self.now }
-        ensures once { All (λ k. entry_of self.now.kept k.wave k.instr ≡ Some k) self.now.kept }
-    {
-        let _ = code.program();
+    fn facts(&self) {
         self.inner.facts();
     }
 
-    /// What the run has left. Takes no memory.
-    pub fn finish(self) -> BufferEnd<P>
-        ensures printed { result.printed ≡ self.outside.printed }
-        ensures arrays { result.arrays ≡ self.outside.cells }
-        ensures ports { contents P.tells result.ports ≡ self.outside.ports }
-        ensures open { AllOpen self.outside.ports }
-    {
+    fn finish(self) -> BufferEnd<P> {
         self.inner.finish()
     }
 }

@@ -1,25 +1,20 @@
 //! The store buffer of a job.
 
-ghost use Rattle.std.specs.Prelude.{◌≡◌, All, Some, is_some, false, IfOk, IfErr};
-ghost use Rattle.ws_words.specs.Outside.{Outside};
-ghost use Rattle.ws_isa.specs.Image.{instr_at};
+ghost use Rattle.std.specs.Prelude.{◌≡◌, IfOk, IfErr};
 ghost use Rattle.ws_isa.specs.Walk.{opening_memory};
-ghost use Rattle.df_core.specs.Fit.{RightRequest};
-ghost use Rattle.df_core.specs.Rights.{IsAsked};
 ghost use Rattle.port_set.specs.Slots.{AllOpen, contents};
-ghost use Rattle.store_buf.specs.Requests.{entry_of};
 ghost use Rattle.store_buf.specs.Outdoors.{AllBegan};
-ghost use Rattle.store_buf.specs.Contents.{IsBuffer, FailedSo, Idle, SubmitSo, opening_content, answer_of};
-ghost use Rattle.store_buf.specs.Contents.{stop_of, gives_word, with_tokens};
-ghost use Rattle.store_buf.specs.Stores.{asked_of};
+ghost use Rattle.store_buf.specs.Contents.{IsBuffer, opening_content, gives_word};
 
-use crate::answers::BufferAnswers;
 use crate::fault::BufFault;
 use crate::kept::Kept;
+use crate::memory_order::MemoryOrder;
 use crate::order::Order;
 use crate::outer::{BufferEnd, Outer, empty_cells};
 use crate::store::Store;
-use df_core::{Code, Job, Request, TokenList, every_list_of_events};
+use crate::told::PlainTokens;
+use df_core::program::Program;
+use df_core::{Code, Job, every_list_of_events};
 use port_set::{OpenSet, Port, Slots};
 use std::alloc::Global;
 use std::marker::{Model, PhantomData};
@@ -89,58 +84,35 @@ impl<J: Job, P: Port> Buffer<J, P> {
             of: PhantomData,
         })
     }
+}
 
-    /// Keeps a request, and issues what is issuable until nothing is. Answers the result tokens of
-    /// what it issued.
-    pub fn submit(
-        &mut self,
-        code: &Code<'_, J>,
-        request: Request<J>,
-    ) -> Result<TokenList<J>, BufFault>
-        ensures { SubmitSo J.image J.world J.began self.old request result self.new }
-    {
-        let mut answers = BufferAnswers::none(self.alloc);
-        match self.submit_into(code, request, &mut answers) {
-            Ok(()) => Ok(answers.listed()),
-            Err(fault) => Err(fault),
-        }
+impl<J: Job, P: Port> MemoryOrder<J, P> for Buffer<J, P> {
+    ghost content = { λ buffer. buffer };
+
+    fn allocator(&self) -> Global {
+        self.alloc
     }
 
-    /// The same, with the result tokens in place of earlier answers.
     #[inline(always)]
-    pub fn submit_into(
+    fn take_in(
         &mut self,
-        code: &Code<'_, J>,
-        request: Request<J>,
-        answers: &mut BufferAnswers<J>,
-    ) -> Result<(), BufFault>
-        ensures { SubmitSo J.image J.world J.began self.old request (with_tokens answers.new result)
-            self.new }
-    {
-        let kept = kept_of(&request);
-        answers.told.clear();
-        self.store.submit(code.program(), kept, &mut answers.told)
+        program: &Program<'_>,
+        kept: Kept,
+        told: &mut PlainTokens,
+    ) -> Result<(), BufFault> {
+        self.store.submit(program, kept, told)
     }
 
-    /// Whether the request of an instance was kept.
-    pub fn knows(&self, wave: u64, instr: u32) -> bool
-        ensures { result ≡ is_some (entry_of self.now.kept wave instr) }
-    {
+    fn knows(&self, wave: u64, instr: u32) -> bool {
         self.store.order.find(wave, instr).is_some()
     }
 
-    /// The requests that it keeps, in the order in which they came.
-    pub fn kept(&self) -> &[Kept]
-        ensures { result.now ≡ self.now.kept }
-    {
+    fn kept(&self) -> &[Kept] {
         &self.store.order.kept
     }
 
-    /// The word that an issued load, IN or GIVE gave.
-    pub fn answer(&self, code: &Code<'_, J>, wave: u64, instr: u32) -> Option<u64>
-        ensures { result ≡ answer_of J.image self.now wave instr }
-    {
-        if !gives_word(code.program().op(instr)) {
+    fn word(&self, program: &Program<'_>, wave: u64, instr: u32) -> Option<u64> {
+        if !gives_word(program.op(instr)) {
             return None;
         }
         match self.store.order.find(wave, instr) {
@@ -149,11 +121,7 @@ impl<J: Job, P: Port> Buffer<J, P> {
         }
     }
 
-    /// Why it takes no more requests, or `NoMemory` where a port found no memory and its request
-    /// still waits.
-    pub fn stop(&self) -> Option<BufFault>
-        ensures { result ≡ stop_of self.now.fault self.now.failed self.now.starved }
-    {
+    fn stop(&self) -> Option<BufFault> {
         if let Some(array) = self.store.fault {
             return Some(BufFault::Ended { array });
         }
@@ -167,44 +135,15 @@ impl<J: Job, P: Port> Buffer<J, P> {
         }
     }
 
-    /// What is true of every buffer: with some memory it is one of the run, nothing that waits is
-    /// issuable but where a port hasn't answered, and where one has failed the operation that is next
-    /// is on it.
-    pub fn facts(&self)
-        ensures stands { (m : Outside) × IsBuffer J.image J.world J.began self.now m }
-        ensures idle { self.now.failed ≡ None → self.now.starved ≡ false → Idle J.image self.now }
-        ensures failed { FailedSo J.image J.began self.now }
-        ensures once { All (λ k. entry_of self.now.kept k.wave k.instr ≡ Some k) self.now.kept }
-    {
+    fn facts(&self) {
         let _ = &self.store;
     }
 
-    /// What the run has left. Takes no memory.
-    pub fn finish(self) -> BufferEnd<P>
-        ensures printed { result.printed ≡ self.outside.printed }
-        ensures arrays { result.arrays ≡ self.outside.cells }
-        ensures ports { contents P.tells result.ports ≡ self.outside.ports }
-        ensures open { AllOpen self.outside.ports }
-    {
+    fn finish(self) -> BufferEnd<P> {
         let alloc = self.alloc;
         let store = self.store;
         let outer = store.outer;
         outer.finish(alloc)
-    }
-}
-
-// A request that has no answer.
-fn kept_of<J: Job>(request: &Request<J>) -> Kept
-    ensures asked { asked_of result ≡ request.now }
-    ensures right { IsAsked J.image J.world request.now }
-    ensures waits { result.answer ≡ None }
-{
-    Kept {
-        wave: request.wave(),
-        instr: request.instr(),
-        first: request.first(),
-        second: request.second(),
-        answer: None,
     }
 }
 

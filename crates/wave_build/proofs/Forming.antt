@@ -110,18 +110,20 @@ module _ (parts : List Part) (l j k s : Graph) (needed live : List (List ℕ)) (
       let blocks = W.count_blocks in
       let few_blocks = keeps.blocks in
       record {
-        arrays = subst ArraysFormed (sym same) (arrays_formed shown);
+        limits = record {
+          arrays = subst ArraysFormed (sym same) (arrays_formed shown);
+          blocks = omega (arith, few_blocks, blocks);
+          waves = λ b there. let w = keeps.waves b there in omega (arith, w, few_blocks, blocks);
+          consts = keeps.consts words;
+          sends = λ b i p there inside e. let le = keeps.sends (suc most_parameters) brings b i p there inside
+              e in omega (arith, le);
+          numbers = pads_less (suc most_parameters) 16 (omega arith) draft.blocks
+              (keeps.pads (suc most_parameters) brings);
+          pads = λ b p there i. let h = lists.pads b p there i in omega (arith, h);
+          rise = keeps.rise;
+          landings = λ b i ls there e. keeps.landings most_statements lands b i ls there e;
+        };
         instrs = room parts l j k s needed live cut P narrow locals draft keeps;
-        blocks = omega (arith, few_blocks, blocks);
-        waves = λ b there. let w = keeps.waves b there in omega (arith, w, few_blocks, blocks);
         dests = λ b i there inside. let h = lists.dests b i there inside in omega (arith, h);
         others = λ b i there inside. let h = lists.others b i there inside in omega (arith, h);
-        consts = keeps.consts words;
-        sends = λ b i p there inside e. let le = keeps.sends (suc most_parameters) brings b i p there inside
-            e in omega (arith, le);
-        numbers = pads_less (suc most_parameters) 16 (omega arith) draft.blocks
-            (keeps.pads (suc most_parameters) brings);
-        pads = λ b p there i. let h = lists.pads b p there i in omega (arith, h);
-        rise = keeps.rise;
-        landings = λ b i ls there e. keeps.landings most_statements lands b i ls there e;
       }

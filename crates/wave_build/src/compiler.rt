@@ -23,7 +23,7 @@ use src_check::Accepted;
 use std::alloc::Global;
 use wave_cut::cut;
 use wave_gen::generate;
-use wave_link::annotate;
+use wave_link::{annotate, open_drafts_fit};
 use ws_isa::{Checked, Image};
 use ws_words::NoMemory;
 
@@ -70,6 +70,7 @@ fn image_of(alloc: Global, accepted: &Accepted) -> Result<Image, NoMemory>
     accepted_has_few_variables();
     let graph = prepare(alloc, accepted)?;
     see_words(&graph);
+    open_drafts_fit();
     let live = live(alloc, &graph)?;
     let waves = cut(alloc, &graph)?;
     let draft = generate(alloc, &graph, &waves, &live)?;

@@ -213,7 +213,7 @@ places_up t (x ∷ xs) b lows heads table f w h g (suc n) =
     (all_up t x (get_or lows b 0) (behind_in x b table) table (f 0 b x refl (omega arith)) (w 0 x refl)
     (in_up t x b table g) g) n
 
-all_places_up : (xs : List Outline) → WritersFit xs → (n : ℕ)
+pub all_places_up : (xs : List Outline) → WritersFit xs → (n : ℕ)
     → PlaceUpTo (total_ops xs) (get_or (places_of xs) n no_place)
 all_places_up xs w n =
     places_up (total_ops xs) xs 1 (lows_of xs) (heads_of xs) (replicate (length xs + 1) None)
@@ -245,13 +245,13 @@ writer_fits (i ∷ is) n w l = writer_fits is (one_more_op i n) (cond (is_writin
         let f : n ≤ one_more_op i n = cond_both (λ (m : ℕ). n ≤ m) (is_memory_op i.op) (n + 1) n (omega arith)
         (omega arith) in omega arith
 
-outlines_writers : (xs : List Block) (b : ℕ) (firsts : List Bool) → WritersFit (outlines_from xs b firsts)
+pub outlines_writers : (xs : List Block) (b : ℕ) (firsts : List Bool) → WritersFit (outlines_from xs b firsts)
 outlines_writers [] b firsts i o e = absurd (cc)
 outlines_writers (x ∷ xs) b firsts zero o e = let f : outline_of x b firsts ≡ o = cc in
     subst (λ (y : Outline). y.writer ≤ y.ops) f (writer_fits x.instrs 0 0 (omega arith))
 outlines_writers (x ∷ xs) b firsts (suc i) o e = outlines_writers xs (b + 1) firsts i o e
 
-outlines_ops : (xs : List Block) (b : ℕ) (firsts : List Bool) → total_ops (outlines_from xs b firsts)
+pub outlines_ops : (xs : List Block) (b : ℕ) (firsts : List Bool) → total_ops (outlines_from xs b firsts)
     ≤ length (flat xs)
 outlines_ops [] b firsts = omega arith
 outlines_ops (x ∷ xs) b firsts = omega (
@@ -261,7 +261,7 @@ outlines_ops (x ∷ xs) b firsts = omega (
   length-append x.instrs (flat xs),
 )
 
-outlines_count : (xs : List Block) (b : ℕ) (firsts : List Bool) → length (outlines_from xs b firsts)
+pub outlines_count : (xs : List Block) (b : ℕ) (firsts : List Bool) → length (outlines_from xs b firsts)
     ≡ length xs
 outlines_count [] b firsts = refl
 outlines_count (x ∷ xs) b firsts = ap suc (outlines_count xs (b + 1) firsts)
@@ -288,7 +288,7 @@ nops_ops (x ∷ xs) b added = omega (
   nops_ops xs (b + 1) added,
 )
 
-place_more : (t u : ℕ) (p : Passage) → t ≤ u → PlaceUpTo t p → PlaceUpTo u p
+pub place_more : (t u : ℕ) (p : Passage) → t ≤ u → PlaceUpTo t p → PlaceUpTo u p
 place_more t u p l h = record {
   low = omega (arith, h.low);
   pred = link_more p.pred h.pred;

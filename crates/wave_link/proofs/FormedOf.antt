@@ -1,4 +1,4 @@
--- The image of a draft that is open to notes and leaves room is formed.
+-- The image of a draft is formed where there is room for what is added.
 use Rattle.std.proofs.Common.{ℕ, zero, suc, ◌+◌, ◌-◌, ◌≡◌, ◌<◌, ◌≤◌, ◌⊎◌, Bool, true, false, cond, eqb, List}
 use Rattle.std.proofs.Common.{[], ◌∷◌, ◌++◌, length, length-append, map, get_or, Option, Some, None, refl}
 use Rattle.std.proofs.Common.{sym, ap, ap₂, ◌∙◌, inl, inr, subst, arith}
@@ -13,12 +13,13 @@ use Rattle.ws_isa.specs.declared.instr.Dest.{Dest}
 use Rattle.ws_isa.specs.Image.{Instr, Exit, Goto, Branch, Landings, Stop, Pad, Block, Image, no_instr}
 use Rattle.ws_isa.specs.Image.{no_block, flat, instr_at, block_at, first_number, ports, is_memory_op}
 use Rattle.ws_isa.specs.Image.{is_writing_op, is_giving_op, IsIn, IsBlock, IsInstr, is_steer_op}
-use Rattle.ws_isa.specs.Formed.{SendWithin, ConstWithin, most_instrs, most_dests, most_pads, most_landings}
+use Rattle.ws_isa.specs.Formed.{SendWithin, ConstWithin, most_instrs, most_blocks, most_dests, most_pads}
+use Rattle.ws_isa.specs.Formed.{most_landings}
 use Rattle.ws_isa.specs.Formed.{sequence_limit, ArraysFormed, DestsIn, OpIn, ExitIn, References, DestsSuit}
 use Rattle.ws_isa.specs.Formed.{OthersSuit, ListsSuit, SomeLanding, PadsRise, RiseFrom, NoteSuits, LinkWithin}
 use Rattle.ws_isa.specs.Formed.{NoteWithin, ExitWithin, InstrWithin, BlockWithin, Suited, Formed}
 use Rattle.ws_isa.specs.Sound.{HasDest, ShapeRules}
-use Rattle.ws_isa.specs.Open.{OpenToNotes}
+use Rattle.wave_link.specs.Fit.{FitForNotes}
 use Rattle.ws_isa.proofs.Blocks.{number_last, at_block}
 use Rattle.ws_isa.proofs.Slots.{has_append_cases}
 use Rattle.ws_isa.proofs.There.{There, there, dests_there, others_there}
@@ -28,7 +29,7 @@ use Rattle.wave_link.specs.Notes.{note_at}
 use Rattle.wave_link.specs.Grown.{number_in, renamed, extra_dest, note_for, nop_instr, grown_exit, grown_pad}
 use Rattle.wave_link.specs.Grown.{annotated}
 use Rattle.wave_link.specs.Adds.{adds}
-use Rattle.wave_link.specs.Room.{LeavesRoom}
+use Rattle.wave_link.specs.Room.{WithinLimits, LeavesRoom, MadeWithin}
 use Rattle.wave_link.proofs.Parts.{tables_in}
 use Rattle.wave_link.proofs.Edges.{exit_kept, wave_kept, count_kept}
 use Rattle.wave_link.proofs.Noted.{all_good}
@@ -42,7 +43,8 @@ use Rattle.wave_link.proofs.GrownTriggers.{giver_gives, steer_steers, steered_by
 use Rattle.wave_link.proofs.GrownForm.{renamed as by_number}
 use Rattle.wave_link.proofs.GrownOf.{ports_kept, nop_ports, op_kept}
 use Rattle.wave_link.proofs.ShapeOf.{ImageCase, old, no_op, image_case, block_on, block_back, new_inside}
-use Rattle.wave_link.proofs.ShapeOf.{nop_inside, renamed_back, the_steer, first_edge, second_edge, not_stop}
+use Rattle.wave_link.proofs.ShapeOf.{nop_inside, old_inside, renamed_back, the_steer, first_edge, second_edge}
+use Rattle.wave_link.proofs.ShapeOf.{not_stop}
 use Rattle.wave_link.proofs.ShapeOf.{dests_grown, others_grown}
 use Rattle.wave_link.proofs.ShapeOf.{shape_rules}
 use Rattle.wave_link.proofs.FormedNotes.{UpTo, PlaceUpTo, most_ops, place_up, seq_up, writer_up}
@@ -61,7 +63,7 @@ block_read : (image : Image) (k : ℕ) (x : Block) → nth image.blocks k ≡ So
 unfolding block_at
 block_read image k x e = ap (λ (o : Option Block). or_else o no_block) e
 
-all_instrs : (P : Instr → Type 0) (image : Image) → ((b m : ℕ) → IsBlock image b → IsIn image b m
+pub all_instrs : (P : Instr → Type 0) (image : Image) → ((b m : ℕ) → IsBlock image b → IsIn image b m
     → P (instr_at image m)) → AllByRecursion P (flat image.blocks)
 all_instrs P image h =
     all_of P (flat image.blocks)
@@ -71,7 +73,7 @@ all_instrs P image h =
     ) in
     subst P (instr_read image k x e) (h l.block (suc k) l.there l.inside)))
 
-all_blocks : (P : Block → Type 0) (image : Image) → ((b : ℕ) → IsBlock image b → P (block_at image b))
+pub all_blocks : (P : Block → Type 0) (image : Image) → ((b : ℕ) → IsBlock image b → P (block_at image b))
     → AllByRecursion P image.blocks
 all_blocks P image h =
     all_of P image.blocks
@@ -152,9 +154,22 @@ instrs_grown draft h =
     ∙ number_last (annotated draft) in
     omega (arith, e, a, b, shift_next draft n l, shift_small draft n)
 
+-- and takes none away
+instrs_kept : (draft : Image) → IsBlock draft 1
+    → length (flat draft.blocks) ≤ length (flat (annotated draft).blocks)
+instrs_kept draft h =
+    let n : ℕ = length draft.blocks in
+    let l : 1 ≤ n = h.1 in
+    let e = ends_are draft n (l, omega arith) in
+    let a : first_number draft (suc n) ≡ suc (length (flat draft.blocks)) = number_last draft in
+    let b : first_number (annotated draft) (suc n) ≡ suc (length (flat (annotated draft).blocks)) =
+    ap (λ (m : ℕ). first_number (annotated draft) (suc m)) (sym (count_kept draft))
+    ∙ number_last (annotated draft) in
+    omega (arith, e, a, b)
+
 -- Notes.
 
-link_fits : (t : ℕ) (l : Link) → t < sequence_limit → UpTo t l → LinkWithin l
+pub link_fits : (t : ℕ) (l : Link) → t < sequence_limit → UpTo t l → LinkWithin l
 link_fits t (Is n) h u = omega arith
 link_fits t Nothing h u = tt
 link_fits t Unknown h u = tt
@@ -167,7 +182,7 @@ cond_number : (v : Bool) (a b t : ℕ) → a < t → b < t → cond v a b < t
 cond_number true a b t h g = h
 cond_number false a b t h g = g
 
-note_fits : (t : ℕ) (p : Passage) (op : Op) (s w : ℕ) → PlaceUpTo t p → t < sequence_limit
+pub note_fits : (t : ℕ) (p : Passage) (op : Op) (s w : ℕ) → PlaceUpTo t p → t < sequence_limit
     → s + 1 < sequence_limit → w < sequence_limit → NoteWithin (Some (note_at p op s w))
 note_fits t p op s w h a b c = (
   cond_link (eqb s (p.low + 1)) p.pred (Is (s - 1)) (link_fits t p.pred a h.pred) (omega arith),
@@ -176,7 +191,7 @@ note_fits t p op s w h a b c = (
   cond_number (is_writing_op op) s w sequence_limit (omega arith) c,
 )
 
-for_fits : (t : ℕ) (p : Passage) (op : Op) (s w : ℕ) → PlaceUpTo t p → t < sequence_limit
+pub for_fits : (t : ℕ) (p : Passage) (op : Op) (s w : ℕ) → PlaceUpTo t p → t < sequence_limit
     → s + 1 < sequence_limit → w < sequence_limit → NoteWithin (note_for p op s w)
 for_fits t p op s w h a b c = go (is_memory_op op)
   where
@@ -184,9 +199,13 @@ for_fits t p op s w h a b c = go (is_memory_op op)
     go true = note_fits t p op s w h a b c
     go false = tt
 
-instr_limit : most_instrs ≡ 4194304
+pub instr_limit : most_instrs ≡ 4194304
 unfolding most_instrs
 instr_limit = refl
+
+block_limit : most_blocks ≡ 131072
+unfolding most_blocks
+block_limit = refl
 
 -- Lists that suit.
 
@@ -302,7 +321,7 @@ exit_within t (Branch s b c) h = tt
 exit_within t (Landings s ls) h = h s ls refl
 exit_within t Stop h = tt
 
-module _ (draft : Image) (ok : OpenToNotes draft) where
+module _ (draft : Image) (ok : FitForNotes draft) where
   refs : References draft
   refs = ok.walkable.suited.references
 
@@ -515,11 +534,18 @@ module _ (draft : Image) (ok : OpenToNotes draft) where
         (at_block (λ b. SomeLanding b.exit) draft b ok.walkable.suited.landings (block_back draft b h))));
   }
 
-  module _ (room : LeavesRoom draft) where
-    most : most_ops draft ≤ 4194304
-    most = omega (arith, room.instrs, instr_limit)
+  module _ (limits : WithinLimits draft) (room : MadeWithin (annotated draft)) where
+    most : most_ops draft ≤ 4325376
+    most = omega (
+      arith,
+      instrs_kept draft shape.has_block,
+      room.instrs,
+      limits.blocks,
+      instr_limit,
+      block_limit,
+    )
 
-    within_block : (b k : ℕ) → IsBlock draft b → IsIn draft b k → k - first_number draft b ≤ 4194304
+    within_block : (b k : ℕ) → IsBlock draft b → IsIn draft b k → k - first_number draft b ≤ 4325376
     within_block b k h i = omega (arith, (is_instr draft b k h i).1, most)
 
     note_old : (b k : ℕ) → IsBlock draft b → IsIn draft b k → NoteWithin (note_in draft b k)
@@ -533,7 +559,7 @@ module _ (draft : Image) (ok : OpenToNotes draft) where
         let n : ℕ = k - first_number draft b in
         let s : ℕ = seq_in is n (p.low + 1) in
         let a : s ≤ p.low + 1 + n = seq_up is n (p.low + 1) in
-        let w : writer_in is n (p.low + 1) p.writer ≤ 8388610 = writer_up is n (p.low + 1) p.writer 8388610
+        let w : writer_in is n (p.low + 1) p.writer ≤ 8650754 = writer_up is n (p.low + 1) p.writer 8650754
         (omega (arith, u.writer)) (omega (arith, u.low)) in
         for_fits (most_ops draft) p (instr_at draft k).op s (writer_in is n (p.low + 1) p.writer) u
         (omega arith) (omega (arith, u.low)) (omega arith)
@@ -550,23 +576,21 @@ module _ (draft : Image) (ok : OpenToNotes draft) where
 
     instr_old : (b k : ℕ) → IsBlock draft b → IsIn draft b k
         → InstrWithin (instr_at (annotated draft) (k + shift draft b))
-    instr_old b k h i = subst InstrWithin (sym (instr_is_grown draft b k h i)) (record {
-      dests = omega (
-        arith,
-        list_length (tables_in draft.blocks) (instr_at draft k).dests
-            (get_or (tables_in draft.blocks).now k 0),
-        room.dests b k h i,
-      );
-      others = omega (
-        arith,
-        list_length (tables_in draft.blocks) (instr_at draft k).others
-            (get_or (tables_in draft.blocks).other k 0),
-        room.others b k h i,
-      );
-      const = instr_of_all (λ i. ConstWithin i.op) draft k room.consts (is_instr draft b k h i);
-      send = send_within (instr_at draft k).op (λ p e. room.sends b k p h i e);
-      note = note_old b k h i;
-    })
+    instr_old b k h i =
+        let n : IsInstr (annotated draft) (k + shift draft b) =
+        in_image b (k + shift draft b) h (old_inside draft b k h i) in
+        let lists = instr_of_all (λ i. (length i.dests ≤ most_dests) × (length i.others ≤ most_dests))
+        (annotated draft) (k + shift draft b) room.lists n in
+        record {
+          dests = lists.0;
+          others = lists.1;
+          const = subst ConstWithin (sym (op_kept draft b k h i))
+              (instr_of_all (λ i. ConstWithin i.op) draft k limits.consts (is_instr draft b k h i));
+          send = subst SendWithin (sym (op_kept draft b k h i))
+              (send_within (instr_at draft k).op (λ p e. limits.sends b k p h i e));
+          note = subst NoteWithin (sym (ap (λ (x : Instr). x.note) (instr_is_grown draft b k h i)))
+              (note_old b k h i);
+        }
 
     instr_nop : (b : ℕ) → InstrWithin (nop_instr (place_of draft b))
     instr_nop b = record {
@@ -579,7 +603,7 @@ module _ (draft : Image) (ok : OpenToNotes draft) where
 
     block_within : (b : ℕ) → IsBlock draft b → BlockWithin (block_at (annotated draft) b)
     block_within b h = record {
-      wave = omega (arith, wave_kept draft b, room.waves b h);
+      wave = omega (arith, wave_kept draft b, limits.waves b h);
       pads = subst (AllByRecursion (λ p. (p.number < most_pads) × (length p.dests ≤ most_dests)))
           (sym (pads_kept draft b))
           (all_map (λ p. (p.number < most_pads) × (length p.dests ≤ most_dests))
@@ -588,18 +612,20 @@ module _ (draft : Image) (ok : OpenToNotes draft) where
           × (length (renamed (tables_in draft.blocks) p.dests) ≤ most_dests)) (block_at draft b).pads
           (λ p i. (
             member_of (λ p. p.number < most_pads) (block_at draft b).pads p
-                (at_block (λ b. AllByRecursion (λ p. p.number < most_pads) b.pads) draft b room.numbers h) i,
-            omega (arith, room.pads b p h i, renamed_length (tables_in draft.blocks) p.dests),
+                (at_block (λ b. AllByRecursion (λ p. p.number < most_pads) b.pads) draft b limits.numbers h)
+                i,
+            omega (arith, limits.pads b p h i, renamed_length (tables_in draft.blocks) p.dests),
           ))));
       exit = subst ExitWithin (sym (exit_kept draft b))
-          (exit_within (tables_in draft.blocks) (block_at draft b).exit (λ s ls e. room.landings b s ls h e));
+          (exit_within (tables_in draft.blocks) (block_at draft b).exit
+          (λ s ls e. limits.landings b s ls h e));
     }
 
     pub formed : Formed (annotated draft)
     formed = record {
-      arrays = subst ArraysFormed (sym (arrays_kept draft)) room.arrays;
-      few_instrs = omega (arith, instrs_grown draft shape.has_block, room.instrs);
-      few_blocks = omega (arith, count_kept draft, room.blocks);
+      arrays = subst ArraysFormed (sym (arrays_kept draft)) limits.arrays;
+      few_instrs = room.instrs;
+      few_blocks = omega (arith, count_kept draft, limits.blocks);
       instrs = by_case InstrWithin instr_old instr_nop;
       blocks = all_blocks BlockWithin (annotated draft) (λ b h. block_within b (block_back draft b h));
       suited = suited;
@@ -607,7 +633,29 @@ module _ (draft : Image) (ok : OpenToNotes draft) where
       pads = all_blocks (λ b. PadsRise b.pads) (annotated draft)
           (λ b h. subst PadsRise (sym (pads_kept draft b))
           (pads_rise (tables_in draft.blocks) (block_at draft b).pads
-          (at_block (λ b. PadsRise b.pads) draft b room.rise (block_back draft b h))));
+          (at_block (λ b. PadsRise b.pads) draft b limits.rise (block_back draft b h))));
       notes = all_of (λ i. NoteSuits i.op i.note) (flat (annotated draft).blocks)
           (λ k x e. (all_good draft k x e).suits);
     }
+
+  pub room_made : LeavesRoom draft → MadeWithin (annotated draft)
+  room_made room = record {
+    instrs = omega (arith, instrs_grown draft shape.has_block, room.instrs);
+    lists = by_case (λ i. (length i.dests ≤ most_dests) × (length i.others ≤ most_dests))
+        (λ b k h i. subst (λ (x : Instr). (length x.dests ≤ most_dests) × (length x.others ≤ most_dests))
+        (sym (instr_is_grown draft b k h i)) (
+          omega (
+            arith,
+            list_length (tables_in draft.blocks) (instr_at draft k).dests
+                (get_or (tables_in draft.blocks).now k 0),
+            room.dests b k h i,
+          ),
+          omega (
+            arith,
+            list_length (tables_in draft.blocks) (instr_at draft k).others
+                (get_or (tables_in draft.blocks).other k 0),
+            room.others b k h i,
+          ),
+        ))
+        (λ b. (omega arith, omega arith));
+  }

@@ -1,5 +1,5 @@
 -- The image of a draft that is open to notes is the draft with no-ops added.
-use Rattle.std.proofs.Common.{ℕ, zero, suc, ◌+◌, ◌-◌, ◌≡◌, ◌<◌, ◌≤◌, ◌⊎◌, Bool, true, false, cond, eqb, List}
+use Rattle.std.proofs.Common.{ℕ, suc, ◌+◌, ◌-◌, ◌≡◌, ◌<◌, ◌≤◌, ◌⊎◌, Bool, true, false, cond, eqb, List}
 use Rattle.std.proofs.Common.{[], ◌∷◌, ◌++◌, Some, None, refl, sym, ap, ap₂, ◌∙◌, inl, inr, subst, arith}
 use Rattle.std.proofs.lemmas.Bool.{cases_Bool, cases_eq}
 use Rattle.ws_words.specs.Outside.{World}
@@ -12,7 +12,8 @@ use Rattle.ws_isa.specs.Image.{is_advance_op, is_giving, stops, is_stop, target,
 use Rattle.ws_isa.specs.Image.{now_of, now_dests, edge_of, edge_dests, IsIn, IsBlock, IsInstr, is_steer_op}
 use Rattle.ws_isa.specs.Formed.{References}
 use Rattle.ws_isa.specs.Sound.{OpenSlots, HasDest, all_opened, Fresh, edge_all, opens_at, ShapeRules}
-use Rattle.ws_isa.specs.Open.{EnteredBySteer, OpenToNotes}
+use Rattle.ws_isa.specs.Open.{EnteredBySteer}
+use Rattle.wave_link.specs.Fit.{FitForNotes}
 use Rattle.ws_isa.specs.Walk.{choice_of, opening_memory}
 use Rattle.ws_isa.proofs.Steps.{first_le}
 use Rattle.ws_isa.proofs.There.{now_there, start_there, edge_there, edges_there}
@@ -37,12 +38,6 @@ use Rattle.ws_words.specs.Items.{nth}
 pub steer_is : (op : Op) → is_steer_op op ≡ true → op ≡ Steer
 steer_is Steer e = refl
 steer_is _ e = absurd (cc)
-
-two_edges : (x y c place : ℕ) → nth (x ∷ y ∷ []) place ≡ Some c → ((place ≡ 0) × (x ≡ c))
-    ⊎ ((place ≡ 1) × (y ≡ c))
-two_edges x y c zero e = let f : x ≡ c = cc in inl (refl, f)
-two_edges x y c (suc zero) e = let f : y ≡ c = cc in inr (refl, f)
-two_edges x y c (suc (suc n)) e = absurd (cc)
 
 before_none : (t : Trigger) (n : ℕ) → (t ≡ Before → ⊥) → before_slot t n ≡ []
 before_none Whole n h = refl
@@ -155,7 +150,7 @@ memory_of : (draft : Image) (k : ℕ) → (instr_at draft k).op ≡ Halt → is_
 unfolding is_memory
 memory_of draft k e f = cc (ap is_memory_op e, f)
 
-module _ (draft : Image) (ok : OpenToNotes draft) where
+module _ (draft : Image) (ok : FitForNotes draft) where
   shape : ShapeRules draft
   shape = ok.walkable.shape
 
@@ -165,33 +160,27 @@ module _ (draft : Image) (ok : OpenToNotes draft) where
   real : (j : ℕ) → IsInstr draft j → origin draft (new draft j) ≡ Some j
   real j h = origin_new draft j h
 
-  -- a block without a giving instruction is entered from a steer
-  pub entered : (b : ℕ) → IsBlock draft b → giver draft b ≡ 0 → EnteredBySteer draft b
+  -- a block with a no-op and without a giving instruction is entered from a steer, inside its wave
+  steered : (b : ℕ) → IsBlock draft b → trigger draft b ≡ Before
+      → EnteredBySteer draft b × (is_first draft b ≡ false)
   unfolding is_giving
-  entered b h g = elim (ok.givers b h) [
-    | inr e ↦ e
-    | inl x ↦ elim (giver_cases draft b h) [
-      | inl n ↦ absurd (cc (n.none x.instr x.inside, x.gives))
-      | inr o ↦ absurd (omega (arith, g, instr_positive draft b (giver draft b) h o.inside))
+  steered b h t = elim (trigger_case draft b) [
+    | whole a e ↦ absurd (cc)
+    | own a n e ↦ absurd (cc)
+    | before a g e ↦ elim (ok.triggers b h a) [
+      | inr y ↦ y
+      | inl x ↦ elim (giver_cases draft b h) [
+        | inl n ↦ absurd (cc (n.none x.instr x.inside, x.gives))
+        | inr o ↦ absurd (omega (arith, g, instr_positive draft b (giver draft b) h o.inside))
+      ]
     ]
   ]
 
-  pub case_before : (b : ℕ) → trigger draft b ≡ Before → giver draft b ≡ 0
-  case_before b t = elim (trigger_case draft b) [
-    | whole a e ↦ absurd (cc)
-    | before a g e ↦ g
-    | own a n e ↦ absurd (cc)
-  ]
+  pub entered : (b : ℕ) → IsBlock draft b → trigger draft b ≡ Before → EnteredBySteer draft b
+  entered b h t = (steered b h t).0
 
   pub before_first : (b : ℕ) → IsBlock draft b → trigger draft b ≡ Before → is_first draft b ≡ false
-  before_first b h t =
-      let e : EnteredBySteer draft b = entered b h (case_before b t) in
-      let s = (shape.blocks e.before e.block).hang.steers e.instr e.inside e.steers in
-      let a = ok.arms e.before s.0 s.1 s.2 e.block s.3 in
-      elim (two_edges s.1 s.2 b e.place (ap (λ (x : Exit). nth (edges_of x) e.place) (sym s.3) ∙ e.edge.is)) [
-        | inl p ↦ ap (is_first draft) (sym p.1) ∙ a.0.not_first
-        | inr p ↦ ap (is_first draft) (sym p.1) ∙ a.1.not_first
-      ]
+  before_first b h t = (steered b h t).1
 
   -- the block before it holds a steer
   before_steered : (b r : ℕ) → IsBlock draft b → stops draft b ≡ false → trigger draft (target draft b r)
@@ -200,7 +189,7 @@ module _ (draft : Image) (ok : OpenToNotes draft) where
   before_steered b r h s t =
       let c : ℕ = target draft b r in
       let hc : IsBlock draft c = (shape.blocks b h).edges.there r s in
-      let e : EnteredBySteer draft c = entered c hc (case_before c t) in
+      let e : EnteredBySteer draft c = entered c hc t in
       let p = edge_place (block_at draft b).exit r s
       (λ i ls q. clash (is_first draft c) ((shape.blocks b h).hang.landing_first i r ls q)
       (before_first c hc t)) in

@@ -10,7 +10,8 @@ use Rattle.ws_isa.specs.Image.{block_at, first_number, edges_of, is_giving_op, I
 use Rattle.ws_isa.specs.Image.{is_steer_op}
 use Rattle.ws_isa.specs.Formed.{References}
 use Rattle.ws_isa.specs.Sound.{HasDest, ShapeRules}
-use Rattle.ws_isa.specs.Open.{OnlyEdge, EnteredBySteer, OpenToNotes}
+use Rattle.ws_isa.specs.Open.{OnlyEdge, EnteredBySteer}
+use Rattle.wave_link.specs.Fit.{FitForNotes}
 use Rattle.ws_isa.proofs.Slots.{has_append_cases, has_append_right}
 use Rattle.ws_isa.proofs.There.{There, dests_there, others_there}
 use Rattle.wave_link.specs.Layout.{Tables}
@@ -28,7 +29,7 @@ use Rattle.wave_link.proofs.GrownForm.{renamed as by_number}
 use Rattle.wave_link.proofs.GrownTriggers.{trigger, whole, before, own, trigger_case, now_giver, now_none}
 use Rattle.wave_link.proofs.GrownTriggers.{now_steer, other_none, other_steer, steered_by, steered_is}
 use Rattle.wave_link.proofs.GrownTriggers.{steer_steers}
-use Rattle.wave_link.proofs.GrownOf.{sizes, op_kept, entered, case_before, steer_is}
+use Rattle.wave_link.proofs.GrownOf.{sizes, op_kept, entered, steer_is}
 use Rattle.wave_link.proofs.ShapeOf.{ImageCase, old, no_op, image_case, block_back, block_on, old_inside}
 use Rattle.wave_link.proofs.ShapeOf.{nop_inside, renamed_back, dests_grown, others_grown, one_extra, no_extra}
 use Rattle.wave_link.proofs.ShapeOf.{the_steer, not_stop, first_edge, second_edge}
@@ -95,7 +96,7 @@ some_dest : (n j : ℕ) → 1 ≤ n → n ≡ j → HasDest (extra_dest n) j 0
 some_dest n j l e = subst (λ (v : Bool). HasDest (cond v [] (record { instr = n; port = 0 } ∷ [])) j 0)
     (sym (ne_eqb n 0 (λ z. omega arith))) (inl (e, refl))
 
-module _ (draft : Image) (ok : OpenToNotes draft) where
+module _ (draft : Image) (ok : FitForNotes draft) where
   shape : ShapeRules draft
   shape = ok.walkable.shape
 
@@ -135,7 +136,7 @@ module _ (draft : Image) (ok : OpenToNotes draft) where
           let ax : adds draft x ≡ true = added_before x t in
           let xb : x ≡ b = same_nop b x h j a ax f in
           let y : EnteredBySteer draft b =
-          entered draft ok b h (case_before draft ok b (ap (trigger draft) (sym xb) ∙ t)) in
+          entered draft ok b h (ap (trigger draft) (sym xb) ∙ t) in
           let o = y.edge.only c place i (e ∙ ap Some xb) in
           record {
             before = c;
@@ -297,7 +298,7 @@ module _ (draft : Image) (ok : OpenToNotes draft) where
   ]
     where
       y : EnteredBySteer draft b
-      y = entered draft ok b h (case_before draft ok b t)
+      y = entered draft ok b h t
 
   from_giver : (b : ℕ) → IsBlock draft b → adds draft b ≡ true → (giver draft b ≡ 0 → ⊥)
       → (m : ℕ) × NamesInstr (annotated draft) m (nop draft b)

@@ -1,7 +1,8 @@
 -- What the outlines of a draft say of its blocks and edges.
-use Rattle.std.proofs.Common.{ℕ, zero, suc, ◌+◌, ◌-◌, ◌≡◌, ◌<◌, ◌≤◌, ◌⊎◌, Bool, true, false, cond, not, List}
-use Rattle.std.proofs.Common.{[], ◌∷◌, length, get_or, Some, refl, sym, ap, ◌∙◌, inl, inr, subst, arith, eqb}
-use Rattle.std.proofs.Common.{eq-eqb}
+use Rattle.std.proofs.Common.{ℕ, zero, suc, ◌+◌, ◌-◌, ◌≡◌, ◌<◌, ◌≤◌, ◌⊎◌, Bool, true, false, cond, not}
+use Rattle.std.proofs.Common.{List, [], ◌∷◌, length, get_or, Some, refl, sym, ap, ap₂, ◌∙◌, inl, inr, subst}
+use Rattle.std.proofs.Common.{arith}
+use Rattle.std.proofs.Common.{eqb, eq-eqb}
 use Rattle.std.proofs.lemmas.Bool.{cases_eq}
 use Rattle.ws_isa.specs.Image.{Exit, Goto, Branch, Landings, Stop, Block, Image, no_block, block_at, leave_to}
 use Rattle.ws_isa.specs.Image.{is_stop, stops, target, is_first, edges_of, IsBlock}
@@ -15,6 +16,7 @@ use Rattle.wave_link.specs.Outlines.{firsts_from, firsts_of, way_of, outline_of,
 use Rattle.wave_link.specs.Outlines.{with_nop, with_nops_from, with_nops}
 use Rattle.wave_link.specs.Grown.{added_in}
 use Rattle.wave_link.specs.Adds.{adds}
+use Rattle.wave_link.specs.Fit.{ForksOrEnds}
 use Rattle.wave_link.proofs.LinksTables.{no_outline, outline_in, Leads, Parts}
 use Rattle.ws_words.proofs.Lists.{same_read as any_default}
 use Rattle.ws_words.specs.Items.{nth, or_else}
@@ -172,23 +174,55 @@ in_wave draft b c m w hb hc e l k =
 
 -- Edges.
 
-module _ (draft : Image) (shape : ShapeRules draft) (arms : (b s x y : ℕ) → IsBlock draft b
-    → (block_at draft b).exit ≡ Branch s x y → IsArm draft b 0 x × IsArm draft b 1 y) where
+module _ (draft : Image) (shape : ShapeRules draft) (branches : (b s x y : ℕ) → IsBlock draft b
+    → (block_at draft b).exit ≡ Branch s x y → ForksOrEnds draft b x y) where
   abbrev firsts : List Bool
   firsts = firsts_of draft.blocks
 
   told : (t : ℕ) → IsBlock draft t → get_or firsts t true ≡ is_first draft t
   told t h = first_told draft t shape.waves h
 
+  -- A branch.
+
+  branch_in : (b i p q : ℕ) → IsBlock draft b → (block_at draft b).exit ≡ Branch i p q
+      → IsBlock draft p × IsBlock draft q
+  unfolding target stops
+  branch_in b i p q h e = let s : stops draft b ≡ false = ap is_stop e in (
+    subst (IsBlock draft) (ap (λ (x : Exit). leave_to x 1) e) ((shape.blocks b h).edges.there 1 s),
+    subst (IsBlock draft) (ap (λ (x : Exit). leave_to x 0) e) ((shape.blocks b h).edges.there 0 s),
+  )
+
+  fork_way : (i p q : ℕ) → IsBlock draft p → IsBlock draft q → is_first draft p ≡ false
+      → is_first draft q ≡ false → way_of (Branch i p q) firsts ≡ Fork p q
+  fork_way i p q h g e f = ap₂ (λ (v w : Bool). cond v (cond w Out (On q)) (cond w (On p) (Fork p q)))
+      (told p h ∙ e) (told q g ∙ f)
+
+  out_way : (i p q : ℕ) → IsBlock draft p → IsBlock draft q → is_first draft p ≡ true
+      → is_first draft q ≡ true → way_of (Branch i p q) firsts ≡ Out
+  out_way i p q h g e f = ap₂ (λ (v w : Bool). cond v (cond w Out (On q)) (cond w (On p) (Fork p q)))
+      (told p h ∙ e) (told q g ∙ f)
+
   leads_by : (e : Exit) (r : ℕ) → is_stop e ≡ false → is_first draft (leave_to e r) ≡ false
       → IsBlock draft (leave_to e r) → ((s : ℕ) (ls : List ℕ) → e ≡ Landings s ls
       → is_first draft (leave_to e r) ≡ true) → Leads (way_of e firsts) (leave_to e r)
   leads_by (Goto t) r s f h m = rw (told t h ∙ f) refl
-  leads_by (Branch i p q) r s f h m = go (eqb r 0)
+  leads_by (Branch i p q) r s f h m = go (eqb r 0) f h
     where
-      go : (v : Bool) → (cond v q p ≡ p) ⊎ (cond v q p ≡ q)
-      go true = inr refl
-      go false = inl refl
+      to_no : (v : Bool) → Leads (cond v (On q) (Fork p q)) q
+      to_no true = refl
+      to_no false = inr refl
+
+      to_yes : (v : Bool) → Leads (cond v (On p) (Fork p q)) p
+      to_yes true = refl
+      to_yes false = inl refl
+
+      go : (v : Bool) → is_first draft (cond v q p) ≡ false → IsBlock draft (cond v q p)
+          → Leads (way_of (Branch i p q) firsts) (cond v q p)
+      go true f h = subst (λ (v : Bool). Leads (cond (get_or firsts p true) (cond v Out (On q))
+          (cond v (On p) (Fork p q))) q) (sym (told q h ∙ f)) (to_no (get_or firsts p true))
+      go false f h = subst (λ (v : Bool). Leads (cond v (cond (get_or firsts q true) Out (On q))
+          (cond (get_or firsts q true) (On p) (Fork p q))) p) (sym (told p h ∙ f))
+          (to_yes (get_or firsts q true))
   leads_by (Landings i ls) r s f h m = absurd (cc (sym f ∙ m i ls refl))
   leads_by Stop r s f h m = absurd (cc)
 
@@ -228,20 +262,29 @@ module _ (draft : Image) (shape : ShapeRules draft) (arms : (b s x y : ℕ) → 
         inside = ap (is_first draft) k
             ∙ (sym (told t block) ∙ f);
       }
-  back_by b (Branch i p q) c h e (inl k) = record {
-    goes = ap is_stop e;
-    r = 1;
-    target_is = ap (λ (x : Exit). leave_to x 1) e ∙ sym k;
-    inside = ap (is_first draft) k
-        ∙ (arms b i p q h e).0.not_first;
-  }
-  back_by b (Branch i p q) c h e (inr k) = record {
-    goes = ap is_stop e;
-    r = 0;
-    target_is = ap (λ (x : Exit). leave_to x 0) e ∙ sym k;
-    inside = ap (is_first draft) k
-        ∙ (arms b i p q h e).1.not_first;
-  }
+  back_by b (Branch i p q) c h e k = go (branches b i p q h e)
+    where
+      there : IsBlock draft p × IsBlock draft q
+      there = branch_in b i p q h e
+
+      arm : (a : IsArm draft b 0 p × IsArm draft b 1 q) → (c ≡ p) ⊎ (c ≡ q) → Back b c
+      arm a (inl k) = record {
+        goes = ap is_stop e;
+        r = 1;
+        target_is = ap (λ (x : Exit). leave_to x 1) e ∙ sym k;
+        inside = ap (is_first draft) k ∙ a.0.not_first;
+      }
+      arm a (inr k) = record {
+        goes = ap is_stop e;
+        r = 0;
+        target_is = ap (λ (x : Exit). leave_to x 0) e ∙ sym k;
+        inside = ap (is_first draft) k ∙ a.1.not_first;
+      }
+
+      go : ForksOrEnds draft b p q → Back b c
+      go (inl a) = arm a (subst (λ (w : Way). Leads w c) (fork_way i p q there.0 there.1
+          a.0.not_first a.1.not_first) k)
+      go (inr o) = absurd (subst (λ (w : Way). Leads w c) (out_way i p q there.0 there.1 o.0 o.1) k)
   back_by b (Landings i ls) c h e k = absurd k
   back_by b Stop c h e k = absurd k
 
@@ -278,12 +321,19 @@ module _ (draft : Image) (shape : ShapeRules draft) (arms : (b s x y : ℕ) → 
       let block : IsBlock draft t = subst (IsBlock draft) at ((shape.blocks b h).edges.there s.1.0 s.0) in
       ap (λ (v : Bool). cond v Out (On t)) (told t block ∙ (ap (is_first draft) (sym at) ∙ s.1.1))
   out_by b (Branch i p q) h e (inl s) = absurd (cc (sym s ∙ ap is_stop e))
-  out_by b (Branch i p q) h e (inr s) =
-      absurd (go (eqb s.1.0 0) (ap (λ (x : Exit). is_first draft (leave_to x s.1.0)) (sym e) ∙ s.1.1))
+  out_by b (Branch i p q) h e (inr s) = go (branches b i p q h e)
     where
-      go : (v : Bool) → is_first draft (cond v q p) ≡ true → ⊥
-      go true f = cc (sym f ∙ (arms b i p q h e).1.not_first)
-      go false f = cc (sym f ∙ (arms b i p q h e).0.not_first)
+      there : IsBlock draft p × IsBlock draft q
+      there = branch_in b i p q h e
+
+      arm : (a : IsArm draft b 0 p × IsArm draft b 1 q) (v : Bool) → is_first draft (cond v q p) ≡ true → ⊥
+      arm a true f = cc (sym f ∙ a.1.not_first)
+      arm a false f = cc (sym f ∙ a.0.not_first)
+
+      go : ForksOrEnds draft b p q → way_of (Branch i p q) firsts ≡ Out
+      go (inl a) = absurd (arm a (eqb s.1.0 0)
+          (ap (λ (x : Exit). is_first draft (leave_to x s.1.0)) (sym e) ∙ s.1.1))
+      go (inr o) = out_way i p q there.0 there.1 o.0 o.1
   out_by b (Landings i ls) h e s = refl
   out_by b Stop h e s = refl
 
@@ -313,7 +363,21 @@ module _ (draft : Image) (shape : ShapeRules draft) (arms : (b s x y : ℕ) → 
           ⊎ ((stops draft b ≡ false) × ((r : ℕ) × (is_first draft (target draft b r) ≡ true)))
       go true f w = inr (s, (0, ap (is_first draft) at ∙ (sym (told t block) ∙ f)))
       go false f w = absurd (cc)
-  ends_by b (Branch i p q) h e w = absurd (cc)
+  ends_by b (Branch i p q) h e w = go (branches b i p q h e)
+    where
+      there : IsBlock draft p × IsBlock draft q
+      there = branch_in b i p q h e
+
+      forked : Fork p q ≡ Out → ⊥
+      forked x = cc
+
+      go : ForksOrEnds draft b p q → (stops draft b ≡ true)
+          ⊎ ((stops draft b ≡ false) × ((r : ℕ) × (is_first draft (target draft b r) ≡ true)))
+      go (inl a) = absurd (forked (sym (fork_way i p q there.0 there.1 a.0.not_first a.1.not_first) ∙ w))
+      go (inr o) = inr (
+        ap is_stop e,
+        (1, ap (λ (x : Exit). is_first draft (leave_to x 1)) e ∙ o.0),
+      )
   ends_by b (Landings i ls) h e w = inr (ap is_stop e, (0, (shape.blocks b h).hang.landing_first i 0 ls e))
   ends_by b Stop h e w = inl (ap is_stop e)
 
@@ -329,8 +393,15 @@ module _ (draft : Image) (shape : ShapeRules draft) (arms : (b s x y : ℕ) → 
       go : (v : Bool) → Leads (cond v Out (On t)) c → (i : ℕ) × (nth (edges_of (Goto t)) i ≡ Some c)
       go true k = absurd k
       go false k = (0, ap Some (sym k))
-  edge_of (Branch i p q) c (inl k) = (0, ap Some (sym k))
-  edge_of (Branch i p q) c (inr k) = (1, ap Some (sym k))
+  edge_of (Branch i p q) c k = go (get_or firsts p true) (get_or firsts q true) k
+    where
+      go : (v w : Bool) → Leads (cond v (cond w Out (On q)) (cond w (On p) (Fork p q))) c
+          → (i : ℕ) × (nth (p ∷ q ∷ []) i ≡ Some c)
+      go true true k = absurd k
+      go true false k = (1, ap Some (sym k))
+      go false true k = (0, ap Some (sym k))
+      go false false (inl k) = (0, ap Some (sym k))
+      go false false (inr k) = (1, ap Some (sym k))
   edge_of (Landings i ls) c k = absurd k
   edge_of Stop c k = absurd k
 
@@ -341,10 +412,17 @@ module _ (draft : Image) (shape : ShapeRules draft) (arms : (b s x y : ℕ) → 
       go : (v : Bool) → cond v Out (On t) ≡ Fork p q → ⊥
       go true f = cc
       go false f = cc
-  fork_by (Branch s x y) p q f =
-      let e : x ≡ p = cc in
-      let g : y ≡ q = cc in
-      (s, rw (e, g) refl)
+  fork_by (Branch s x y) p q f = go (get_or firsts x true) (get_or firsts y true) f
+    where
+      go : (v w : Bool) → cond v (cond w Out (On y)) (cond w (On x) (Fork x y)) ≡ Fork p q
+          → (i : ℕ) × (Branch s x y ≡ Branch i p q)
+      go true true f = absurd (cc)
+      go true false f = absurd (cc)
+      go false true f = absurd (cc)
+      go false false f =
+          let e : x ≡ p = cc in
+          let g : y ≡ q = cc in
+          (s, rw (e, g) refl)
   fork_by (Landings s ls) p q f = absurd (cc)
   fork_by Stop p q f = absurd (cc)
 
@@ -353,7 +431,15 @@ module _ (draft : Image) (shape : ShapeRules draft) (arms : (b s x y : ℕ) → 
   forks b p q h f =
       let e : (s : ℕ) × ((block_at draft b).exit ≡ Branch s p q) = fork_by (block_at draft b).exit p q
       (sym (way_is draft b h) ∙ f) in
-      arms b e.0 p q h e.1
+      let there : IsBlock draft p × IsBlock draft q = branch_in b e.0 p q h e.1 in
+      elim (branches b e.0 p q h e.1) [
+        | inl a ↦ a
+        | inr o ↦ absurd (forked (sym (out_way e.0 p q there.0 there.1 o.0 o.1)
+            ∙ (ap (λ (x : Exit). way_of x firsts) (sym e.1) ∙ (sym (way_is draft b h) ∙ f))))
+      ]
+    where
+      forked : Out ≡ Fork p q → ⊥
+      forked x = cc
 
   pub leads_edge : (b c : ℕ) → IsBlock draft b → Leads (outline_at draft b).way c
       → (i : ℕ) × (nth (edges_of (block_at draft b).exit) i ≡ Some c)

@@ -9,7 +9,7 @@ use Rattle.ws_isa.specs.declared.instr.Link.{Link}
 use Rattle.ws_isa.specs.declared.instr.Link.TheVariants.{Unknown}
 use Rattle.ws_isa.specs.Image.{Instr, Image, block_at, is_memory_op, is_writing_op, IsBlock}
 use Rattle.ws_isa.specs.Sound.{ShapeRules}
-use Rattle.ws_isa.specs.Open.{OpenToNotes}
+use Rattle.wave_link.specs.Fit.{FitForNotes}
 use Rattle.wave_link.specs.declared.outline.Outline.{Outline}
 use Rattle.wave_link.specs.declared.links.Behind.{Behind}
 use Rattle.wave_link.specs.declared.states.Ways.{Ways}
@@ -132,7 +132,7 @@ none_of false o e = (refl, e)
 pub eqb_zero : (o : ℕ) → eqb o 0 ≡ true → o ≡ 0
 eqb_zero o e = elim (cases_eq o 0) [ inl f ↦ f | inr d ↦ absurd (cc (sym e ∙ ne_eqb o 0 d)) ]
 
-module _ (draft : Image) (open_to : OpenToNotes draft) where
+module _ (draft : Image) (open_to : FitForNotes draft) where
   abbrev count : ℕ
   count = length draft.blocks
 
@@ -225,18 +225,18 @@ module _ (draft : Image) (open_to : OpenToNotes draft) where
   by_suc P f (suc n) l h = f n h
 
   edge_in : (b c : ℕ) → IsBlock draft b → Leads (outline_at draft b).way c
-      → On_in draft shape open_to.arms b c
-  edge_in b c h k = on_in draft shape open_to.arms b c h k
+      → On_in draft shape open_to.branches b c
+  edge_in b c h k = on_in draft shape open_to.branches b c h k
 
   pub run : Run count (outline_at draft) (low_of draft) (heads_in draft) (ways_at draft) (states_at draft)
       (behind_at draft)
   run = record {
-    later = λ b c l h k. (let o : On_in draft shape open_to.arms b c = edge_in b c (l, h) k in
+    later = λ b c l h k. (let o : On_in draft shape open_to.branches b c = edge_in b c (l, h) k in
         (o.later, o.most));
-    inner = λ b c m l h k q r. (let o : On_in draft shape open_to.arms b c = edge_in b c (l, h) k in
+    inner = λ b c m l h k q r. (let o : On_in draft shape open_to.branches b c = edge_in b c (l, h) k in
         in_wave draft b c m shape.waves (l, h) (omega (arith, q, r), o.most) (sym o.wave) q r);
-    parts = λ b l h. parts draft shape open_to.arms b (l, h);
-    alone = λ b p q a c l h f k m o g. alone draft shape open_to.arms b p q a c (l, h) (m, o) f k g;
+    parts = λ b l h. parts draft shape open_to.branches b (l, h);
+    alone = λ b p q a c l h f k m o g. alone draft shape open_to.branches b p q a c (l, h) (m, o) f k g;
     writer_in = λ b l h. writers b (l, h);
     low_next = λ b l h. lows b l h;
     head_is = by_suc (λ (b : ℕ). head_at (heads_in draft) b ≡ head_link (outline_at draft b) (low_of draft b)
@@ -291,6 +291,6 @@ module _ (draft : Image) (open_to : OpenToNotes draft) where
           (replicate (length (grown_of draft) + 1) Unknown) (omega (arith, l, grown_length draft))
           (omega arith)
           (omega (arith, length-replicate (length (grown_of draft) + 1) Unknown))
-          (λ i c q k. (let o : On_in draft shape open_to.arms (suc i) c =
+          (λ i c q k. (let o : On_in draft shape open_to.branches (suc i) c =
           edge_in (suc i) c (omega arith, omega (arith, q, grown_length draft)) k in
           omega (arith, o.later)))

@@ -10,7 +10,7 @@ use Rattle.ws_isa.specs.Image.{Instr, Block, Image, no_instr, no_note, instr_at,
 use Rattle.ws_isa.specs.Image.{note_of, is_memory, is_writing, stops, target, is_first, is_memory_op}
 use Rattle.ws_isa.specs.Image.{is_writing_op, IsIn, IsBlock}
 use Rattle.ws_isa.specs.Sound.{LinkRules, RippleRules}
-use Rattle.ws_isa.specs.Open.{OpenToNotes}
+use Rattle.wave_link.specs.Fit.{FitForNotes}
 use Rattle.ws_isa.proofs.Blocks.{block_is, instr_is, number_next}
 use Rattle.wave_link.specs.declared.outline.Way.TheVariants.{Out}
 use Rattle.wave_link.specs.declared.outline.Outline.{Outline}
@@ -305,7 +305,7 @@ module _ (draft : Image) where
   all_past : (f e l : ℕ) → e ≡ f + l → e - f ≡ l
   all_past f e l h = omega arith
 
-  module _ (open_to : OpenToNotes draft) where
+  module _ (open_to : FitForNotes draft) where
     abbrev low : ℕ → ℕ
     low b = low_of draft b
 
@@ -400,15 +400,15 @@ module _ (draft : Image) where
     edge_on b r h s f =
         let t : target image b r ≡ target draft b r = target_kept draft b r in
         subst (λ (c : ℕ). Leads (outline_at draft b).way c) (sym t)
-        (edge_leads draft open_to.walkable.shape open_to.arms b r (in_draft b h)
+        (edge_leads draft open_to.walkable.shape open_to.branches b r (in_draft b h)
         (sym (stops_kept draft b) ∙ s)
         (ap (is_first draft) (sym t) ∙ (sym (first_kept draft (target image b r)) ∙ f)))
 
     edge_from : (b c : ℕ) → IsBlock image b → Leads (outline_at draft b).way c → (stops image b ≡ false)
         × ((r : ℕ) × (target image b r ≡ c)) × (is_first image c ≡ false)
     edge_from b c h k =
-        let q : Back draft open_to.walkable.shape open_to.arms b c = back draft open_to.walkable.shape
-        open_to.arms b c (in_draft b h) k in (
+        let q : Back draft open_to.walkable.shape open_to.branches b c = back draft open_to.walkable.shape
+        open_to.branches b c (in_draft b h) k in (
           stops_kept draft b ∙ q.goes,
           (q.r, target_kept draft b q.r ∙ q.target_is),
           first_kept draft c ∙ q.inside,
@@ -417,9 +417,9 @@ module _ (draft : Image) where
     ends_out : (b : ℕ) → IsBlock image b → (stops image b ≡ true)
         ⊎ ((stops image b ≡ false) × ((r : ℕ) × (is_first image (target image b r) ≡ true)))
         → (outline_at draft b).way ≡ Out
-    ends_out b h (inl s) = way_out draft open_to.walkable.shape open_to.arms b (in_draft b h)
+    ends_out b h (inl s) = way_out draft open_to.walkable.shape open_to.branches b (in_draft b h)
         (inl (sym (stops_kept draft b) ∙ s))
-    ends_out b h (inr s) = way_out draft open_to.walkable.shape open_to.arms b (in_draft b h)
+    ends_out b h (inr s) = way_out draft open_to.walkable.shape open_to.branches b (in_draft b h)
         (inr (
           sym (stops_kept draft b) ∙ s.0,
           (

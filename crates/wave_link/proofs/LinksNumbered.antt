@@ -7,7 +7,7 @@ use Rattle.ws_isa.specs.declared.instr.Note.{Note}
 use Rattle.ws_isa.specs.Image.{Block, Image, no_block, instr_at, block_at, block_of, first_number, is_memory}
 use Rattle.ws_isa.specs.Image.{is_memory_op, note_of, is_first, IsIn, IsBlock}
 use Rattle.ws_isa.specs.Formed.{WavesInOrder}
-use Rattle.ws_isa.specs.Open.{OpenToNotes}
+use Rattle.wave_link.specs.Fit.{FitForNotes}
 use Rattle.ws_isa.proofs.Blocks.{number_one}
 use Rattle.ws_isa.proofs.Steps.{block_of_is}
 use Rattle.wave_link.specs.declared.outline.Outline.{Outline}
@@ -66,7 +66,7 @@ low_start (x ∷ xs) = go x.first
     go true = refl
     go false = refl
 
-module _ (draft : Image) (open_to : OpenToNotes draft) where
+module _ (draft : Image) (open_to : FitForNotes draft) where
   abbrev image : Image
   image = annotated draft
 

@@ -13,7 +13,7 @@ use Rattle.ws_isa.specs.Image.{IsInstr}
 use Rattle.ws_isa.specs.Formed.{References, WavesFrom, WavesInOrder}
 use Rattle.ws_isa.specs.Sound.{HasDest, HasPad, IsAhead, BringsResult, direct, through, EdgeShape, FrontShape}
 use Rattle.ws_isa.specs.Sound.{ExitShape, HangShape, HaltShape, DestShape, BlockShape, ShapeRules}
-use Rattle.ws_isa.specs.Open.{OpenToNotes}
+use Rattle.wave_link.specs.Fit.{FitForNotes}
 use Rattle.ws_isa.proofs.Steps.{first_le, block_of_is}
 use Rattle.ws_isa.proofs.Slots.{has_append_cases}
 use Rattle.ws_isa.proofs.There.{dests_there, others_there, There}
@@ -230,7 +230,7 @@ one_extra n j q = go (eqb n 0)
 pub no_extra : (n j q : ℕ) → n ≡ 0 → HasDest (extra_dest n) j q → ⊥
 no_extra n j q e x = subst (λ (m : ℕ). HasDest (extra_dest m) j q) e x
 
-module _ (draft : Image) (ok : OpenToNotes draft) where
+module _ (draft : Image) (ok : FitForNotes draft) where
   shape : ShapeRules draft
   shape = ok.walkable.shape
 

@@ -29,33 +29,33 @@ pub record SameShape (image new : Image) : Type 0 where
   pub in_order : WavesInOrder image.blocks → WavesInOrder new.blocks
 
 module _ (image new : Image) (same : SameShape image new) where
-  block_back : (b : ℕ) → IsBlock new b → IsBlock image b
+  pub block_back : (b : ℕ) → IsBlock new b → IsBlock image b
   block_back b h = (h.0, subst (λ (n : ℕ). b ≤ n) same.count h.1)
 
-  block_on : (b : ℕ) → IsBlock image b → IsBlock new b
+  pub block_on : (b : ℕ) → IsBlock image b → IsBlock new b
   block_on b h = (h.0, subst (λ (n : ℕ). b ≤ n) (sym same.count) h.1)
 
-  in_back : (b k : ℕ) → IsIn new b k → IsIn image b k
+  pub in_back : (b k : ℕ) → IsIn new b k → IsIn image b k
   in_back b k i = (
     subst (λ (n : ℕ). n ≤ k) (same.numbers b) i.0,
     subst (λ (n : ℕ). k < n) (same.numbers (suc b)) i.1,
   )
 
-  in_on : (b k : ℕ) → IsIn image b k → IsIn new b k
+  pub in_on : (b k : ℕ) → IsIn image b k → IsIn new b k
   in_on b k i = (
     subst (λ (n : ℕ). n ≤ k) (sym (same.numbers b)) i.0,
     subst (λ (n : ℕ). k < n) (sym (same.numbers (suc b))) i.1,
   )
 
-  ports_same : (k : ℕ) → ports new k ≡ ports image k
+  pub ports_same : (k : ℕ) → ports new k ≡ ports image k
   unfolding ports
   ports_same k = ap ports_of (same.ops k)
 
-  advance_same : (k : ℕ) → is_advance new k ≡ is_advance image k
+  pub advance_same : (k : ℕ) → is_advance new k ≡ is_advance image k
   unfolding is_advance
   advance_same k = ap is_advance_op (same.ops k)
 
-  memory_same : (k : ℕ) → is_memory new k ≡ is_memory image k
+  pub memory_same : (k : ℕ) → is_memory new k ≡ is_memory image k
   unfolding is_memory
   memory_same k = ap is_memory_op (same.ops k)
 
@@ -63,29 +63,29 @@ module _ (image new : Image) (same : SameShape image new) where
   unfolding is_giving
   giving_same k = ap is_giving_op (same.ops k)
 
-  stops_same : (b : ℕ) → stops new b ≡ stops image b
+  pub stops_same : (b : ℕ) → stops new b ≡ stops image b
   unfolding stops
   stops_same b = ap is_stop (same.exits b)
 
-  target_same : (b r : ℕ) → target new b r ≡ target image b r
+  pub target_same : (b r : ℕ) → target new b r ≡ target image b r
   unfolding target
   target_same b r = ap (λ (x : Exit). leave_to x r) (same.exits b)
 
-  first_same : (b : ℕ) → is_first new b ≡ is_first image b
+  pub first_same : (b : ℕ) → is_first new b ≡ is_first image b
   unfolding is_first
   first_same zero = refl
   first_same (suc zero) = refl
   first_same (suc (suc b)) = ap₂ (λ (n m : ℕ). not (eqb n m)) (same.waves (suc (suc b))) (same.waves (suc b))
 
-  now_same : (k : ℕ) → now_dests new k ≡ now_dests image k
+  pub now_same : (k : ℕ) → now_dests new k ≡ now_dests image k
   unfolding now_dests
   now_same k = ap₂ now_of (same.ops k) (same.dests k)
 
-  start_same : start_dests new ≡ start_dests image
+  pub start_same : start_dests new ≡ start_dests image
   unfolding start_dests
   start_same = ap (λ (ps : List Pad). pad_of ps 0) (same.pads 1)
 
-  edge_same : (b r k : ℕ) → edge_dests new b r k ≡ edge_dests image b r k
+  pub edge_same : (b r k : ℕ) → edge_dests new b r k ≡ edge_dests image b r k
   unfolding edge_dests
   edge_same b r k = ap (edge_of new b r (instr_at new k)) (same.ops k) ∙ go (op_case (instr_at image k).op)
     where

@@ -5,7 +5,7 @@ use Rattle.std.proofs.lemmas.Bool.{cases_eq}
 use Rattle.ws_isa.specs.declared.instr.Op.TheVariants.{Nop}
 use Rattle.ws_isa.specs.Image.{Instr, Image, instr_at, block_at, first_number, is_memory, is_memory_op, stops}
 use Rattle.ws_isa.specs.Image.{target, is_first, IsIn, IsBlock}
-use Rattle.ws_isa.specs.Open.{OpenToNotes}
+use Rattle.wave_link.specs.Fit.{FitForNotes}
 use Rattle.wave_link.specs.declared.outline.Way.TheVariants.{Out}
 use Rattle.wave_link.specs.declared.outline.Outline.{Outline}
 use Rattle.wave_link.specs.declared.states.Ways.{Ways}
@@ -37,7 +37,7 @@ split false z v e = absurd (cc)
 abbrev last_in : Image → ℕ → ℕ
 last_in draft b = first_number (annotated draft) (suc b) - 1
 
-module _ (draft : Image) (open_to : OpenToNotes draft) where
+module _ (draft : Image) (open_to : FitForNotes draft) where
   abbrev image : Image
   image = annotated draft
 
@@ -53,13 +53,13 @@ module _ (draft : Image) (open_to : OpenToNotes draft) where
   wave_on : (b c : ℕ) → IsBlock image b → Leads (outline_at draft b).way c
       → (block_at image c).wave ≡ (block_at image b).wave
   wave_on b c h k =
-      let o : On_in draft open_to.walkable.shape open_to.arms b c = on_in draft open_to.walkable.shape
-      open_to.arms b c (in_draft b h) k in
+      let o : On_in draft open_to.walkable.shape open_to.branches b c = on_in draft open_to.walkable.shape
+      open_to.branches b c (in_draft b h) k in
       wave_kept draft c ∙ (o.wave ∙ sym (wave_kept draft b))
 
   ends_on : (b : ℕ) → IsBlock image b → (outline_at draft b).way ≡ Out → (stops image b ≡ true)
       ⊎ ((stops image b ≡ false) × ((r : ℕ) × (is_first image (target image b r) ≡ true)))
-  ends_on b h w = elim (out_ends draft open_to.walkable.shape open_to.arms b (in_draft b h) w) [
+  ends_on b h w = elim (out_ends draft open_to.walkable.shape open_to.branches b (in_draft b h) w) [
     | inl s ↦ inl (stops_kept draft b ∙ s)
     | inr s ↦
         inr (

@@ -10,7 +10,7 @@ use Rattle.ws_isa.specs.Image.{Instr, Exit, Block, Image, no_instr, no_block, fl
 use Rattle.ws_isa.specs.Image.{block_at, first_number, is_memory, is_memory_op, note_of, leave_to, is_stop}
 use Rattle.ws_isa.specs.Image.{stops, target, is_first, IsBlock}
 use Rattle.ws_isa.specs.Sound.{InWave, first, turn, edge, last_op, seq, LinkRules}
-use Rattle.ws_isa.specs.Open.{OpenToNotes}
+use Rattle.wave_link.specs.Fit.{FitForNotes}
 use Rattle.wave_link.specs.Grown.{annotated}
 use Rattle.wave_link.proofs.Edges.{count_kept as draft_count, target_kept as draft_target}
 use Rattle.wave_link.proofs.Edges.{stops_kept as draft_stops, first_kept as draft_first}
@@ -284,7 +284,7 @@ module _ (image : Image) (notes : ℕ → Option Note) where
 
 -- without the no-op of a block
 
-module _ (draft : Image) (open_to : OpenToNotes draft) (x : ℕ) where
+module _ (draft : Image) (open_to : FitForNotes draft) (x : ℕ) where
   abbrev image : Image
   image = without (annotated draft) x
 
@@ -324,6 +324,6 @@ module _ (draft : Image) (open_to : OpenToNotes draft) (x : ℕ) where
   no_notes w notes u rules = no_links image (renoted image notes) (same_paths image notes) targets stays rules
       w u
 
-pub never_linked : (draft : Image) → OpenToNotes draft → NeverLinked draft (annotated draft)
+pub never_linked : (draft : Image) → FitForNotes draft → NeverLinked draft (annotated draft)
 never_linked draft open_to b n notes h d rules = no_notes draft open_to n (block_at draft b).wave notes
     (none_in_vain draft open_to b n h d).needed rules

@@ -3,7 +3,7 @@ use Rattle.std.proofs.Common.{ℕ, zero, suc, ◌+◌, ◌-◌, ◌≡◌, ◌�
 use Rattle.std.proofs.Common.{length, refl, sym, ap, ap₂, ◌∙◌, arith}
 use Rattle.ws_words.specs.Outside.{World}
 use Rattle.ws_isa.specs.Image.{Image, size_of, IsBlock}
-use Rattle.ws_isa.specs.Open.{OpenToNotes}
+use Rattle.wave_link.specs.Fit.{FitForNotes}
 use Rattle.ws_isa.specs.Walk.{Pos, is_within, opening, step, pos, walk, has_ended, CostAtMost}
 use Rattle.ws_isa.specs.Sound.{SlotRules}
 use Rattle.ws_isa.proofs.Ending.{goes_up}
@@ -17,17 +17,17 @@ use Rattle.wave_link.proofs.GrownOf.{grown, grown_trigger, alike}
 use Rattle.wave_link.proofs.WalksKept.{ahead, passes_at, passes_in, pos_is, keeps, opens_alike, Alike}
 use Rattle.wave_link.proofs.WalksKept.{alike as walks_alike}
 
-pub keeps_slots : (draft : Image) → OpenToNotes draft → SlotRules (annotated draft)
+pub keeps_slots : (draft : Image) → FitForNotes draft → SlotRules (annotated draft)
 keeps_slots draft ok = slot_rules draft (annotated draft) (grown draft ok) ok.walkable.slots
 
-passed_once : (draft : Image) (ok : OpenToNotes draft) (p : Pos) → IsBlock draft p.block
+passed_once : (draft : Image) (ok : FitForNotes draft) (p : Pos) → IsBlock draft p.block
     → passes_at draft (annotated draft) (grown draft ok) (alike draft ok) p ≡ where_left draft p
     (size_of (annotated draft) p.block - size_of draft p.block)
 unfolding passes_at
 passed_once draft ok p h = ap (where_left draft p) (ap extra (grown_trigger draft ok p.block)
     ∙ (extra_is draft p.block ∙ sym (sizes draft p.block h)))
 
-passed_all : (draft : Image) (ok : OpenToNotes draft) (world : World) (t : ℕ)
+passed_all : (draft : Image) (ok : FitForNotes draft) (world : World) (t : ℕ)
     → passes_in draft (annotated draft) (grown draft ok) (alike draft ok) t (opening draft world) ≡ added_left
     draft (annotated draft) world t
 unfolding passes_in added_left
@@ -41,7 +41,7 @@ passed_all draft ok world (suc t) =
     ∙ ap (λ (p : Pos). where_left draft p (size_of (annotated draft) p.block - size_of draft p.block))
     (sym (pos_is draft (annotated draft) (grown draft ok) (alike draft ok) draft world t)))
 
-pub follows : (draft : Image) (world : World) → OpenToNotes draft → (t : ℕ)
+pub follows : (draft : Image) (world : World) → FitForNotes draft → (t : ℕ)
     → FollowsFor draft (annotated draft) world t
 follows draft world ok t =
     let a : Alike draft (annotated draft) (grown draft ok) (alike draft ok) world t =
@@ -54,7 +54,7 @@ follows draft world ok t =
       fired = a.fired ∙ ap (λ (n : ℕ). length (walk draft world t) + n) (passed_all draft ok world t);
     }
 
-one_at_most : (draft : Image) (ok : OpenToNotes draft) (p : Pos) → passes_at draft (annotated draft)
+one_at_most : (draft : Image) (ok : FitForNotes draft) (p : Pos) → passes_at draft (annotated draft)
     (grown draft ok) (alike draft ok) p ≤ where_left draft p 1
 unfolding passes_at
 one_at_most draft ok p = go p.over (is_within draft p) (extra_cases draft (annotated draft) (grown draft ok)
@@ -68,7 +68,7 @@ one_at_most draft ok p = go p.over (is_within draft p) (extra_cases draft (annot
     go false false (inl x) = omega arith
     go false false (inr x) = omega arith
 
-few_passed : (draft : Image) (ok : OpenToNotes draft) (world : World) (t : ℕ)
+few_passed : (draft : Image) (ok : FitForNotes draft) (world : World) (t : ℕ)
     → passes_in draft (annotated draft) (grown draft ok) (alike draft ok) t (opening draft world)
     ≤ blocks_left draft world t
 unfolding passes_in blocks_left
@@ -81,12 +81,12 @@ few_passed draft ok world (suc t) = omega (
       draft world t),
 )
 
-pub few_added : (draft : Image) (world : World) → OpenToNotes draft → (t : ℕ)
+pub few_added : (draft : Image) (world : World) → FitForNotes draft → (t : ℕ)
     → added_left draft (annotated draft) world t ≤ blocks_left draft world t
 few_added draft world ok t = omega (arith, few_passed draft ok world t, passed_all draft ok world t)
 
 -- the image costs at most one more for each block that the draft's walk leaves
-pub costs : (draft : Image) (world : World) → OpenToNotes draft → (k : ℕ)
+pub costs : (draft : Image) (world : World) → FitForNotes draft → (k : ℕ)
     → ((t : ℕ) → length (walk draft world t) + blocks_left draft world t ≤ k)
     → CostAtMost (annotated draft) world k
 costs draft world ok k h t =
@@ -121,7 +121,7 @@ stays_over image world t d e = go d
         suc_plus d n = omega arith
 
 -- where the image's walk has ended, the draft's has
-pub ends_too : (draft : Image) (world : World) → OpenToNotes draft → (t : ℕ)
+pub ends_too : (draft : Image) (world : World) → FitForNotes draft → (t : ℕ)
     → has_ended (annotated draft) world t ≡ true → has_ended draft world t ≡ true
 ends_too draft world ok t e =
     let f : FollowsFor draft (annotated draft) world t = follows draft world ok t in
@@ -130,7 +130,7 @@ ends_too draft world ok t e =
     sym f.ended ∙ (ap (has_ended (annotated draft) world) (sym s) ∙ stays_over (annotated draft) world t
     (f.steps - t) e)
 
-pub walks_for : (draft : Image) (world : World) → OpenToNotes draft → WalksFor draft (annotated draft) world
+pub walks_for : (draft : Image) (world : World) → FitForNotes draft → WalksFor draft (annotated draft) world
 walks_for draft world ok = record {
   follows = follows draft world ok;
   ends = ends_too draft world ok;

@@ -1,13 +1,13 @@
 -- The image of a draft that is open to notes is sound.
 use Rattle.ws_isa.specs.Image.{Image}
 use Rattle.ws_isa.specs.Sound.{Sound}
-use Rattle.ws_isa.specs.Open.{OpenToNotes}
+use Rattle.wave_link.specs.Fit.{FitForNotes}
 use Rattle.wave_link.specs.Grown.{annotated}
 use Rattle.wave_link.proofs.ShapeOf.{shape_rules}
 use Rattle.wave_link.proofs.WalksOf.{keeps_slots}
 use Rattle.wave_link.proofs.LinksMarked.{links_kept, ripples_kept}
 
-pub is_sound : (draft : Image) → OpenToNotes draft → Sound (annotated draft)
+pub is_sound : (draft : Image) → FitForNotes draft → Sound (annotated draft)
 is_sound draft ok = record {
   shape = shape_rules draft ok;
   slots = keeps_slots draft ok;

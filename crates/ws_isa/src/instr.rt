@@ -4,13 +4,6 @@ ghost use Rattle.std.specs.Prelude.{◌≡◌, [], ◌∷◌};
 
 use ws_words::{Alu, apply};
 
-/// What tokens must have alike to match: a thread, and the number of a wave.
-#[derive(Clone, Copy, Debug, PartialEq, Eq)]
-pub struct Tag {
-    pub thread: u32,
-    pub wave: u64,
-}
-
 /// A destination: an instruction, numbered from 1, and one of its ports, numbered from 0.
 #[derive(Clone, Copy, Debug, PartialEq, Eq)]
 pub struct Dest {

@@ -26,7 +26,7 @@ mod walker;
 
 pub use checked::Checked;
 pub use image::{ArrayDecl, ArrayDecls, Block, BlockList, Blocks, Draft, Exit, Image, Pad, Pads};
-pub use instr::{Dest, Dests, Instr, Instrs, Link, Note, Op, Tag};
+pub use instr::{Dest, Dests, Instr, Instrs, Link, Note, Op};
 pub use laws::{checked_images_walk, effects_are_one, loads_have_no_effect, walks_go_on};
 pub use numbers::first_numbers;
 pub use walk::{Walked, walk_draft, walk_image};

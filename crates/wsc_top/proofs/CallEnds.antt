@@ -6,7 +6,8 @@ use Rattle.ws_io.specs.Streams.{Rose, Adds, Flushes}
 use Rattle.src_ast.specs.Syntax.{Part}
 use Rattle.ws_isa.specs.Image.{Image}
 use Rattle.port_set.specs.Ports.{Told}
-use Rattle.store_buf.specs.Outdoors.{RoseAt}
+use Rattle.store_buf.specs.Outdoors.{RoseAt, world_with}
+use Rattle.work_gen.specs.Job.{words_of}
 use Rattle.wsc_words.specs.Lines.{HasCommand}
 use Rattle.wsc_top.specs.declared.status.Status.{Status}
 use Rattle.wsc_top.specs.declared.status.Status.TheVariants.{Usage, ReadFault, WriteFault, PortFault}
@@ -15,6 +16,7 @@ use Rattle.wsc_top.specs.declared.task.Task.{Task}
 use Rattle.wsc_top.specs.declared.task.Task.TheVariants.{Job, Assembly, Generate, Bench, Multi}
 use Rattle.wsc_top.specs.declared.task.BenchOptions.{BenchOptions}
 use Rattle.wsc_top.specs.declared.task.JobTask.{JobTask}
+use Rattle.wsc_top.specs.declared.task.JobTask.TheVariants.{Run}
 use Rattle.wsc_top.specs.declared.task.RunOptions.{RunOptions}
 use Rattle.wsc_top.specs.declared.task.AssemblyTask.{AssemblyTask}
 use Rattle.wsc_top.specs.Tasks.{AsksFor, IsNoLine}
@@ -22,7 +24,8 @@ use Rattle.wsc_top.specs.Generated.{IsGeneratedJob}
 use Rattle.wsc_top.specs.Answers.{TellWords, JobEndsSo, AssemblyEndsSo, BenchEndsSo, IsToldJob}
 use Rattle.wsc_top.specs.Answers.{IsToldAssembly, Answers}
 use Rattle.wsc_top.specs.Jobs.{ProgramAndInput}
-use Rattle.wsc_top.specs.Threads.{Replies, Falls, AreToldJobs, MultiEndsSo}
+use Rattle.wsc_top.specs.Executions.{EndsRun}
+use Rattle.wsc_top.specs.Threads.{Replies, Falls, AreToldJobs, MultiEndsSo, WalksEndSo}
 use Rattle.wsc_top.specs.Codes.{code_of}
 use Rattle.wsc_top.specs.Calls.{SourceCall, Writing, CallEnds, EndsWithCode, in_first}
 use Rattle.wsc_top.proofs.Tasks.{OneLine}
@@ -55,6 +58,24 @@ pub record Decided : Type 0 where
       → Replies words left after faults counted handed status out image images back
       → AreToldJobs words left options jobs → TellWords handed → (status ≡ ReadFault → ⊥)
       → MultiEndsSo options jobs handed status
+  pub walk : (words : List (List ℕ)) (left after : Option (List ℕ)) (faults counted : ℕ)
+      (handed back : List (Option Told)) (status : Status) (out : List ℕ) (image : Option Image) (ran : Image)
+      (options : RunOptions) (parts : List Part) (input : List ℕ)
+      → Answers words left after faults counted handed status out image back
+      → IsToldJob words left (Run options) parts input → image ≡ Some ran
+      → EndsRun ran (world_with input handed) options.budget status
+  pub bench_walk : (words : List (List ℕ)) (left after : Option (List ℕ)) (faults counted : ℕ)
+      (handed back : List (Option Told)) (status : Status) (out : List ℕ) (image : Option Image) (ran : Image)
+      (options : BenchOptions)
+      → Answers words left after faults counted handed status out image back
+      → AsksFor words (Bench options) → image ≡ Some ran
+      → EndsRun ran (world_with (words_of options.number) handed) options.run.budget status
+  pub walks : (words : List (List ℕ)) (left after : Option (List ℕ)) (faults counted : ℕ)
+      (handed back : List (Option Told)) (status : Status) (out : List ℕ) (image : Option Image)
+      (images : List Image) (options : RunOptions) (jobs : List ProgramAndInput)
+      → Replies words left after faults counted handed status out image images back
+      → AreToldJobs words left options jobs → (status ≡ ReadFault → ⊥)
+      → WalksEndSo options images jobs handed status
 
 -- what an answer that there is none says
 pub starved_reply : {X E Q : Type 0} (answer : Result X E) (e : E) → answer ≡ Err e → OnErr answer Q → Q
@@ -157,6 +178,15 @@ module _ (words : List (List ℕ)) (reads : SourceCall) (writes : Writing) (hand
       unmultiplied = λ options t source sink.
           inl (told_unjobs one words reads.left reads.after reads.faults reads.counted handed options t status
           text image images back r (well_read source));
+      decided = λ options parts input ran t is source sink.
+          inl (law.walk words reads.left reads.after reads.faults reads.counted handed back status text image
+          ran options parts input (job_of (Run options) t.line) t is);
+      bench_decided = λ options ran line is sink.
+          inl (law.bench_walk words reads.left reads.after reads.faults reads.counted handed back status text
+          image ran options (answer_of (Bench options) line (λ o e. absurd cc)) line is);
+      multi_decided = λ options jobs t source sink.
+          inl (law.walks words reads.left reads.after reads.faults reads.counted handed back status text image
+          images options jobs r t (well_read source));
     }
 
   -- a front of it went out, and writing failed
@@ -194,6 +224,9 @@ module _ (words : List (List ℕ)) (reads : SourceCall) (writes : Writing) (hand
     multiplied = λ options jobs t source sink. absurd (sink rose);
     multiplied_done = λ options jobs t ends source sink ports. absurd (sink rose);
     unmultiplied = λ options t source sink. absurd (sink rose);
+    decided = λ options parts input ran t is source sink. absurd (sink rose);
+    bench_decided = λ options ran line is sink. absurd (sink rose);
+    multi_decided = λ options jobs t source sink. absurd (sink rose);
   }
 
   -- memory ran out
@@ -221,6 +254,9 @@ module _ (words : List (List ℕ)) (reads : SourceCall) (writes : Writing) (hand
     multiplied = λ options jobs t source sink. inr refl;
     multiplied_done = λ options jobs t ends source sink ports. inr refl;
     unmultiplied = λ options t source sink. inr refl;
+    decided = λ options parts input ran t is source sink. inr refl;
+    bench_decided = λ options ran line is sink. inr refl;
+    multi_decided = λ options jobs t source sink. inr refl;
   }
 
 -- of slots of which the first alone has a port

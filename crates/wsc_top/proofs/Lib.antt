@@ -31,3 +31,4 @@ pub mod JobTexts
 pub mod ThreadRuns
 pub mod JobsOnce
 pub mod ThreadAnswers
+pub mod Walked

@@ -4,7 +4,8 @@ use Rattle.ws_io.specs.Streams.{Rose, Adds, Flushes}
 use Rattle.src_ast.specs.Syntax.{Part}
 use Rattle.ws_isa.specs.Image.{Image}
 use Rattle.port_set.specs.Ports.{Told}
-use Rattle.store_buf.specs.Outdoors.{RoseAt}
+use Rattle.store_buf.specs.Outdoors.{RoseAt, world_with}
+use Rattle.work_gen.specs.Job.{words_of}
 use Rattle.wsc_words.specs.Lines.{HasCommand}
 use Rattle.wsc_top.specs.declared.status.Status.{Status}
 use Rattle.wsc_top.specs.declared.status.Status.TheVariants.{Done, Usage, Refused, Budget, ReadFault}
@@ -12,6 +13,7 @@ use Rattle.wsc_top.specs.declared.status.Status.TheVariants.{WriteFault, PortFau
 use Rattle.wsc_top.specs.declared.task.Task.TheVariants.{Generate, Bench}
 use Rattle.wsc_top.specs.declared.task.BenchOptions.{BenchOptions}
 use Rattle.wsc_top.specs.declared.task.JobTask.{JobTask}
+use Rattle.wsc_top.specs.declared.task.JobTask.TheVariants.{Run}
 use Rattle.wsc_top.specs.declared.task.RunOptions.{RunOptions}
 use Rattle.wsc_top.specs.declared.task.AssemblyTask.{AssemblyTask}
 use Rattle.wsc_top.specs.Codes.{code_of}
@@ -21,7 +23,9 @@ use Rattle.wsc_top.specs.Answers.{SomeRose, ComesToItsEnd, MeetsFault, WantsTurn
 use Rattle.wsc_top.specs.Answers.{BenchEndsSo, IsToldJob, IsToldOther, IsToldAssembly, IsToldNoAssembly}
 use Rattle.wsc_top.specs.Answers.{OrNoMemory}
 use Rattle.wsc_top.specs.Jobs.{ProgramAndInput}
+use Rattle.wsc_top.specs.Executions.{EndsRun}
 use Rattle.wsc_top.specs.Threads.{Replies, Falls, AreToldJobs, AreToldNoJobs, MultiEndsSo, ComeToTheirEnd}
+use Rattle.wsc_top.specs.Threads.{WalksEndSo}
 
 -- a source before and after a call: the bytes that it has left, where it tells them, and its faults
 pub record SourceCall : Type 0 where
@@ -128,6 +132,18 @@ pub record CallEnds (words : List (List ℕ)) (reads : SourceCall) (writes : Wri
       → ReadsWell reads → WritesWell writes → ¬ SomeRose handed back → OrNoMemory status Done
   pub unmultiplied : (options : RunOptions) → AreToldNoJobs words reads.left options
       → ReadsWell reads → WritesWell writes → OrNoMemory status Refused
+  -- and the status of a run is what the walk of the image decides that is handed back
+  pub decided : (options : RunOptions) (parts : List Part) (input : List ℕ) (ran : Image)
+      → IsToldJob words reads.left (Run options) parts input → image ≡ Some ran
+      → ReadsWell reads → WritesWell writes
+      → EndsRun ran (world_with input handed) options.budget status ⊎ (status ≡ NoMemory)
+  pub bench_decided : (options : BenchOptions) (ran : Image) → AsksFor words (Bench options)
+      → image ≡ Some ran → WritesWell writes
+      → EndsRun ran (world_with (words_of options.number) handed) options.run.budget status
+      ⊎ (status ≡ NoMemory)
+  pub multi_decided : (options : RunOptions) (jobs : List ProgramAndInput)
+      → AreToldJobs words reads.left options jobs → ReadsWell reads → WritesWell writes
+      → WalksEndSo options threads jobs handed status ⊎ (status ≡ NoMemory)
 
 -- slots of which the first alone has a port, which tells this
 abbrev pub in_first : Told → List (Option Told)

@@ -17,7 +17,7 @@ use Rattle.wsc_top.specs.Tasks.{AsksFor}
 use Rattle.wsc_top.specs.Job.{job_limit, IsJob}
 use Rattle.wsc_top.specs.Jobs.{Piece, ProgramAndInput, Jobs, most_jobs, AreJobs, RefusesJobs}
 use Rattle.wsc_top.specs.Jobs.{jobs_refusal_text}
-use Rattle.wsc_top.specs.Executions.{Executes, HasBegun, IsFailed}
+use Rattle.wsc_top.specs.Executions.{Executes, HasBegun, IsFailed, EndsRun}
 use Rattle.wsc_top.specs.Answers.{IsCompiled, Yields, ComesToItsEnd, JobEndsSo, IsFree, Answers, Starves}
 
 -- seven slots without a port
@@ -175,6 +175,23 @@ EachEndsSo options (job ∷ jobs) handed (status ∷ statuses) =
 abbrev pub MultiEndsSo : RunOptions → List ProgramAndInput → List (Option Told) → Status → Type 0
 MultiEndsSo options jobs handed status =
     (statuses : List Status) × EachEndsSo options jobs handed statuses
+    × (status ≡ status_of statuses)
+
+-- thread by thread the walk of its image decides the status: of the first with these ports, of the others
+-- with none
+abbrev pub EachWalkEndsSo : RunOptions → List Image → List ProgramAndInput → List (Option Told)
+    → List Status → Type 0
+EachWalkEndsSo options [] [] handed [] = Unit {0}
+EachWalkEndsSo options (image ∷ images) (job ∷ jobs) handed (status ∷ statuses) =
+    EndsRun image (world_with job.1 handed) options.budget status
+    × EachWalkEndsSo options images jobs no_ports statuses
+EachWalkEndsSo options images jobs handed statuses = ⊥
+
+-- so the walks of these images decide the status of `multi`
+abbrev pub WalksEndSo : RunOptions → List Image → List ProgramAndInput → List (Option Told) → Status
+    → Type 0
+WalksEndSo options images jobs handed status =
+    (statuses : List Status) × EachWalkEndsSo options images jobs handed statuses
     × (status ≡ status_of statuses)
 
 -- the run of each comes to its end, as that of `run` does: of the first with these ports, of the others

@@ -7,8 +7,8 @@ ghost use Rattle.wsc_top.specs.Calls.{CallEnds, reading, writing};
 
 use crate::answer::to_words;
 use crate::exec::CommandReply;
-use crate::laws::each_answer_has_its_status;
-use crate::multi_laws::each_answer_of_threads_has_its_status;
+use crate::laws::{each_answer_has_its_status, each_run_ends_as_its_walk};
+use crate::multi_laws::{each_answer_of_threads_has_its_status, threads_end_as_their_walks};
 use crate::status::{Outcome, Status};
 use fire_crew::Gate;
 use port_set::{Port, Slots};
@@ -42,6 +42,8 @@ pub fn wsc<S: Source, K: Sink, P: Port + Send, G: Gate, R: Threads + Wait + Sync
     words_are_one_line();
     each_answer_has_its_status();
     each_answer_of_threads_has_its_status();
+    each_run_ends_as_its_walk();
+    threads_end_as_their_walks();
     let CommandReply {
         answer,
         image,

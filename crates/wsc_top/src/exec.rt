@@ -5,7 +5,7 @@ ghost use Rattle.ws_words.specs.Outside.{World};
 ghost use Rattle.ws_isa.specs.Image.{Image};
 ghost use Rattle.port_set.specs.Ports.{Told};
 ghost use Rattle.port_set.specs.Slots.{AllOpen, contents};
-ghost use Rattle.store_buf.specs.Outdoors.{AllTell, world_with};
+ghost use Rattle.store_buf.specs.Outdoors.{world_with};
 ghost use Rattle.fire_crew.specs.Answer.{CrewTells};
 ghost use Rattle.part_store.specs.Answer.{PartTells};
 ghost use Rattle.wsc_top.specs.Executions.{Executes, HasBegun};
@@ -16,7 +16,7 @@ use crate::status::Status;
 use crate::task::RunOptions;
 use crate::text::Text;
 use fire_crew::{CrewFinish, Gate, RunEnd, run_image};
-use part_store::{PartFinish, part_image};
+use part_store::{PartEnd, PartFinish, part_image};
 use port_set::{Port, Slots};
 use std::alloc::Global;
 use std::sync::Wait;
@@ -37,7 +37,7 @@ pub struct CommandReply<P: Port> {
 // A line has from 1 to 8 workers.
 const MOST_WORKERS: u32 = 8;
 
-/// Runs an image on these words with these ports.
+/// Runs an image on these words with these ports, by a crew or with decoupled stores.
 pub fn executed<P: Port + Send, G: Gate, R: Threads + Wait + Sync>(
     rt: &R,
     alloc: Global,
@@ -59,59 +59,93 @@ pub fn executed<P: Port + Send, G: Gate, R: Threads + Wait + Sync>(
     ensures threads { result.threads.items ≡ [] }
     ensures open { AllOpen (contents P.tells result.ports) }
 {
-    let end = run(rt, alloc, options, &image, input, ports, gate);
+    if options.decoupled {
+        return decoupled(alloc, options, image, input, ports);
+    }
+    crewed(rt, alloc, options, image, input, ports, gate)
+}
+
+// Runs an image by a crew.
+fn crewed<P: Port + Send, G: Gate, R: Threads + Wait + Sync>(
+    rt: &R,
+    alloc: Global,
+    options: RunOptions,
+    image: Checked,
+    input: Words,
+    ports: Slots<P>,
+    gate: &G,
+) -> CommandReply<P>
+    requires told { TellWords (contents P.tells ports) }
+    requires open { AllOpen (contents P.tells ports) }
+    ensures executes { IfOk result.answer (λ y. Executes options image
+        (world_with input (contents P.tells ports)) (contents P.tells ports) y.0 y.1
+        (contents P.tells result.ports)) }
+    ensures begun { OnErr result.answer (HasBegun image
+        (world_with input (contents P.tells ports)) (contents P.tells ports)
+        (contents P.tells result.ports)) }
+    ensures image { result.image ≡ Some image }
+    ensures threads { result.threads.items ≡ [] }
+    ensures open { AllOpen (contents P.tells result.ports) }
+{
+    let workers = options.workers.max(1).min(MOST_WORKERS);
+    let budget = options.budget;
+    let end = run_image(rt, alloc, &image, input, ports, workers, budget, gate);
+    reply(alloc, options, image, end)
+}
+
+/// Runs an image with decoupled stores on these words with these ports. It starts no thread and never
+/// waits.
+pub fn decoupled<P: Port>(
+    alloc: Global,
+    options: RunOptions,
+    image: Checked,
+    input: Words,
+    ports: Slots<P>,
+) -> CommandReply<P>
+    requires told { TellWords (contents P.tells ports) }
+    requires open { AllOpen (contents P.tells ports) }
+    ensures executes { IfOk result.answer (λ y. Executes options image
+        (world_with input (contents P.tells ports)) (contents P.tells ports) y.0 y.1
+        (contents P.tells result.ports)) }
+    ensures begun { OnErr result.answer (HasBegun image
+        (world_with input (contents P.tells ports)) (contents P.tells ports)
+        (contents P.tells result.ports)) }
+    ensures image { result.image ≡ Some image }
+    ensures threads { result.threads.items ≡ [] }
+    ensures open { AllOpen (contents P.tells result.ports) }
+{
+    let PartEnd { finish, ports } = part_image(alloc, &image, input, ports, options.budget);
+    let finish = as_of_a_crew(finish);
+    reply(alloc, options, image, RunEnd { finish, ports })
+}
+
+// What is to be written of a run that has ended so, with its image and its ports.
+fn reply<P: Port>(
+    alloc: Global,
+    options: RunOptions,
+    image: Checked,
+    end: RunEnd<P>,
+) -> CommandReply<P>
+    requires open { AllOpen (contents P.tells end.ports) }
+    ensures executes { (world : World) (handed : List (Option Told)) → CrewTells image world handed
+        options.budget end.finish (contents P.tells end.ports) →
+        IfOk result.answer (λ y. Executes options image world handed y.0 y.1
+        (contents P.tells result.ports)) }
+    ensures begun { (world : World) (handed : List (Option Told)) → CrewTells image world handed
+        options.budget end.finish (contents P.tells end.ports) →
+        OnErr result.answer (HasBegun image world handed (contents P.tells result.ports)) }
+    ensures image { result.image ≡ Some image }
+    ensures threads { result.threads.items ≡ [] }
+    ensures open { AllOpen (contents P.tells result.ports) }
+{
+    let RunEnd { finish, ports } = end;
     let arrays = image.image().arrays.as_slice();
-    let answer = answer(alloc, options.report, options.budget, arrays, &end.finish);
+    let answer = answer(alloc, options.report, options.budget, arrays, &finish);
     CommandReply {
         answer,
         image: Some(image),
         threads: Vec::new(alloc),
-        ports: end.ports,
-    }
-}
-
-// Runs an image by a crew, or with decoupled stores.
-fn run<P: Port + Send, G: Gate, R: Threads + Wait + Sync>(
-    rt: &R,
-    alloc: Global,
-    options: RunOptions,
-    image: &Checked,
-    input: Words,
-    ports: Slots<P>,
-    gate: &G,
-) -> RunEnd<P>
-    requires told { AllTell (contents P.tells ports) }
-    requires open { AllOpen (contents P.tells ports) }
-    ensures tells { CrewTells image.now (world_with input (contents P.tells ports))
-        (contents P.tells ports) options.budget result.finish (contents P.tells result.ports) }
-    ensures open { AllOpen (contents P.tells result.ports) }
-{
-    let budget = options.budget;
-    if options.decoupled {
-        return decoupled(alloc, image, input, ports, budget);
-    }
-    let workers = options.workers.max(1).min(MOST_WORKERS);
-    run_image(rt, alloc, image, input, ports, workers, budget, gate)
-}
-
-// Runs an image with decoupled stores.
-fn decoupled<P: Port>(
-    alloc: Global,
-    image: &Checked,
-    input: Words,
-    ports: Slots<P>,
-    budget: u64,
-) -> RunEnd<P>
-    requires told { AllTell (contents P.tells ports) }
-    requires open { AllOpen (contents P.tells ports) }
-    ensures tells { CrewTells image.now (world_with input (contents P.tells ports))
-        (contents P.tells ports) budget result.finish (contents P.tells result.ports) }
-    ensures open { AllOpen (contents P.tells result.ports) }
-{
-    let end = part_image(alloc, image, input, ports, budget);
-    RunEnd {
-        finish: as_of_a_crew(end.finish),
-        ports: end.ports,
+        ports,
     }
 }
 

@@ -11,6 +11,7 @@ ghost use Rattle.ws_isa.specs.Image.{Image};
 ghost use Rattle.ws_isa.specs.Formed.{Formed};
 ghost use Rattle.ws_isa.specs.Sound.{Sound};
 ghost use Rattle.wave_gen.specs.Words.{IsWord};
+ghost use Rattle.work_gen.specs.Job.{words_of};
 ghost use Rattle.asm_text.specs.Printed.{printed};
 ghost use Rattle.asm_text.specs.Reading.{read};
 ghost use Rattle.trace_check.specs.declared.replaying.Replayed.{Replayed};
@@ -29,7 +30,7 @@ ghost use Rattle.wsc_top.specs.declared.assembly.AsmRefusal.{AsmRefusal};
 ghost use Rattle.wsc_top.specs.Sections.{program_of, before_trace, trace_line, IsInputAnswer};
 ghost use Rattle.wsc_top.specs.Job.{IsJob, IsTextAnswer, world_of};
 ghost use Rattle.wsc_top.specs.Assembly.{IsAssembly, RefusesAssembly, IsAssemblyAnswer, IsUnsound};
-ghost use Rattle.wsc_top.specs.Executions.{Executes, IsFailed};
+ghost use Rattle.wsc_top.specs.Executions.{Executes, EndsRun, IsFailed};
 ghost use Rattle.wsc_top.specs.Generated.{IsGeneratedJob};
 ghost use Rattle.wsc_top.specs.Texts.{with_input};
 ghost use Rattle.wsc_top.specs.Traced.{IsTraced, HasTrace, CanReplay, replayed_text};
@@ -130,6 +131,26 @@ pub fn each_answer_has_its_status()
     each_text_is_a_job_or_refused();
     breaches_break();
     one_answer();
+}
+
+/// Each answer of `run` and `bench` to a job that was read has the status that the walk of the image
+/// decides which is handed back.
+pub fn each_run_ends_as_its_walk()
+    ensures job { (words : List (List ℕ)) (left after : Option (List ℕ)) (faults counted : ℕ)
+        (handed back : List (Option Told)) (status : Status) (out : List ℕ) (image : Option Image)
+        (ran : Image) (options : RunOptions) (parts : List Part) (input : List ℕ)
+        → Answers words left after faults counted handed status out image back
+        → IsToldJob words left (JobTask.Run options) parts input → image ≡ Some ran
+        → EndsRun ran (world_with input handed) options.budget status }
+    ensures bench { (words : List (List ℕ)) (left after : Option (List ℕ)) (faults counted : ℕ)
+        (handed back : List (Option Told)) (status : Status) (out : List ℕ) (image : Option Image)
+        (ran : Image) (options : BenchOptions)
+        → Answers words left after faults counted handed status out image back
+        → AsksFor words (Task.Bench options) → image ≡ Some ran
+        → EndsRun ran (world_with (words_of options.number) handed) options.run.budget status }
+{
+    words_are_one_line();
+    each_text_is_a_job_or_refused();
 }
 
 /// The text of an assembly is one sound image with its words, or it is refused, and never both. It is

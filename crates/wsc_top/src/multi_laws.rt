@@ -9,7 +9,7 @@ ghost use Rattle.wsc_top.specs.declared.task.RunOptions.{RunOptions};
 ghost use Rattle.wsc_top.specs.Jobs.{ProgramAndInput, IsJobsAnswer};
 ghost use Rattle.wsc_top.specs.Answers.{TellWords};
 ghost use Rattle.wsc_top.specs.Threads.{ThreadsDo, ExecutesAlone, status_of, Thread, images_of, Replies};
-ghost use Rattle.wsc_top.specs.Threads.{AreDue, AreToldJobs, MultiEndsSo, IsFreeAnswer};
+ghost use Rattle.wsc_top.specs.Threads.{AreDue, AreToldJobs, MultiEndsSo, WalksEndSo, IsFreeAnswer};
 
 use crate::laws::each_text_is_a_job_or_refused;
 use seq_run::one_answer;
@@ -59,6 +59,20 @@ pub fn each_answer_of_threads_has_its_status()
         → Replies words left after faults counted handed status out image images back
         → AreToldJobs words left options jobs → TellWords handed
         → (status ≡ Status.ReadFault → ⊥) → MultiEndsSo options jobs handed status }
+{
+    words_are_one_line();
+    each_text_is_a_job_or_refused();
+}
+
+/// Each answer of `multi` to jobs that were read has the status that the walks of the images decide
+/// which are handed back.
+pub fn threads_end_as_their_walks()
+    ensures { (words : List (List ℕ)) (left after : Option (List ℕ)) (faults counted : ℕ)
+        (handed back : List (Option Told)) (status : Status) (out : List ℕ) (image : Option Image)
+        (images : List Image) (options : RunOptions) (jobs : List ProgramAndInput)
+        → Replies words left after faults counted handed status out image images back
+        → AreToldJobs words left options jobs → (status ≡ Status.ReadFault → ⊥)
+        → WalksEndSo options images jobs handed status }
 {
     words_are_one_line();
     each_text_is_a_job_or_refused();

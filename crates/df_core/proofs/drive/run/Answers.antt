@@ -1,4 +1,4 @@
-use Rattle.std.proofs.Common.{[], ◌≡◌, ◌-◌, ◌∙◌, sym, ap, subst, is_some, false, arith}
+use Rattle.std.proofs.Common.{[], ◌≡◌, ◌+◌, ◌-◌, ◌∙◌, sym, ap, subst, is_some, false, arith}
 use Rattle.df_core.specs.Core.{Issue}
 use Rattle.df_core.specs.declared.drive.Finish.{Finish}
 use Rattle.df_core.specs.Places.{image_of}
@@ -14,6 +14,7 @@ loop-flow-init c = record {
   follows = follows_none (image_of c.args.program.now) c.args.flow.now;
   room = c.requires.room;
   within = c.requires.fired;
+  kept = λ n m e r. room_less c.args.flow.now n m (omega arith) r;
 }
 
 pub returns-in-Some-clause-finish : goal.returns-in-Some-clause-finish
@@ -41,6 +42,8 @@ loop-flow-preserved-in-Some-issuable c =
       room = subst (λ n. FlowRoom c.issue.new.self 0 (c.args.budget - n)) (sym c.issue.ensures.count)
           (c.issue.ensures.room (c.args.budget - flow.fired) c.loop-flow.invariant.room);
       within = omega (arith, c.loop-flow.invariant.within, c.issue.ensures.count);
+      kept = λ n m e r. c.issue.ensures.room m
+          (c.loop-flow.invariant.kept n m (omega (arith, e, c.issue.ensures.count)) r);
     }
 
 pub returns-in-None-clause-finish : goal.returns-in-None-clause-finish
@@ -80,6 +83,9 @@ loop-flow-preserved c =
           (omega (arith, c.match_next.ensures.count.0, c.match_next.ensures.count.1, less))
           c.loop-flow.invariant.room;
       within = omega (arith, c.match_next.ensures.count.1, less);
+      kept = λ n m e r. (let k = m + c.match_next.new.flow.fired - c.loop-flow.flow.fired in
+          c.match_next.ensures.room k m (omega (arith, c.match_next.ensures.count.0))
+          (c.loop-flow.invariant.kept n k (omega (arith, e, c.match_next.ensures.count.0)) r));
     }
 
 pub issue-requires-clause-going : goal.issue-requires-clause-going

@@ -1,4 +1,4 @@
-use Rattle.std.proofs.Common.{◌≤◌, ◌+◌, ◌-◌, ◌*◌}
+use Rattle.std.proofs.Common.{ℕ, ◌≡◌, ◌≤◌, ◌+◌, ◌-◌, ◌*◌}
 use Rattle.df_core.specs.Places.{image_of}
 use Rattle.df_core.specs.Flows.{RunsOn, weight, FlowRoom}
 use Rattle.df_core.proofs.drive.run.Given as goal
@@ -8,6 +8,8 @@ invariant-loop-flow l = record {
   follows : RunsOn (image_of l.program) l.fn.flow l.flow;
   room : FlowRoom l.flow 0 (l.budget - l.flow.fired);
   within : l.flow.fired ≤ l.budget;
+  kept : (n m : ℕ) → m + l.flow.fired ≡ n + l.fn.flow.fired → FlowRoom l.fn.flow 0 n
+      → FlowRoom l.flow 0 m;
 }
 
 abbrev pub decreases-loop-flow : goal.decreases-loop-flow

@@ -1,7 +1,7 @@
 use Rattle.std.proofs.Common.{ℕ, ◌≡◌, ◌<◌, ◌≤◌, ◌+◌, ◌∙◌, sym, refl, false, subst, length, Vec, Global}
 use Rattle.std.proofs.Common.{vec_len, vec_capacity, inl, inr, arith}
 use Rattle.std.proofs.lemmas.Bool.{cases_lt, both_ways}
-use Rattle.df_core.proofs.Trays.{kept_rows, length_set, nth_set, value_nth}
+use Rattle.df_core.proofs.Trays.{kept_rows, kept_space, length_set, nth_set, value_nth}
 use Rattle.df_core.proofs.memory.reserve_rows.Goals as goal
 use Rattle.ws_words.proofs.Places.{nth_short}
 
@@ -11,11 +11,21 @@ returns-in_err-reserve-clause-same c =
     (omega (arith, c.loop-place.invariant.size, c.loop-place-test.true)) c.index_mut.ensures.value
     c.reserve.ensures.items ∙ c.loop-place.invariant.same
 
+pub returns-in_err-reserve-clause-kept : goal.returns-in_err-reserve-clause-kept
+returns-in_err-reserve-clause-kept c = λ n h.
+    kept_space c.loop-place.rows.items c.loop-place.place c.index_mut.result.now c.reserve.new.self n
+    (omega (arith, c.loop-place.invariant.size, c.loop-place-test.true)) c.index_mut.ensures.value
+    c.reserve.ensures.len c.reserve.ensures.capacity (c.loop-place.invariant.kept n h)
+
 pub loop-place-preserved : goal.loop-place-preserved
 loop-place-preserved c = record {
   same = kept_rows c.loop-place.rows.items c.loop-place.place c.index_mut.result.now c.reserve.new.self
       (omega (arith, c.loop-place.invariant.size, c.loop-place-test.true)) c.index_mut.ensures.value
       c.reserve.ensures.items ∙ c.loop-place.invariant.same;
+  kept = λ n h. kept_space c.loop-place.rows.items c.loop-place.place c.index_mut.result.now
+      c.reserve.new.self n (omega (arith, c.loop-place.invariant.size, c.loop-place-test.true))
+      c.index_mut.ensures.value c.reserve.ensures.len c.reserve.ensures.capacity
+      (c.loop-place.invariant.kept n h);
   size = length_set c.loop-place.rows.items c.loop-place.place c.reserve.new.self
       ∙ c.loop-place.invariant.size;
   later = λ p row l e. elim (nth_set c.loop-place.rows.items c.loop-place.place c.reserve.new.self p row e) [

@@ -23,3 +23,8 @@ returns-in_default-dealt-clause-grow g c = subst (λ t. AllGrow (contents c.args
 pub phase-after-requires-clause-fits : goal.phase-after-requires-clause-fits
 phase-after-requires-clause-fits g c κs within = subst (λ (most : List ℕ). Fits c.args.tables most)
     (sym c.deref.ensures.value) c.in-Ok.ensures.fits
+
+pub fitting-requires-clause-fits : goal.fitting-requires-clause-fits
+fitting-requires-clause-fits g c = subst (λ (most : List ℕ). Fits c.phase-after.result.tables most)
+    (sym c.deref-2.ensures.value) (subst (λ (most : List ℕ). Fits c.phase-after.result.tables most)
+    c.deref.ensures.value c.phase-after.ensures.fits)

@@ -3,5 +3,5 @@ use Rattle.match_table.specs.Pages.{IsFirstFrom}
 use Rattle.match_table.proofs.places.place_from.Goals as goal
 
 pub returns-then-sought-number : goal.returns-then-sought-number
-returns-then-sought-number c = subst (λ (n : ℕ). IsFirstFrom c.args.pages.now c.args.near n)
+returns-then-sought-number c = subst (λ (n : ℕ). IsFirstFrom c.args.order.now c.args.near n)
     c.if-sought-number.true c.requires.first

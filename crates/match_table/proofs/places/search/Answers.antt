@@ -2,14 +2,14 @@ use Rattle.std.proofs.Common.{◌+◌, ◌-◌, ◌/◌, arith}
 use Rattle.match_table.proofs.Numbers.{below_more, above_more, in_order}
 use Rattle.match_table.proofs.places.search.Goals as goal
 
-pub loop-low-preserved-then-pages-middle : goal.loop-low-preserved-then-pages-middle
-loop-low-preserved-then-pages-middle c = let inv = c.loop-low.invariant in let t = c.loop-low-test.true in
+pub loop-low-preserved-then-order-middle : goal.loop-low-preserved-then-order-middle
+loop-low-preserved-then-order-middle c = let inv = c.loop-low.invariant in let t = c.loop-low-test.true in
     let o = inv.order in let b = inv.bound in record {
       order = omega (arith, t, o);
       bound = b;
-      below = below_more c.args.pages.now (c.loop-low.low + (c.loop-low.high - c.loop-low.low) / 2)
+      below = below_more c.args.order.now (c.loop-low.low + (c.loop-low.high - c.loop-low.low) / 2)
           c.args.number
-          _ c.requires (omega (arith, t, o, b)) c.if-pages-middle.true;
+          _ c.requires (omega (arith, t, o, b)) c.if-order-middle.true;
       above = inv.above;
     }
 
@@ -19,14 +19,14 @@ loop-low-preserved c = let inv = c.loop-low.invariant in let t = c.loop-low-test
       order = omega (arith, t, o);
       bound = omega (arith, t, o, b);
       below = inv.below;
-      above = above_more c.args.pages.now (c.loop-low.low + (c.loop-low.high - c.loop-low.low) / 2)
+      above = above_more c.args.order.now (c.loop-low.low + (c.loop-low.high - c.loop-low.low) / 2)
           c.args.number
-          _ c.requires c.if-pages-middle.false;
+          _ c.requires c.if-order-middle.false;
     }
 
 pub loop-low-init : goal.loop-low-init
 loop-low-init c = record {
-  order = in_order c.args.pages.now c.floor-low.result c.ceiling-high.result c.args.number
+  order = in_order c.args.order.now c.floor-low.result c.ceiling-high.result c.args.number
       c.floor-low.ensures.bound c.floor-low.ensures.below c.ceiling-high.ensures.above;
   bound = c.ceiling-high.ensures.bound;
   below = c.floor-low.ensures.below;

@@ -16,6 +16,11 @@ pub generate-requires-clause-arms : goal.generate-requires-clause-arms
 generate-requires-clause-arms c = arms_alone (ast.parts c.args.accepted.now.program.items.items)
     (view.graph c.in_ok-graph.graph) c.in_ok-graph.ensures
 
+pub annotate-requires : goal.annotate-requires
+annotate-requires c = record {
+  fit = c.open_drafts_fit.ensures (image.draft c.in_ok-draft.draft) c.in_ok-draft.ensures.open_to_notes;
+}
+
 pub returns-clause-formed : goal.returns-clause-formed
 returns-clause-formed c =
     let parts = ast.parts c.args.accepted.now.program.items.items in

@@ -13,6 +13,9 @@ returns-in-Ok-write_all-clause-ends g c =
       assembly = c.each_answer_has_its_status.ensures.assembly;
       bench = c.each_answer_has_its_status.ensures.bench;
       threads = c.each_answer_of_threads_has_its_status.ensures;
+      walk = c.each_run_ends_as_its_walk.ensures.job;
+      bench_walk = c.each_run_ends_as_its_walk.ensures.bench;
+      walks = c.threads_end_as_their_walks.ensures;
     })
     c.requires.told _ _ _ _ _ r _ c.as_slice.ensures c.in-Ok-write_all.ensures.ok
     c.in-Ok-write_all.ensures.flushed

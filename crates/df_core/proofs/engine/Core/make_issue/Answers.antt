@@ -4,7 +4,7 @@ use Rattle.std.specs.Result.{is_err}
 use Rattle.std.proofs.lemmas.Bool.{both_ways}
 use Rattle.df_core.specs.declared.plain.Asked.{Asked}
 use Rattle.df_core.specs.Flows.{asked_at, no_asked, FlowRoom}
-use Rattle.df_core.proofs.Steady.{room_less}
+use Rattle.df_core.proofs.Steady.{room_less, room_still}
 use Rattle.df_core.proofs.Stepping.{kept_same, not_ready, going_prepared, makes_issue}
 use Rattle.df_core.proofs.engine.Core.make_issue.Goals as goal
 
@@ -37,3 +37,15 @@ returns-then-is_err-clause-memory c = λ room.
 
 pub returns-then-is_err-clause-kept : goal.returns-then-is_err-clause-kept
 returns-then-is_err-clause-kept c = kept_same c.args.self.now c.prepare.new.self c.prepare.ensures.same
+
+pub returns-in-None-clause-room : goal.returns-in-None-clause-room
+returns-in-None-clause-room c = room_still c.args.self.now.flow c.args.self.now.flow refl (λ n r. r)
+
+pub returns-then-is_err-clause-room : goal.returns-then-is_err-clause-room
+returns-then-is_err-clause-room c = room_still c.args.self.now.flow c.prepare.new.self
+    c.prepare.ensures.same.fired c.prepare.ensures.kept
+
+pub returns-else-is_err-clause-room : goal.returns-else-is_err-clause-room
+returns-else-is_err-clause-room c = room_still c.args.self.now.flow c.issue.new.self
+    (c.issue.ensures.count ∙ c.prepare.ensures.same.fired)
+    (λ n r. c.issue.ensures.room n (c.prepare.ensures.kept n r))

@@ -1,11 +1,14 @@
-use Rattle.std.proofs.Common.{[], ◌∷◌, refl, sym, subst}
+use Rattle.std.proofs.Common.{[], ◌∷◌, ◌+◌, ◌≤◌, refl, sym, ap, subst, vec_len, vec_capacity}
+use Rattle.std.proofs.Common.{arith}
 use Rattle.df_core.specs.Core.{Match}
-use Rattle.df_core.specs.Cores.{IsAt}
+use Rattle.df_core.specs.declared.way.Way.{Way}
+use Rattle.df_core.specs.Cores.{IsAt, KeepsRoom}
 use Rattle.df_core.specs.Places.{image_of}
 use Rattle.df_core.specs.Ways.{token_of}
 use Rattle.df_core.proofs.Driving.{alone}
 use Rattle.df_core.proofs.Stepping.{kept_same, not_on_way, same_way, going_match, makes_match}
 use Rattle.df_core.proofs.Turning.{leads_turned}
+use Rattle.df_core.proofs.Steady.{room_still, room_taken, room_turned}
 use Rattle.df_core.proofs.engine.Core.make_match.Goals as goal
 use Rattle.df_core.proofs.engine.Core.make_match.Goals.{then-self-via-then-self}
 use Rattle.df_core.proofs.engine.Core.make_match.Goals.{then-self-via-else-self+then-is_err}
@@ -23,7 +26,7 @@ pub returns-in-Some-clause-made : goal.returns-in-Some-clause-made
 returns-in-Some-clause-made c = makes_match c.args.self.now c.prepare.new.self _ c.args.wave c.args.instr
     c.args.port c.in-Some.token c.prepare.ensures.same c.in-Some.ensures.taken refl refl refl refl refl refl
     refl _ refl
-    (leads_turned _ c.arrive.new.self _ c.turn.ensures refl refl refl refl refl refl refl
+    (leads_turned _ c.arrive.new.self _ c.turn.ensures.turned refl refl refl refl refl refl refl
     (image_of c.args.self.now.program)
     (Match c.in-Some.token.wave c.in-Some.token.instr c.in-Some.token.port) (token_of c.in-Some.token ∷ [])
     c.arrive.ensures.leads)
@@ -39,3 +42,31 @@ returns-then-self-clause-kept c = λ image world s at. elim c.then-self.branch [
   | then-self-via-else-self+then-is_err w ↦ subst (λ core. IsAt image world core s) (sym w.self-is)
       (kept_same c.args.self.now w.prepare.new.self w.prepare.ensures.same image world s at)
 ]
+
+pub returns-then-not-has-clause-room : goal.returns-then-not-has-clause-room
+returns-then-not-has-clause-room c = room_still c.args.self.now.flow c.args.self.now.flow refl (λ n r. r)
+
+pub returns-then-self-clause-room : goal.returns-then-self-clause-room
+returns-then-self-clause-room c = elim c.then-self.branch [
+  | then-self-via-then-self w ↦ subst (λ core. KeepsRoom c.args.self.now core) (sym w.self-is)
+      (room_still c.args.self.now.flow c.args.self.now.flow refl (λ n r. r))
+  | then-self-via-else-self+then-is_err w ↦ subst (λ core. KeepsRoom c.args.self.now core) (sym w.self-is)
+      (room_still c.args.self.now.flow w.prepare.new.self w.prepare.ensures.same.fired w.prepare.ensures.kept)
+]
+
+pub returns-in-Some-clause-room : goal.returns-in-Some-clause-room
+returns-in-Some-clause-room c = λ n m e r. room_turned c.arrive.new.self _ m refl refl refl refl
+    c.turn.ensures.both c.turn.ensures.room
+    (c.arrive.ensures.room n m (omega (arith, e, c.prepare.ensures.same.fired))
+    (room_taken c.prepare.new.self _ n refl refl refl refl c.in-Some.ensures.fewer
+    (λ k a b. (omega (arith, a, c.in-Some.ensures.now_room), omega (arith, b, c.in-Some.ensures.later_room)))
+    (c.prepare.ensures.kept n r)))
+
+pub returns-in-None-clause-room : goal.returns-in-None-clause-room
+returns-in-None-clause-room c =
+    let same = sym c.in-None.ensures.taken.0 in
+    room_still c.args.self.now.flow _ c.prepare.ensures.same.fired
+    (λ n r. room_turned c.prepare.new.self _ n refl refl refl refl
+    (ap (λ (w : Way). vec_len w.now + vec_len w.later) c.in-None.ensures.taken.0)
+    (λ m a b. subst (λ (w : Way). (m ≤ vec_capacity w.now) × (m ≤ vec_capacity w.later)) same (a, b))
+    (c.prepare.ensures.kept n r))

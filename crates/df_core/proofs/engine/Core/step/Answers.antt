@@ -3,6 +3,7 @@ use Rattle.df_core.specs.Core.{Match, Issue}
 use Rattle.df_core.specs.declared.engine.Event.{Event}
 use Rattle.df_core.specs.Cores.{Makes, event_of}
 use Rattle.df_core.proofs.Stepping.{runs_on}
+use Rattle.df_core.proofs.Steady.{room_after, prepared_after}
 use Rattle.df_core.proofs.engine.Core.step.Goals as goal
 
 pub returns-in-Match-clause-made : goal.returns-in-Match-clause-made
@@ -23,3 +24,19 @@ returns-in-Match-clause-core c = runs_on (Match c.in-Match.wave c.in-Match.instr
 pub returns-in-Issue-clause-core : goal.returns-in-Issue-clause-core
 returns-in-Issue-clause-core c = runs_on (Issue c.in-Issue.wave c.in-Issue.instr) c.args.self.now
     c.make_issue.new.self c.make_issue.result c.requires c.make_issue.ensures.made c.make_issue.ensures.kept
+
+pub returns-in-Match-clause-room : goal.returns-in-Match-clause-room
+returns-in-Match-clause-room c = room_after c.args.self.now c.make_match.new.self c.make_match.ensures.room
+    c.make_match.ensures.count
+
+pub returns-in-Match-clause-prepared : goal.returns-in-Match-clause-prepared
+returns-in-Match-clause-prepared c = prepared_after c.args.self.now c.make_match.new.self
+    c.make_match.ensures.room
+
+pub returns-in-Issue-clause-room : goal.returns-in-Issue-clause-room
+returns-in-Issue-clause-room c = room_after c.args.self.now c.make_issue.new.self c.make_issue.ensures.room
+    c.make_issue.ensures.count
+
+pub returns-in-Issue-clause-prepared : goal.returns-in-Issue-clause-prepared
+returns-in-Issue-clause-prepared c = prepared_after c.args.self.now c.make_issue.new.self
+    c.make_issue.ensures.room

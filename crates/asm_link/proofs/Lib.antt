@@ -1,0 +1,13 @@
+pub mod Alike
+pub mod Drafts
+pub mod Counts
+pub mod Arms
+pub mod Only
+pub mod Opens
+pub mod Leaves
+pub mod SameWalk
+pub mod Plain
+pub mod Noted
+pub mod Right
+pub mod Exact
+pub mod Renoted

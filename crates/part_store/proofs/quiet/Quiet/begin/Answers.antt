@@ -1,0 +1,15 @@
+use Rattle.std.proofs.Common.{sym, subst}
+use Rattle.ws_isa.specs.Walk.{opening_memory}
+use Rattle.store_buf.specs.Contents.{IsBuffer}
+use Rattle.store_buf.proofs.Opening as O
+use Rattle.part_store.specs.Contents.{PartContent, whole_of}
+use Rattle.part_store.proofs.quiet.Quiet.begin.Goals as goal
+
+pub returns-in-Ok-clause-stands : goal.returns-in-Ok-clause-stands
+returns-in-Ok-clause-stands g c =
+    let image = g.J.Job.image in
+    let world = g.J.Job.world in
+    subst (λ (x : PartContent). IsBuffer image world g.J.Job.began (whole_of x) (opening_memory image world))
+    (sym c.in-Ok.ensures.opening)
+    (O.opening_is image world g.J.Job.began (λ state r. c.every_list_of_events.ensures.reach image world
+    c.program.ensures.formed c.program.ensures.sound state r) _ c.requires.ports)

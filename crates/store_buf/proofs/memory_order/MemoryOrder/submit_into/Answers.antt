@@ -1,0 +1,11 @@
+use Rattle.std.proofs.Common.{arith}
+use Rattle.df_core.specs.Rights.{tokens_of}
+use Rattle.df_core.proofs.Sends.{all_right}
+use Rattle.store_buf.proofs.memory_order.MemoryOrder.submit_into.Goals as goal
+
+pub invariant_of-answers : goal.invariant_of-answers
+invariant_of-answers g c = (
+  (let e = c.answers.invariant.0 in let k = c.clear.ensures.capacity in let m = c.take_in.ensures.room in
+      omega (arith, e, k, m)),
+  all_right g.J.Job.image g.J.Job.world (tokens_of c.take_in.new.told.items) c.take_in.ensures.right,
+)

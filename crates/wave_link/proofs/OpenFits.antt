@@ -1,0 +1,34 @@
+-- A draft that is open to notes can get them.
+use Rattle.std.proofs.Common.{ℕ, zero, suc, ◌≡◌, ◌⊎◌, false, [], ◌∷◌, Some, sym, ap, ◌∙◌, inl, inr}
+use Rattle.ws_isa.specs.Image.{Exit, Image, is_first, edges_of}
+use Rattle.ws_isa.specs.Open.{HasGiver, EnteredBySteer, OpenToNotes}
+use Rattle.wave_link.specs.Fit.{CanTrigger, FitForNotes}
+use Rattle.ws_words.specs.Items.{nth}
+
+two_edges : (x y c place : ℕ) → nth (x ∷ y ∷ []) place ≡ Some c → (x ≡ c) ⊎ (y ≡ c)
+two_edges x y c zero e = let f : x ≡ c = cc in inl f
+two_edges x y c (suc zero) e = let f : y ≡ c = cc in inr f
+two_edges x y c (suc (suc n)) e = absurd (cc)
+
+module _ (draft : Image) (ok : OpenToNotes draft) where
+  -- a block that is entered from a steer is an arm
+  inside : (b : ℕ) → EnteredBySteer draft b → is_first draft b ≡ false
+  inside b y =
+      let s = (ok.walkable.shape.blocks y.before y.block).hang.steers y.instr y.inside y.steers in
+      let a = ok.arms y.before s.0 s.1 s.2 y.block s.3 in
+      elim (two_edges s.1 s.2 b y.place (ap (λ (x : Exit). nth (edges_of x) y.place) (sym s.3) ∙ y.edge.is)) [
+        | inl p ↦ ap (is_first draft) (sym p) ∙ a.0.not_first
+        | inr p ↦ ap (is_first draft) (sym p) ∙ a.1.not_first
+      ]
+
+  trigger : (b : ℕ) → HasGiver draft b ⊎ EnteredBySteer draft b → CanTrigger draft b
+  trigger b (inl g) = inl g
+  trigger b (inr y) = inr (y, inside b y)
+
+pub open_fits : (draft : Image) → OpenToNotes draft → FitForNotes draft
+open_fits draft ok = record {
+  bare = ok.bare;
+  walkable = ok.walkable;
+  branches = λ b s x y h e. inl (ok.arms b s x y h e);
+  triggers = λ b h a. trigger draft ok b (ok.givers b h);
+}
