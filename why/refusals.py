@@ -49,6 +49,10 @@ SOUND = {
     "ripple": "memory operation {0}: its ripple number is wrong beside the writing operation {1} "
     "(one number twice: that of a writing operation is its own sequence number)",
     "shape": "block {0}: its instructions, pads or exit stand where they may not",
+    "arm": "block {0}: its branch leads neither to two blocks of the wave that no other edge enters, nor to two first "
+    "blocks of waves, and its paths need a no-op: branch to blocks of their own that go on there",
+    "trigger": "block {0} needs a no-op, and nothing in it could trigger one: give it a `merge` of the pulse",
+    "full": "instruction {0}: a list has to name a no-op too, and has 8 destinations: spread them by a `merge`",
 }
 JOBS = ("run", "plain", "format", "compile", "multi")
 WITH_INPUT = "(wsc compile < JOB; sed -n '/^%input/,$p' JOB)"
@@ -225,20 +229,36 @@ def of_trace(text, lines, number, command):
 
 
 def of_rule(text, lines, rule, words):
-    """A rule that an image breaks, with the lines of what its numbers name."""
-    out = [SOUND[rule].format(*words)]
-    for number in lines_of_rule(text, rule, [int(word) for word in words]):
+    """A rule that an image breaks, with the names and the lines of what its numbers name."""
+    if rule == "many":
+        return ["there is no room for the no-ops: an image has 4,194,304 instructions at most"]
+    numbers = [int(word) for word in words]
+    out = [SOUND[rule].format(*called(text, rule, numbers))]
+    for number in lines_of_rule(text, rule, numbers):
         out += shown(lines, number)
     return out
 
 
-def lines_of_rule(text, rule, numbers):
-    """The lines, from 1, of the blocks or instructions that the numbers of a rule name."""
+def items_of_rule(text, rule):
+    """What the numbers of a rule count: the blocks or the instructions of a text, none where it can't be read."""
     try:
         image = read(text)
     except Fault:
         return []
-    items = image.blocks if rule in ("pending", "shape") else image.instrs
+    return image.blocks if rule in ("pending", "shape", "arm", "trigger") else image.instrs
+
+
+def called(text, rule, numbers):
+    """The numbers of a rule, with the names that the text has for what they count."""
+    items = items_of_rule(text, rule)
+    counted = 1 if rule == "port" else len(numbers)
+    names = [items[n].name if 0 < n < len(items) else None for n in numbers[:counted]]
+    return [f"{n} ({name})" if name else n for n, name in zip(numbers, names)] + numbers[counted:]
+
+
+def lines_of_rule(text, rule, numbers):
+    """The lines, from 1, of the blocks or instructions that the numbers of a rule name."""
+    items = items_of_rule(text, rule)
     named = dict.fromkeys(numbers[:1] if rule == "port" else numbers)
     return [items[number].line for number in named if 0 < number < len(items)]
 

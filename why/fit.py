@@ -1,0 +1,112 @@
+"""What a draft needs so that `wsl` can give it notes, told once more, not asked of the program.
+
+    arm       a branch leads to two blocks of its wave that no other edge enters, or to two first blocks of waves
+    trigger   something can trigger the no-op that a block needs
+    full      the list that would name the no-op has room for it
+
+Nothing of this is asked of a draft whose paths can be linked as they are.
+"""
+
+from text import GIVES
+
+ROOM = 8  # destinations in a list
+SHARED, SOLE, MANY = range(3)  # which operations may be last on the paths into a block
+
+
+def links(blocks, first):
+    """Whether of all neighbours on paths one can name the other, and each path of a wave has an operation."""
+    last, before, behind = {}, {}, {}
+    for b in blocks:
+        here = {None} if first[b] else last.get(b)
+        if here is None:
+            continue
+        for it in b.memory:
+            before[it] = here
+            for old in here:
+                behind.setdefault(old, set()).add(it)
+            here = {it}
+        for t in b.exit[1] or [None]:
+            if t is None or first[t]:
+                if None in here:
+                    return False
+                for old in here:
+                    behind.setdefault(old, set()).add(None)
+            else:
+                last[t] = last.get(t, set()) | here
+    if any(None in ways and len(ways) > 1 for ways in [*before.values(), *(behind[it] for it in before)]):
+        return False
+    return not any(len(ways) > 1 and any(len(behind[old]) > 1 for old in ways) for ways in before.values())
+
+
+def needed(blocks, first):
+    """The blocks that get a no-op."""
+    ways, states, inside = {}, {}, {}
+    for b in blocks:
+        inside[b] = [t for t in b.exit[1] if not first[t]]
+        if first[b] or b in ways:
+            for t in inside[b]:
+                ways[t] = ways.get(t, 0) + 1
+    found = set()
+    for b in blocks:
+        if not first[b] and b not in ways:
+            continue
+        state = SHARED if first[b] else MANY if ways[b] > 1 else states.get(b, SHARED)
+        where = inside[b]
+        vain = state != SHARED if not where else state != MANY if len(where) > 1 else \
+            not (state == SHARED and ways[where[0]] > 1)
+        if not b.memory and not vain:
+            found.add(b)
+        for t in where:
+            states[t] = SHARED if len(where) > 1 else SOLE if b.memory or b in found else state
+    return found
+
+
+class Fit:
+    """All that a draft lacks, told by `rules`, which has its blocks."""
+
+    def __init__(self, rules):
+        self.rules, self.first, self.blocks = rules, rules.first, rules.blocks[1:]
+        if links(self.blocks, self.first):
+            return
+        self.ways, self.before = {}, {}
+        for b in self.blocks:
+            for t in b.exit[1]:
+                self.ways[t], self.before[t] = self.ways.get(t, 0) + 1, b
+        for b in self.blocks:
+            if b.exit[0] == "if":
+                self.branch(b)
+        lists = {}
+        for b in sorted(needed(self.blocks, self.first), key=lambda b: b.number):
+            for it, place in self.triggers(b):
+                lists[it, place] = lists.get((it, place), 0) + 1
+        for (it, place), more in lists.items():
+            if len(it.lists[place]) + more > ROOM:
+                rules.at_instr(it, "full", f"a list of {it.called()} has {len(it.lists[place])} destinations, and has "
+                               "to name a no-op too", "spread them by a `merge`", f"refused full {it.number}")
+
+    def is_arm(self, b):
+        return not self.first[b] and self.ways.get(b) == 1
+
+    def branch(self, b):
+        targets = b.exit[1]
+        if all(self.is_arm(t) for t in targets) or all(self.first[t] for t in targets):
+            return
+        for t in targets:
+            if not self.is_arm(t):
+                wrong = "is the first of a wave, and the other isn't" if self.first[t] else "has other ways into it"
+                self.rules.at_exit(b, "arm", f"block {b.called()} branches to block {t.called()}, which {wrong}",
+                                   "branch to a block of its own that goes on there", f"refused arm {b.number}")
+
+    def triggers(self, b):
+        """The lists that name the no-op of a block: an instruction and a place each."""
+        for it in b.instrs:
+            if it.op in GIVES:
+                return [(it, 0)]
+        before = self.before.get(b)
+        if self.is_arm(b) and before.exit[0] == "if":
+            for it in before.special:
+                if it.op == "steer":
+                    return [(it, place) for place, t in enumerate(before.exit[1]) if t is b]
+        self.rules.add(b.line, b.column, "trigger", f"nothing in block {b.called()} could trigger the no-op that it "
+                       "needs", "give it a `merge` of the pulse", f"refused trigger {b.number}", block=b.number)
+        return []
