@@ -4,7 +4,7 @@ use Rattle.std.specs.Prelude.{Bool, Option, Some, refl}
 use Rattle.std.specs.List.{AllByRecursion}
 use Rattle.std.proofs.Common.{sym, ap, ◌∙◌, subst, inl, inr, arith}
 use Rattle.std.proofs.lemmas.Bool.{cases_lt}
-use Rattle.ws_words.specs.Outside.{Outside, World, printed_words}
+use Rattle.ws_words.specs.Outside.{Outside, World, printed_words, IsMachineWord, WorldOfWords}
 use Rattle.src_ast.specs.Bound.{bound}
 use Rattle.src_ast.specs.Once.{ExactlyOne}
 use Rattle.src_ast.specs.Runs.{Runs}
@@ -16,7 +16,6 @@ use Rattle.df_core.specs.Ends.{FirstWithin}
 use Rattle.port_set.specs.Ports.{Told}
 use Rattle.store_buf.specs.Outdoors.{lefts_of, world_with}
 use Rattle.wave_build.specs.Compiled.{WalksAsRun}
-use Rattle.wave_gen.specs.Words.{IsWord, WorldOfWords}
 use Rattle.wsc_words.specs.Lines.{line_of}
 use Rattle.wsc_words.proofs.Keys.{by_bool}
 use Rattle.wsc_top.specs.declared.status.Status.{Status}
@@ -181,7 +180,7 @@ module _ (image : Image) (world : World) (never : (t : ℕ) → FaultsAt image w
 
 -- the image of a program whose run ends
 module _ (law : RunsOnce) (parts : List Part) (image : Image) (is : IsCompiled parts image) (input : List ℕ)
-    (words : AllByRecursion IsWord input) (turns : ℕ) (end : Outside)
+    (words : AllByRecursion IsMachineWord input) (turns : ℕ) (end : Outside)
     (runs : Runs parts (world_of input) turns end) where
   of_words : WorldOfWords (world_of input)
   of_words = (words, (tt, (tt, (tt, (tt, (tt, (tt, (tt, tt))))))))

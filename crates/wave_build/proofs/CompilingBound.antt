@@ -1,6 +1,6 @@
 -- What the walk of a program's image costs.
 use Rattle.std.proofs.Common.{ℕ, ◌≤◌, List}
-use Rattle.ws_words.specs.Outside.{World}
+use Rattle.ws_words.specs.Outside.{World, WorldOfWords}
 use Rattle.src_ast.specs.Syntax.{Part}
 use Rattle.src_ast.specs.Bound.{widest}
 use Rattle.src_ast.specs.LanguageLimits.{most_statement_nodes}
@@ -9,7 +9,6 @@ use Rattle.cfg_core.specs.Graph.{Graph}
 use Rattle.live_vars.specs.Marks.{has, AreLive}
 use Rattle.wave_cut.specs.Cut.{Cut, IsCut, AreWaves}
 use Rattle.wave_gen.specs.Cost.{CostsAtMost}
-use Rattle.wave_gen.specs.Words.{WorldOfWords}
 use Rattle.wave_link.specs.Passed.{WalksFor}
 use Rattle.wave_build.specs.Compiled.{KeepsBound}
 use Rattle.wave_build.specs.Passed.{PassGraphs}

@@ -1,6 +1,6 @@
 -- What the image of a program does and shows.
 use Rattle.std.specs.Prelude.{◌≡◌, ℕ, suc, ◌*◌, true, List, map}
-use Rattle.ws_words.specs.Outside.{Act, Outside, World}
+use Rattle.ws_words.specs.Outside.{Act, Outside, World, WorldOfWords}
 use Rattle.ws_words.specs.Past.{ActsBegin}
 use Rattle.src_ast.specs.Syntax.{Part}
 use Rattle.src_ast.specs.Bound.{bound}
@@ -14,7 +14,7 @@ use Rattle.cfg_core.specs.Graph.{GraphArray}
 use Rattle.cfg_core.specs.Shown.{shown_acts, AllInside}
 use Rattle.cfg_build.specs.Keeps as program
 use Rattle.wave_gen.specs.NoNop.{HasNoNop}
-use Rattle.wave_gen.specs.Words.{WorldOfWords, array_of}
+use Rattle.wave_gen.specs.Words.{array_of}
 use Rattle.wave_link.specs.Kept.{KeepsBlocks}
 use Rattle.wave_link.specs.Triggers.{TriggeredNear}
 use Rattle.wave_link.specs.Vain.{NoneInVain}

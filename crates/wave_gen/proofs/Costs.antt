@@ -4,7 +4,7 @@ use Rattle.std.proofs.Common.{[], ◌∷◌, ◌++◌, length, refl, sym, ap, �
 use Rattle.std.proofs.lemmas.Bool.{cases_Bool, both_ways, cond-true, cond-false}
 use Rattle.std.specs.List.{sum_by}
 use Rattle.std.proofs.lemmas.List.Sums.{sum_by-cons}
-use Rattle.ws_words.specs.Outside.{Outside, ProcState, World}
+use Rattle.ws_words.specs.Outside.{Outside, ProcState, World, WorldOfWords}
 use Rattle.ws_isa.specs.Image.{Image, Array, first_number, stops, target}
 use Rattle.ws_isa.specs.Walk.{opening_memory, CostAtMost}
 use Rattle.ws_isa.proofs.Ending.{over_is_whole}
@@ -24,7 +24,7 @@ use Rattle.wave_gen.specs.Drawn.{gen_terms}
 use Rattle.wave_gen.specs.Listing.{gen_exit, entries_of, listing, index_of, place_of, width_of, plans_of}
 use Rattle.wave_gen.specs.Listing.{needed, nothing_zeroed, graph_draft}
 use Rattle.wave_gen.specs.Fitting.{Fits}
-use Rattle.wave_gen.specs.Words.{GraphOfWords, WorldOfWords, arrays_of}
+use Rattle.wave_gen.specs.Words.{GraphOfWords, arrays_of}
 use Rattle.wave_gen.specs.Cost.{op_quarters, exit_quarters, live_in, quarters, CostsAtMost}
 use Rattle.wave_gen.proofs.Weights.{total, weights}
 use Rattle.wave_gen.specs.Shared.{shared, none_known}

@@ -1,6 +1,6 @@
 -- What holds of the draft that is made of a graph.
 use Rattle.std.proofs.Common.{ℕ, ◌≡◌, Bool, true, false, List, refl, sym, subst}
-use Rattle.ws_words.specs.Outside.{World}
+use Rattle.ws_words.specs.Outside.{World, WorldOfWords}
 use Rattle.ws_isa.specs.Image.{Image}
 use Rattle.ws_isa.specs.Open.{OpenToNotes}
 use Rattle.cfg_core.specs.Graph as graph
@@ -17,7 +17,7 @@ use Rattle.wave_gen.specs.Lists.{ListsFit}
 use Rattle.wave_gen.specs.NoNop.{HasNoNop}
 use Rattle.wave_gen.specs.Cost.{CostsAtMost}
 use Rattle.wave_gen.specs.Limits.{KeepsLimits}
-use Rattle.wave_gen.specs.Words.{GraphOfWords, WorldOfWords, arrays_of}
+use Rattle.wave_gen.specs.Words.{GraphOfWords, arrays_of}
 use Rattle.wave_gen.specs.Keeps.{KeepsWalk, EndlessWith}
 use Rattle.wave_gen.specs.Listing.{landings_of, width_of, plans_of, needed, graph_draft}
 use Rattle.wave_gen.specs.Fitting.{Fits}

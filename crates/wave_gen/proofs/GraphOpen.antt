@@ -2,7 +2,7 @@
 use Rattle.std.proofs.Common.{◌++◌, ℕ, zero, suc, ◌≡◌, ◌<◌, ◌≤◌, Bool, true, List, [], ◌∷◌, length, map, refl}
 use Rattle.std.proofs.Common.{sym, ap, subst, arith}
 use Rattle.std.specs.List.{AllByRecursion}
-use Rattle.ws_words.specs.Outside.{World, zeros}
+use Rattle.ws_words.specs.Outside.{World, zeros, WorldOfWords}
 use Rattle.ws_isa.specs.declared.instr.Op.{Op}
 use Rattle.ws_isa.specs.Image.{Image, Array, cells_of}
 use Rattle.ws_isa.specs.Formed as formed
@@ -20,7 +20,7 @@ use Rattle.wave_gen.proofs.Sharing.{shared_items}
 use Rattle.wave_gen.specs.Listing.{gen_exit, place_of, width_of, plans_of, needed, nothing_zeroed}
 use Rattle.wave_gen.specs.Listing.{graph_draft}
 use Rattle.wave_gen.specs.Fitting.{Fits}
-use Rattle.wave_gen.specs.Words.{GraphOfWords, WorldOfWords, array_of, arrays_of}
+use Rattle.wave_gen.specs.Words.{GraphOfWords, array_of, arrays_of}
 use Rattle.wave_gen.specs.Lists.{ListsFit}
 use Rattle.wave_gen.specs.Keeps.{KeepsWalk}
 use Rattle.wave_gen.proofs.WordsStay.{words_fine}

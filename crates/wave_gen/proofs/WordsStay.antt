@@ -11,6 +11,7 @@ use Rattle.ws_words.specs.declared.alu.Alu.TheVariants.{Add, Sub, Mul, Div, Rem,
 use Rattle.ws_words.specs.declared.alu.Alu.TheVariants.{Ne, Lt, Le, Gt, Ge}
 use Rattle.ws_words.specs.Operators.{applied, flag}
 use Rattle.ws_words.specs.Outside.{ProcState, World, row, with_row, head_or_zero, rest_of, zeros}
+use Rattle.ws_words.specs.Outside.{WorldOfWords}
 use Rattle.cfg_core.specs.Graph.{Term, Number, Var, Cell, Flip, Not, Neg, Binary, Op, Assign, Store, Print}
 use Rattle.cfg_core.specs.Graph.{Read, Give, Take, Choose, Tick, TickBy, Exit, Goto, Branch, Call, Return}
 use Rattle.cfg_core.specs.Graph.{Send, Stop, Graph, GraphArray, Spot, no_spot, spots, spot_at, block_at}
@@ -20,7 +21,7 @@ use Rattle.cfg_core.specs.Walk.{run_ops, Config, At, Over, Going, Frame, landed,
 use Rattle.cfg_core.specs.Walk.{step, walk, cells_of, opening}
 use Rattle.wave_gen.specs.Gen.{FlipsWords, OpFine}
 use Rattle.wave_gen.proofs.DrawnPlans.{OpsFine, ExitFine, BlockFine, WalkFine}
-use Rattle.wave_gen.specs.Words.{TermOfWords, OpOfWords, ExitOfWords, GraphOfWords, WorldOfWords}
+use Rattle.wave_gen.specs.Words.{TermOfWords, OpOfWords, ExitOfWords, GraphOfWords}
 use Rattle.ws_words.specs.Items.{nth, or_else}
 
 abbrev Word : ℕ → Type 0

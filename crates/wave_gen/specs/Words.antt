@@ -1,10 +1,8 @@
--- What contracts say of graphs and of their drafts: where walks begin, arrays, live names; graphs and
--- worlds of words.
-use Rattle.std.specs.Prelude.{ℕ, zero, suc, ◌<◌, Bool, cond, List, [], ◌∷◌, map}
+-- What contracts say of graphs and of their drafts: where walks begin, arrays, live names; graphs of words.
+use Rattle.std.specs.Prelude.{ℕ, zero, suc, Bool, cond, List, [], ◌∷◌, map}
 use Rattle.std.specs.List.{AllByRecursion}
-use Rattle.ws_words.specs.Outside.{World}
+use Rattle.ws_words.specs.Outside.{IsMachineWord}
 use Rattle.ws_isa.specs.Image.{Array}
-use Rattle.ws_isa.specs.Formed.{word_limit}
 use Rattle.cfg_core.specs.Graph.{Term, Number, Var, Cell, Flip, Not, Neg, Binary}
 use Rattle.cfg_core.specs.Graph.{Op, Assign, Store, Print, Read, Give, Take, Choose, Tick, TickBy}
 use Rattle.cfg_core.specs.Graph.{Exit, Goto, Branch, Call, Return, Send, Stop}
@@ -25,12 +23,9 @@ live_from live x (suc n) =
 
 -- Words.
 
-abbrev pub IsWord : ℕ → Type 0
-IsWord n = n < word_limit
-
 -- the numbers of a term are words
 abbrev pub TermOfWords : Term → Type 0
-TermOfWords (Number n) = IsWord n
+TermOfWords (Number n) = IsMachineWord n
 TermOfWords (Var x) = Unit {0}
 TermOfWords (Cell a t) = TermOfWords t
 TermOfWords (Flip t) = TermOfWords t
@@ -62,7 +57,3 @@ ExitOfWords Stop = Unit {0}
 abbrev pub GraphOfWords : Graph → Type 0
 GraphOfWords g =
     AllByRecursion (λ s. AllByRecursion OpOfWords s.block.ops × ExitOfWords s.block.exit) (spots g)
-
--- every word of the input and of the ports is one
-abbrev pub WorldOfWords : World → Type 0
-WorldOfWords w = AllByRecursion IsWord w.input × AllByRecursion (AllByRecursion IsWord) w.left

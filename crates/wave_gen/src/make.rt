@@ -1,7 +1,7 @@
 //! From the control graph to a draft.
 
 ghost use Rattle.std.specs.Prelude.{◌≡◌, ℕ, IfOk};
-ghost use Rattle.ws_words.specs.Outside.{World};
+ghost use Rattle.ws_words.specs.Outside.{World, WorldOfWords};
 ghost use Rattle.ws_isa.specs.View as image;
 ghost use Rattle.ws_isa.specs.Open.{OpenToNotes};
 ghost use Rattle.cfg_core.specs.Rules.{IsGraph};
@@ -14,7 +14,7 @@ ghost use Rattle.wave_gen.specs.Lists.{ListsFit};
 ghost use Rattle.wave_gen.specs.NoNop.{HasNoNop};
 ghost use Rattle.wave_gen.specs.Cost.{CostsAtMost};
 ghost use Rattle.wave_gen.specs.Limits.{KeepsLimits};
-ghost use Rattle.wave_gen.specs.Words.{GraphOfWords, WorldOfWords, arrays_of};
+ghost use Rattle.wave_gen.specs.Words.{GraphOfWords, arrays_of};
 ghost use Rattle.wave_gen.specs.Keeps.{KeepsWalk, EndlessWith};
 
 use crate::arrays::arrays;

@@ -1,6 +1,7 @@
 -- What a run has outside its variables, and its acts. The source and every form that it is compiled
 -- to share these.
-use Rattle.std.specs.Prelude.{ℕ, zero, suc, ◌-◌, List, [], ◌∷◌, ◌++◌, slice_set}
+use Rattle.std.specs.Prelude.{ℕ, zero, suc, ◌-◌, ◌^◌, ◌<◌, List, [], ◌∷◌, ◌++◌, slice_set}
+use Rattle.std.specs.List.{AllByRecursion}
 
 -- What a run does outside its variables. Arrays are by number from 1, hidden ones too; ports are
 -- from 1 to 7.
@@ -27,6 +28,15 @@ pub record World : Type 0 where
 -- this input, and no ports
 abbrev pub with_input : List ℕ → World
 with_input input = record { input = input; left = [] }
+
+-- a word of the machine has 64 bits
+abbrev pub IsMachineWord : ℕ → Type 0
+IsMachineWord n = n < 2 ^ 64
+
+-- every word of the input and of the ports is one
+abbrev pub WorldOfWords : World → Type 0
+WorldOfWords w =
+    AllByRecursion IsMachineWord w.input × AllByRecursion (AllByRecursion IsMachineWord) w.left
 
 -- the values of the procedure's variables, in order of declaration, and what is outside
 pub record ProcState : Type 0 where

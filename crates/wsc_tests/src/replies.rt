@@ -2,10 +2,10 @@
 
 ghost use Rattle.std.specs.Prelude.{◌≡◌, ◌<◌, IfOk};
 ghost use Rattle.std.specs.List.{AllByRecursion};
+ghost use Rattle.ws_words.specs.Outside.{IsMachineWord};
 ghost use Rattle.port_set.specs.Slots.{AllOpen, IsOpen, contents, told};
 ghost use Rattle.port_set.specs.Tape.{tape_tells};
 ghost use Rattle.store_buf.specs.Outdoors.{left_at};
-ghost use Rattle.wave_gen.specs.Words.{IsWord};
 ghost use Rattle.wsc_top.specs.Answers.{TellWords};
 
 use fire_crew::{Free, Gate};
@@ -20,12 +20,12 @@ use wsc_top::{Outcome, Status, wsc};
 
 // The items of a slice are words.
 fn are_words(words: &[u64])
-    ensures { AllByRecursion IsWord words.now }
+    ensures { AllByRecursion IsMachineWord words.now }
 {}
 
 // What a tape in a slot has left are words.
 fn slot_has_words(slot: &Option<TapePort>)
-    ensures { AllByRecursion IsWord (left_at (told tape_tells slot.now)) }
+    ensures { AllByRecursion IsMachineWord (left_at (told tape_tells slot.now)) }
 {
     if let Some(tape) = slot {
         are_words(tape.left());

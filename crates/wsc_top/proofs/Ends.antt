@@ -2,12 +2,12 @@
 use Rattle.std.specs.Prelude.{◌≡◌, ℕ, ◌+◌, ◌≤◌, List, Option, Some, length, refl}
 use Rattle.std.specs.List.{AllByRecursion}
 use Rattle.std.proofs.Common.{sym, subst, inl}
+use Rattle.ws_words.specs.Outside.{IsMachineWord}
 use Rattle.port_set.specs.Ports.{Told}
 use Rattle.store_buf.specs.Outdoors.{world_with}
 use Rattle.src_ast.specs.Syntax.{Part}
 use Rattle.src_ast.specs.Once.{ExactlyOne}
 use Rattle.ws_isa.specs.Image.{Image}
-use Rattle.wave_gen.specs.Words.{IsWord}
 use Rattle.work_gen.specs.Job.{words_of, job_text}
 use Rattle.ws_io.specs.Streams.{Takes}
 use Rattle.wsc_top.specs.declared.task.Task.TheVariants.{Job, Assembly, Generate, Bench}
@@ -74,7 +74,7 @@ compile_so parts input handed status out again back (compiled image h) =
     record { done = λ h. inl refl; fault = λ h. absurd h; budget = λ h. absurd h }
 
 yields_so : RunsOnce → (task : JobTask) (parts : List Part) (input : List ℕ) (handed : List (Option Told))
-    → AllByRecursion IsWord input → TellWords handed
+    → AllByRecursion IsMachineWord input → TellWords handed
     → (status : Status) (out : List ℕ) (image : Option Image) (back : List (Option Told))
     → Yields task parts input handed status out image back → JobEndsSo task parts input handed status
 yields_so law (Run options) parts input handed words told status out image back y =

@@ -4,6 +4,7 @@ use Rattle.std.specs.Prelude.{decimal, flat_map, map, refl}
 use Rattle.std.proofs.Common.{sym, ap, ◌∙◌, subst, arith, append_assoc}
 use Rattle.std.specs.Fmt.{digits}
 use Rattle.std.specs.List.{range_with_len, AllByRecursion}
+use Rattle.ws_words.specs.Outside.{IsMachineWord}
 use Rattle.src_ast.specs.declared.lexeme.Place.{Place}
 use Rattle.src_ast.specs.Lexemes.{Lex, after, is_blank}
 use Rattle.src_ast.specs.Syntax.{Part}
@@ -11,7 +12,6 @@ use Rattle.src_ast.specs.Printed.{printed_form}
 use Rattle.src_ast.specs.Rules.{IsAccepted}
 use Rattle.src_ast.specs.Written.{IsWritten, ReadsTheSame}
 use Rattle.src_ast.specs.Same.{Same}
-use Rattle.wave_gen.specs.Words.{IsWord}
 use Rattle.work_gen.specs.Program.{product}
 use Rattle.work_gen.specs.Job.{size, square, word, words_of, further_word, words_line, job_text}
 use Rattle.work_gen.specs.Jobs.{IsGenerated}
@@ -59,7 +59,7 @@ further_blank : (ws : List ℕ) → IsTrue (starts_without (λ b. not (is_blank 
 further_blank [] = refl
 further_blank (w ∷ ws) = refl
 
-further_words : (at : Place) (ws : List ℕ) → AllByRecursion IsWord ws → InputWords at (further ws) ws
+further_words : (at : Place) (ws : List ℕ) → AllByRecursion IsMachineWord ws → InputWords at (further ws) ws
 further_words at [] h = record {
   place = after at (codes "\n");
   items = stop (codes "\n") refl refl refl
@@ -75,7 +75,7 @@ further_words at (w ∷ ws) h =
           more.items;
     }
 
-line_words : (at : Place) (ws : List ℕ) → AllByRecursion IsWord ws → InputWords at (words_line ws) ws
+line_words : (at : Place) (ws : List ℕ) → AllByRecursion IsMachineWord ws → InputWords at (words_line ws) ws
 line_words at [] h = record { place = after at (codes "\n"); items = stop (codes "\n") refl refl refl refl }
 line_words at (w ∷ ws) h =
     let more = further_words (after at (decimal w)) ws h.1 in
@@ -87,7 +87,7 @@ line_words at (w ∷ ws) h =
           more.items;
     }
 
-are_words : (number : ℕ) (ks : List ℕ) → AllByRecursion IsWord (map (word number) ks)
+are_words : (number : ℕ) (ks : List ℕ) → AllByRecursion IsMachineWord (map (word number) ks)
 are_words number [] = tt
 are_words number (k ∷ ks) = (omega arith, are_words number ks)
 

@@ -4,11 +4,11 @@ use Rattle.std.specs.Prelude.{◌++◌, codes, decimal, flat_map, if◌then◌el
 use Rattle.std.proofs.Common.{sym, ap, ◌∙◌, append_assoc, append-nil}
 use Rattle.std.specs.List.{list_all, AllByRecursion}
 use Rattle.std.proofs.lemmas.Bool.{and_parts, and_from, not-true, true≢false}
+use Rattle.ws_words.specs.Outside.{IsMachineWord}
 use Rattle.ws_words.specs.Digits.{is_digit, is_number}
 use Rattle.src_ast.specs.declared.lexeme.Place.{Place}
 use Rattle.src_ast.specs.Lexemes.{after, is_blank}
 use Rattle.asm_text.proofs.Spelt.{other}
-use Rattle.wave_gen.specs.Words.{IsWord}
 use Rattle.wsc_top.specs.Sections.{ends_line, is_line, after_line, front_of, rest_of, program_of, input_of}
 use Rattle.wsc_top.specs.Sections.{IsItem, IsWordText, stop, next, InputWords}
 use Rattle.wsc_top.specs.Texts.{word_line}
@@ -155,7 +155,8 @@ digits_line (b ∷ bytes) h = go (b ∷ bytes) h
         and_from (not_percent d) (list_all not_percent (ds ++ codes "\n")) (digit_other d parts.0)
         (go ds parts.1)
 
-pub plain_words : (ws : List ℕ) → AllByRecursion IsWord ws → is_plain true (flat_map word_line ws) ≡ true
+pub plain_words : (ws : List ℕ) → AllByRecursion IsMachineWord ws
+    → is_plain true (flat_map word_line ws) ≡ true
 plain_words [] h = refl
 plain_words (w ∷ ws) h =
     plain_join true (word_line w) (flat_map word_line ws)
@@ -163,7 +164,7 @@ plain_words (w ∷ ws) h =
     (plain_words ws h.1)
 
 pub word_lines : (at : Place) (blanks : List ℕ) (ws : List ℕ) → list_all is_blank blanks ≡ true
-    → AllByRecursion IsWord ws → InputWords at (blanks ++ flat_map word_line ws) ws
+    → AllByRecursion IsMachineWord ws → InputWords at (blanks ++ flat_map word_line ws) ws
 word_lines at blanks [] b h = record { place = after at blanks; items = stop blanks refl b refl refl }
 word_lines at blanks (w ∷ ws) b h =
     let further = codes "\n" ++ flat_map word_line ws in

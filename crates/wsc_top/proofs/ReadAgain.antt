@@ -4,6 +4,7 @@ use Rattle.std.specs.Prelude.{flat_map, Option, Some, Ok, Err, refl}
 use Rattle.std.proofs.Common.{sym, ap, ◌∙◌, subst, append_assoc, length-append, arith}
 use Rattle.std.proofs.lemmas.List.{take_at}
 use Rattle.std.specs.List.{list_all, AllByRecursion}
+use Rattle.ws_words.specs.Outside.{IsMachineWord}
 use Rattle.src_ast.specs.declared.lexeme.Place.{Place}
 use Rattle.src_ast.specs.Syntax.{Part}
 use Rattle.port_set.specs.Ports.{Told}
@@ -23,7 +24,6 @@ use Rattle.trace_check.specs.Recorded.{Traces}
 use Rattle.trace_check.specs.Replays.{Replays, StopsAt}
 use Rattle.trace_check.specs.Traces.{AllFit, events_in, events_text, numbered}
 use Rattle.trace_check.proofs.Written.{events_again}
-use Rattle.wave_gen.specs.Words.{IsWord}
 use Rattle.wsc_top.specs.declared.status.Status.{Status}
 use Rattle.wsc_top.specs.declared.status.Status.TheVariants.{Done}
 use Rattle.wsc_top.specs.declared.task.JobTask.TheVariants.{Compile}
@@ -81,7 +81,7 @@ module _ (program : List ℕ) (plain : is_plain true program ≡ true) (input : 
 
 -- the words of an input section are below 2^64
 are_words : (at place : Place) (text rest words : List ℕ) → InputItems at text words place rest
-    → AllByRecursion IsWord words
+    → AllByRecursion IsMachineWord words
 are_words at place text rest words (stop blanks e b n o) = tt
 are_words at place text rest words (next {words = others} w blanks bytes further e b i t more) =
     (t.2, are_words _ place further rest others more)
@@ -113,7 +113,7 @@ module _ (again : (image : Image) → Formed image → read (printed image) ≡ 
       }
 
   pub input_again : (image : Image) (words : List ℕ) → Formed image → Sound image
-      → AllByRecursion IsWord words → IsAssembly (with_input (printed image) words) image words
+      → AllByRecursion IsMachineWord words → IsAssembly (with_input (printed image) words) image words
   input_again image words formed sound are =
       let at = input_place (with_input (printed image) words) in
       let plain = plain_image image formed in
@@ -127,7 +127,7 @@ module _ (again : (image : Image) → Formed image → read (printed image) ≡ 
 
   pub compiled_again : (parts : List Part) (input : List ℕ) (handed back : List (Option Told)) (out : List ℕ)
       (image : Image) → Yields Compile parts input handed Done out (Some image) back
-      → IsAssembly out image [] × ((words : List ℕ) → AllByRecursion IsWord words
+      → IsAssembly out image [] × ((words : List ℕ) → AllByRecursion IsMachineWord words
       → IsAssembly (with_input out words) image words)
   compiled_again parts input handed back out image (compiled same is) =
       (image_again image is.formed is.sound, λ words are. input_again image words is.formed is.sound are)
@@ -141,7 +141,7 @@ module _ (again : (image : Image) → Formed image → read (printed image) ≡ 
     formed : Formed image
     formed = formed_read _ image is.reads
 
-    words : AllByRecursion IsWord input
+    words : AllByRecursion IsMachineWord input
     words = are_words _ _ _ _ input is.words.items
 
     abbrev lines : List ℕ

@@ -2,7 +2,7 @@
 use Rattle.std.specs.Prelude.{◌≡◌, ℕ, suc, ◌*◌, ◌≤◌, true, List, length, Option, Some, refl}
 use Rattle.std.specs.List.{AllByRecursion}
 use Rattle.std.proofs.Common.{sym, ap, ◌∙◌, subst, inl, inr, arith}
-use Rattle.ws_words.specs.Outside.{Outside, World, printed_words}
+use Rattle.ws_words.specs.Outside.{Outside, World, printed_words, IsMachineWord, WorldOfWords}
 use Rattle.ws_words.specs.Plain.{took_words}
 use Rattle.src_ast.specs.declared.lexeme.Place.{Place}
 use Rattle.src_ast.specs.Syntax.{Part}
@@ -17,7 +17,6 @@ use Rattle.df_core.specs.Ends.{FirstWithin}
 use Rattle.port_set.specs.Ports.{Told}
 use Rattle.store_buf.specs.Outdoors.{RoseAt, began_of, port_of, world_with}
 use Rattle.wave_build.specs.Compiled.{WalksAsRun, shown}
-use Rattle.wave_gen.specs.Words.{IsWord, WorldOfWords}
 use Rattle.seq_run.proofs.OneAnswer.{end_no_fault, end_no_going, fault_no_going}
 use Rattle.wsc_top.specs.declared.status.Status.{Status}
 use Rattle.wsc_top.specs.declared.status.Status.TheVariants.{Done, Usage, Refused, Budget, ReadFault}
@@ -40,12 +39,13 @@ use Rattle.df_core.proofs.Issuing.{took_alike}
 
 -- the words of an input section are words
 items_words : (at place : Place) (text words rest : List ℕ) → InputItems at text words place rest
-    → AllByRecursion IsWord words
+    → AllByRecursion IsMachineWord words
 items_words at place text words rest (stop blanks e all starts is) = tt
 items_words at place text words rest (next word blanks bytes further e all item is items) =
     (is.2, items_words _ place further _ rest items)
 
-pub input_words : (at : Place) (text words : List ℕ) → InputWords at text words → AllByRecursion IsWord words
+pub input_words : (at : Place) (text words : List ℕ) → InputWords at text words
+    → AllByRecursion IsMachineWord words
 input_words at text words h = items_words at h.place text words _ h.items
 
 -- what is known of a walk that has ended
@@ -155,7 +155,7 @@ module _ (known : WalksOnce) (whole : WalksEnd) (options : RunOptions) (parts : 
       fail_tells t port x e is within rose ports
 
 -- the world of a run is one of words
-pub given_words : (input : List ℕ) (handed : List (Option Told)) → AllByRecursion IsWord input
+pub given_words : (input : List ℕ) (handed : List (Option Told)) → AllByRecursion IsMachineWord input
     → TellWords handed → WorldOfWords (world_with input handed)
 given_words input handed h told = (h, told.1)
 
@@ -194,7 +194,7 @@ spent_is_dear options image w handed back status out (executions.Executes.failed
     ports) = tt
 
 module _ (options : RunOptions) (parts : List Part) (input : List ℕ) (handed : List (Option Told))
-    (words : AllByRecursion IsWord input) (told : TellWords handed) where
+    (words : AllByRecursion IsMachineWord input) (told : TellWords handed) where
   -- so the budget isn't spent where it has the program's bound for each turn of a run that comes to an end,
   -- and once more
   never_spent : (image : Image) (status : Status) (out : List ℕ) (back : List (Option Told))

@@ -3,7 +3,7 @@ use Rattle.std.specs.Prelude.{◌≡◌, ◌⊎◌, ℕ, suc, ◌+◌, ◌*◌, 
 use Rattle.std.specs.Prelude.{Some, None}
 use Rattle.std.specs.List.{AllByRecursion}
 use Rattle.ws_io.specs.Streams.{Rose, Takes, TakesAll}
-use Rattle.ws_words.specs.Outside.{Act, gives, takes, Outside, World, printed_words}
+use Rattle.ws_words.specs.Outside.{Act, gives, takes, Outside, World, printed_words, IsMachineWord}
 use Rattle.ws_words.specs.Past.{after_acts}
 use Rattle.src_ast.specs.declared.fault.Refusal.{Refusal}
 use Rattle.src_ast.specs.Syntax.{Part}
@@ -34,7 +34,6 @@ use Rattle.ws_isa.specs.Formed.{Formed}
 use Rattle.ws_isa.specs.Sound.{Sound}
 use Rattle.wave_link.specs.Numbered.{NumberedInOrder}
 use Rattle.wave_link.specs.Ripples.{ExactRipples}
-use Rattle.wave_gen.specs.Words.{IsWord}
 use Rattle.wave_build.specs.Compiled.{ShowsArrays, DoesAs, KeepsBound, HasDraft}
 use Rattle.asm_text.specs.Printed.{printed}
 use Rattle.list_out.specs.Listing.{listing}
@@ -69,7 +68,7 @@ pub record IsCompiled (parts : List Part) (image : Image) : Type 0 where
 -- each port that is handed in tells the words that it has left, which are words
 abbrev pub TellWords : List (Option Told) → Type 0
 TellWords ports =
-    AllTell ports × AllByRecursion (AllByRecursion IsWord) (lefts_of ports)
+    AllTell ports × AllByRecursion (AllByRecursion IsMachineWord) (lefts_of ports)
 
 -- the count of faults of some port rose
 abbrev pub SomeRose : List (Option Told) → List (Option Told) → Type 0

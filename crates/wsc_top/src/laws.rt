@@ -2,6 +2,7 @@
 
 ghost use Rattle.std.specs.Prelude.{◌≡◌, ◌⊎◌, ℕ, List, [], Option, Some, Result, Ok, true};
 ghost use Rattle.std.specs.List.{AllByRecursion};
+ghost use Rattle.ws_words.specs.Outside.{IsMachineWord};
 ghost use Rattle.port_set.specs.Ports.{Told};
 ghost use Rattle.store_buf.specs.Outdoors.{world_with};
 ghost use Rattle.src_ast.specs.declared.lexeme.Place.{Place};
@@ -10,7 +11,6 @@ ghost use Rattle.src_ast.specs.Once.{ExactlyOne};
 ghost use Rattle.ws_isa.specs.Image.{Image};
 ghost use Rattle.ws_isa.specs.Formed.{Formed};
 ghost use Rattle.ws_isa.specs.Sound.{Sound};
-ghost use Rattle.wave_gen.specs.Words.{IsWord};
 ghost use Rattle.work_gen.specs.Job.{words_of};
 ghost use Rattle.asm_text.specs.Printed.{printed};
 ghost use Rattle.asm_text.specs.Reading.{read};
@@ -218,12 +218,12 @@ pub fn printed_texts_are_read_again()
     ensures image { (image : Image) → Formed image → Sound image → IsAssembly (printed image) image [] }
     // the same with an input section behind it
     ensures input { (image : Image) (words : List ℕ) → Formed image → Sound image
-        → AllByRecursion IsWord words → IsAssembly (with_input (printed image) words) image words }
+        → AllByRecursion IsMachineWord words → IsAssembly (with_input (printed image) words) image words }
     // what `compile` prints, by itself and with an input section, is the image that it hands back
     ensures compiled { (parts : List Part) (input : List ℕ) (handed back : List (Option Told))
         (out : List ℕ) (image : Image)
         → Yields JobTask.Compile parts input handed Status.Done out (Some image) back
-        → IsAssembly out image [] × ((words : List ℕ) → AllByRecursion IsWord words
+        → IsAssembly out image [] × ((words : List ℕ) → AllByRecursion IsMachineWord words
         → IsAssembly (with_input out words) image words) }
     // what `trace` prints of an assembly has its image, its words and the very events that were made, each
     // on a line of its own, and each enabled after those before it
