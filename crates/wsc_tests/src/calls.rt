@@ -206,54 +206,94 @@ fn nothing_is_read_where_the_words_are_no_line(rt: HostRuntime) -> Result<(), Fa
     Ok(())
 }
 
-// The reply where calls move one byte, and these calls of the source and the sink fail.
+// The reply where calls move so many bytes, and these calls of the source and the sink fail.
 fn cut_at<R: Threads + Wait + Sync>(
     rt: &R,
     alloc: Global,
     text: &[u8],
-    faults: (u64, u64),
+    ends: ReplyEnds,
     wanted: &str,
-) -> Result<CallReply, NoMemory> {
+) -> Result<CallReply, NoMemory>
+    requires { 0 < ends.piece }
+{
     let asked = AskedCall {
         line: "run",
         text,
         wanted,
     };
-    let ends = ReplyEnds {
-        piece: 1,
-        read_fault: faults.0,
-        write_fault: faults.1,
-    };
     call(rt, alloc, asked, ends, &Free)
 }
 
+// Calls move one byte, and none fails.
+const BY_ONE: ReplyEnds = ReplyEnds { piece: 1, ..SOUND };
+
+// The last call of the source is the one that finds its end.
 #[test]
 fn a_fault_of_the_source_is_named(rt: HostRuntime) -> Result<(), Fail> {
     let alloc = rt.alloc();
-    for at in 1..17 {
-        let reply = cut_at(&rt, alloc, b"proc main() { }", (at, 0), "fault read\n")?;
-        assert!(rt; reply.has(4), "{at}");
+    for at in 1..18 {
+        let ends = ReplyEnds {
+            read_fault: at,
+            ..BY_ONE
+        };
+        let (wanted, code) = if at < 17 {
+            ("fault read\n", 4)
+        } else {
+            ("halt\n", 0)
+        };
+        let reply = cut_at(&rt, alloc, b"proc main() { }", ends, wanted)?;
+        assert!(rt; reply.has(code), "{at}");
     }
     Ok(())
 }
 
-// Which call of the sink fails, and the front of the answer that goes out.
-const CUTS: &[(u64, &str)] = &[
-    (1, ""),
-    (2, "7"),
-    (3, "7\n"),
-    (7, "7\nhalt"),
-    (8, "7\nhalt\n"),
+const SEVEN: &[u8] = b"proc main() { print 7; }";
+
+const SUM: &[u8] =
+    b"proc main() { var i, s; i = 1; while (i <= 10) { s = s + i; i = i + 1; } print s; }";
+
+// A job, how many bytes a call moves, which call of the sink fails, what goes out, the status code, and how
+// much is flushed. The last call is the flush.
+type Cut = (&'static [u8], usize, u64, &'static str, u8, usize);
+
+const CUTS: &[Cut] = &[
+    (SEVEN, 1, 1, "", 5, 0),
+    (SEVEN, 1, 2, "7", 5, 0),
+    (SEVEN, 1, 3, "7\n", 5, 0),
+    (SEVEN, 1, 7, "7\nhalt", 5, 0),
+    (SEVEN, 1, 8, "7\nhalt\n", 5, 0),
+    (SUM, 2, 1, "", 5, 0),
+    (SUM, 2, 2, "55", 5, 0),
+    (SUM, 2, 3, "55\nh", 5, 0),
+    (SUM, 2, 4, "55\nhal", 5, 0),
+    (SUM, 2, 5, "55\nhalt\n", 5, 0),
+    (SUM, 2, 6, "55\nhalt\n", 0, 8),
 ];
+
+// Whether a call is cut so.
+fn is_cut<R: Threads + Wait + Sync>(rt: &R, alloc: Global, cut: &Cut) -> Result<bool, NoMemory> {
+    let (text, piece, at, front, code, flushed) = *cut;
+    let ends = ReplyEnds {
+        piece: piece.max(1),
+        read_fault: 0,
+        write_fault: at,
+    };
+    let reply = cut_at(rt, alloc, text, ends, front)?;
+    Ok(reply.has(code) && reply.flushed == flushed)
+}
 
 #[test]
 fn a_fault_of_the_sink_cuts_the_answer(rt: HostRuntime) -> Result<(), Fail> {
     let alloc = rt.alloc();
-    for (at, front) in CUTS {
-        let reply = cut_at(&rt, alloc, b"proc main() { print 7; }", (0, *at), front)?;
-        assert!(rt; reply.has(5) && reply.flushed == 0, "{at}");
+    for cut in CUTS {
+        assert!(rt; is_cut(&rt, alloc, cut)?, "{}", cut.2);
     }
-    let reply = cut_at(&rt, alloc, b"", (1, 2), "f")?;
+    let both = ReplyEnds {
+        piece: 1,
+        read_fault: 1,
+        write_fault: 2,
+    };
+    let reply = cut_at(&rt, alloc, b"", both, "f")?;
     assert!(rt; reply.has(5) && reply.flushed == 0);
     Ok(())
 }

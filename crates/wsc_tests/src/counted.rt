@@ -116,23 +116,38 @@ fn had_each_once(gate: &Counts) -> bool {
     gate.all() == 16
 }
 
+// Lines, and whether each token of that run comes once to a gate; else none does.
+const GATED: &[(&str, bool)] = &[
+    ("exec --workers 1", true),
+    ("exec --workers 2", true),
+    ("exec --workers 8", true),
+    ("decouple", false),
+];
+
 // Whether it is so with this line.
-fn comes_once<R: Threads + Wait + Sync>(
+fn comes_so<R: Threads + Wait + Sync>(
     rt: &R,
     alloc: Global,
     line: &str,
+    once: bool,
 ) -> Result<bool, NoMemory> {
     let gate = Counts::new(alloc)?;
     let reply = call_alone(rt, alloc, line, STORES, "5\n0\nhalt\n", &gate)?;
-    Ok(reply.said && had_each_once(&gate))
+    let came = if once {
+        had_each_once(&gate)
+    } else {
+        gate.all() == 0
+    };
+    Ok(reply.said && came)
 }
 
+// With decoupled stores no worker brings a token.
 #[test]
-fn each_token_comes_once_to_the_gate(rt: HostRuntime) -> Result<(), Fail> {
+fn each_token_comes_once_to_the_gate_or_none(rt: HostRuntime) -> Result<(), Fail> {
     let alloc = rt.alloc();
-    assert!(rt; comes_once(&rt, alloc, "exec --workers 1")?);
-    assert!(rt; comes_once(&rt, alloc, "exec --workers 2")?);
-    assert!(rt; comes_once(&rt, alloc, "exec --workers 8")?);
+    for (line, once) in GATED {
+        assert!(rt; comes_so(&rt, alloc, line, *once)?, "{line}");
+    }
     Ok(())
 }
 

@@ -236,6 +236,8 @@ const IMAGES: &[(&str, &str, bool)] = &[
     ("plain", JOB, false),
     ("format", JOB, false),
     ("exec", IMAGE, true),
+    ("decouple", IMAGE, true),
+    ("grid", IMAGE, true),
     ("trace", IMAGE, true),
     ("check", IMAGE, false),
     ("list", IMAGE, false),

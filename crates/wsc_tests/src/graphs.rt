@@ -5,8 +5,9 @@ ghost use Rattle.src_ast.specs.View as ast;
 ghost use Rattle.src_ast.specs.Written.{IsWritten};
 ghost use Rattle.cfg_core.specs.View as view;
 ghost use Rattle.cfg_core.specs.Rules.{IsGraph};
+ghost use Rattle.cfg_core.specs.Shape.{ArmsAlone};
 ghost use Rattle.cfg_build.specs.Keeps.{IsFirstForm};
-ghost use Rattle.call_gen.specs.Keeps.{HasNoSend};
+ghost use Rattle.call_gen.specs.Keeps.{HasNoCall, HasNoSend, NoneLiveAcross};
 
 use crate::programs::{INPUTS, PROGRAMS};
 use call_gen::{reached, spell_calls};
@@ -84,11 +85,12 @@ fn blocks(graph: &Graph) -> usize {
 
 // A graph with its short branches joined, without what isn't reached.
 #[tactic(auto, using(crate::proofs::Sends::first_has_none, crate::proofs::Sends::kept_has_none))]
-fn joined(alloc: Global, lowered: &Graph) -> Result<Graph, NoMemory>
+pub fn joined(alloc: Global, lowered: &Graph) -> Result<Graph, NoMemory>
     requires rules { IsGraph (view.graph lowered.now) }
     requires form { IsFirstForm (view.graph lowered.now) }
     ensures rules { IfOk result (λ made. IsGraph (view.graph made)) }
     ensures no_send { IfOk result (λ made. HasNoSend (view.graph made)) }
+    ensures arms { IfOk result (λ made. ArmsAlone (view.graph lowered.now) → ArmsAlone (view.graph made)) }
 {
     let reached = reached(alloc, lowered)?;
     let needed = live(alloc, &reached)?;
@@ -97,10 +99,13 @@ fn joined(alloc: Global, lowered: &Graph) -> Result<Graph, NoMemory>
 }
 
 // A graph with its calls spelled out.
-fn spelled(alloc: Global, joined: &Graph) -> Result<Graph, NoMemory>
+pub fn spelled(alloc: Global, joined: &Graph) -> Result<Graph, NoMemory>
     requires rules { IsGraph (view.graph joined.now) }
     requires no_send { HasNoSend (view.graph joined.now) }
-    ensures { IfOk result (λ made. IsGraph (view.graph made)) }
+    ensures rules { IfOk result (λ made. IsGraph (view.graph made)) }
+    ensures no_call { IfOk result (λ made. HasNoCall (view.graph made)) }
+    ensures across { IfOk result (λ made. NoneLiveAcross (view.graph made)) }
+    ensures arms { IfOk result (λ made. ArmsAlone (view.graph joined.now) → ArmsAlone (view.graph made)) }
 {
     let wanted = live(alloc, joined)?;
     spell_calls(alloc, joined, &wanted)

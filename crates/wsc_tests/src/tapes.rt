@@ -25,13 +25,16 @@ fn tape(alloc: Global, left: &[u64], fails: u64) -> Result<TapePort, NoMemory>
     ))
 }
 
-// Tapes in the first three slots, with one call of each that fails.
-pub fn tapes(alloc: Global, fails: [u64; 3]) -> Result<Slots<TapePort>, NoMemory>
+// What tapes in the first three slots have left.
+pub type TapesLeft = [&'static [u64]; 3];
+
+// Such tapes, with one call of each that fails.
+pub fn tapes(alloc: Global, left: TapesLeft, fails: [u64; 3]) -> Result<Slots<TapePort>, NoMemory>
     ensures { IfOk result (λ ports. AllByRecursion IsOpen (contents tape_tells ports)) }
 {
-    let first = tape(alloc, &[5, 6, 7], fails[0])?;
-    let second = tape(alloc, &[40], fails[1])?;
-    let third = tape(alloc, &[11], fails[2])?;
+    let first = tape(alloc, left[0], fails[0])?;
+    let second = tape(alloc, left[1], fails[1])?;
+    let third = tape(alloc, left[2], fails[2])?;
     Ok(Slots {
         first: Some(first),
         second: Some(second),
@@ -86,6 +89,15 @@ const JOB: &str = "proc main() { var x, y; give 1, x; print x; take 2, x + 1; gi
 
 // Of each port the number of the call that fails; what goes out, the status, and where the ports are.
 pub type TapeRow = ([u64; 3], &'static str, Status, Lists);
+
+// A job, what the ports have left before it, and its rows.
+pub struct TapeTable {
+    pub text: &'static str,
+    pub left: TapesLeft,
+    pub rows: &'static [TapeRow],
+}
+
+pub const LEFT: TapesLeft = [&[5, 6, 7], &[40], &[11]];
 
 const ROWS: &[TapeRow] = &[
     (
@@ -144,12 +156,82 @@ const ROWS: &[TapeRow] = &[
     ),
 ];
 
+// Port 1 gives a word that port 2 takes, port 2 takes 5, and port 1 gives a word that is printed.
+const PASSES: &str = "proc main() { var x; give 1, x; take 2, x; take 2, 5; give 1, x; print x; }";
+
+const TWO_LEFT: TapesLeft = [&[4, 6], &[], &[]];
+
+const TABLES: &[TapeTable] = &[
+    TapeTable {
+        text: JOB,
+        left: LEFT,
+        rows: ROWS,
+    },
+    TapeTable {
+        text: PASSES,
+        left: TWO_LEFT,
+        rows: &[
+            (
+                [0, 0, 0],
+                "6\nhalt\n",
+                Status::Done,
+                [&[], &[], &[], &[4, 5], &[], &[]],
+            ),
+            (
+                [1, 0, 0],
+                "port 1\n",
+                Status::PortFault(1),
+                [&[4, 6], &[], &[], &[], &[], &[]],
+            ),
+            (
+                [2, 0, 0],
+                "port 1\n",
+                Status::PortFault(1),
+                [&[6], &[], &[], &[4, 5], &[], &[]],
+            ),
+            (
+                [0, 1, 0],
+                "port 2\n",
+                Status::PortFault(2),
+                [&[6], &[], &[], &[], &[], &[]],
+            ),
+            (
+                [0, 2, 0],
+                "port 2\n",
+                Status::PortFault(2),
+                [&[6], &[], &[], &[4], &[], &[]],
+            ),
+        ],
+    },
+    TapeTable {
+        text: "proc main() { take 3, 8; take 3, 9; print 1; }",
+        left: [&[], &[], &[]],
+        rows: &[(
+            [0, 0, 2],
+            "port 3\n",
+            Status::PortFault(3),
+            [&[], &[], &[], &[], &[], &[8]],
+        )],
+    },
+    TapeTable {
+        text: "proc main() { var x; give 2, x; print x; give 2, x; print x; give 4, x; print x; take 2, 7; }",
+        left: [&[], &[6], &[]],
+        rows: &[(
+            [0, 0, 0],
+            "6\n0\n0\nhalt\n",
+            Status::Done,
+            [&[], &[], &[], &[7], &[], &[]],
+        )],
+    },
+];
+
 // Whether a call ends as a row says, and hands so many images of threads back, or where they are none, one
 // image.
 fn ends_so<R: Threads + Wait + Sync>(
     rt: &R,
     alloc: Global,
     asked: AskedCall<'_>,
+    left: TapesLeft,
     row: &TapeRow,
     threads: usize,
 ) -> Result<bool, NoMemory> {
@@ -158,7 +240,7 @@ fn ends_so<R: Threads + Wait + Sync>(
         Status::PortFault(_) => 1,
         _ => 0,
     };
-    let (reply, ports) = call_with(rt, alloc, asked, tapes(alloc, *fails)?)?;
+    let (reply, ports) = call_with(rt, alloc, asked, tapes(alloc, left, *fails)?)?;
     let images = reply.threads == threads && reply.image == (threads == 0);
     Ok(reply.is(*status) && images && are_at(&ports, lists) && faults(&ports) == failed)
 }
@@ -168,17 +250,16 @@ pub fn first_wrong<R: Threads + Wait + Sync>(
     rt: &R,
     alloc: Global,
     line: &str,
-    text: &str,
-    rows: &[TapeRow],
+    table: &TapeTable,
     threads: usize,
 ) -> Result<Option<&'static str>, NoMemory> {
-    for row in rows {
+    for row in table.rows {
         let asked = AskedCall {
             line,
-            text: text.as_bytes(),
+            text: table.text.as_bytes(),
             wanted: row.1,
         };
-        if !ends_so(rt, alloc, asked, row, threads)? {
+        if !ends_so(rt, alloc, asked, table.left, row, threads)? {
             return Ok(Some(row.1));
         }
     }
@@ -189,44 +270,49 @@ pub fn first_wrong<R: Threads + Wait + Sync>(
 #[test]
 fn ports_give_and_take_until_one_fails(rt: HostRuntime) -> Result<(), Fail> {
     let alloc = rt.alloc();
-    assert_eq!(rt; first_wrong(&rt, alloc, ONE, JOB, ROWS, 0)?, None);
-    assert_eq!(rt; first_wrong(&rt, alloc, FOUR, JOB, ROWS, 0)?, None);
+    for table in TABLES {
+        assert_eq!(rt; first_wrong(&rt, alloc, ONE, table, 0)?, None);
+        assert_eq!(rt; first_wrong(&rt, alloc, FOUR, table, 0)?, None);
+    }
     Ok(())
 }
 
-// Puts a tape into slot 2, and hands out what was there.
+// Puts a tape into slot 1, and hands out what was there.
 fn swapped(ports: &mut Slots<TapePort>, tape: TapePort) -> Option<TapePort>
     requires open { AllByRecursion IsOpen (contents tape_tells ports.old) }
     requires tape { tape.closed ≡ false }
     ensures { AllByRecursion IsOpen (contents tape_tells ports.new) }
 {
-    ports.swap(2, Some(tape))
+    ports.swap(1, Some(tape))
 }
 
 // A word from port 1 goes to port 2.
 const STEP: &str = "proc main() { var x; give 1, x; take 2, x; print x; }";
 
-// Whether a run of that program answers so, and the ports that it hands back.
+// Whether a run of a job answers so, and the ports that it hands back.
 fn stepped<R: Threads + Wait + Sync>(
     rt: &R,
     alloc: Global,
-    line: &str,
+    asked: AskedCall<'_>,
     ports: Slots<TapePort>,
-    wanted: &str,
 ) -> Result<(bool, Slots<TapePort>), NoMemory>
     requires { AllByRecursion IsOpen (contents tape_tells ports) }
     ensures { IfOk result (λ answer. AllByRecursion IsOpen (contents tape_tells answer.1)) }
 {
-    let asked = AskedCall {
-        line,
-        text: STEP.as_bytes(),
-        wanted,
-    };
     let (reply, ports) = call_with(rt, alloc, asked, ports)?;
     Ok((reply.said, ports))
 }
 
-// Whether a run goes on, with another tape in slot 2.
+// What is asked of a run of a job.
+fn asked<'a>(line: &'a str, text: &'a str, wanted: &'a str) -> AskedCall<'a> {
+    AskedCall {
+        line,
+        text: text.as_bytes(),
+        wanted,
+    }
+}
+
+// Whether a run goes on, with another tape in slot 1.
 fn goes_on_with<R: Threads + Wait + Sync>(
     rt: &R,
     alloc: Global,
@@ -236,17 +322,16 @@ fn goes_on_with<R: Threads + Wait + Sync>(
     requires { AllByRecursion IsOpen (contents tape_tells ports) }
 {
     let mut ports = ports;
-    let other = TapePort::new(alloc, Words::empty(alloc), Words::empty(alloc));
-    let old = is_at(&swapped(&mut ports, other), &[40], &[5]);
-    let (six, ports) = stepped(rt, alloc, line, ports, "6\nhalt\n")?;
-    Ok(old && six && are_at(&ports, &[&[7], &[], &[], &[6], &[11], &[]]))
+    let old = is_at(&swapped(&mut ports, tape(alloc, &[9], 0)?), &[6], &[]);
+    let (zero, ports) = stepped(rt, alloc, asked(line, PASSES, "0\nhalt\n"), ports)?;
+    Ok(old && zero && are_at(&ports, &[&[], &[], &[], &[4, 5, 9, 5], &[], &[]]))
 }
 
-// Two runs over the same ports, but for one that is swapped.
+// Two runs over the same ports, but for the one that fails in the first, which is swapped.
 fn goes_on<R: Threads + Wait + Sync>(rt: &R, alloc: Global, line: &str) -> Result<bool, NoMemory> {
-    let ports = tapes(alloc, [0, 0, 0])?;
-    let (five, ports) = stepped(rt, alloc, line, ports, "5\nhalt\n")?;
-    Ok(goes_on_with(rt, alloc, line, ports)? && five)
+    let ports = tapes(alloc, TWO_LEFT, [2, 0, 0])?;
+    let (failed, ports) = stepped(rt, alloc, asked(line, PASSES, "port 1\n"), ports)?;
+    Ok(goes_on_with(rt, alloc, line, ports)? && failed)
 }
 
 // Two runs over the same ports, where port 2 fails in the first.
@@ -255,9 +340,9 @@ fn goes_on_after_a_fault<R: Threads + Wait + Sync>(
     alloc: Global,
     line: &str,
 ) -> Result<bool, NoMemory> {
-    let ports = tapes(alloc, [0, 1, 0])?;
-    let (failed, ports) = stepped(rt, alloc, line, ports, "port 2\n")?;
-    let (six, ports) = stepped(rt, alloc, line, ports, "6\nhalt\n")?;
+    let ports = tapes(alloc, LEFT, [0, 1, 0])?;
+    let (failed, ports) = stepped(rt, alloc, asked(line, STEP, "port 2\n"), ports)?;
+    let (six, ports) = stepped(rt, alloc, asked(line, STEP, "6\nhalt\n"), ports)?;
     Ok(failed && six && are_at(&ports, &[&[7], &[], &[40], &[6], &[11], &[]]))
 }
 
