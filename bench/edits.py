@@ -3,14 +3,15 @@
 
     bench/edits.py             those of the crates whose contracts have changed since they were last tried
     bench/edits.py --all       those of every crate
-    bench/edits.py --fit       none: only whether each can be applied, and of which crates they are due
+    bench/edits.py --fit       none: only whether each can be applied, and whether of some crate they are due
     bench/edits.py NAME..      those of these crates
 
-The edits of crates/*/must-fail are tried by every run of the gate. Those of edits/NAME are tried here, each in the
-form that `rt must-fail` reads, in a copy of the repository that is removed again; the first of a crate costs as much
-as its proof. What the contracts of a crate are is a checksum over its specs/ and over the signatures and contracts of
-its functions; edits/tried.txt has, for each crate, the one over which all its edits were refused, or that of the same
-contracts under new names. The exit status is 1 where an edit wasn't refused, or can't be applied.
+The edits of crates/*/must-fail are tried by every run of the gate. Those of edits/NAME are tried here, as the gate
+would, in a copy of the repository that is removed again, over the proofs that runs of the gate have kept; the first of
+a crate costs as much as its proof. What the contracts of a crate are is a checksum over its specs/ and over the
+signatures and contracts of its functions; edits/tried.txt has, for each crate, the one over which all its edits were
+refused, or that of the same contracts under new names. The exit status is 1 where an edit wasn't refused, or can't be
+applied, and with --fit where they are due.
 """
 
 import argparse
@@ -95,7 +96,8 @@ def are_refused(names):
         for name in names:
             shutil.rmtree(copy / "crates" / name / "must-fail", ignore_errors=True)
             shutil.copytree(EDITS / name, copy / "crates" / name / "must-fail")
-            if subprocess.run(["rt", "must-fail", name], cwd=copy).returncode == 0:
+        for name in names:
+            if subprocess.run(["rt", "ci", name], cwd=copy).returncode == 0:
                 yield name
 
 
@@ -116,7 +118,7 @@ def main():
     wanted = every if args.all else args.names or [it for it in every if tried.get(it) != sums[it]]
     if args.fit:
         print(f"{len(every)} crates, {len(bad)} misfits, due: {' '.join(wanted) or 'none'}")
-        return 1 if bad else 0
+        return 1 if bad or wanted else 0
     refused = []
     for name in are_refused(wanted) if wanted else []:
         refused.append(name)
