@@ -1,5 +1,5 @@
 -- What a call comes to, by how its answer was made and went out.
-use Rattle.std.specs.Prelude.{◌≡◌, false, true, ℕ, ◌≤◌, List, length, take, Option, Result, Ok, Err, IsOk}
+use Rattle.std.specs.Prelude.{◌≡◌, false, true, ℕ, ◌≤◌, List, length, take, Option, Some, Result, Ok, Err, IsOk}
 use Rattle.std.specs.Prelude.{OnErr, refl}
 use Rattle.std.proofs.Common.{subst, inl, inr}
 use Rattle.ws_io.specs.Streams.{Rose, Adds, Flushes}
