@@ -13,3 +13,9 @@ begin-requires-clause-ports g c =
     subst (λ (x : List (Option Began) × World). AllBegan x.0 x.1.left (contents g.P.Port.tells c.args.ports))
     (λ j. (sym c.requires.began j, sym c.requires.world j))
     (c.told_ports_begin.ensures.begin (contents g.P.Port.tells c.args.ports) c.requires.told)
+
+pub begin-requires-2-clause-ports : goal.begin-requires-2-clause-ports
+begin-requires-2-clause-ports g c =
+    subst (λ (x : List (Option Began) × World). AllBegan x.0 x.1.left (contents g.P.Port.tells c.args.ports))
+    (λ j. (sym c.requires.began j, sym c.requires.world j))
+    (c.told_ports_begin.ensures.begin (contents g.P.Port.tells c.args.ports) c.requires.told)
