@@ -10,8 +10,8 @@
    (by_hand.py); tables, pictures, pages, places, traces and a small sweep agree; the events of examples/timing/model.c
    are those of runs, where there is a C compiler; and docs/TIMING.md has the parameters.
 
---machines N is the number of machines for each file (3), --generated N adds so many jobs of `wsc gen` (2), --seed N
-begins the numbers (1).
+--machines N is the number of machines for each file whose run isn't long (3), --generated N adds so many jobs of `wsc
+gen` (2), --seed N begins the numbers (1).
 """
 
 from __future__ import annotations
@@ -46,17 +46,19 @@ from parameters import HOMES, PARAMETERS, POLICIES, THREADS, Values, machine_of
 from parameters import table as parameters
 from planted import put_in
 from report import table
+from tabled import PICTURE, drawn
 from verify import answer_of, has_trace, verified
 
 GRIDS = [(elements, waves) for elements in (1, 2, 4, 16, 64) for waves in (1, 2, 4)]
-# what view/grid_model.py is asked of, which is slow, and what obeyed.py is
-SHORT, MIDDLE = 300, 6000
+# firings up to which view/grid_model.py is asked, which is slow; above which a run is made on a fourth of the grids and on
+# one machine at random; and up to which obeyed.py is asked
+SHORT, LONG, MIDDLE = 300, 2000, 6000
 
 
-def in_general(program: str, text: str) -> list[str]:
-    """What is wrong with the machine `ideal`."""
+def in_general(program: str, text: str, sizes: list[tuple[int, int]]) -> list[str]:
+    """What is wrong with the machine `ideal` of these sizes."""
     found = []
-    for elements, waves in GRIDS:
+    for elements, waves in sizes:
         run = run_of(text, machine_of("ideal", {"elements": elements, "waves": waves}))
         line = ["grid", "--elements", str(elements), "--waves", str(waves), "--stats"]
         status, answer, _ = call(program, line, text)
@@ -219,6 +221,7 @@ def files(program: str, folder: pathlib.Path, job: str) -> list[str]:
     want("docs/TIMING.md has other parameters", parameters() in page)
     told = do(sim, *wsc, str(near.ROOT / "examples" / "matrix.job"), "--machine", "one-cluster", "--verify")
     want("docs/TIMING.md has another first run", told.stdout in page)
+    want("the picture of the kernels has other numbers than docs/TIMING.md", PICTURE.read_text() == drawn())
     return found
 
 
@@ -246,10 +249,14 @@ def main() -> int:
     ask.add_argument("folders", metavar="FOLDER", nargs="*")
     line = ask.parse_intermixed_args()
     program, told, seen = str(pathlib.Path(line.wsc).resolve()), [], 0
+    grids = machines = 0
     last: list[str] = []
     for name, text in texts(program, line.folders, line.generated):
-        seen += 1
-        found = in_general(program, text) + on_any(program, [text], f"{line.seed} {name}", line.machines)
+        # of long runs every fourth size, another fourth for each text
+        long = run_of(text, machine_of("ideal"), LONG + 1).fired > LONG
+        sizes, many = GRIDS[seen % 4 :: 4] if long else GRIDS, 1 if long else line.machines
+        seen, grids, machines = seen + 1, grids + len(sizes), machines + many
+        found = in_general(program, text, sizes) + on_any(program, [text], f"{line.seed} {name}", many)
         # threads: this text, those before it, and this one again
         last = [text, *last[:2]]
         found += on_any(program, [*last, text], f"{line.seed} {name} threads", 1)
@@ -264,7 +271,7 @@ def main() -> int:
         found += own_model(program, where, [str(near.ROOT / f"examples/{name}.job") for name in ("sum", "calls", "past")])
         found += put_in(program, assembly_of(program, (near.ROOT / "examples" / "order.job").read_text()))
     told += found
-    print("\n".join([*found, f"{seen} texts, {seen * len(GRIDS)} runs on grids, {seen * line.machines} on machines"
+    print("\n".join([*found, f"{seen} texts, {grids} runs on grids, {machines} on machines"
                      f" at random, {seen} of several threads, {len(told)} wrong"]))
     return 1 if told else 0
 

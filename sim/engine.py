@@ -62,8 +62,10 @@ class Run:
         # for each thread the instance from which on none may fire, and instances that wait for its waves
         self.ends = [(1 + self.waves) * flat.count for _ in self.chains]
         self.asleep: list[list[Item]] = [[] for _ in self.chains]
-        # the cycles in which something is due, as a heap; tokens, and elements that are free again, by cycle
+        # the cycles in which something is due, as a heap, but for those that were added in the cycle before them, and
+        # the cycle that comes next if something is due in it; tokens, and elements that are free again, by cycle
         self.times: list[int] = []
+        self.next = 0
         self.due: dict[int, list[Token]] = {}
         self.freed: dict[int, list[int]] = {}
         # instances with some of their tokens; for each element those with all that may fire, as a heap
@@ -80,7 +82,8 @@ class Run:
         here = self.due.get(cycle)
         if here is None:
             here = self.due[cycle] = []
-            heappush(self.times, cycle)
+            if cycle != self.next:
+                heappush(self.times, cycle)
         return here
 
     def send(self, arcs: Arcs, wave: int, value: int, event: int, left: int, now: int) -> None:
@@ -108,9 +111,13 @@ class Run:
         """Runs to the end."""
         for slot in self.flat.start():
             self.at(1).append((slot, 0, -1, 0, 1))
-        while self.times and self.ended < len(self.chains):
-            now = heappop(self.times)
-            self.cycle(now, self.due.pop(now))
+        due, times = self.due, self.times
+        while due and self.ended < len(self.chains):
+            now = self.next
+            if now not in due or times and times[0] <= now:
+                now = heappop(times)
+            self.next = now + 1
+            self.cycle(now, due.pop(now))
         self.record.end()
         if self.full and self.fired < self.budget:
             raise Stuck(f"{self.full} instances are complete and none may fire")
@@ -125,7 +132,8 @@ class Run:
         if self.ended:
             tokens = [token for token in tokens if self.is_live(token[0] >> 2)]
         if tokens:
-            tokens.sort()
+            if len(tokens) > 1:
+                tokens.sort()
             self.arrive(now, self.delayed(now, tokens) if self.inputs or self.tables else tokens)
         if now in self.freed:
             self.active.update(self.freed.pop(now))
@@ -167,7 +175,9 @@ class Run:
     def delayed(self, now: int, tokens: list[Token]) -> list[Token]:
         """Those of the tokens that their elements take in this cycle; the others come again: where an element takes no
         more in the next cycle, where one finds no entry when memory has answered."""
-        flat, taken, made, record = self.flat, dict[int, int](), list[Token](), self.record
+        flat, record = self.flat, self.record
+        taken: dict[int, int] = {}
+        made: list[Token] = []
         count, place, local, inputs, tables = flat.count, flat.place, flat.local, self.inputs, self.tables
         for token in tokens:
             if len(token) == 6:
@@ -200,7 +210,8 @@ class Run:
             values = held.get(key)
             if values is not None:
                 values[slot & 3] = value
-                if None in values:
+                # behind two operands stands a cycle
+                if values[0] is None or values[1] is None or values[2] is None:
                     note(slot)
                 else:
                     del held[key]
@@ -252,7 +263,10 @@ class Run:
         """An instance waits on its element."""
         element = self.flat.place[item[0] % self.flat.count]
         heap = self.ready[element]
-        heappush(heap, item)
+        if heap:
+            heappush(heap, item)
+        else:
+            heap.append(item)
         self.active.add(element)
         if len(heap) > self.record.most_ready[element]:
             self.record.most_ready[element] = len(heap)
@@ -262,7 +276,7 @@ class Run:
     def fire_all(self, now: int) -> int:
         """Each element that may fires one instance; how many do."""
         free, fired, active, ready = self.record.free_at, 0, self.active, self.ready
-        for element in sorted(active):
+        for element in sorted(active) if len(active) > 1 else list(active):
             heap = ready[element]
             if not heap or self.fired == self.budget:
                 active.discard(element)
@@ -271,7 +285,7 @@ class Run:
                 self.at(free[element])
                 self.freed.setdefault(free[element], []).append(element)
             else:
-                self.fire(now, element, heappop(heap))
+                self.fire(now, element, heappop(heap) if len(heap) > 1 else heap.pop())
                 fired += 1
                 if not heap:
                     active.discard(element)

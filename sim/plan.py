@@ -153,18 +153,19 @@ def compare(line: argparse.Namespace) -> int:
             made.append([job, f"{first:,.0f}", *(f"{dots[name][job]:.2f}" if job in dots[name] else "" for name in names)])
     print("\n".join("| " + " | ".join(cells) + " |" for cells in made))
     if line.svg:
-        pathlib.Path(line.svg).write_text(dotted(dots, line.title or f"{line.y} beside {line.base}", line.y))
+        pathlib.Path(line.svg).write_text(dotted(
+            dots, line.title or f"{line.y} beside {line.base}",
+            f"{line.y} as a part of those with {line.base}, a dot for each job"))
     return 0
 
 
-def dotted(dots: dict[str, dict[str, float]], title: str, y: str) -> str:
+def dotted(dots: dict[str, dict[str, float]], title: str, told: str) -> str:
     """A row for each line of options, with a dot for each job: its part of the base, by powers of two."""
     dots = {name: those for name, those in dots.items() if those}
     every = [part for those in dots.values() for part in those.values()]
     low, high = math.floor(math.log2(min(every))), math.ceil(math.log2(max(every)))
     left, wide, tall = 330, 560, 26
-    sheet = Sheet(left + wide + 220, 110 + tall * len(dots), title, (
-        f"{y} as a part of those of the first line's machine, a dot for each job; least and most are named",))
+    sheet = Sheet(left + wide + 220, 110 + tall * len(dots), title, (f"{told}; least and most are named",))
     for power in range(low, high + 1):
         at = left + wide * (power - low) / (high - low or 1)
         sheet.line(at, 80, at, 80 + tall * len(dots), SOFT if power == 0 else GRID)

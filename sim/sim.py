@@ -16,6 +16,7 @@ import csv
 import functools
 import pathlib
 import sys
+from collections.abc import Iterable
 from typing import Any
 
 import near
@@ -124,10 +125,11 @@ def says(figures: Figures) -> str:
     return f"wsc replay takes all {len(run.record.events)} events{each}{end}"
 
 
-def write(file: str | None, told: str) -> None:
+def write(file: str | None, told: str | Iterable[str]) -> None:
     """Writes a file that the line names."""
     if file:
-        pathlib.Path(file).write_text(told, errors="surrogateescape")
+        with open(file, "w", errors="surrogateescape") as out:
+            out.writelines([told] if isinstance(told, str) else told)
 
 
 def write_all(line: argparse.Namespace, figures: Figures) -> None:

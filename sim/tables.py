@@ -30,7 +30,8 @@ class Tables:
         place = element * self.sets + (local * self.waves + wave % self.waves) % self.sets
         row = self.rows[place]
         if key in row:
-            row[key] = row.pop(key)
+            if len(row) > 1:
+                row[key] = row.pop(key)
             return True
         hit = key not in self.outside
         if len(row) >= self.ways:

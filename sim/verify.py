@@ -16,6 +16,8 @@ from figures import end_of
 
 # the most that `wsc exec` fires
 MOST = 4000000
+# so many lines of a trace, and a cycle's more, are put together at a time
+PIECE = 4000
 
 
 def has_trace(run: Run) -> bool:
@@ -24,29 +26,36 @@ def has_trace(run: Run) -> bool:
 
 
 def lines_of(run: Run, number: int) -> Iterator[str]:
-    """The lines of the trace of a thread; before those of a cycle stands a comment with its number."""
+    """The lines of the trace of a thread, by pieces; before those of a cycle stands a comment with its number."""
     flat, wide = run.flat, run.flat.wide
     program = flat.programs[number]
     low, high = 4 * program.first, 4 * (program.first + len(program.image.instrs))
     alone = len(flat.programs) == 1
+    made: list[str] = []
     for cycle, slots in run.record.pieces():
-        made = []
+        told = False
         for slot in slots:
             asks = slot >= 0
             wave, rest = divmod(slot if asks else ~slot, wide)
             if alone or low + 3 < rest < high:
-                instr, port = divmod(rest - low, 4)
-                made.append(f"match {wave} {instr} {port}\n" if asks else f"issue {wave} {instr}\n")
-        if made:
-            yield f"# cycle {cycle}\n{''.join(made)}"
+                if not told:
+                    told = True
+                    made.append(f"# cycle {cycle}\n")
+                at = rest - low
+                made.append(f"match {wave} {at >> 2} {at & 3}\n" if asks else f"issue {wave} {at >> 2}\n")
+        if len(made) > PIECE:
+            yield "".join(made)
+            made.clear()
+    yield "".join(made)
 
 
-def trace_of(run: Run, number: int = 0) -> str:
-    """The assembly of a thread, its input, and its events."""
+def trace_of(run: Run, number: int = 0) -> Iterator[str]:
+    """The assembly of a thread, its input, and its events, by pieces."""
     program = run.flat.programs[number]
     own = "\n".join(program.image.text).rstrip("\n")
     words = "".join(f"{word}\n" for word in program.words)
-    return f"{own}\n%input\n{words}%trace\n{''.join(lines_of(run, number))}"
+    yield f"{own}\n%input\n{words}%trace\n"
+    yield from lines_of(run, number)
 
 
 def fired(run: Run, number: int) -> int:
