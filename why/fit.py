@@ -7,8 +7,10 @@
 Nothing of this is asked of a draft whose paths can be linked as they are.
 """
 
-from text import GIVES
+from wavescalar.isa import KINDS
 
+# A result that goes on the same way whatever the operands are.
+GIVES = {op for op, kind in KINDS.items() if kind.lists == 1}
 ROOM = 8  # destinations in a list
 SHARED, SOLE, MANY = range(3)  # which operations may be last on the paths into a block
 
@@ -25,7 +27,7 @@ def links(blocks, first):
             for old in here:
                 behind.setdefault(old, set()).add(it)
             here = {it}
-        for t in b.exit[1] or [None]:
+        for t in b.targets or [None]:
             if t is None or first[t]:
                 if None in here:
                     return False
@@ -42,7 +44,7 @@ def needed(blocks, first):
     """The blocks that get a no-op."""
     ways, states, inside = {}, {}, {}
     for b in blocks:
-        inside[b] = [t for t in b.exit[1] if not first[t]]
+        inside[b] = [t for t in b.targets if not first[t]]
         if first[b] or b in ways:
             for t in inside[b]:
                 ways[t] = ways.get(t, 0) + 1
@@ -65,15 +67,15 @@ class Fit:
     """All that a draft lacks, told by `rules`, which has its blocks."""
 
     def __init__(self, rules):
-        self.rules, self.first, self.blocks = rules, rules.first, rules.blocks[1:]
+        self.rules, self.first, self.blocks = rules, rules.first, rules.blocks
         if links(self.blocks, self.first):
             return
         self.ways, self.before = {}, {}
         for b in self.blocks:
-            for t in b.exit[1]:
+            for t in b.targets:
                 self.ways[t], self.before[t] = self.ways.get(t, 0) + 1, b
         for b in self.blocks:
-            if b.exit[0] == "if":
+            if b.kind == "if":
                 self.branch(b)
         lists = {}
         for b in sorted(needed(self.blocks, self.first), key=lambda b: b.number):
@@ -88,7 +90,7 @@ class Fit:
         return not self.first[b] and self.ways.get(b) == 1
 
     def branch(self, b):
-        targets = b.exit[1]
+        targets = b.targets
         if all(self.is_arm(t) for t in targets) or all(self.first[t] for t in targets):
             return
         for t in targets:
@@ -103,10 +105,10 @@ class Fit:
             if it.op in GIVES:
                 return [(it, 0)]
         before = self.before.get(b)
-        if self.is_arm(b) and before.exit[0] == "if":
+        if self.is_arm(b) and before.kind == "if":
             for it in before.special:
                 if it.op == "steer":
-                    return [(it, place) for place, t in enumerate(before.exit[1]) if t is b]
+                    return [(it, place) for place, t in enumerate(before.targets) if t is b]
         self.rules.add(b.line, b.column, "trigger", f"nothing in block {b.called()} could trigger the no-op that it "
                        "needs", "give it a `merge` of the pulse", f"refused trigger {b.number}", block=b.number)
         return []

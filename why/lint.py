@@ -20,11 +20,10 @@ from concurrent.futures import ThreadPoolExecutor
 
 sys.path.insert(0, str(pathlib.Path(__file__).resolve().parent.parent / "view"))
 
-from image import MARKS, lines_of  # noqa: E402
+from image import Finding, Text, lines_of, sections_of  # noqa: E402
 from line import Line, add_program, given, whole  # noqa: E402
 from program import call  # noqa: E402
 from rules import Rules  # noqa: E402
-from text import Found, Text  # noqa: E402
 
 
 def words_of(lines, start):
@@ -33,7 +32,7 @@ def words_of(lines, start):
         for item in line.split():
             if not (item.isascii() and item.isdigit() and int(item) < 1 << 64):
                 column = line.index(item) + 1
-                return [Found(at, column, "input", f"`{item}` is no number below 2^64", "",
+                return [Finding(at, column, "input", f"`{item}` is no number below 2^64", "",
                               f"refused {at}:{column} input")]
     return []
 
@@ -41,8 +40,8 @@ def words_of(lines, start):
 def faults_of(text, draft=False):
     """All faults of a text."""
     lines = lines_of(text)
-    cut = lines.index(MARKS[0]) if MARKS[0] in lines else len(lines)
-    read = Text(lines[:cut], draft, cut + (cut < len(lines)))
+    _, cut = next(sections_of(lines))
+    read = Text(lines[:cut], cut + (cut < len(lines)))
     found = read.faults + Rules(read, draft).found
     found += words_of(lines[cut + 1 :], cut + 2)
     return sorted(found, key=lambda f: (f.line, f.column))
@@ -60,7 +59,7 @@ def compare(found, answer):
     status, said, _ = answer
     if status not in (0, 2) or agrees(found, said, status):
         return []
-    return [Found(1, 1, "check", f"`wsc check` says otherwise: {said.strip()}", "tell it to those who keep this program",
+    return [Finding(1, 1, "check", f"`wsc check` says otherwise: {said.strip()}", "tell it to those who keep this program",
                   said.strip())]
 
 

@@ -13,18 +13,17 @@ import sys
 
 sys.path.insert(0, str(pathlib.Path(__file__).resolve().parent.parent / "view"))
 
-from image import MARKS, Fault, sections  # noqa: E402
+from image import MARKS, Fault, Text, sections  # noqa: E402
 from line import Line, given, whole  # noqa: E402
-from text import Text  # noqa: E402
 
 DEST = re.compile(r"(\d+)\.(\d+)")
 
 
 def labels(draft, image):
     """Names of the image's instructions and blocks, by their numbers."""
-    taken = {it.name for it in draft.instrs[1:]}
-    instrs, blocks = {}, {b.number: b.name or str(b.number) for b in draft.blocks[1:]}
-    for old, new in zip(draft.blocks[1:], image.blocks[1:]):
+    taken = {it.name for it in draft.instrs}
+    instrs, blocks = {}, {b.number: b.name or str(b.number) for b in draft.blocks}
+    for old, new in zip(draft.blocks, image.blocks):
         for place, it in enumerate(new.instrs):
             if place < len(old.instrs):
                 instrs[it.number] = old.instrs[place].name or str(it.number)

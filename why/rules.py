@@ -7,9 +7,10 @@ with its place and a mend. The rules are told here once more, not asked of the p
     arm, trigger, full   what a draft needs besides, so that it can get notes
 """
 
-from fit import Fit
-from text import GIVES, MEMORY, WRITES, Found
+from fit import GIVES, Fit
+from wavescalar.reader import MEMORY, Finding
 
+WRITES = MEMORY - {"load", "nop"}
 WAYS = 6  # ways into a block with different ports waiting that are looked at
 MOST = 48  # different last operations of the paths into a block that are looked at
 
@@ -21,9 +22,9 @@ class Rules:
         self.text, self.draft, self.found, self.told = text, draft, [], set()
         self.blocks, self.instrs = text.blocks, text.instrs
         self.first = {}
-        for b in self.blocks[1:]:
-            self.first[b] = b.number == 1 or self.blocks[b.number - 1].wave != b.wave
-        for b in self.blocks[1:]:
+        for b in self.blocks:
+            self.first[b] = b.number == 1 or self.blocks[b.number - 2].wave != b.wave
+        for b in self.blocks:
             if not b.faulty and not self.shapely(b):
                 self.shape(b)
         if text.whole and not self.found:
@@ -36,7 +37,7 @@ class Rules:
     def add(self, line, column, rule, message, mend, check, **about):
         if (rule, check, line) not in self.told:
             self.told.add((rule, check, line))
-            self.found.append(Found(line, column, rule, message, mend, check, about))
+            self.found.append(Finding(line, column, rule, message, mend, check, about))
 
     def at_instr(self, it, rule, message, mend, check):
         name = {"name": it.name} if it.name else {}
@@ -51,10 +52,10 @@ class Rules:
 
     def shapely(self, b):
         """Whether a block surely keeps all seven: a look at it that takes little time."""
-        (kind, targets, source), wave, front = b.exit, b.wave, self.first[b]
+        kind, targets, source, wave, front = b.kind, b.targets, b.source, b.wave, self.first[b]
         if any(not self.first[t] and (t.wave != wave or t.number <= b.number or kind == "send") for t in targets):
             return False
-        if b.pads and not (front and all(d.op == "advance" and d.block is b for pad in b.pads.values() for d, _ in pad[0])):
+        if b.pads and not (front and all(d.op == "advance" and d.block is b for pad in b.pads.values() for d, _ in pad.slots)):
             return False
         if b.number == 1 and 0 not in b.pads or kind in ("if", "send") and (source.block is not b or source.op not in GIVES):
             return False
@@ -99,7 +100,7 @@ class Rules:
     def shape(self, b):
         check = f"refused shape {b.number}"
         first = self.first[b]
-        kind, targets, source = b.exit
+        kind, targets, source = b.kind, b.targets, b.source
         if b.number == 1 and 0 not in b.pads:
             self.add(b.line, b.column, "shape 1", "block 1 has no pad 0, through which the start pulse comes",
                      "write `pad 0 I.0` with an advance I of block 1", check, block=1)
@@ -121,8 +122,8 @@ class Rules:
             elif it.op != "advance":
                 behind = behind or it
         if b.pads and not first:
-            _, line, column = next(iter(b.pads.values()))
-            self.add(line, column, "shape 3", f"block {b.called()} has pads and is not the first of its wave",
+            pad = next(iter(b.pads.values()))
+            self.add(pad.line, pad.column, "shape 3", f"block {b.called()} has pads and is not the first of its wave",
                      "begin a wave here", check, block=b.number)
         fed = set()
         if kind in ("if", "send") and source:
@@ -178,10 +179,10 @@ class Rules:
                              else "a destination is a later instruction; into the next turn through an advance",
                              check, instruction=it.number, block=b.number,
                              **({"name": it.name} if it.name else {}))
-        for number, (dests, line, _) in b.pads.items():
-            for k, (d, _) in enumerate(dests):
+        for number, pad in b.pads.items():
+            for k, (d, _) in enumerate(pad.slots):
                 if d.op != "advance" or d.block is not b:
-                    self.add(line, self.text.column(line, k), "shape 7", f"pad {number} leads to {d.called()}, which is no advance "
+                    self.add(pad.line, self.text.column(pad.line, k), "shape 7", f"pad {number} leads to {d.called()}, which is no advance "
                              f"of block {b.called()}", "a pad leads to advances of its own block", check,
                              block=b.number)
 
@@ -201,14 +202,13 @@ class Rules:
 
     def edges(self, b):
         """The edges of a block: its target, and what opens on it."""
-        kind, targets, _ = b.exit
-        for place, t in enumerate(targets):
+        for place, t in enumerate(b.targets):
             opens = []
             for it in b.special:
-                if it.op == "steer" and kind == "if":
+                if it.op == "steer" and b.kind == "if":
                     opens += it.lists[place]
                 elif it.op == "send" and it.arg in t.pads:
-                    opens += t.pads[it.arg][0]
+                    opens += t.pads[it.arg].slots
             yield t, opens
 
     def open(self, slots, dests, where):
@@ -242,8 +242,8 @@ class Rules:
 
     def slots(self):
         start = set()
-        one = self.blocks[1]
-        self.open(start, one.pads.get(0, [[]])[0], lambda: "from the start pulse")
+        one = self.blocks[0]
+        self.open(start, one.pads[0].slots if 0 in one.pads else [], lambda: "from the start pulse")
         come = {one: [(None, frozenset(self.advances(one, start, "from the start")))]}
         todo = [(one, *come[one][0])]
         while todo:
@@ -260,7 +260,7 @@ class Rules:
                         if slot in slots:
                             self.open(slots, [slot], lambda it=it: f"{it.called()} sends where one waits")
                         slots.add(slot)
-            if b.exit[0] == "stop":
+            if b.kind == "stop":
                 for it, port in sorted(slots, key=lambda s: (s[0].number, s[1])):
                     self.at_instr(it, "port", f"a token waits at port {port} of {it.called()} where block "
                                   f"{b.called()} stops", "no list may name it on this path",
@@ -290,7 +290,7 @@ class Rules:
 
     def links(self):
         last, writer, on_path = {}, {}, {}
-        for b in self.blocks[1:]:
+        for b in self.blocks:
             if self.first[b]:
                 last[b], writer[b] = {None}, None
             if b not in last:
@@ -305,11 +305,10 @@ class Rules:
                 if it.op in WRITES and (top is None or it.note[1] > top.note[1]):
                     top = it
                 before = {it}
-            kind, targets, _ = b.exit
-            if kind == "stop" or any(self.first[t] for t in targets):
+            if b.kind == "stop" or any(self.first[t] for t in b.targets):
                 for it in before:
                     self.ends(b, it)
-            for t in targets:
+            for t in b.targets:
                 if not self.first[t]:
                     last[t] = set(list(last.get(t, set()) | before)[:MOST])
                     best = writer.get(t)

@@ -1,6 +1,6 @@
 -- What a call comes to, by how its answer was made and went out.
-use Rattle.std.specs.Prelude.{◌≡◌, false, true, ℕ, ◌≤◌, List, length, take, Option, Some, Result, Ok, Err, IsOk}
-use Rattle.std.specs.Prelude.{OnErr, refl}
+use Rattle.std.specs.Prelude.{◌≡◌, false, true, ℕ, ◌≤◌, List, length, take, Option, Result, Ok, Err, IsOk}
+use Rattle.std.specs.Prelude.{Some, OnErr, refl}
 use Rattle.std.proofs.Common.{subst, inl, inr}
 use Rattle.ws_io.specs.Streams.{Rose, Adds, Flushes}
 use Rattle.src_ast.specs.Syntax.{Part}
