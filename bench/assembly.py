@@ -19,74 +19,6 @@ USES = "ws_words ws_io ws_isa asm_text"
 RUNS = 3
 MIB = 1 << 20
 
-MAIN = """//! Reads a text of assembly, and prints its image.
-#![tactic(auto)]
-
-ghost use Rattle.std.specs.Prelude.{◌<◌, ◌^◌, ◌-◌, length};
-
-use asm_text::{AsmFault, print_asm, read_asm};
-use std::alloc::{AllocError, Global};
-use std::env;
-use std::env::Env;
-use std::process::ExitCode;
-use ws_io::{StdSource, read_all};
-
-// Whether the text is read, or why it is refused, and the length of its printed form.
-#[tactic(auto, using(asm_text::proofs::Cutting::few_feeds))]
-fn answer(alloc: Global, text: &[u8], printing: bool) -> Result<String, AllocError>
-    requires { length text.now < 2 ^ 32 - 1 }
-{
-    let image = match read_asm(alloc, text) {
-        Ok(image) => image,
-        Err(AsmFault::Refused { kind, line }) => return format!(in alloc; "{kind:?} {line}"),
-        Err(AsmFault::NoMemory) => return format!(in alloc; "no memory"),
-    };
-    if !printing {
-        return format!(in alloc; "read");
-    }
-    match print_asm(alloc, &image) {
-        Ok(form) => {
-            let length = form.len();
-            format!(in alloc; "{length}")
-        }
-        Err(_) => format!(in alloc; "no memory"),
-    }
-}
-
-fn is_asked<R: Env + AllocGlobal>(rt: &R, asked: &str) -> bool {
-    match env::args(rt) {
-        Ok(words) => {
-            for word in words.skip(1) {
-                if word.as_str() == asked {
-                    return true;
-                }
-            }
-            false
-        }
-        Err(_) => false,
-    }
-}
-
-fn main(rt: HostRuntime) -> ExitCode {
-    let alloc = rt.alloc();
-    let mut source = StdSource::new(rt.stdin());
-    let Ok(text) = read_all(alloc, &mut source, 134_217_728) else {
-        return ExitCode::FAILURE;
-    };
-    if !is_asked(&rt, "read") {
-        return ExitCode::SUCCESS;
-    }
-    let printing = is_asked(&rt, "print");
-    let Ok(said) = answer(alloc, text.as_slice(), printing) else {
-        return ExitCode::FAILURE;
-    };
-    match println!(rt; "{said}") {
-        Ok(()) => ExitCode::SUCCESS,
-        Err(_) => ExitCode::FAILURE,
-    }
-}
-"""
-
 
 def compiled(size):
     """Waves of one block with 32 instructions each, as a compiler gives them, about so long."""
@@ -141,8 +73,8 @@ def rt(word, folder):
     return run.stdout.decode()
 
 
-def build(folder, name="assembly", main=MAIN, used=USES):
-    """Proves and builds a program over these crates in this folder, and gives its path."""
+def build(folder, name="assembly", used=USES):
+    """Proves and builds a program of bench/rattle over these crates in this folder, and gives its path."""
     print(f"{name}: proving and building, which takes some minutes", file=sys.stderr)
     uses = used.split()
     said = "".join(rt("lib", ROOT / "crates" / crate) for crate in uses[-2:])
@@ -154,7 +86,7 @@ def build(folder, name="assembly", main=MAIN, used=USES):
     (folder / "crates.txt").write_text("\n".join([*rows, f"{name}: {used}"]) + "\n")
     crate = folder / "crates" / name
     (crate / "src").mkdir(parents=True)
-    (crate / "src" / "main.rt").write_text(main)
+    shutil.copy(ROOT / "bench" / "rattle" / f"{name}.rattle", crate / "src" / "main.rt")
     said += rt("run", crate)
     program = crate / "out" / name
     if not program.is_file():

@@ -14,67 +14,6 @@ from assembly import RUNS, build, once
 
 USES = "ws_words ws_io ws_isa asm_text annot_check"
 
-MAIN = """//! Reads an assembly, and checks it.
-#![tactic(auto)]
-
-ghost use Rattle.std.specs.Prelude.{◌<◌, ◌^◌, ◌-◌, length};
-
-use annot_check::check_image;
-use asm_text::read_asm;
-use std::alloc::{AllocError, Global};
-use std::env;
-use std::env::Env;
-use std::process::ExitCode;
-use ws_io::{StdSource, read_all};
-
-// Whether the text is read, and the image sound.
-#[tactic(auto, using(asm_text::proofs::Cutting::few_feeds))]
-fn answer(alloc: Global, text: &[u8], checking: bool) -> Result<String, AllocError>
-    requires { length text.now < 2 ^ 32 - 1 }
-{
-    let Ok(image) = read_asm(alloc, text) else {
-        return format!(in alloc; "not read");
-    };
-    if !checking {
-        return format!(in alloc; "read");
-    }
-    match check_image(alloc, image) {
-        Ok(_) => format!(in alloc; "sound"),
-        Err(_) => format!(in alloc; "not sound"),
-    }
-}
-
-fn is_asked<R: Env + AllocGlobal>(rt: &R, asked: &str) -> bool {
-    match env::args(rt) {
-        Ok(words) => {
-            for word in words.skip(1) {
-                if word.as_str() == asked {
-                    return true;
-                }
-            }
-            false
-        }
-        Err(_) => false,
-    }
-}
-
-fn main(rt: HostRuntime) -> ExitCode {
-    let alloc = rt.alloc();
-    let mut source = StdSource::new(rt.stdin());
-    let Ok(text) = read_all(alloc, &mut source, 134_217_728) else {
-        return ExitCode::FAILURE;
-    };
-    let checking = is_asked(&rt, "check");
-    let Ok(said) = answer(alloc, text.as_slice(), checking) else {
-        return ExitCode::FAILURE;
-    };
-    match println!(rt; "{said}") {
-        Ok(()) => ExitCode::SUCCESS,
-        Err(_) => ExitCode::FAILURE,
-    }
-}
-"""
-
 
 def dests(places):
     return "".join(f" {instr}.{port}" for instr, port in places)
@@ -179,7 +118,7 @@ def long_block(count):
 def main():
     with tempfile.TemporaryDirectory() as name:
         folder = pathlib.Path(name)
-        program = build(folder, "checking", MAIN, USES)
+        program = build(folder, "checking", USES)
         print("| Image | Text | Read | Checked | Memory | Memory with the check |\n|---|---|---|---|---|---|")
         for said, make, sizes in (
             ("{} slots open across {} blocks", open_slots, (10_000, 20_000)),

@@ -2,8 +2,9 @@
 """Times lowering and the passes over control graphs on programs as large as the limits allow, and the
 walk of a control graph beside the sequential run.
 
-No command of `wsc` lowers a program, so a small program that does is proved and built in a temporary
-folder, over the libraries of the repository. It reads a program and does one thing to it so many times.
+No command of `wsc` lowers a program, so a small program that does (rattle/lowering.rattle) is proved and built
+in a temporary folder, over the libraries of the repository. It reads a program and does one thing to it so many
+times.
 The processor time of a process counts, the fastest of five, less that of one that does it no times. What
 is printed has to be as expected.
 """
@@ -35,224 +36,6 @@ proc main() {
     i = next(i);
   }
   print i;
-}
-"""
-
-MAIN = """//! Lowers, walks or runs a program, or does a pass over its graph, so many times.
-#![tactic(auto)]
-
-ghost use Rattle.std.specs.Prelude.{◌≡◌, ◌<◌, ◌^◌, ◌-◌, length, IfOk};
-ghost use Rattle.cfg_core.specs.View as view;
-ghost use Rattle.cfg_core.specs.Rules.{IsGraph};
-ghost use Rattle.cfg_build.specs.Keeps.{IsFirstForm};
-ghost use Rattle.live_vars.specs.Marks.{AreLive};
-ghost use Rattle.call_gen.specs.Keeps.{HasNoSend};
-
-use call_gen::{reached, spell_calls};
-use cfg_build::lower;
-use cfg_core::{Graph, run_graph};
-use live_vars::{LiveSets, live};
-use phi_conv::join_short;
-use seq_run::run_plain;
-use src_check::{Accepted, check};
-use src_lex::lex;
-use src_parse::parse;
-use std::alloc::Global;
-use std::env;
-use std::env::Env;
-use std::process::ExitCode;
-use wave_cut::cut;
-use ws_io::{StdSource, decimal, read_all};
-use ws_words::{Cells, NoMemory, Plain, Words, World};
-
-// More than any run here takes.
-const TURNS: u64 = 4_000_000;
-
-// The accepted program of a text.
-fn read(alloc: Global, text: &[u8]) -> Option<Accepted>
-    requires { length text.now < 2 ^ 32 - 1 }
-{
-    let lexemes = lex(alloc, text).ok()?;
-    let tree = parse(alloc, &lexemes).ok()?;
-    check(alloc, tree).ok()
-}
-
-fn blocks_of(graph: &Graph) -> u64 {
-    let mut count = 0u64;
-    for proc in &graph.procs {
-        count = count.wrapping_add(proc.blocks.len() as u64);
-    }
-    count
-}
-
-// The first word printed by a run that ended, or none.
-fn printed(plain: &Plain) -> u64 {
-    match plain {
-        Plain::Ended {
-            printed,
-            arrays: _,
-            took: _,
-            turns: _,
-        } => printed.word(0),
-        Plain::Fault { .. } | Plain::Going { .. } => 0,
-    }
-}
-
-fn nothing(alloc: Global) -> World {
-    World {
-        input: Words::empty(alloc),
-        left: Cells::empty(alloc),
-    }
-}
-
-fn lowered(alloc: Global, accepted: &Accepted, times: u64) -> Result<u64, NoMemory> {
-    let mut sum = 0u64;
-    for _ in 0..times {
-        let graph = lower(alloc, accepted)?;
-        sum = sum.wrapping_add(blocks_of(&graph));
-    }
-    Ok(sum)
-}
-
-fn walked(alloc: Global, accepted: &Accepted, times: u64) -> Result<u64, NoMemory> {
-    let graph = lower(alloc, accepted)?;
-    let world = nothing(alloc);
-    let mut sum = 0u64;
-    for _ in 0..times {
-        let plain = run_graph(alloc, &graph, &world, TURNS)?;
-        sum = sum.wrapping_add(printed(&plain));
-    }
-    Ok(sum)
-}
-
-fn ran(alloc: Global, accepted: &Accepted, times: u64) -> Result<u64, NoMemory> {
-    let world = nothing(alloc);
-    let mut sum = 0u64;
-    for _ in 0..times {
-        let plain = run_plain(alloc, accepted, &world, TURNS)?;
-        sum = sum.wrapping_add(printed(&plain));
-    }
-    Ok(sum)
-}
-
-fn reached_so(alloc: Global, graph: &Graph, times: u64) -> Result<u64, NoMemory>
-    requires rules { IsGraph (view.graph graph.now) }
-    requires no_send { HasNoSend (view.graph graph.now) }
-{
-    let mut sum = 0u64;
-    for _ in 0..times {
-        let made = reached(alloc, graph)?;
-        sum = sum.wrapping_add(blocks_of(&made));
-    }
-    Ok(sum)
-}
-
-fn live_so(alloc: Global, graph: &Graph, times: u64) -> Result<u64, NoMemory> {
-    let mut sum = 0u64;
-    for _ in 0..times {
-        let _sets = live(alloc, graph)?;
-        sum = sum.wrapping_add(1);
-    }
-    Ok(sum)
-}
-
-fn joined_so(alloc: Global, graph: &Graph, sets: &LiveSets, times: u64) -> Result<u64, NoMemory>
-    requires rules { IsGraph (view.graph graph.now) }
-    requires live { AreLive (view.graph graph.now) sets.now }
-{
-    let mut sum = 0u64;
-    for _ in 0..times {
-        let made = join_short(alloc, graph, sets)?;
-        sum = sum.wrapping_add(blocks_of(&made));
-    }
-    Ok(sum)
-}
-
-fn spelled_so(alloc: Global, graph: &Graph, sets: &LiveSets, times: u64) -> Result<u64, NoMemory>
-    requires rules { IsGraph (view.graph graph.now) }
-    requires live { AreLive (view.graph graph.now) sets.now }
-    requires no_send { HasNoSend (view.graph graph.now) }
-{
-    let mut sum = 0u64;
-    for _ in 0..times {
-        let made = spell_calls(alloc, graph, sets)?;
-        sum = sum.wrapping_add(blocks_of(&made));
-    }
-    Ok(sum)
-}
-
-fn cut_so(alloc: Global, graph: &Graph, times: u64) -> Result<u64, NoMemory> {
-    let mut sum = 0u64;
-    for _ in 0..times {
-        let waves = cut(alloc, graph)?;
-        sum = sum.wrapping_add(u64::from(waves.count()));
-    }
-    Ok(sum)
-}
-
-// All passes once, then this one so many times.
-#[tactic(auto, using(crate::proofs::Sends::first_has_none, crate::proofs::Sends::kept_has_none))]
-fn passed(alloc: Global, lowered: &Graph, what: &str, times: u64) -> Result<u64, NoMemory>
-    requires rules { IsGraph (view.graph lowered.now) }
-    requires form { IsFirstForm (view.graph lowered.now) }
-{
-    let reached = reached(alloc, lowered)?;
-    let needed = live(alloc, &reached)?;
-    let joined = join_short(alloc, &reached, &needed)?;
-    let wanted = live(alloc, &joined)?;
-    let spelled = spell_calls(alloc, &joined, &wanted)?;
-    match what {
-        "reached" => reached_so(alloc, lowered, times),
-        "live" => live_so(alloc, &reached, times),
-        "join_short" => joined_so(alloc, &reached, &needed, times),
-        "live again" => live_so(alloc, &joined, times),
-        "spell_calls" => spelled_so(alloc, &joined, &wanted, times),
-        "live at last" => live_so(alloc, &spelled, times),
-        "cut" => cut_so(alloc, &spelled, times),
-        _ => Err(NoMemory),
-    }
-}
-
-fn graph_passed(
-    alloc: Global,
-    accepted: &Accepted,
-    what: &str,
-    times: u64,
-) -> Result<u64, NoMemory> {
-    let graph = lower(alloc, accepted)?;
-    passed(alloc, &graph, what, times)
-}
-
-// What the words of the command line ask for, as a sum over all times.
-fn asked<R: Env + AllocGlobal>(rt: &R, accepted: &Accepted) -> Option<u64> {
-    let alloc = rt.alloc();
-    let mut words = env::args(rt).ok()?.skip(1);
-    let what = words.next()?;
-    let times = decimal(words.next()?.as_bytes())?;
-    match what.as_str() {
-        "lower" => lowered(alloc, accepted, times).ok(),
-        "walk" => walked(alloc, accepted, times).ok(),
-        "run" => ran(alloc, accepted, times).ok(),
-        pass => graph_passed(alloc, accepted, pass, times).ok(),
-    }
-}
-
-fn main(rt: HostRuntime) -> ExitCode {
-    let alloc = rt.alloc();
-    let mut source = StdSource::new(rt.stdin());
-    let Ok(text) = read_all(alloc, &mut source, 1_048_576) else {
-        return ExitCode::FAILURE;
-    };
-    let Some(accepted) = read(alloc, text.as_slice()) else {
-        return ExitCode::FAILURE;
-    };
-    let Some(sum) = asked(&rt, &accepted) else {
-        return ExitCode::FAILURE;
-    };
-    match println!(rt; "{sum}") {
-        Ok(()) => ExitCode::SUCCESS,
-        Err(_) => ExitCode::FAILURE,
-    }
 }
 """
 
@@ -331,7 +114,7 @@ def build(folder):
     (folder / "crates.txt").write_text("\n".join([*rows, "lowering: " + USES]) + "\n")
     crate = folder / "crates" / "lowering"
     (crate / "src").mkdir(parents=True)
-    (crate / "src" / "main.rt").write_text(MAIN)
+    shutil.copy(ROOT / "bench" / "rattle" / "lowering.rattle", crate / "src" / "main.rt")
     (crate / "proofs").mkdir()
     (crate / "proofs" / "Lib.antt").write_text("pub mod Sends\n")
     shutil.copy(ROOT / "crates" / "wsc_tests" / "proofs" / "Sends.antt", crate / "proofs" / "Sends.antt")

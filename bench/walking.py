@@ -13,74 +13,6 @@ from assembly import RUNS, build, once
 
 USES = "ws_words ws_io ws_isa asm_text annot_check"
 
-MAIN = """//! Reads an assembly, checks it, and walks it.
-#![tactic(auto)]
-
-ghost use Rattle.std.specs.Prelude.{◌<◌, ◌^◌, ◌-◌, length};
-
-use annot_check::check_image;
-use asm_text::read_asm;
-use ws_isa::walk_image;
-use std::alloc::{AllocError, Global};
-use std::env;
-use std::env::Env;
-use std::process::ExitCode;
-use ws_io::{StdSource, decimal, read_all};
-use ws_words::{Cells, Words, World};
-
-// How many instances of the walk have fired, of so many at most.
-#[tactic(auto, using(asm_text::proofs::Cutting::few_feeds))]
-fn answer(alloc: Global, text: &[u8], firings: u64) -> Result<String, AllocError>
-    requires { length text.now < 2 ^ 32 - 1 }
-{
-    let Ok(image) = read_asm(alloc, text) else {
-        return format!(in alloc; "not read");
-    };
-    let Ok(checked) = check_image(alloc, image) else {
-        return format!(in alloc; "not sound");
-    };
-    let world = World {
-        input: Words::empty(alloc),
-        left: Cells::empty(alloc),
-    };
-    match walk_image(alloc, &checked, &world, firings) {
-        Ok(walked) => {
-            let fired = walked.fired;
-            format!(in alloc; "{fired}")
-        }
-        Err(_) => format!(in alloc; "no memory"),
-    }
-}
-
-fn number<R: Env + AllocGlobal>(rt: &R) -> u64 {
-    match env::args(rt) {
-        Ok(words) => {
-            for word in words.skip(1) {
-                return decimal(word.as_bytes()).unwrap_or(0);
-            }
-            0
-        }
-        Err(_) => 0,
-    }
-}
-
-fn main(rt: HostRuntime) -> ExitCode {
-    let alloc = rt.alloc();
-    let mut source = StdSource::new(rt.stdin());
-    let Ok(text) = read_all(alloc, &mut source, 134_217_728) else {
-        return ExitCode::FAILURE;
-    };
-    let firings = number(&rt);
-    let Ok(said) = answer(alloc, text.as_slice(), firings) else {
-        return ExitCode::FAILURE;
-    };
-    match println!(rt; "{said}") {
-        Ok(()) => ExitCode::SUCCESS,
-        Err(_) => ExitCode::FAILURE,
-    }
-}
-"""
-
 LOOP = """wavescalar 1
 wave 1
 block 1
@@ -112,7 +44,7 @@ end
 def main():
     with tempfile.TemporaryDirectory() as name:
         folder = pathlib.Path(name)
-        program = build(folder, "walking", MAIN, USES)
+        program = build(folder, "walking", USES)
         file = folder / "loop.txt"
         file.write_text(LOOP)
         firings = 1_000_000_000
