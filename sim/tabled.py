@@ -27,13 +27,13 @@ COLUMNS = (
 
 
 def read(page: str) -> dict[str, dict[str, float]]:
-    """Of each column of the tables that begin with `Kernel` and no machine the numbers of the kernels; the first
-    table has the cycles of each before them."""
+    """Of each column of the tables that begin with `Kernel`, but for that of firings, the numbers of the kernels; the
+    first table has the cycles of each before them."""
     made: dict[str, dict[str, float]] = {name: {} for name in COLUMNS}
     at, rows, wide = 0, False, 0
     for line in page.splitlines():
         cells = [cell.strip() for cell in line.split("|")[1:-1]]
-        if cells[:1] == ["Kernel"] and "Machine" not in cells:
+        if cells[:1] == ["Kernel"] and "Firings" not in cells:
             rows, at, wide = True, at + wide, len(cells) - 1 - ("Cycles" in cells)
         elif not cells:
             rows = False
