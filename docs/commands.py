@@ -1,13 +1,13 @@
 #!/usr/bin/env python3
 """Types the commands of the pages as a newcomer does, and compares what they print.
 
-    docs/commands.py [PROGRAM]         the program that is installed for it, else that of ./prove
+    docs/commands.py [PROGRAM]         the program that is installed for it, else that of ./prove; WSL names the linker
 
 What a user meets is copied to a folder, with the program, and `./install` puts it into a home that is new.
 
-- docs/TUTORIAL.md is typed in a folder with nothing in it. A block whose first line begins with `$ ` is a session: such
+- docs/TUTORIAL.md and docs/BACKEND.md are typed, each in a folder with nothing in it. A block whose first line begins with `$ ` is a session: such
   a line is a command, with what stands behind it up to the line END where it ends with <<'END', and what it prints
-  stands below; a line `..` stands for any lines. All sessions are one shell's.
+  stands below; a line `..` stands for any lines. All sessions of a page are one shell's.
 - The commands in the blocks of the other pages are run at the top of the copy, and have to end with status 0, or with 2
   where they show a refusal, within ten minutes. Of a plan the first two lines are run. What needs other machines, and
   what serves until it is ended, is left out.
@@ -23,7 +23,10 @@ import tempfile
 
 ROOT = pathlib.Path(__file__).resolve().parent.parent
 PROGRAM = pathlib.Path(sys.argv[1] if len(sys.argv) > 1 else ROOT / "crates" / "wsc" / "out" / "wsc").resolve()
-PARTS = ("wsc", "install", "release", "door", "view", "why", "docs/wsc.1", "docs/examples.py", "tests", "examples", "bench", "crates.txt")
+LINKER = pathlib.Path(os.environ.get("WSL") or ROOT / "crates" / "wsl" / "out" / "wsl").resolve()
+PARTS = ("wsc", "wsl", "install", "release", "door", "view", "why", "wavescalar", "docs/wsc.1", "docs/examples.py", "tests",
+         "examples", "bench", "crates.txt")
+TYPED = ("docs/TUTORIAL.md", "docs/BACKEND.md")
 OTHERS = ("README.md", "docs/ASSEMBLY.md", "docs/LIMITS.md", "docs/EXPERIMENTS.md", "view/README.md")
 BLOCK = re.compile(r"^```\n(\$ .*?)^```$", re.S | re.M)
 # Lines of the other pages that are commands, and words of those that this machine may not have, or that go on for long.
@@ -33,16 +36,17 @@ Session = list[tuple[str, list[str]]]
 
 
 def copied(room: pathlib.Path) -> pathlib.Path:
-    """A copy of what a user meets, with the program."""
+    """A copy of what a user meets, with the programs."""
     for name in PARTS:
         (room / name).parent.mkdir(parents=True, exist_ok=True)
         if (ROOT / name).is_dir():
             shutil.copytree(ROOT / name, room / name, ignore=shutil.ignore_patterns("__pycache__"))
         else:
             shutil.copy2(ROOT / name, room / name)
-    for name in ("src", "specs", "out"):
-        (room / "crates" / "wsc" / name).mkdir(parents=True)
-    shutil.copy(PROGRAM, room / "crates" / "wsc" / "out" / "wsc")
+    for program, source in (("wsc", PROGRAM), ("wsl", LINKER)):
+        for name in ("src", "specs", "out"):
+            (room / "crates" / program / name).mkdir(parents=True)
+        shutil.copy(source, room / "crates" / program / "out" / program)
     return room
 
 
@@ -109,16 +113,15 @@ def called(page: pathlib.Path, folder: pathlib.Path, env: dict[str, str]) -> tup
 
 def main() -> int:
     with tempfile.TemporaryDirectory() as room:
-        home, empty = pathlib.Path(room) / "home", pathlib.Path(room) / "empty"
-        top = copied(pathlib.Path(room) / "repository")
-        for folder in (home, empty):
-            folder.mkdir()
+        home, top = pathlib.Path(room) / "home", copied(pathlib.Path(room) / "repository")
+        home.mkdir()
         env = {"HOME": str(home), "PATH": f"{home}/.local/bin:{os.environ['PATH']}"}
         subprocess.run([top / "install"], env=env, capture_output=True, check=True)
         # what a page takes for the reader's own
         shutil.copy(ROOT / "examples" / "sum.job", top)
         shutil.copy(ROOT / "examples" / "choice.asm", top / "image.asm")
-        found = [typed(ROOT / "docs" / "TUTORIAL.md", empty, env), *(called(ROOT / name, top, env) for name in OTHERS)]
+        found = [typed(ROOT / name, pathlib.Path(tempfile.mkdtemp(dir=room)), env) for name in TYPED]
+        found += [called(ROOT / name, top, env) for name in OTHERS]
     wrong = [line for _, lines in found for line in lines]
     print("\n".join([*wrong, f"{sum(count for count, _ in found)} commands of pages, {len(wrong)} wrong"]))
     return 1 if wrong else 0

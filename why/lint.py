@@ -16,7 +16,6 @@ import gc
 import json
 import pathlib
 import sys
-from concurrent.futures import ThreadPoolExecutor
 
 sys.path.insert(0, str(pathlib.Path(__file__).resolve().parent.parent / "view"))
 
@@ -24,6 +23,8 @@ from image import Finding, Text, lines_of, sections_of  # noqa: E402
 from line import Line, add_program, given, whole  # noqa: E402
 from program import call  # noqa: E402
 from rules import Rules  # noqa: E402
+from surely import surely  # noqa: E402
+from wavescalar.reader import rows_of  # noqa: E402
 
 
 def words_of(lines, start):
@@ -41,8 +42,11 @@ def faults_of(text, draft=False):
     """All faults of a text."""
     lines = lines_of(text)
     _, cut = next(sections_of(lines))
-    read = Text(lines[:cut], cut + (cut < len(lines)))
-    found = read.faults + Rules(read, draft).found
+    own, found = lines[:cut], []
+    rows = rows_of(own)
+    if not surely(own, rows, draft):
+        read = Text(own, cut + (cut < len(lines)), rows)
+        found = read.faults + Rules(read, draft).found
     found += words_of(lines[cut + 1 :], cut + 2)
     return sorted(found, key=lambda f: (f.line, f.column))
 
@@ -52,6 +56,15 @@ def agrees(found, said, status):
     if status == 0:
         return not found
     return said.strip() in {f.check for f in found}
+
+
+def compared(text, program):
+    """All faults of a text, and what `wsc check`, which runs beside, says otherwise."""
+    from concurrent.futures import ThreadPoolExecutor
+    with ThreadPoolExecutor(1) as beside:
+        asked = beside.submit(call, program, ["check"], text)
+        found = faults_of(text)
+        return found + compare(found, asked.result())
 
 
 def compare(found, answer):
@@ -79,10 +92,10 @@ def main():
     line = ask.parse_args()
     text, file = given(line.file), line.file or "-"
     gc.disable()  # all that is made here stays to the end
-    with ThreadPoolExecutor(1) as beside:
-        asked = None if line.alone or line.draft else beside.submit(call, line.wsc, ["check"], text)
+    if line.alone or line.draft:
         found = faults_of(text, line.draft)
-        found += compare(found, asked.result()) if asked else []
+    else:
+        found = compared(text, line.wsc)
     for fault in found:
         if line.json:
             print(json.dumps(row(fault, file)))
