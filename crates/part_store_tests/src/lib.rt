@@ -6,8 +6,7 @@
 //! many cells, of which the last waits for a queue; a store past the end, and a load past the end beside an
 //! open queue; each call once more. They run five images in 200 orders in all and compare what is printed,
 //! the arrays, what the ports took, how it ended and, where nothing stops it, each answer with a run to which
-//! no address comes alone, and that with the core. They let a port fail, and run images to their ends;
-//! and three images do the same over `Quiet` as over the store buffer, by what every buffer answers.
+//! no address comes alone, and that with the core. They let a port fail, and run images to their ends.
 #![tactic(auto)]
 
 #[cfg(test)]
@@ -18,8 +17,6 @@ mod calls;
 mod ends;
 #[cfg(test)]
 mod images;
-#[cfg(test)]
-mod kinds;
 #[cfg(test)]
 mod orders;
 #[cfg(test)]
