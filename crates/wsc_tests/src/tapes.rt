@@ -322,7 +322,8 @@ fn goes_on_with<R: Threads + Wait + Sync>(
     requires { AllByRecursion IsOpen (contents tape_tells ports) }
 {
     let mut ports = ports;
-    let old = is_at(&swapped(&mut ports, tape(alloc, &[9], 0)?), &[6], &[]);
+    let other = tape(alloc, &[9], 0)?;
+    let old = is_at(&swapped(&mut ports, other), &[6], &[]);
     let (zero, ports) = stepped(rt, alloc, asked(line, PASSES, "0\nhalt\n"), ports)?;
     Ok(old && zero && are_at(&ports, &[&[], &[], &[], &[4, 5, 9, 5], &[], &[]]))
 }

@@ -7,4 +7,4 @@ use Rattle.wsc_tests.proofs.tapes.swapped.Goals as goal
 pub returns : goal.returns
 returns c = let o = c.requires.open in
     subst (λ (l : List (Option TapeState)). AllByRecursion IsOpen (told_all tape_tells l))
-    (sym c.swap.ensures.new) (o.0, (c.requires.tape, o.1.1))
+    (sym c.swap.ensures.new) (c.requires.tape, o.1)
