@@ -7,9 +7,11 @@ Lines in the form that `wsc compile` prints are read all at once (`rows_of`). A 
 something is to be said, is read lexeme by lexeme. Columns, in characters from 1, are found when they are told.
 """
 
+from __future__ import annotations
+
 import re
 from collections.abc import Iterator, Sequence
-from typing import NoReturn
+from typing import NoReturn, Union
 
 from .isa import KINDS, LIMITS, NOTES, WORDS
 
@@ -24,7 +26,7 @@ ROW = re.compile(
 EXIT = re.compile(rf"(go|if|send|stop)((?: {LABEL})*)")
 DEST = re.compile(rf"({LABEL})[ \t]*\.[ \t]*[0-9]+")
 Row = tuple[str, str, str, str, str, str, str, str, str, str]
-Ref = int | str
+Ref = Union[int, str]
 Note = tuple[Ref, int, Ref, int]
 Dest = tuple[Ref, int, int]  # a label, a port, a column
 
