@@ -13,6 +13,7 @@ import shutil
 import subprocess
 import sys
 import tempfile
+from collections.abc import Callable
 
 ROOT = pathlib.Path(__file__).resolve().parent.parent
 USES = "ws_words ws_io ws_isa asm_text"
@@ -20,7 +21,7 @@ RUNS = 3
 MIB = 1 << 20
 
 
-def compiled(size):
+def compiled(size: int) -> str:
     """Waves of one block with 32 instructions each, as a compiler gives them, about so long."""
     rows = ["wavescalar 2\narray cells 65536\nhidden 4096\n"]
     length, block, instr = 0, 1, 1
@@ -39,23 +40,24 @@ def compiled(size):
     return "".join(rows)
 
 
-def one_line(size):
+def one_line(size: int) -> str:
     """An exit with far more landings than there may be, all on one line."""
     return "wavescalar 1\nwave 1\nblock 1\n1: merge ->\nsend 1" + " 1" * (size // 2) + "\nend\n"
 
 
-def comments(size):
+def comments(size: int) -> str:
+    """Comments in front of an empty image."""
     return "# nothing\n" * (size // 10) + "wavescalar 1\nwave 1\nblock 1\nstop\nend\n"
 
 
-def names(count):
+def names(count: int) -> str:
     """Blocks whose names have 64 bytes and are alike but for their end; each goes to one far off."""
     own = [f"{'a' * 58}{number:06}" for number in range(count)]
     rows = [f"block {name}\ngo {own[(k * 7919 + 13) % count]}\n" for k, name in enumerate(own)]
     return "wavescalar 2\nwave 1\n" + "".join(rows) + "end\n"
 
 
-def many(size):
+def many(size: int) -> str:
     """Instructions with eight destinations each."""
     count = size // 90
     rows = [
@@ -65,7 +67,7 @@ def many(size):
     return "wavescalar 2\nwave 1\nblock 1\n" + "".join(rows) + "stop\nend\n"
 
 
-def rt(word, folder):
+def rt(word: str, folder: pathlib.Path) -> str:
     """Runs rt in a folder, and gives what it says."""
     run = subprocess.run(
         ["rt", word], cwd=folder, stdin=subprocess.DEVNULL, stdout=subprocess.PIPE, stderr=subprocess.STDOUT, check=False
@@ -73,15 +75,15 @@ def rt(word, folder):
     return run.stdout.decode()
 
 
-def build(folder, name="assembly", used=USES):
+def build(folder: pathlib.Path, name: str = "assembly", used: str = USES) -> pathlib.Path:
     """Proves and builds a program of bench/rattle over these crates in this folder, and gives its path."""
     print(f"{name}: proving and building, which takes some minutes", file=sys.stderr)
     uses = used.split()
-    said = "".join(rt("lib", ROOT / "crates" / crate) for crate in uses[-2:])
-    for crate in uses:
+    said = "".join(rt("lib", ROOT / "crates" / library) for library in uses[-2:])
+    for library in uses:
         for part in ("src", "specs", "proofs", "out/rlib"):
-            if (ROOT / "crates" / crate / part).is_dir():
-                shutil.copytree(ROOT / "crates" / crate / part, folder / "crates" / crate / part)
+            if (ROOT / "crates" / library / part).is_dir():
+                shutil.copytree(ROOT / "crates" / library / part, folder / "crates" / library / part)
     rows = [row for row in (ROOT / "crates.txt").read_text().splitlines() if row.split(":")[0] in uses]
     (folder / "crates.txt").write_text("\n".join([*rows, f"{name}: {used}"]) + "\n")
     crate = folder / "crates" / name
@@ -94,10 +96,11 @@ def build(folder, name="assembly", used=USES):
     return program
 
 
-def once(command, file):
+def once(command: list[str | pathlib.Path], file: pathlib.Path) -> tuple[float, float, str]:
     """The processor time of a process, the most memory that it had, and what it prints."""
     with open(file, "rb") as text:
         process = subprocess.Popen(command, stdin=text, stdout=subprocess.PIPE)
+        assert process.stdout is not None
         out = process.stdout.read().decode().strip()
         _, status, used = os.wait4(process.pid, 0)
     process.returncode = status
@@ -106,14 +109,16 @@ def once(command, file):
     return used.ru_utime + used.ru_stime, used.ru_maxrss / 1024, out
 
 
-def write(file, make, size):
+def write(file: pathlib.Path, make: Callable[[int], str], size: int) -> None:
     """Writes a text in a process of its own, whose memory isn't counted as that of the programs."""
     process = multiprocessing.Process(target=lambda: file.write_text(make(size)))
     process.start()
     process.join()
 
 
-def time(program, file, kind, make, count, want):
+def time(
+    program: pathlib.Path, file: pathlib.Path, kind: str, make: Callable[[int], str], count: int, want: str
+) -> None:
     """Times reading, and printing where the text is read, and prints both."""
     write(file, make, count)
     size = file.stat().st_size / MIB
@@ -129,7 +134,7 @@ def time(program, file, kind, make, count, want):
     print(f"{row}; at most {most:.0f} MB, {most / size:.1f} times the text", flush=True)
 
 
-def main():
+def main() -> None:
     with tempfile.TemporaryDirectory() as name:
         folder = pathlib.Path(name)
         program = build(folder)

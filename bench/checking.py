@@ -9,17 +9,19 @@ and with it.
 
 import pathlib
 import tempfile
+from collections.abc import Callable, Iterable, Iterator
 
 from assembly import RUNS, build, once
 
 USES = "ws_words ws_io ws_isa asm_text annot_check"
 
 
-def dests(places):
+def dests(places: Iterable[tuple[int, int]]) -> str:
+    """A list of destinations, as it is written."""
     return "".join(f" {instr}.{port}" for instr, port in places)
 
 
-def spread(first, targets):
+def spread(first: int, targets: list[tuple[int, int]]) -> list[list[tuple[int, int]]]:
     """Instructions from number `first` on that bring a value to many places, eight from each: the
     destinations of each instruction."""
     inner = 1
@@ -29,7 +31,7 @@ def spread(first, targets):
     return [places[8 * k : 8 * k + 8] for k in range(inner)]
 
 
-def open_slots(count):
+def open_slots(count: int) -> Iterator[str]:
     """As many slots open across as many blocks: block 1 opens all, and each further one closes one."""
     leaf = (count + 2 + 5) // 7 + 1
     while True:
@@ -47,7 +49,7 @@ def open_slots(count):
     yield f"block {count + 2}\n{last}: out <., 1, 2>.1\n{last + 1}: halt <1, 2, .>.2\nstop\nend\n"
 
 
-def landings(count):
+def landings(count: int) -> Iterator[str]:
     """A block with 16 sends to as many landings."""
     value, address = 2, 6
     sends = [address + 3 + k for k in range(16)]
@@ -73,7 +75,8 @@ def landings(count):
     yield "end\n"
 
 
-def waves(count):
+def waves(count: int) -> Iterator[str]:
+    """So many waves of one block, each of which prints once."""
     yield "wavescalar 2\n"
     for k in range(1, count + 1):
         number = 2 * k - 1
@@ -84,7 +87,7 @@ def waves(count):
         yield "stop\nend\n" if k == count else f"go {k + 1}\n"
 
 
-def wide_waves(count, width=32):
+def wide_waves(count: int, width: int = 32) -> Iterator[str]:
     """So many waves, each of which hands so many values on to the next one."""
     inner = 1
     while len(spread(1, [(inner + 2 + k, 0) for k in range(width)] + [(inner + 1, 0)])) > inner:
@@ -107,7 +110,7 @@ def wide_waves(count, width=32):
         first = after
 
 
-def long_block(count):
+def long_block(count: int) -> Iterator[str]:
     """One block of so many instructions, most of which pass a value on to the next."""
     yield f"wavescalar 2\nwave 1\nblock 1\npad 0 1.0\n1: advance -> 2.0 {count}.0\n"
     for k in range(2, count - 1):
@@ -115,18 +118,19 @@ def long_block(count):
     yield f"{count - 1}: out <., 1, 2>.1\n{count}: halt <1, 2, .>.2\nstop\nend\n"
 
 
-def main():
+def main() -> None:
     with tempfile.TemporaryDirectory() as name:
         folder = pathlib.Path(name)
         program = build(folder, "checking", USES)
         print("| Image | Text | Read | Checked | Memory | Memory with the check |\n|---|---|---|---|---|---|")
-        for said, make, sizes in (
+        kinds: tuple[tuple[str, Callable[[int], Iterator[str]], tuple[int, int]], ...] = (
             ("{} slots open across {} blocks", open_slots, (10_000, 20_000)),
             ("16 sends to {} landings", landings, (1_024, 2_048)),
             ("{} waves", waves, (30_000, 60_000)),
             ("{} waves that hand 32 values on", wide_waves, (30_000, 60_000)),
             ("one block of {} instructions", long_block, (2_000_000, 4_000_000)),
-        ):
+        )
+        for said, make, sizes in kinds:
             for size in sizes:
                 file = folder / "image.txt"
                 with file.open("w") as text:

@@ -21,6 +21,7 @@ import shutil
 import subprocess
 import sys
 import time
+from collections.abc import Callable
 
 ROOT = pathlib.Path(__file__).resolve().parent.parent
 PROGRAMS = sys.argv[1:3] or [str(ROOT / "crates" / "wsc" / "out" / "wsc")]
@@ -31,13 +32,14 @@ BUDGETS = (20_000, 220_000)
 TURNS_TO_END = 330_000
 
 
-def loop(turns):
+def loop(turns: int) -> str:
+    """A loop that counts and sums."""
     return (
         f"proc main() {{\n  var i, s;\n  while (i < {turns}) {{\n    s = s + i;\n    i = i + 1;\n  }}\n}}\n"
     )
 
 
-def wide(turns):
+def wide(turns: int) -> str:
     """A loop that does many sums which need nothing of each other."""
     names = [f"v{k}" for k in range(16)]
     body = "".join(f"    {name} = {name} * 3 + i;\n" for name in names)
@@ -45,7 +47,8 @@ def wide(turns):
     return f"{begin}  while (i < {turns}) {{\n{body}    i = i + 1;\n  }}\n}}\n"
 
 
-def arrays(turns):
+def arrays(turns: int) -> str:
+    """A loop of a store and a load."""
     return (
         f"array a[64];\nproc main() {{\n  var i, s;\n  while (i < {turns}) {{\n"
         "    a[i % 64] = i;\n    s = s + a[(i * 7) % 64];\n    i = i + 1;\n  }\n}\n"
@@ -61,23 +64,26 @@ KINDS = {
 JOBS = {name: job(1_000_000) for name, (job, _, _) in KINDS.items()} | {"loop to its end": loop(TURNS_TO_END)}
 
 
-def told(program, text, *words):
+def told(program: str, text: str, *words: str) -> str:
+    """What a run prints."""
     done = subprocess.run([program, "run", *words], input=text, capture_output=True, text=True)
     return done.stdout
 
 
-def seconds(program, text, workers, budget):
+def seconds(program: str, text: str, workers: int, budget: int) -> float:
+    """The seconds of a run by the clock."""
     before = time.monotonic()
     told(program, text, "--workers", str(workers), "--budget", str(budget))
     return time.monotonic() - before
 
 
-def firings_of(program, text, budget):
+def firings_of(program: str, text: str, budget: int) -> int:
+    """How many instances fire in a run."""
     last = told(program, text, "--stats", "--budget", str(budget)).splitlines()[-1]
     return int(last.removeprefix("firings "))
 
 
-def speeds(text):
+def speeds(text: str) -> tuple[int, dict[tuple[str, int], float]]:
     """Millions of firings in a second, by program and number of workers."""
     firings = firings_of(PROGRAMS[0], text, MOST)
     calls = [(program, workers) for program in PROGRAMS for workers in WORKERS]
@@ -90,38 +96,40 @@ def speeds(text):
     return firings, {call: firings / max(best[call] - none[call], 1e-6) / 1e6 for call in calls}
 
 
-def row(*cells):
+def row(*cells: str) -> None:
     print("| " + " | ".join(cells) + " |", flush=True)
 
 
-def head(*cells):
+def head(*cells: str) -> None:
     row(*cells)
     row(*["---"] * len(cells))
 
 
-def instructions(program, text, *words):
+def instructions(program: str, text: str, *words: str) -> int:
     """What one worker executes in a run, by valgrind's count."""
     done = subprocess.run(
         ["valgrind", "--tool=callgrind", f"--callgrind-out-file={os.devnull}", program, "run", *words],
         input=text, capture_output=True, text=True,
     )
-    return int(re.search(r"Collected : (\d+)", done.stderr)[1])
+    counted = re.search(r"Collected : (\d+)", done.stderr)
+    assert counted, done.stderr
+    return int(counted[1])
 
 
-def within(program, job, *_):
+def within(program: str, job: Callable[[int], str], *_: int) -> float:
     """Instructions a firing between two budgets of one run."""
     few, many = (instructions(program, job(1_000_000), "--budget", str(budget)) for budget in BUDGETS)
     return (many - few) / (BUDGETS[1] - BUDGETS[0])
 
 
-def to_end(program, job, *turns):
+def to_end(program: str, job: Callable[[int], str], *turns: int) -> float:
     """Instructions a firing between two runs that come to their ends."""
     fired = [firings_of(program, job(it), MOST) for it in turns]
     counts = [instructions(program, job(it), "--budget", str(MOST)) for it in turns]
     return (counts[1] - counts[0]) / (fired[1] - fired[0])
 
 
-def main():
+def main() -> None:
     found = {name: speeds(text) for name, text in JOBS.items()}
     head("Job", "Firings", "1 worker", *(f"{n} to 1" for n in WORKERS[1:]))
     for name, (firings, speed) in found.items():

@@ -14,13 +14,14 @@ import pathlib
 import subprocess
 import sys
 import time
+from collections.abc import Callable
 
 ROOT = pathlib.Path(__file__).resolve().parent.parent
-PROGRAM = sys.argv[1] if len(sys.argv) > 1 else ROOT / "crates" / "wsc" / "out" / "wsc"
+PROGRAM = sys.argv[1] if len(sys.argv) > 1 else str(ROOT / "crates" / "wsc" / "out" / "wsc")
 MOST = "4000000"
 
 
-def late(count, behind, links=None):
+def late(count: int, behind: Callable[[int], str], links: int | None = None) -> str:
     """A store into cell 0 whose data takes long, before so many of what is behind it, over and over."""
     chain = "".join(f"    d = d * 3 + {k};\n" for k in range(links or count))
     others = "".join(behind(k) for k in range(count))
@@ -30,22 +31,22 @@ def late(count, behind, links=None):
     )
 
 
-def other(k):
+def other(k: int) -> str:
     """A load of another cell."""
     return f"    s = s + a[{1 + k % 60}];\n"
 
 
-def own(k):
+def own(k: int) -> str:
     """A load of the cell."""
     return "    s = s + a[0];\n"
 
 
-def mixed(k):
+def mixed(k: int) -> str:
     """A load of the cell, a store into another one, and a load of that."""
     return f"{own(k)}    a[{1 + k % 15}] = {k};\n    s = s + a[{1 + k % 15}];\n"
 
 
-def many(k):
+def many(k: int) -> str:
     """Thirty loads of other cells."""
     return "    s = s" + "".join(f" + a[{1 + (k * 30 + n) % 60}]" for n in range(30)) + ";\n"
 
@@ -63,19 +64,20 @@ JOBS = {
 }
 
 
-def timed(text, *words):
+def timed(text: str, *words: str) -> tuple[float, str]:
     """The seconds of a run by the clock, and what it prints."""
     before = time.monotonic()
     done = subprocess.run([PROGRAM, *words], input=text, capture_output=True, text=True)
     return time.monotonic() - before, done.stdout
 
 
-def took(text, *words):
+def took(text: str, *words: str) -> float:
+    """The seconds of a run without its start, each the least of three."""
     none = min(timed(text, *words, "--budget", "0")[0] for _ in range(3))
     return min(timed(text, *words, "--budget", MOST)[0] for _ in range(3)) - none
 
 
-def main():
+def main() -> None:
     print("| Program | Firings | Millions a second | Beside `exec` |\n|---|---|---|---|")
     for name, job in JOBS.items():
         image = timed(job, "compile")[1]

@@ -21,13 +21,14 @@ import shutil
 import subprocess
 import sys
 import tempfile
+from collections.abc import Iterable, Iterator
 
 ROOT = pathlib.Path(__file__).resolve().parent.parent
 EDITS = ROOT / "edits"
 TRIED = EDITS / "tried.txt"
 
 
-def contracts_of(text):
+def contracts_of(text: str) -> Iterator[str]:
     """The signatures and contracts of the functions of a file, as `rt fmt` lays them out: from a line with `fn`
     to the next one, no further in, that opens the body or ends the declaration."""
     depth = None
@@ -41,13 +42,13 @@ def contracts_of(text):
                 depth = None
 
 
-def without_layout(text):
+def without_layout(text: str) -> str:
     """The text without its comments, blanks and last separators, so that a new layout changes no checksum."""
     code = "".join("".join(line.split()) for line in text.splitlines() if not line.strip().startswith(("--", "//")))
     return code.replace(";}", "}").replace(",)", ")")
 
 
-def checksum(name):
+def checksum(name: str) -> str:
     """A checksum of the contracts of a crate."""
     total = hashlib.sha256()
     for path in sorted((ROOT / "crates" / name / "specs").glob("**/*.antt")):
@@ -57,18 +58,19 @@ def checksum(name):
     return total.hexdigest()[:16]
 
 
-def read_tried():
+def read_tried() -> dict[str, str]:
     """The checksum over which the edits of each crate were tried last."""
     if not TRIED.exists():
         return {}
     return dict(line.split() for line in TRIED.read_text().splitlines())
 
 
-def write_tried(tried):
+def write_tried(tried: dict[str, str]) -> None:
+    """Writes the checksum of each crate, by name."""
     TRIED.write_text("".join(f"{name} {tried[name]}\n" for name in sorted(tried)))
 
 
-def misfits(name):
+def misfits(name: str) -> Iterator[str]:
     """The edits of a crate that can't be applied, each with the text that doesn't stand once in its file."""
     for edit in sorted((EDITS / name).glob("*.edit")):
         lines = edit.read_text().splitlines()
@@ -82,7 +84,7 @@ def misfits(name):
             text = text.replace(old[5:], new.removeprefix("new:").removeprefix(" "))
 
 
-def are_refused(names):
+def are_refused(names: Iterable[str]) -> Iterator[str]:
     """Tries the edits of these crates, and gives the names of those all of whose edits are refused."""
     listed = ["git", "ls-files", "-co", "--exclude-standard", "crates", "crates.txt", "HANDLES"]
     files = subprocess.run(listed, cwd=ROOT, capture_output=True, text=True, check=True).stdout.splitlines()
@@ -101,7 +103,7 @@ def are_refused(names):
                 yield name
 
 
-def main():
+def main() -> int:
     parser = argparse.ArgumentParser(description=__doc__, formatter_class=argparse.RawDescriptionHelpFormatter)
     parser.add_argument("names", nargs="*", metavar="NAME", help="a crate that has edits")
     parser.add_argument("--all", action="store_true", help="the edits of every crate")

@@ -19,30 +19,35 @@ import sys
 import tempfile
 import time
 from contextlib import redirect_stdout
+from collections.abc import Iterable
+from typing import Any
 
 WRAPPER = """#!/bin/sh
 exec /usr/bin/time -a -o {log} -f "%U %S %e %C" {rattle} "$@"
 """
 
 
-def rt():
-    path = os.path.realpath(shutil.which("rt"))
+def rt() -> Any:
+    """The command rt, as a module."""
+    path = os.path.realpath(shutil.which("rt") or sys.exit("gate: no rt"))
     loader = importlib.machinery.SourceFileLoader("rt", path)
-    module = importlib.util.module_from_spec(importlib.util.spec_from_loader("rt", loader))
+    spec = importlib.util.spec_from_loader("rt", loader)
+    assert spec is not None
+    module = importlib.util.module_from_spec(spec)
     loader.exec_module(module)
     return module
 
 
-def column(words):
+def column(words: str) -> str:
     """Whether a call of the prover proves a crate, proves its tests, or tries an edit."""
     if "_tests.o" in words:
         return "tests"
     return "proof" if " -o " in words or "--crate-checked" in words else "edits"
 
 
-def table(lines):
+def table(lines: Iterable[str]) -> dict[str, dict[str, float]]:
     """Processor minutes by crate: its proof, its tests, its edits."""
-    costs = {}
+    costs: dict[str, dict[str, float]] = {}
     for line in lines:
         user, system, _, words = line.split(" ", 3)
         name = re.search(r"--crate-name (\S+)", words)
@@ -52,7 +57,8 @@ def table(lines):
     return costs
 
 
-def show(costs):
+def show(costs: dict[str, dict[str, float]]) -> None:
+    """Prints the table, with sums."""
     print("| Crate | Proof | Tests | Edits |\n|---|---|---|---|")
     for name, row in costs.items():
         print(f"| {name} | {row['proof']:.1f} | {row['tests']:.1f} | {row['edits']:.1f} |")
@@ -61,7 +67,7 @@ def show(costs):
     print(f"{sum(sums.values()):.0f} processor minutes")
 
 
-def main():
+def main() -> int:
     log = pathlib.Path(sys.argv[1] if len(sys.argv) > 1 else "gate.log")
     tool = rt()
     with tempfile.TemporaryDirectory(prefix="gate-") as room:
@@ -72,7 +78,7 @@ def main():
         tool.rtlib.RATTLE = wrapper
         began = time.time()
         with log.open("w") as out, redirect_stdout(out):
-            status = tool.main(["ci", "--anew"])
+            status: int = tool.main(["ci", "--anew"])
         took = time.time() - began
         lines = pathlib.Path(calls).read_text().splitlines()
     show(table(lines))

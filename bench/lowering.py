@@ -43,7 +43,7 @@ NAMES = ("left", "right", "sum", "v", "w")
 OPERATORS = "+ - * / % & | ^ == != < <= > >= << >>".split()
 
 
-def expression(seed, lexemes, size):
+def expression(seed: int, lexemes: int, size: int) -> str:
     """A row of operands, of cells, variables and numbers in turn, within so many lexemes and bytes."""
     text, count = "sum", 1
     for i in range(seed, seed + lexemes):
@@ -57,13 +57,13 @@ def expression(seed, lexemes, size):
     return text
 
 
-def straight(count):
+def straight(count: int) -> str:
     """So many assignments in one procedure, each of nearly 256 lexemes and 1,000 bytes."""
     rows = "".join(f"sum={expression(i, 253, 1000)};\n" for i in range(count))
     return "array a[8];proc main(){var left,right,sum,v,w;\n" + rows + "}\n"
 
 
-def nests(count):
+def nests(count: int) -> str:
     """So many statements with long tests in one procedure: nests of 31, of `while` and `if` in turn."""
     rows = []
     for i in range(count):
@@ -75,7 +75,7 @@ def nests(count):
     return "array a[8];proc main(){var left,right,sum,v,w;\n" + "".join(rows) + "}\n"
 
 
-def calls(count):
+def calls(count: int) -> str:
     """So many statements in 64 procedures: calls of the procedures before, with eight long arguments."""
     each = count // 64
     rows = ["array a[8];\n"]
@@ -92,7 +92,7 @@ def calls(count):
     return "".join(rows)
 
 
-def rt(word, folder):
+def rt(word: str, folder: pathlib.Path) -> str:
     """Runs rt in a folder, and gives what it says."""
     run = subprocess.run(
         ["rt", word], cwd=folder, stdin=subprocess.DEVNULL, stdout=subprocess.PIPE, stderr=subprocess.STDOUT, check=False
@@ -100,16 +100,16 @@ def rt(word, folder):
     return run.stdout.decode()
 
 
-def build(folder):
+def build(folder: pathlib.Path) -> pathlib.Path:
     """Proves and builds the program in this folder, and gives its path."""
     print("lowering: proving and building, which takes some minutes", file=sys.stderr)
     # The libraries are proved where they stand, so that a second run finds them proved.
-    said = "".join(rt("lib", ROOT / "crates" / crate) for crate in TOPS.split())
+    said = "".join(rt("lib", ROOT / "crates" / library) for library in TOPS.split())
     uses = USES.split()
-    for crate in uses:
+    for library in uses:
         for part in ("src", "specs", "proofs", "out/rlib"):
-            if (ROOT / "crates" / crate / part).is_dir():
-                shutil.copytree(ROOT / "crates" / crate / part, folder / "crates" / crate / part)
+            if (ROOT / "crates" / library / part).is_dir():
+                shutil.copytree(ROOT / "crates" / library / part, folder / "crates" / library / part)
     rows = [row for row in (ROOT / "crates.txt").read_text().splitlines() if row.split(":")[0] in uses]
     (folder / "crates.txt").write_text("\n".join([*rows, "lowering: " + USES]) + "\n")
     crate = folder / "crates" / "lowering"
@@ -126,10 +126,11 @@ def build(folder):
     return program
 
 
-def once(command, file):
+def once(command: list[str | pathlib.Path], file: pathlib.Path) -> tuple[float, int]:
     """The processor time of a process, and what it prints."""
     with open(file, "rb") as text:
         process = subprocess.Popen(command, stdin=text, stdout=subprocess.PIPE)
+        assert process.stdout is not None
         out = process.stdout.read().decode()
         _, status, used = os.wait4(process.pid, 0)
     process.returncode = status
@@ -138,7 +139,7 @@ def once(command, file):
     return used.ru_utime + used.ru_stime, int(out)
 
 
-def each(program, file, what, times):
+def each(program: pathlib.Path, file: pathlib.Path, what: str, times: int) -> tuple[float, int]:
     """The seconds of one time, and what it adds to the sum."""
     idle = min(once([program, what, "0"], file)[0] for _ in range(RUNS))
     runs = [once([program, what, str(times)], file) for _ in range(RUNS)]
@@ -148,7 +149,7 @@ def each(program, file, what, times):
     return (min(took for took, _ in runs) - idle) / times, total // times
 
 
-def main():
+def main() -> None:
     with tempfile.TemporaryDirectory() as name:
         folder = pathlib.Path(name)
         program = build(folder)

@@ -13,11 +13,12 @@ import sys
 import time
 
 ROOT = pathlib.Path(__file__).resolve().parent.parent
-PROGRAM = sys.argv[1] if len(sys.argv) > 1 else ROOT / "crates" / "wsc" / "out" / "wsc"
+PROGRAM = sys.argv[1] if len(sys.argv) > 1 else str(ROOT / "crates" / "wsc" / "out" / "wsc")
 WORKERS = (1, 2, 4, 8)
 
 
-def loop(step):
+def loop(step: int) -> str:
+    """A loop that sums multiples."""
     return (
         "proc main() {\n  var i, s;\n  while (i < 100000) {\n"
         f"    s = s + i * {step};\n    i = i + 1;\n  }}\n  print s;\n}}\n"
@@ -27,18 +28,18 @@ def loop(step):
 JOBS = [loop(step) for step in (1, 3, 5, 7)]
 
 
-def timed(text, *words):
+def timed(text: str, *words: str) -> tuple[float, str]:
     """The seconds by the clock, the best of five, and what is printed."""
-    best, printed = None, None
+    best, printed = float("inf"), ""
     for _ in range(5):
         before = time.monotonic()
         done = subprocess.run([PROGRAM, *words], input=text, capture_output=True, text=True, check=True)
         took = time.monotonic() - before
-        best, printed = took if best is None else min(best, took), done.stdout
+        best, printed = min(best, took), done.stdout
     return best, printed
 
 
-def main():
+def main() -> None:
     print("| Workers | One job | Four jobs |")
     print("|---|---|---|")
     for workers in WORKERS:

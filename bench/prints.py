@@ -8,6 +8,8 @@ import pathlib
 import random
 import subprocess
 import time
+from collections.abc import Callable
+from typing import TypeVar
 
 TOP = pathlib.Path(__file__).resolve().parent.parent
 MASK = 2**64 - 1
@@ -24,7 +26,10 @@ OPERATORS = {
 }
 
 
-def expression(rng, operands):
+Done = TypeVar("Done")
+
+
+def expression(rng: random.Random, operands: int) -> tuple[str, str]:
     """A balanced tree in parentheses: its text in the language, and in Python."""
     if operands == 1:
         n = str(rng.randrange(10**7))
@@ -36,7 +41,8 @@ def expression(rng, operands):
     return f"({a} {op} {b})", OPERATORS[op].format(a=pa, b=pb)
 
 
-def job(statements):
+def job(statements: int) -> tuple[bytes, list[str]]:
+    """A job of so many prints, and what they print as Python."""
     rng = random.Random(7)
     # 62 operands, 61 operators and as many pairs of parentheses: with `print` 246 lexemes in a row.
     rows = [expression(rng, 62) for _ in range(statements)]
@@ -44,23 +50,23 @@ def job(statements):
     return text.encode(), [p for _, p in rows]
 
 
-def timed(run):
-    best = None
+def timed(run: Callable[[], Done]) -> tuple[float, Done]:
+    """The seconds of a call, the least of five, and what it gives."""
+    best = float("inf")
     for _ in range(5):
         start = time.perf_counter()
         result = run()
         took = time.perf_counter() - start
-        best = took if best is None else min(best, took)
+        best = min(best, took)
     return best, result
 
 
-def main():
+def main() -> None:
     subprocess.run([TOP / "wsc", "run"], input=b"proc main() { }", stdout=subprocess.DEVNULL, check=True)
     for statements in (512, 1024):
         text, rows = job(statements)
         took, done = timed(lambda: subprocess.run([TOP / "wsc", "run"], input=text, stdout=subprocess.PIPE, check=True))
-        source = "M = %d\nprint(%s, 'halt', sep='\\n')\n" % (MASK, ",\n".join(rows))
-        source = source.encode()
+        source = ("M = %d\nprint(%s, 'halt', sep='\\n')\n" % (MASK, ",\n".join(rows))).encode()
         slow, other = timed(lambda: subprocess.run(["python3", "-"], input=source, stdout=subprocess.PIPE, check=True))
         assert done.stdout == other.stdout, "the answers differ"
         print(

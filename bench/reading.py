@@ -10,17 +10,18 @@ WSC = ROOT / "crates" / "wsc" / "out" / "wsc"
 RUNS = 5
 
 
-def fastest(words, text):
-    best = None
+def fastest(words: list[str], text: str) -> tuple[float, str]:
+    """The seconds of a call, the least of several, and what it prints."""
+    best = float("inf")
     for _ in range(RUNS):
         begin = time.perf_counter()
         run = subprocess.run([WSC, *words], input=text.encode(), stdout=subprocess.PIPE, check=False)
         took = time.perf_counter() - begin
-        best = took if best is None else min(best, took)
+        best = min(best, took)
     return best, run.stdout.decode()
 
 
-def main():
+def main() -> None:
     for size in (1 << 18, 1 << 19, 1 << 20):
         # `a=1;` is read whole before the first lexeme, which begins no program, is refused.
         took, out = fastest(["format"], "a=1;" * (size // 4))

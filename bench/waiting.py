@@ -12,13 +12,14 @@ import pathlib
 import subprocess
 import sys
 import tempfile
+from collections.abc import Iterator
 
 ROOT = pathlib.Path(__file__).resolve().parent.parent
-PROGRAM = sys.argv[1] if len(sys.argv) > 1 else ROOT / "crates" / "wsc" / "out" / "wsc"
+PROGRAM = sys.argv[1] if len(sys.argv) > 1 else str(ROOT / "crates" / "wsc" / "out" / "wsc")
 DELAY = 60
 
 
-def job(count, turns, before, statement, behind):
+def job(count: int, turns: int, before: str, statement: str, behind: str) -> str:
     """A loop whose first operation waits for a long sum, with so many statements behind it."""
     slow = "".join("    x = x * 3 + 1;\n" for _ in range(DELAY))
     body = "".join("    " + statement.format(k=k % 8, j=k) + "\n" for k in range(count))
@@ -36,7 +37,7 @@ JOBS = {
 }
 
 
-def image(count, forwards):
+def image(count: int, forwards: bool) -> Iterator[str]:
     """One wave: its first print comes last, and so many wait for it, which came in their order or
     backwards."""
     first = 2 + count
@@ -51,7 +52,7 @@ def image(count, forwards):
     yield f"{first + 1 + count}: halt <{count + 1}, {count + 2}, .>.{count + 2}\nstop\nend\n"
 
 
-def timed(text, *words):
+def timed(text: str, *words: str) -> tuple[float, int]:
     """The processor seconds and the firings of a run."""
     with tempfile.NamedTemporaryFile("w") as file:
         file.write(text)
@@ -66,7 +67,8 @@ def timed(text, *words):
     return after.children_user - before.children_user, int(firings[-1].split()[1])
 
 
-def row(name, text, command):
+def row(name: str, text: str, command: str) -> None:
+    """Times a run, and prints its row."""
     least = min(timed(text, command, "--budget", "0")[0] for _ in range(3))
     runs = [timed(text, command, "--budget", "4000000") for _ in range(3)]
     seconds, firings = min(runs)[0] - least, runs[0][1]

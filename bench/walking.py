@@ -41,7 +41,7 @@ end
 """
 
 
-def main():
+def main() -> None:
     with tempfile.TemporaryDirectory() as name:
         folder = pathlib.Path(name)
         program = build(folder, "walking", USES)

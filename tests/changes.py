@@ -10,6 +10,7 @@ operation to operation, then slots from block to block.
 
 import pathlib
 import re
+from collections.abc import Iterable, Iterator
 
 FILE = pathlib.Path(__file__).resolve().parent / "changes.txt"
 IMAGE = """wavescalar 1
@@ -45,22 +46,32 @@ BLOCKS = {1: (1, 2, 3), 2: (4, 5, 6), 3: (7,), 4: (8, 9, 10, 11, 12, 13, 14, 15)
 PATHS = ((1, 2, 4), (1, 3, 4))
 LISTS = {(1, 3): 1, (1, 2): 0}
 PORTS = {"steer": 2, "store": 2}
+# An instruction and a port.
+Dest = tuple[int, int]
 WRITING = ("in", "out", "store", "halt")
 
 
+def dest_of(word: str) -> Dest:
+    """The instruction and the port of a destination."""
+    instr, port = map(int, word.split("."))
+    return instr, port
+
+
 class Instr:
-    def __init__(self, line):
+    """A line of the image."""
+
+    def __init__(self, line: str) -> None:
         self.number = int(line.split(":")[0])
         self.op = line.split()[1]
         found = re.search(r"<(.*), (.*), (.*)>\.(\d+)", line)
-        self.pred, self.seq, self.succ, self.ripple = found.groups() if found else ("", "", "", "")
-        self.seq, self.ripple = int(self.seq or 0), int(self.ripple or 0)
+        self.pred, seq, self.succ, ripple = found.groups() if found else ("", "", "", "")
+        self.seq, self.ripple = int(seq or 0), int(ripple or 0)
         self.memory = found is not None
         lists = line.partition("->")[2].split("|")
-        self.lists = [[tuple(map(int, d.split("."))) for d in text.split()] for text in lists]
+        self.lists = [[dest_of(word) for word in text.split()] for text in lists]
 
 
-def shapes(pads, instrs):
+def shapes(pads: list[Dest], instrs: dict[int, Instr]) -> Iterator[str]:
     """Blocks of wrong shape. The exits and the advance are as they have to be."""
     for block, numbers in BLOCKS.items():
         if block == 1 and (pads != [(1, 0)] * len(pads) or (3, 1) not in instrs[2].lists[0]):
@@ -71,7 +82,8 @@ def shapes(pads, instrs):
                     yield f"shape {block}"
 
 
-def joined(one, next):
+def joined(one: Instr, next: Instr) -> bool:
+    """Whether two operations link."""
     says = (one.succ, next.pred)
     return one.seq < next.seq and says in (
         (str(next.seq), "?"),
@@ -80,7 +92,7 @@ def joined(one, next):
     )
 
 
-def at_operation(op, instrs):
+def at_operation(op: Instr, instrs: dict[int, Instr]) -> Iterator[str]:
     """What an operation breaks behind those that may stand before it."""
     before = [
         [instrs[i] for b in path for i in BLOCKS[b] if i < op.number and instrs[i].memory]
@@ -106,7 +118,8 @@ def at_operation(op, instrs):
             yield f"link {other.number} {op.number}"
 
 
-def orders(instrs):
+def orders(instrs: dict[int, Instr]) -> Iterator[str]:
+    """What operations break."""
     for op in instrs.values():
         if op.memory:
             yield from at_operation(op, instrs)
@@ -115,17 +128,19 @@ def orders(instrs):
 
 
 class Taken(Exception):
-    pass
+    """A slot has a token already, or lacks one."""
 
 
-def send(slots, dests):
+def send(slots: set[Dest], dests: Iterable[Dest]) -> None:
+    """Puts tokens into slots."""
     for i, p in dests:
         if (i, p) in slots:
             raise Taken(f"port {i} {p}")
         slots.add((i, p))
 
 
-def passed(slots, block, instrs):
+def passed(slots: set[Dest], block: int, instrs: dict[int, Instr]) -> None:
+    """Fires the instructions of a block."""
     for i in BLOCKS[block]:
         for p in range(PORTS.get(instrs[i].op, 1)):
             if (i, p) not in slots:
@@ -135,10 +150,11 @@ def passed(slots, block, instrs):
             send(slots, instrs[i].lists[0])
 
 
-def slots_of(pads, instrs):
+def slots_of(pads: list[Dest], instrs: dict[int, Instr]) -> str:
     """What is broken on the paths: all of the first one, and then the second one up to the join."""
     try:
-        start, joins = set(), []
+        start: set[Dest] = set()
+        joins: list[set[Dest]] = []
         send(start, pads)
         if start != {(1, 0)}:
             return f"port {min(start ^ {(1, 0)})[0]} 0"
@@ -156,9 +172,11 @@ def slots_of(pads, instrs):
                 return f"port {i} {p}"
     except Taken as taken:
         return str(taken)
+    return ""
 
 
-def answer(text):
+def answer(text: str) -> str:
+    """What the check of an image answers."""
     lines = text.split("\n")
     instrs = {i.number: i for i in map(Instr, filter(lambda line: re.match(r"\d+:", line), lines))}
     pads = Instr("0: pad -> " + lines[4].removeprefix("pad 0")).lists[0]
@@ -168,7 +186,7 @@ def answer(text):
     return "= 0\nsound"
 
 
-def with_notes():
+def with_notes() -> Iterator[str]:
     """The image with each part of each note changed."""
     for found in re.finditer(r"<(.*), (.*), (.*)>\.(\d+)", IMAGE):
         parts = found.groups()
@@ -180,7 +198,7 @@ def with_notes():
                     yield IMAGE[: found.start()] + note + IMAGE[found.end() :]
 
 
-def with_dests():
+def with_dests() -> Iterator[str]:
     """The image with each destination left out, and with each leading to another instruction."""
     for found in re.finditer(r" (\d+)\.(\d)(?=[ \n])", IMAGE):
         number = int(found.group(1))
@@ -188,7 +206,7 @@ def with_dests():
             yield IMAGE[: found.start()] + other + IMAGE[found.end() :]
 
 
-def main():
+def main() -> None:
     rows = [f"> wsc check\n{text}\n{answer(text)}\n" for text in (IMAGE, *with_notes(), *with_dests())]
     head = "# An image with each note and each destination changed in turn, written by tests/changes.py.\n"
     FILE.write_text("\n".join([head, *rows]))
