@@ -5,3 +5,5 @@ pub mod Fronts
 pub mod Phases
 pub mod Stops
 pub mod Telling
+pub mod Asking
+pub mod Alone

@@ -1,5 +1,6 @@
 pub mod Owing
 pub mod Ends
 pub mod Verdicts
+pub mod Solo
 pub mod Finishes
 pub mod Answer

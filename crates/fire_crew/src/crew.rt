@@ -1,6 +1,6 @@
 //! The run of a crew.
 
-ghost use Rattle.std.specs.Prelude.{◌≡◌, ◌+◌, ◌*◌, ◌≤◌, ◌-◌, ℕ, length};
+ghost use Rattle.std.specs.Prelude.{◌≡◌, ◌+◌, ◌*◌, ◌≤◌, ◌-◌, ℕ, [], length};
 ghost use Rattle.ws_isa.specs.Walk.{CostAtMost};
 ghost use Rattle.port_set.specs.Slots.{AllOpen, contents};
 ghost use Rattle.store_buf.specs.Outdoors.{AllBegan};
@@ -8,6 +8,7 @@ ghost use Rattle.match_table.specs.Growth.{AllGrow};
 ghost use Rattle.match_table.specs.Rows.{contents as all_contents};
 ghost use Rattle.match_table.specs.Together.{AllServe, part_of};
 ghost use Rattle.fire_crew.specs.declared.finish.CrewFinish.TheVariants.{NoMemory};
+ghost use Rattle.fire_crew.specs.Ends.{IsGoing};
 ghost use Rattle.fire_crew.specs.Finishes.{EndsSo};
 ghost use Rattle.fire_crew.specs.Verdicts.{EndingSo, MovedOn};
 
@@ -16,6 +17,7 @@ use crate::ends::few_tokens;
 use crate::finish::{CrewEnd, CrewFinish, finish};
 use crate::judge::{Ending, Verdict, find_course};
 use crate::limits::fitting;
+use crate::solo::run_solo;
 use crate::turn::turn;
 use df_core::{Code, Job, TokenList};
 use match_table::Tables;
@@ -153,12 +155,36 @@ pub fn run_over<J: Job + Send + Sync, P: Port + Send, G: Gate, R: Threads + Wait
 {
     match Buffer::begin(alloc, code, input, ports) {
         Ok(buffer) => {
-            let tables = no_tables(alloc);
-            let ended = run_on(rt, alloc, tables, buffer, workers, budget, code, gate);
+            let ended = run_from(rt, alloc, code, buffer, workers, budget, gate);
             finish(code, ended.tables, ended.buffer, ended.ending, budget)
         }
         Err(ports) => stays(alloc, ports),
     }
+}
+
+// Runs the code from its start with its opening buffer. One worker runs it alone, in no phase.
+fn run_from<J: Job + Send + Sync, P: Port + Send, G: Gate, R: Threads + Wait + Sync>(
+    rt: &R,
+    alloc: Global,
+    code: &Code<'_, J>,
+    buffer: Buffer<J, P>,
+    workers: u32,
+    budget: u64,
+    gate: &G,
+) -> CrewLeft<J, P>
+    requires going { IsGoing buffer }
+    requires none { buffer.kept ≡ [] }
+    requires workers { (1 ≤ workers) × (workers ≤ 8) }
+    ensures serve { AllServe result.tables }
+    ensures within { length (part_of result.tables).fired ≤ budget }
+    ensures ended { EndingSo J.image J.world J.began (part_of result.tables).fired
+        (budget - length (part_of result.tables).fired) result.buffer result.ending }
+{
+    if workers == 1 {
+        return run_solo(alloc, code, buffer, budget, gate);
+    }
+    let tables = no_tables(alloc);
+    run_on(rt, alloc, tables, buffer, workers, budget, code, gate)
 }
 
 /// For want of memory nothing was run.

@@ -35,7 +35,9 @@
 //! or no more may fire, and `run_on` counts its phases: each but the last has brought a token that no table
 //! had before, no two to one port, and the tables hold all of them in the end (`MovedOn`). So a run that
 //! returns has had at most 3 n + 1 phases where the walk has at most n instances. That it returns is no
-//! clause, since its workers may wait.
+//! clause, since its workers may wait. **A crew of one** (`run_solo`) starts no phase and waits for
+//! nothing, so it returns: it owns tables and buffer, each token that they owe has come or is on the way
+//! (`Paid`), and where none is on the way the whole walk has been run.
 #![tactic(auto)]
 
 pub mod crew;
@@ -53,6 +55,7 @@ pub mod own;
 pub mod phase;
 mod pouring;
 pub mod run;
+pub mod solo;
 mod told;
 pub mod turn;
 pub mod unknown;

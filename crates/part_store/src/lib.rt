@@ -41,7 +41,6 @@ pub mod parts;
 pub mod queues;
 pub mod quiet;
 mod room;
-mod rounds;
 mod rows;
 mod run;
 mod search;

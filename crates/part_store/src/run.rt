@@ -12,20 +12,20 @@ ghost use Rattle.match_table.specs.Tables.{part};
 ghost use Rattle.port_set.specs.Ports.{Told};
 ghost use Rattle.port_set.specs.Slots.{AllOpen, contents};
 ghost use Rattle.store_buf.specs.Outdoors.{AllBegan, AllTell, began_of, world_with};
+ghost use Rattle.store_buf.specs.Runs.{Covers};
 ghost use Rattle.part_store.specs.declared.finish.PartFinish.TheVariants as finish;
 ghost use Rattle.part_store.specs.Parted.{is_store_op};
 ghost use Rattle.part_store.specs.Answer.{PartTells};
-ghost use Rattle.part_store.specs.Runs.{Covers, IsWhole, Paid, PaidWhile, PartEndingSo, GoesOn};
+ghost use Rattle.part_store.specs.Runs.{IsWhole, Paid, PaidWhile, PartEndingSo, GoesOn};
 
 use crate::finish::{Ending, PartEnd, PartFinish, finish};
 use crate::part::PartBuffer;
-use crate::rounds::Rounds;
 use df_core::{Code, Job, Request, Token, start};
 use match_table::{Results, Table, Took};
 use port_set::{Port, Slots};
 use std::alloc::Global;
 use std::marker::Brand;
-use store_buf::{BufferAnswers, told_ports_begin};
+use store_buf::{BufferAnswers, Rounds, told_ports_begin};
 use ws_isa::{Checked, Op};
 use ws_words::{NoMemory, Words};
 
@@ -206,7 +206,7 @@ fn bring<J: Job, P: Port>(
     run.table.facts();
     let mut results = Results::none();
     let took = run.table.accept_into(code, &token, &mut results);
-    let Results { sent, request } = results;
+    let Results { mut sent, request } = results;
     match took {
         Took::Waits => match address_of(code, token) {
             Some(address) => tell(
@@ -218,7 +218,7 @@ fn bring<J: Job, P: Port>(
             ),
             None => Ok(()),
         },
-        Took::Fires => run.way.send_all(sent),
+        Took::Fires => run.way.send_all(&mut sent),
         Took::Asks => match request {
             Some(request) => ask(
                 code,

@@ -13,3 +13,4 @@ pub mod Outers
 pub mod Holds
 pub mod Contents
 pub mod Stores
+pub mod Runs

@@ -13,7 +13,8 @@
 //! nothing. Where a port has failed, its count of faults rose since the run began (`FailedSo`). `Buffer` is
 //! the one of this crate: `begin` gives the opening buffer or the ports back; ports that tell what they have
 //! left are as a run finds them that is given these words (`told_ports_begin`); `knows`, `kept`, `answer`,
-//! `stop` and `finish` tell the content.
+//! `stop` and `finish` tell the content. `Rounds` has a run's tokens on the way, by wave, and lets go the one
+//! alone that it gives (`Covers`).
 #![tactic(auto)]
 
 mod answers;
@@ -31,6 +32,7 @@ pub mod order;
 pub mod outer;
 mod pass;
 mod places;
+pub mod rounds;
 mod store;
 pub mod told;
 mod wave_places;
@@ -42,3 +44,4 @@ pub use kept::Kept;
 pub use laws::told_ports_begin;
 pub use memory_order::MemoryOrder;
 pub use outer::BufferEnd;
+pub use rounds::Rounds;

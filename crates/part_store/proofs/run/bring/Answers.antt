@@ -5,7 +5,8 @@ use Rattle.match_table.specs.Matching.{Accepted, Refused}
 use Rattle.match_table.specs.Tables.{held, part}
 use Rattle.part_store.specs.Runs.{IsWhole, Paid}
 use Rattle.part_store.proofs.Bringing.{both_ok}
-use Rattle.part_store.proofs.Paying.{not_fired, pay_held, taken_waits, taken_fires, taken_asks}
+use Rattle.store_buf.proofs.Paying.{not_fired}
+use Rattle.part_store.proofs.Paying.{pay_held, taken_waits, taken_fires, taken_asks}
 use Rattle.part_store.proofs.run.bring.Goals as goal
 use Rattle.df_core.proofs.Ports.{has_some}
 use Rattle.ws_words.proofs.Results.{on_ok}

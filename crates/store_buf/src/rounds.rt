@@ -1,15 +1,17 @@
 //! Tokens on the way, in rounds by wave, first in first out.
 
-ghost use Rattle.std.specs.Prelude.{◌≡◌, ◌∷◌, [], MatchOption, OnOk};
+ghost use Rattle.std.specs.Prelude.{◌≡◌, ◌∷◌, ◌++◌, ◌<◌, [], IfOk, MatchOption, OnOk};
+ghost use Rattle.std.specs.VecDeque.{deque_capacity, deque_len};
 ghost use Rattle.store_buf.specs.Contents.{with_tokens};
-ghost use Rattle.part_store.specs.Runs.{Covers, IsOffered};
+ghost use Rattle.store_buf.specs.Runs.{Covers, IsOffered};
 
+use crate::answers::BufferAnswers;
+use crate::fault::BufFault;
 use df_core::{Job, Sent, Token, TokenList};
 use std::alloc::Global;
 use std::collections::VecDeque;
 use std::marker::Model;
 use std::mem::swap;
-use store_buf::{BufFault, BufferAnswers};
 use ws_words::NoMemory;
 
 /// Tokens on the way: those of this round, and those that wait for the next one. What comes of a token is
@@ -46,6 +48,7 @@ impl<J: Job> Rounds<J> {
     }
 
     /// Takes the first token. Where none is left of a round, the next one begins.
+    #[inline(always)]
     pub fn take(&mut self) -> Option<Token<J>>
         ensures { MatchOption result (self.old ≡ []) (λ token. self.old ≡ token ∷ self.new) }
     {
@@ -63,11 +66,10 @@ impl<J: Job> Rounds<J> {
         ensures { OnOk result (Covers (token ∷ self.old) self.new) }
     {
         if token.wave() <= self.wave {
-            self.round.push_back(token)?;
+            push(&mut self.round, token)
         } else {
-            self.next.push_back(token)?;
+            push(&mut self.next, token)
         }
-        Ok(())
     }
 
     /// Puts what a buffer answered on the way. Where the buffer is stopped it tells so itself.
@@ -88,15 +90,35 @@ impl<J: Job> Rounds<J> {
 
     /// Puts what an instance sent on the way.
     #[inline(always)]
-    pub fn send_all(&mut self, sent: Sent<'_, J>) -> Result<(), NoMemory>
+    pub fn send_all(&mut self, sent: &mut Sent<'_, J>) -> Result<(), NoMemory>
         ensures old { OnOk result (Covers self.old self.new) }
-        ensures taken { OnOk result (Covers sent.entry self.new) }
+        ensures taken { OnOk result (Covers sent.old self.new) }
+        ensures none { OnOk result (sent.new ≡ []) }
     {
-        let mut rest = sent;
-        while let Some(token) = rest.next() {
+        while let Some(token) = sent.next() {
             self.put(token)?;
         }
         Ok(())
+    }
+
+    /// The token to bring next: the first of what an instance sent, if it is of this round, or else the first
+    /// on the way. The others that it sent are put on the way.
+    #[inline(always)]
+    pub fn follow(&mut self, sent: &mut Sent<'_, J>) -> Result<Option<Token<J>>, NoMemory>
+        ensures next { IfOk result (λ next. MatchOption next ((sent.old ≡ []) × (self.old ≡ []))
+            (λ token. Covers (sent.old ++ self.old) (token ∷ self.new))) }
+        ensures none { OnOk result (sent.new ≡ []) }
+    {
+        let Some(first) = sent.next() else {
+            return Ok(self.take());
+        };
+        if first.wave() > self.wave {
+            self.put(first)?;
+            self.send_all(sent)?;
+            return Ok(self.take());
+        }
+        self.send_all(sent)?;
+        Ok(Some(first))
     }
 
     /// Puts all answers of a buffer on the way.
@@ -121,4 +143,26 @@ impl<J: Job> Rounds<J> {
         }
         Ok(())
     }
+}
+
+// Puts a token behind others.
+#[inline(always)]
+fn push<J: Job>(tokens: &mut VecDeque<Token<J>>, token: Token<J>) -> Result<(), NoMemory>
+    ensures { OnOk result (tokens.new.items ≡ tokens.old.items ++ token ∷ []) }
+{
+    if tokens.len() >= tokens.capacity() {
+        make_room(tokens)?;
+    }
+    tokens.push_back_reserved(token);
+    Ok(())
+}
+
+// Makes room for one token more.
+#[inline(never)]
+fn make_room<J: Job>(tokens: &mut VecDeque<Token<J>>) -> Result<(), NoMemory>
+    ensures same { tokens.new.items ≡ tokens.old.items }
+    ensures room { OnOk result (deque_len tokens.new < deque_capacity tokens.new) }
+{
+    tokens.reserve(1)?;
+    Ok(())
 }

@@ -1,7 +1,7 @@
 use Rattle.std.proofs.Common.{◌⊎◌, ℕ, length}
 use Rattle.df_core.specs.Core.{IsSent}
-use Rattle.part_store.specs.Runs.{Covers}
-use Rattle.part_store.proofs.rounds.Rounds.take_all.Given as goal
+use Rattle.store_buf.specs.Runs.{Covers}
+use Rattle.store_buf.proofs.rounds.Rounds.take_all.Given as goal
 
 abbrev pub invariant-loop-token : goal.invariant-loop-token
 invariant-loop-token g l = Covers l.initial.self l.self ×

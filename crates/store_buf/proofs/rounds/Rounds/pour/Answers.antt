@@ -1,5 +1,5 @@
-use Rattle.part_store.proofs.Reaching.{taken_on}
-use Rattle.part_store.proofs.rounds.Rounds.pour.Goals as goal
+use Rattle.store_buf.proofs.Reaching.{taken_on}
+use Rattle.store_buf.proofs.rounds.Rounds.pour.Goals as goal
 
 pub loop-token-preserved : goal.loop-token-preserved
 loop-token-preserved g c =

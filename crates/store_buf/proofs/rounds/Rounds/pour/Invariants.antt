@@ -1,6 +1,6 @@
 use Rattle.std.proofs.Common.{◌⊎◌, ℕ, length}
 use Rattle.df_core.specs.Core.{IsSent}
-use Rattle.part_store.proofs.rounds.Rounds.pour.Given as goal
+use Rattle.store_buf.proofs.rounds.Rounds.pour.Given as goal
 
 abbrev pub invariant-loop-token : goal.invariant-loop-token
 invariant-loop-token g l = (w i p v : ℕ) → IsSent l.fn.tokens w i p v →

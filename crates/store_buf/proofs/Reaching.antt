@@ -1,15 +1,12 @@
 -- Tokens that have come or are on the way.
-use Rattle.std.proofs.Common.{ℕ, ◌≡◌, ◌⊎◌, List, [], ◌∷◌, ◌++◌, Some, None, refl, sym}
-use Rattle.std.proofs.Common.{◌∙◌, subst, inl, inr}
+use Rattle.std.proofs.Common.{ℕ, ◌≡◌, ◌⊎◌, List, [], ◌∷◌, ◌++◌, Option, Some, None, MatchOption, refl}
+use Rattle.std.proofs.Common.{sym, ◌∙◌, subst, inl, inr}
 use Rattle.ws_isa.specs.Image.{Token}
 use Rattle.ws_isa.specs.Walk.{Ports}
-use Rattle.df_core.specs.Core.{IsSent}
+use Rattle.df_core.specs.Core.{IsSent, with_at}
 use Rattle.df_core.proofs.Ports.{with_at_cases}
 use Rattle.df_core.proofs.SlotLists.{is_sent_append_left, is_sent_append_right, is_sent_append_cases}
-use Rattle.match_table.specs.Tables as table
-use Rattle.match_table.specs.Tables.{held}
-use Rattle.match_table.specs.Matching.{Arrives}
-use Rattle.part_store.specs.Runs.{AllReach, Covers, IsOnItsWay}
+use Rattle.store_buf.specs.Runs.{AllReach, Covers, IsOnItsWay}
 
 pub covers_self : (ts : List Token) → Covers ts ts
 covers_self ts w i p v h = h
@@ -47,31 +44,31 @@ reach_held f way x come w i p (inr h) = elim h.1 [
   | inr g ↦ inr (h.0, g)
 ]
 
-module _ (old : table.TableContent) (x : Token) (new : table.TableContent) (a : Arrives old x new) where
-  pub held_new : held new x.wave x.instr x.port ≡ Some x.value
-  held_new = a.more x.wave x.instr x.port
-      ∙ elim (with_at_cases x.wave x.instr x.port (Some x.value) (held old) x.wave x.instr x.port) [
+-- nothing is on the way: each has come
+pub reach_none : (f : Ports) (ts : List Token) → AllReach f [] ts → (w i p v : ℕ) → IsSent ts w i p v →
+    (u : ℕ) × (f w i p ≡ Some u)
+reach_none f ts all w i p v h = elim (all w i p v h) [ inl g ↦ g | inr g ↦ absurd g.1 ]
+
+-- a token comes to its port, which was free
+module _ (f g : Ports) (x : Token) (free : f x.wave x.instr x.port ≡ None)
+    (more : (w i p : ℕ) → g w i p ≡ with_at x.wave x.instr x.port (Some x.value) f w i p) where
+  pub held_new : g x.wave x.instr x.port ≡ Some x.value
+  held_new = more x.wave x.instr x.port
+      ∙ elim (with_at_cases x.wave x.instr x.port (Some x.value) f x.wave x.instr x.port) [
         | inl h ↦ h.1
         | inr h ↦ absurd (h.0 (record { wave = refl; instr = refl; port = refl }))
       ]
 
-  pub held_old : (w i p v : ℕ) → held old w i p ≡ Some v → held new w i p ≡ Some v
-  held_old w i p v e = a.more w i p ∙ elim
-      (with_at_cases x.wave x.instr x.port (Some x.value) (held old) w i p) [
-        | inl h ↦ absurd (let n : held old w i p ≡ None =
-            subst (λ (k : ℕ × ℕ × ℕ). held old k.0 k.1 k.2 ≡ None)
-            (λ j. (h.0.wave j, h.0.instr j, h.0.port j)) a.free in let f : None ≡ Some v = sym n ∙ e in cc)
-        | inr h ↦ h.1 ∙ e
-      ]
+  pub held_old : (w i p v : ℕ) → f w i p ≡ Some v → g w i p ≡ Some v
+  held_old w i p v e = more w i p ∙ elim (with_at_cases x.wave x.instr x.port (Some x.value) f w i p) [
+    | inl h ↦ absurd (let n : f w i p ≡ None = subst (λ (k : ℕ × ℕ × ℕ). f k.0 k.1 k.2 ≡ None)
+        (λ j. (h.0.wave j, h.0.instr j, h.0.port j)) free in let y : None ≡ Some v = sym n ∙ e in cc)
+    | inr h ↦ h.1 ∙ e
+  ]
 
-  -- at other places the table holds what it held
-  pub held_same : (w i p v : ℕ) → held old w i p ≡ Some v → held new w i p ≡ held old w i p
-  held_same w i p v e = held_old w i p v e ∙ sym e
-
-  pub reach_arrived : (way : List Token) (w i p : ℕ) → IsOnItsWay (held old) (x ∷ way) w i p →
-      IsOnItsWay (held new) way w i p
+  pub reach_arrived : (way : List Token) (w i p : ℕ) → IsOnItsWay f (x ∷ way) w i p → IsOnItsWay g way w i p
   reach_arrived way w i p (inl h) = inl (h.0, held_old w i p h.0 h.1)
-  reach_arrived way w i p (inr h) = reach_held (held new) way x (x.value, held_new) w i p (inr h)
+  reach_arrived way w i p (inr h) = reach_held g way x (x.value, held_new) w i p (inr h)
 
 -- a token is put on the way, behind this round or behind what waits for the next
 pub covers_round : (old round next more : List Token) (t : Token) → old ≡ round ++ next →
@@ -139,3 +136,40 @@ all_taken all rest way c e w i p v h = elim (c w i p v h) [
   | inl g ↦ g
   | inr g ↦ absurd (subst (λ (ts : List Token). IsSent ts w i p v) e g)
 ]
+
+pub covers_on : (some mid all : List Token) → Covers some mid → Covers mid all → Covers some all
+covers_on some mid all c d w i p v h = d w i p v (c w i p v h)
+
+-- the others that an instance sent, and what was on the way, where the first is brought or put by
+pub covers_rest : (all rest old way : List Token) (t : Token) → all ≡ t ∷ rest → Covers old way →
+    Covers rest way → Covers (all ++ old) (t ∷ way)
+covers_rest all rest old way t e keep sent w i p v h = elim (is_sent_append_cases all old w i p v h) [
+  | inl g ↦ elim (subst (λ (ts : List Token). IsSent ts w i p v) e g) [
+    | inl k ↦ inl k
+    | inr k ↦ inr (sent w i p v k)
+  ]
+  | inr g ↦ inr (keep w i p v g)
+]
+
+pub covers_all : (all rest old mid way : List Token) (t : Token) → all ≡ t ∷ rest → Covers (t ∷ old) mid →
+    Covers mid way → Covers rest way → Covers (all ++ old) way
+covers_all all rest old mid way t e put keep sent w i p v h =
+    elim (is_sent_append_cases all old w i p v h) [
+      | inl g ↦ elim (subst (λ (ts : List Token). IsSent ts w i p v) e g) [
+        | inl k ↦ keep w i p v (put w i p v (inl k))
+        | inr k ↦ sent w i p v k
+      ]
+      | inr g ↦ keep w i p v (put w i p v (inr g))
+    ]
+
+-- the first on the way is taken, once all that an instance sent has been put there
+pub take_after : (o : Option Token) (all rest old way new : List Token) (t : Token) → all ≡ t ∷ rest →
+    Covers (all ++ old) way → MatchOption o (way ≡ []) (λ x. way ≡ x ∷ new) →
+    MatchOption o ((all ≡ []) × (old ≡ [])) (λ x. Covers (all ++ old) (x ∷ new))
+take_after None all rest old way new t e c m = absurd (subst
+    (λ (ts : List Token). IsSent ts t.wave t.instr t.port t.value) m
+    (c t.wave t.instr t.port t.value (is_sent_append_left all old t.wave t.instr t.port t.value
+    (subst (λ (ts : List Token). IsSent ts t.wave t.instr t.port t.value) (sym e)
+    (inl (refl, refl, refl, refl))))))
+take_after (Some x) all rest old way new t e c m =
+    λ w i p v h. subst (λ (ts : List Token). IsSent ts w i p v) m (c w i p v h)
