@@ -1,12 +1,14 @@
 -- A token comes to the tables of a crew of one.
-use Rattle.std.proofs.Common.{ℕ, ◌≡◌, false, true, List, [], ◌∷◌, ◌++◌, slice_set, sym, subst}
+use Rattle.std.proofs.Common.{ℕ, ◌≡◌, false, true, List, [], ◌∷◌, ◌++◌, Some, length, slice_set, refl, sym}
+use Rattle.std.proofs.Common.{subst}
 use Rattle.ws_words.specs.Outside.{World}
 use Rattle.ws_isa.specs.Image.{Image, Token, is_memory, result_of, sends}
 use Rattle.ws_isa.specs.Formed.{Formed}
 use Rattle.ws_isa.specs.Sound.{Sound}
-use Rattle.df_core.specs.Core.{has, operands_in}
+use Rattle.df_core.specs.Core.{Key, has, operands_in}
 use Rattle.df_core.specs.Shown.{Tables as Part, TablesOk}
 use Rattle.df_core.specs.Rights.{IsRight}
+use Rattle.df_core.proofs.Owing.{nothing}
 use Rattle.df_core.proofs.Ports.{has_some}
 use Rattle.match_table.specs.Matching.{Arrives, Full}
 use Rattle.match_table.specs.Tables.{held, TableContent}
@@ -14,11 +16,26 @@ use Rattle.match_table.specs.Growth.{content_at}
 use Rattle.match_table.specs.Together.{all_fired, together}
 use Rattle.match_table.specs.Coming.{served}
 use Rattle.match_table.proofs.Brought as B
+use Rattle.ws_isa.specs.Walk.{start_tokens}
+use Rattle.store_buf.specs.declared.kept.Kept.{Kept}
 use Rattle.store_buf.specs.Contents.{Content}
+use Rattle.store_buf.specs.Requests.{kept_in}
 use Rattle.store_buf.specs.Runs.{Covers}
 use Rattle.store_buf.proofs.Paying as P
 use Rattle.store_buf.proofs.Reaching as R
 use Rattle.fire_crew.specs.Solo.{Knows, Owes, Paid}
+
+none_fired : (ks : List Key) → length ks ≡ 0 → ks ≡ []
+none_fired [] e = refl
+none_fired (k ∷ ks) e = absurd (omega e)
+
+-- a run begins
+pub come_start : (image : Image) (t : Part) (c : Content) (sent way : List Token) → length t.fired ≡ 0 →
+    c.kept ≡ [] → sent ≡ [] → Covers (start_tokens image) way → Paid image t c (sent ++ way)
+come_start image t c sent way none empty bare pulse =
+    subst (λ (ts : List Token). Paid image t c (ts ++ way)) (sym bare)
+    (P.pay_start image t (Knows c) (Owes image c) way (none_fired t.fired none)
+    (λ ts o. nothing o.3 (subst (λ (ks : List Kept). kept_in image ks o.0 o.1 ≡ Some o.3) empty o.4)) pulse)
 
 module _ (image : Image) (world : World) (formed : Formed image) (sound : Sound image)
     (old new : List TableContent) (x : Token)

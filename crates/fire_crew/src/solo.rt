@@ -60,16 +60,36 @@ pub fn run_solo<J: Job, P: Port, G: Gate>(
         answers: BufferAnswers::none(alloc),
         left: budget,
     };
-    let ending = match begin(alloc, code, &mut run.way) {
-        Ok(()) => go_on(code, &mut run, gate),
-        Err(_) => Ending::Starved,
-    };
+    let ending = run_through(alloc, code, &mut run, gate);
     CrewLeft {
         tables: run.tables,
         buffer: run.buffer,
         ending,
         phases: 0,
     }
+}
+
+// Brings tokens, from the start pulse on, until the run has ended.
+fn run_through<'i, J: Job, P: Port, G: Gate>(
+    alloc: Global,
+    code: &Code<'i, J>,
+    run: &mut Solo<'i, J, P>,
+    gate: &G,
+) -> Ending
+    requires serve { AllServe run.old.tables }
+    requires fresh { length (part_of run.old.tables).fired ≡ 0 }
+    requires going { IsGoing run.old.buffer }
+    requires none { run.old.buffer.kept ≡ [] }
+    requires sent { run.old.results.sent ≡ [] }
+    ensures serve { AllServe run.new.tables }
+    ensures count { length (part_of run.new.tables).fired + run.new.left ≡ run.old.left }
+    ensures ended { EndingSo J.image J.world J.began (part_of run.new.tables).fired run.new.left
+        run.new.buffer result }
+{
+    let Ok(()) = begin(alloc, code, &mut run.way) else {
+        return Ending::Starved;
+    };
+    go_on(code, run, gate)
 }
 
 // Puts the start pulse on the way.
