@@ -1,6 +1,6 @@
 -- A token comes to the tables of a crew of one.
-use Rattle.std.proofs.Common.{ℕ, ◌≡◌, false, true, List, [], ◌∷◌, ◌++◌, Some, length, slice_set, refl, sym}
-use Rattle.std.proofs.Common.{subst}
+use Rattle.std.proofs.Common.{ℕ, ◌≡◌, false, true, List, [], ◌∷◌, ◌++◌, Option, MatchOption, Some, None, length, slice_set, refl}
+use Rattle.std.proofs.Common.{sym, subst, arith}
 use Rattle.ws_words.specs.Outside.{World}
 use Rattle.ws_isa.specs.Image.{Image, Token, is_memory, result_of, sends}
 use Rattle.ws_isa.specs.Formed.{Formed}
@@ -23,11 +23,15 @@ use Rattle.store_buf.specs.Requests.{kept_in}
 use Rattle.store_buf.specs.Runs.{Covers}
 use Rattle.store_buf.proofs.Paying as P
 use Rattle.store_buf.proofs.Reaching as R
-use Rattle.fire_crew.specs.Solo.{Knows, Owes, Paid}
+use Rattle.df_core.specs.Began.{Began}
+use Rattle.df_core.specs.Rights.{Asked}
+use Rattle.fire_crew.specs.Ends.{IsGoing}
+use Rattle.fire_crew.specs.Solo.{AsksSo, GoesOn, Knows, Owes, Paid}
+use Rattle.fire_crew.specs.declared.judge.Ending.{Ending}
 
 none_fired : (ks : List Key) → length ks ≡ 0 → ks ≡ []
 none_fired [] e = refl
-none_fired (k ∷ ks) e = absurd (omega e)
+none_fired (k ∷ ks) e = absurd (omega (arith, e))
 
 -- a run begins
 pub come_start : (image : Image) (t : Part) (c : Content) (sent way : List Token) → length t.fired ≡ 0 →
@@ -36,6 +40,32 @@ come_start image t c sent way none empty bare pulse =
     subst (λ (ts : List Token). Paid image t c (ts ++ way)) (sym bare)
     (P.pay_start image t (Knows c) (Owes image c) way (none_fired t.fired none)
     (λ ts o. nothing o.3 (subst (λ (ks : List Kept). kept_in image ks o.0 o.1 ≡ Some o.3) empty o.4)) pulse)
+
+-- what is to be brought next, where something is on the way and where nothing is
+pub next_some : (o : Option Token) (x : Token) (sent old way : List Token) → o ≡ Some x →
+    MatchOption o ((sent ≡ []) × (old ≡ [])) (λ t. Covers (sent ++ old) (t ∷ way)) →
+    Covers (sent ++ old) (x ∷ way)
+next_some o x sent old way is m =
+    subst (λ (p : Option Token). MatchOption p ((sent ≡ []) × (old ≡ [])) (λ t. Covers (sent ++ old) (t ∷ way)))
+    is m
+
+pub next_none : (o : Option Token) (sent old way : List Token) → o ≡ None →
+    MatchOption o ((sent ≡ []) × (old ≡ [])) (λ t. Covers (sent ++ old) (t ∷ way)) → (sent ≡ []) × (old ≡ [])
+next_none o sent old way is m =
+    subst (λ (p : Option Token). MatchOption p ((sent ≡ []) × (old ≡ [])) (λ t. Covers (sent ++ old) (t ∷ way)))
+    is m
+
+-- a run goes on where the buffer has a request, or has ended
+pub come_on : (image : Image) (world : World) (began : List (Option Began)) (o : Option Ending) (t : Part)
+    (left : ℕ) (c d : Content) (r : Asked) (way sent more : List Token) → sent ≡ [] →
+    AsksSo image world began c r way d more o →
+    (((u : Part) → Paid image u c way → Paid image u d more) → Knows d r.wave r.instr → Paid image t d more) →
+    GoesOn image world began t left d (sent ++ more) o
+come_on image world began None t left c d r way sent more bare so tell = (
+  so.0,
+  subst (λ (ts : List Token). Paid image t d (ts ++ more)) (sym bare) (tell so.2 so.1),
+)
+come_on image world began (Some e) t left c d r way sent more bare so tell = so t.fired left
 
 module _ (image : Image) (world : World) (formed : Formed image) (sound : Sound image)
     (old new : List TableContent) (x : Token)
