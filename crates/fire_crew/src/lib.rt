@@ -19,14 +19,14 @@
 //! share, and the table that the caller names gets one at least. `few_tokens`: where the walk has at most n
 //! instances, at most 3 n tokens have come.
 //!
-//! `run_image` runs an image with 1 to 8 workers, over ports of any type that tell what they have left, and
-//! gives the ports back. **Whatever the workers did** (`CrewTells`): `Done` has the words, the cells and the
+//! A `Crew` has 1 to 8 workers, a gate and a budget. `run_image` runs an image, over ports of any type that
+//! tell what they have left, and gives the ports back. **Whatever the workers did** (`CrewTells`): `Done` has the words, the cells and the
 //! ports of the whole walk, which has no index fault and costs what has fired, at most the budget; `Budget`
 //! comes only where exactly the budget has fired and the walk has more instances, with words and ports that
 //! some of its first operations leave, none of them past an end; `Fault` only where the walk has an index
 //! fault, with what stood before it; `Port` only where that port's count of faults rose, with what stood
 //! before the walk's operation on it; with `NoMemory` the ports are as the walk's first operations leave
-//! them, or as they were handed in. `crew_run` does so for a `Job` that names the image, the input and the
+//! them, or as they were handed in. `run_job`, and `crew_run` with it, does so for a `Job` that names the image, the input and the
 //! ports, and gives back the tables too: each serves its own instances, and together they list each fired
 //! instance once, at `Done` all of the walk, at `Budget` as many as the budget, and never more; the
 //! operations of which is told then are at least as many as are listed without a gap (`EndsSo`). An end that
@@ -62,10 +62,11 @@ pub mod unknown;
 mod waiting;
 pub mod work;
 
+pub use crew::Crew;
 pub use finish::{CrewEnd, CrewFinish};
 pub use follow::{Next, carry_on};
 pub use gate::{Free, Gate};
 pub use hand::{Bare, InHand, Wrap};
 pub use laws::ends_are_told;
 pub use pouring::pour;
-pub use run::{RunEnd, crew_run, run_image};
+pub use run::{RunEnd, crew_run};

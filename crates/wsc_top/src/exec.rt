@@ -15,7 +15,7 @@ use crate::run_texts::answer;
 use crate::status::Status;
 use crate::task::RunOptions;
 use crate::text::Text;
-use fire_crew::{CrewFinish, Gate, RunEnd, run_image};
+use fire_crew::{Crew, CrewFinish, Gate, RunEnd};
 use part_store::{PartEnd, PartFinish, part_image};
 use port_set::{Port, Slots};
 use std::alloc::Global;
@@ -89,7 +89,14 @@ fn crewed<P: Port + Send, G: Gate, R: Threads + Wait + Sync>(
 {
     let workers = options.workers.max(1).min(MOST_WORKERS);
     let budget = options.budget;
-    let end = run_image(rt, alloc, &image, input, ports, workers, budget, gate);
+    let crew = Crew {
+        rt,
+        alloc,
+        gate,
+        workers,
+        budget,
+    };
+    let end = crew.run_image(&image, input, ports);
     reply(alloc, options, image, end)
 }
 

@@ -2,7 +2,7 @@ use Rattle.std.proofs.Common.{ℕ, List, subst, sym}
 use denote.Param.Send.{sendable}
 use Rattle.match_table.specs.Growth.{GrowFrom}
 use Rattle.match_table.specs.Rows.{Fits, contents}
-use Rattle.fire_crew.proofs.phase.phase.Goals as goal
+use Rattle.fire_crew.proofs.crew.Crew.phase.Goals as goal
 use Rattle.match_table.specs.Tables.{TableContent}
 
 pub map_vec-back-requires-after_bounds : goal.map_vec-back-requires-after_bounds

@@ -1,6 +1,6 @@
 use Rattle.std.proofs.Common.{arith}
 use Rattle.match_table.specs.Together.{part_of}
-use Rattle.fire_crew.proofs.crew.run_on.Goals as goal
+use Rattle.fire_crew.proofs.crew.Crew.run_on.Goals as goal
 
 pub returns-clause-few : goal.returns-clause-few
 returns-clause-few g c = λ cost most. (let m = c.run_phases-ended.ensures.moved in

@@ -1,6 +1,6 @@
 use Rattle.match_table.specs.Rows.{contents}
 use Rattle.match_table.proofs.Growth.{all_grow_on}
-use Rattle.fire_crew.proofs.turn.turn.Goals as goal
+use Rattle.fire_crew.proofs.crew.Crew.turn.Goals as goal
 
 pub returns-then-after-clause-grow : goal.returns-then-after-clause-grow
 returns-then-after-clause-grow g c = all_grow_on (contents c.args.tables)

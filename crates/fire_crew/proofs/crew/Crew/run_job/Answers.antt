@@ -3,7 +3,7 @@ use Rattle.ws_words.specs.Outside.{World}
 use Rattle.port_set.specs.Slots.{AllOpen, contents}
 use Rattle.df_core.specs.Began.{Began}
 use Rattle.store_buf.specs.Outdoors.{AllBegan}
-use Rattle.fire_crew.proofs.run.crew_run.Goals as goal
+use Rattle.fire_crew.proofs.crew.Crew.run_job.Goals as goal
 
 pub run_over-requires-clause-input : goal.run_over-requires-clause-input
 run_over-requires-clause-input g c κs within = sym (ap (λ (w : World). w.input) c.requires.world)

@@ -3,7 +3,7 @@ use Rattle.match_table.specs.Growth.{AllGrow}
 use Rattle.match_table.specs.Rows.{Fits, contents}
 use Rattle.match_table.proofs.Growth.{all_grow_same}
 use Rattle.match_table.specs.Together.{AllServe}
-use Rattle.fire_crew.proofs.turn.work.Goals as goal
+use Rattle.fire_crew.proofs.crew.Crew.work.Goals as goal
 
 pub returns-in_default-clause-serve : goal.returns-in_default-clause-serve
 returns-in_default-clause-serve g c = subst (λ t. AllServe t) (sym c.stays.ensures) c.requires.serve

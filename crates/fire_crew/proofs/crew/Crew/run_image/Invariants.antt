@@ -1,6 +1,6 @@
 use Rattle.port_set.specs.Slots.{contents}
 use Rattle.store_buf.specs.Outdoors.{began_of, world_with}
-use Rattle.fire_crew.proofs.run.run_image.Given as goal
+use Rattle.fire_crew.proofs.crew.Crew.run_image.Given as goal
 
 abbrev pub ghosts-run_as : goal.ghosts-run_as
 ghosts-run_as g a = record {
