@@ -1,6 +1,8 @@
-use Rattle.std.proofs.Common.{◌-◌, ℕ, ap, arith}
+use Rattle.std.proofs.Common.{◌-◌, ℕ, ap, subst, arith}
 use Rattle.match_table.specs.Rows.{contents}
 use Rattle.match_table.proofs.Growth.{all_grow_on}
+use Rattle.match_table.specs.Together.{part_of}
+use Rattle.fire_crew.specs.Verdicts.{EndingSo}
 use Rattle.fire_crew.proofs.Phases.{steady_last, steady_more, steady_start}
 use Rattle.fire_crew.proofs.crew.Crew.run_phases.Goals as goal
 
@@ -31,3 +33,8 @@ returns-clause-moved g c =
     let few = s.few in
     let end = c.loop-phases-test.false in
     (s.count, omega (arith, few, end), s.came)
+
+pub returns-in-Ends-clause-ended : goal.returns-in-Ends-clause-ended
+returns-in-Ends-clause-ended g c = subst (λ (n : ℕ). EndingSo g.J.Job.image g.J.Job.world g.J.Job.began
+    (part_of c.loop-phases.tables).fired (c.args.self.now.budget - n) c.find_course.new.buffer
+    c.in-Ends.ending) c.fired.ensures c.in-Ends.ensures
