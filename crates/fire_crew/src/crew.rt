@@ -7,14 +7,14 @@ ghost use Rattle.store_buf.specs.Outdoors.{AllBegan};
 ghost use Rattle.match_table.specs.Growth.{AllGrow};
 ghost use Rattle.match_table.specs.Rows.{contents as all_contents};
 ghost use Rattle.match_table.specs.Together.{AllServe, part_of};
-ghost use Rattle.fire_crew.specs.declared.finish.CrewFinish.TheVariants.{NoMemory};
+ghost use Rattle.store_buf.specs.declared.finish.RunFinish.TheVariants.{NoMemory};
 ghost use Rattle.fire_crew.specs.Ends.{IsGoing};
 ghost use Rattle.fire_crew.specs.Finishes.{EndsSo};
 ghost use Rattle.fire_crew.specs.Verdicts.{EndingSo, MovedOn};
 
 use crate::Gate;
 use crate::ends::few_tokens;
-use crate::finish::{CrewEnd, CrewFinish, finish};
+use crate::finish::{CrewEnd, finish};
 use crate::judge::{Ending, Verdict, find_course};
 use crate::limits::fitting;
 use crate::solo::run_solo;
@@ -26,7 +26,7 @@ use port_set::{Port, Slots};
 use std::alloc::Global;
 use std::sync::Wait;
 use std::thread::Threads;
-use store_buf::Buffer;
+use store_buf::{Buffer, RunEnd, RunFinish};
 use ws_words::Words;
 
 /// Where a run has ended, and after how many phases.
@@ -150,13 +150,19 @@ pub fn run_over<J: Job + Send + Sync, P: Port + Send, G: Gate, R: Threads + Wait
     ensures serve { AllServe result.tables }
     ensures within { length (part_of result.tables).fired ≤ budget }
     ensures finish { EndsSo J.image J.world J.began budget (part_of result.tables).fired
-        (contents P.tells ports) (contents P.tells result.ports) result.finish }
-    ensures open { AllOpen (contents P.tells result.ports) }
+        (contents P.tells ports) (contents P.tells result.end.ports) result.end.finish }
+    ensures open { AllOpen (contents P.tells result.end.ports) }
 {
     match Buffer::begin(alloc, code, input, ports) {
         Ok(buffer) => {
-            let ended = run_from(rt, alloc, code, buffer, workers, budget, gate);
-            finish(code, ended.tables, ended.buffer, ended.ending, budget)
+            let CrewLeft {
+                tables,
+                buffer,
+                ending,
+                phases: _,
+            } = run_from(rt, alloc, code, buffer, workers, budget, gate);
+            let end = finish(code, &tables, buffer, ending, budget);
+            CrewEnd { end, tables }
         }
         Err(ports) => stays(alloc, ports),
     }
@@ -191,12 +197,14 @@ fn run_from<J: Job + Send + Sync, P: Port + Send, G: Gate, R: Threads + Wait + S
 pub fn stays<J: Job, P: Port>(alloc: Global, ports: Slots<P>) -> CrewEnd<J, P>
     ensures serve { AllServe result.tables }
     ensures none { length (part_of result.tables).fired ≡ 0 }
-    ensures finish { result.finish ≡ NoMemory }
-    ensures ports { result.ports ≡ ports }
+    ensures finish { result.end.finish ≡ NoMemory }
+    ensures ports { result.end.ports ≡ ports }
 {
     CrewEnd {
-        finish: CrewFinish::NoMemory,
-        ports,
+        end: RunEnd {
+            finish: RunFinish::NoMemory,
+            ports,
+        },
         tables: no_tables(alloc),
     }
 }

@@ -7,11 +7,11 @@ use Rattle.fire_crew.proofs.run.run_as.Goals as goal
 
 pub returns-clause-tells : goal.returns-clause-tells
 returns-clause-tells g c =
-    let end = c.crew_run-end.result in
-    let listed = (part_of end.tables).fired in
+    let end = c.crew_run-ended.result.end in
+    let listed = (part_of c.crew_run-ended.result.tables).fired in
     let handed = contents g.P.Port.tells c.args.ports in
     let back = contents g.P.Port.tells end.ports in
     c.ends_are_told.ensures g.J.Job.image g.J.Job.world c.args.budget listed handed back end.finish
     (subst (λ (b : List (Option Began)).
     EndsSo g.J.Job.image g.J.Job.world b c.args.budget listed handed back end.finish)
-    c.requires.began c.crew_run-end.ensures.finish)
+    c.requires.began c.crew_run-ended.ensures.finish)
