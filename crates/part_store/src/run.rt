@@ -201,9 +201,9 @@ fn bring<J: Job, P: Port>(
     ensures paid { OnOk result
         (PaidWhile J.image (part run.new.table) run.new.buffer run.new.way) }
 {
-    let _ = code.program();
-    let _ = token.wave();
     run.table.facts();
+    code.facts();
+    token.facts();
     let mut results = Results::none();
     let took = run.table.accept_into(code, &token, &mut results);
     let Results { mut sent, request } = results;
