@@ -39,6 +39,7 @@ mod hints;
 pub mod job;
 pub mod law;
 pub mod list;
+mod lookup;
 pub mod memory;
 pub mod open;
 pub mod order;

@@ -4,7 +4,7 @@ ghost use Rattle.std.specs.Prelude.{◌≡◌, ℕ, [], IfOk};
 ghost use Rattle.ws_words.specs.Plain.{world_of};
 ghost use Rattle.ws_isa.specs.Formed.{Formed};
 ghost use Rattle.df_core.specs.Core.{core_opening};
-ghost use Rattle.df_core.specs.Places.{ProgramIs, image_of};
+ghost use Rattle.df_core.specs.Places.{image_of};
 ghost use Rattle.df_core.specs.Flows.{StandsForOpening};
 
 use crate::chain::Chain;
@@ -23,7 +23,6 @@ pub fn open<'w>(
     program: &Program<'_>,
     world: &'w World,
 ) -> Result<Flow<'w>, NoMemory>
-    requires program { ProgramIs program.now }
     requires formed { Formed (image_of program.now) }
     ensures { IfOk result (StandsForOpening (image_of program.now) (world_of world.now)) }
 {

@@ -3,4 +3,3 @@ pub mod Ends
 pub mod Verdicts
 pub mod Solo
 pub mod Finishes
-pub mod Answer

@@ -7,14 +7,14 @@ ghost use Rattle.store_buf.specs.Outdoors.{AllBegan};
 ghost use Rattle.match_table.specs.Growth.{AllGrow};
 ghost use Rattle.match_table.specs.Rows.{contents as all_contents};
 ghost use Rattle.match_table.specs.Together.{AllServe, part_of};
-ghost use Rattle.fire_crew.specs.declared.finish.CrewFinish.TheVariants.{NoMemory};
+ghost use Rattle.store_buf.specs.declared.finish.RunFinish.TheVariants.{NoMemory};
 ghost use Rattle.fire_crew.specs.Ends.{IsGoing};
 ghost use Rattle.fire_crew.specs.Finishes.{EndsSo};
 ghost use Rattle.fire_crew.specs.Verdicts.{EndingSo, MovedOn};
 
 use crate::Gate;
 use crate::ends::few_tokens;
-use crate::finish::{CrewEnd, CrewFinish, finish};
+use crate::finish::{CrewEnd, finish};
 use crate::judge::{Ending, Verdict, find_course};
 use crate::limits::fitting;
 use crate::solo::run_solo;
@@ -25,7 +25,7 @@ use port_set::{Port, Slots};
 use std::alloc::Global;
 use std::sync::Wait;
 use std::thread::Threads;
-use store_buf::Buffer;
+use store_buf::{Buffer, RunFinish};
 use ws_words::Words;
 
 /// Who runs an image: from 1 to 8 workers, and the gate that each asks before it brings a token. They go on
@@ -150,8 +150,18 @@ impl<'a, G: Gate, R: Threads + Wait + Sync> Crew<'a, G, R> {
     {
         match Buffer::begin(self.alloc, code, input, ports) {
             Ok(buffer) => {
-                let ended = self.run_from(code, buffer);
-                finish(code, ended.tables, ended.buffer, ended.ending, self.budget)
+                let CrewLeft {
+                    tables,
+                    buffer,
+                    ending,
+                    phases: _,
+                } = self.run_from(code, buffer);
+                let end = finish(code, &tables, buffer, ending, self.budget);
+                CrewEnd {
+                    finish: end.finish,
+                    ports: end.ports,
+                    tables,
+                }
             }
             Err(ports) => stays(self.alloc, ports),
         }
@@ -186,7 +196,7 @@ pub fn stays<J: Job, P: Port>(alloc: Global, ports: Slots<P>) -> CrewEnd<J, P>
     ensures ports { result.ports ≡ ports }
 {
     CrewEnd {
-        finish: CrewFinish::NoMemory,
+        finish: RunFinish::NoMemory,
         ports,
         tables: no_tables(alloc),
     }

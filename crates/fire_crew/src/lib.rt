@@ -20,8 +20,8 @@
 //! instances, at most 3 n tokens have come.
 //!
 //! A `Crew` has 1 to 8 workers, a gate and a budget. `run_image` runs an image, over ports of any type that
-//! tell what they have left, and gives the ports back. **Whatever the workers did** (`CrewTells`): `Done` has the words, the cells and the
-//! ports of the whole walk, which has no index fault and costs what has fired, at most the budget; `Budget`
+//! tell what they have left, and gives the ports back. **Whatever the workers did** (`RunTells`): `Done` has
+//! the words, the cells and the ports of the whole walk, which has no index fault and costs what has fired, at most the budget; `Budget`
 //! comes only where exactly the budget has fired and the walk has more instances, with words and ports that
 //! some of its first operations leave, none of them past an end; `Fault` only where the walk has an index
 //! fault, with what stood before it; `Port` only where that port's count of faults rose, with what stood
@@ -63,10 +63,11 @@ mod waiting;
 pub mod work;
 
 pub use crew::Crew;
-pub use finish::{CrewEnd, CrewFinish};
+pub use finish::CrewEnd;
 pub use follow::{Next, carry_on};
 pub use gate::{Free, Gate};
 pub use hand::{Bare, InHand, Wrap};
 pub use laws::ends_are_told;
 pub use pouring::pour;
-pub use run::{RunEnd, crew_run};
+pub use run::crew_run;
+pub use store_buf::RunFinish as CrewFinish;

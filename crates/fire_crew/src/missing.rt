@@ -135,8 +135,6 @@ fn look_through<J: Job>(
     ensures none { OnOk result (found.new ≡ [] → (found.old ≡ [])
         × ToldIn J.image (part_behind tables.now).held from to table.now) }
 {
-    table.facts();
-    let _ = code.program();
     let end = table.fired_count().min(to);
     for place in from..end {
         see_at(code, tables, courses, table, place, found)?;
@@ -158,7 +156,7 @@ fn look_back<J: Job, P: Port>(
         × All (HasAnswered J.image (part_behind tables.now).held) buffer.now.kept) }
 {
     buffer.facts();
-    let _ = code.program();
+    code.facts();
     for kept in buffer.kept() {
         look_up(code, tables, courses, *kept, found)?;
     }

@@ -38,7 +38,7 @@ pub(crate) fn see_at<J: Job>(
         return Ok(());
     }
     table.facts();
-    let _ = code.program();
+    code.facts();
     look_at(code, tables, courses, table.fired_at(code, place), found)
 }
 

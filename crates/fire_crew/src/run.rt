@@ -4,12 +4,12 @@ ghost use Rattle.std.specs.Prelude.{◌≡◌, ◌≤◌, length};
 ghost use Rattle.port_set.specs.Slots.{AllOpen, contents};
 ghost use Rattle.store_buf.specs.Outdoors.{AllTell, began_of, world_with};
 ghost use Rattle.match_table.specs.Together.{AllServe, part_of};
-ghost use Rattle.fire_crew.specs.Answer.{CrewTells};
+ghost use Rattle.store_buf.specs.Answer.{RunTells};
 ghost use Rattle.fire_crew.specs.Finishes.{EndsSo};
 
 use crate::Gate;
 use crate::crew::{Crew, stays};
-use crate::finish::{CrewEnd, CrewFinish};
+use crate::finish::CrewEnd;
 use crate::laws::ends_are_told;
 use df_core::{Code, Job};
 use port_set::{Port, Slots};
@@ -17,16 +17,9 @@ use std::alloc::Global;
 use std::marker::Brand;
 use std::sync::Wait;
 use std::thread::Threads;
-use store_buf::told_ports_begin;
+use store_buf::{RunEnd, told_ports_begin};
 use ws_isa::Checked;
 use ws_words::Words;
-
-/// How a run ended, with its ports.
-#[derive(Drop)]
-pub struct RunEnd<P> {
-    pub finish: CrewFinish,
-    pub ports: Slots<P>,
-}
 
 /// Runs the image of a job with so many workers, as `Crew::run_job` does.
 pub fn crew_run<J: Job + Send + Sync, P: Port + Send, G: Gate, R: Threads + Wait + Sync>(
@@ -62,9 +55,9 @@ pub fn crew_run<J: Job + Send + Sync, P: Port + Send, G: Gate, R: Threads + Wait
 }
 
 impl<'a, G: Gate, R: Threads + Wait + Sync> Crew<'a, G, R> {
-    /// Runs an image, until the whole walk has been run, so many instances have
-    /// fired, the walk's first load or store past the end is next, a port fails, or memory runs out.
-    /// Each port tells the words that it has left, and none is closed.
+    /// Runs an image, until the whole walk has been run, so many instances have fired, the walk's first
+    /// load or store past the end is next, a port fails, or memory runs out. Each port tells the words
+    /// that it has left, and none is closed.
     pub fn run_image<P: Port + Send>(
         &self,
         image: &Checked,
@@ -73,7 +66,7 @@ impl<'a, G: Gate, R: Threads + Wait + Sync> Crew<'a, G, R> {
     ) -> RunEnd<P>
         requires told { AllTell (contents P.tells ports) }
         requires open { AllOpen (contents P.tells ports) }
-        ensures tells { CrewTells image.now (world_with input (contents P.tells ports))
+        ensures tells { RunTells image.now (world_with input (contents P.tells ports))
             (contents P.tells ports) self.now.budget result.finish (contents P.tells result.ports) }
         ensures open { AllOpen (contents P.tells result.ports) }
     {
@@ -92,7 +85,7 @@ impl<'a, G: Gate, R: Threads + Wait + Sync> Crew<'a, G, R> {
         requires began { J.began ≡ began_of (contents P.tells ports) }
         requires told { AllTell (contents P.tells ports) }
         requires open { AllOpen (contents P.tells ports) }
-        ensures tells { CrewTells J.image J.world (contents P.tells ports) self.now.budget result.finish
+        ensures tells { RunTells J.image J.world (contents P.tells ports) self.now.budget result.finish
             (contents P.tells result.ports) }
         ensures open { AllOpen (contents P.tells result.ports) }
     {

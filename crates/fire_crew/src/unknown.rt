@@ -44,7 +44,7 @@ fn ask_all<J: Job, P: Port>(
         × All (IsKnown buffer.now.kept) (of_memory J.image table.now.fired)) }
 {
     table.facts();
-    let _ = code.program();
+    code.facts();
     for place in 0..table.asked_count() {
         ask(code, table.asked_at(code, place), buffer, requests)?;
     }
@@ -62,7 +62,7 @@ fn ask<J: Job, P: Port>(
     ensures { OnOk result (requests.new.items ≡ [] → (requests.old.items ≡ [])
         × IsKnown buffer.now.kept (key_of fired)) }
 {
-    let _ = code.program();
+    code.facts();
     if buffer.knows(fired.wave, fired.instr) {
         return Ok(());
     }

@@ -7,7 +7,7 @@ ghost use Rattle.ws_isa.specs.Image.{instr_at, is_memory, no_instr, ports};
 ghost use Rattle.ws_isa.specs.Sound.{Sound};
 ghost use Rattle.ws_isa.specs.Walk.{gather};
 ghost use Rattle.df_core.specs.Core.{is_full};
-ghost use Rattle.df_core.specs.Places.{ProgramIs, image_of};
+ghost use Rattle.df_core.specs.Places.{image_of};
 ghost use Rattle.match_table.specs.declared.meeting.Seen.TheVariants.{Waits, Fills};
 ghost use Rattle.match_table.specs.declared.table.Took.TheVariants as took;
 ghost use Rattle.match_table.specs.Matching.{Accepted, TookAs, Arrives, FiresSo, Full, HandedOn};
@@ -173,7 +173,6 @@ impl<J: Job> Table<J> {
         arrived: Option<Arrived>,
         results: &mut Results<'i, J>,
     ) -> Took
-        requires program { ProgramIs program.now }
         requires image { image_of program.now ≡ J.image }
         requires placed { IsPlacedAt (image_of program.now) token.now.instr placed }
         requires formed { Formed J.image }
@@ -226,7 +225,6 @@ impl<J: Job> Table<J> {
         operands: Operands,
         results: &mut Results<'i, J>,
     ) -> Result<Took, NoMemory>
-        requires program { ProgramIs program.now }
         requires image { image_of program.now ≡ J.image }
         requires placed { IsPlacedAt (image_of program.now) token.now.instr placed }
         requires formed { Formed J.image }

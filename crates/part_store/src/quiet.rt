@@ -55,7 +55,7 @@ impl<J: Job, P: Port> Quiet<J, P> {
             contents P.tells slots ≡ contents P.tells ports) }
     {
         every_list_of_events();
-        let _ = code.program();
+        code.facts();
         match PartBuffer::begin(alloc, code, input, ports) {
             Ok(inner) => Ok(Quiet { inner }),
             Err(ports) => Err(ports),

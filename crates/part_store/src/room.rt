@@ -5,7 +5,7 @@ ghost use Rattle.std.specs.Prelude.{length, IfSome, IfNone, OnOk, OnErr};
 ghost use Rattle.smallvec.specs.SmallVec.{HasRoomFor};
 ghost use Rattle.ws_isa.specs.Image.{Image, instr_at};
 ghost use Rattle.df_core.specs.Core.{same_key};
-ghost use Rattle.df_core.specs.Places.{ProgramIs, image_of};
+ghost use Rattle.df_core.specs.Places.{image_of};
 ghost use Rattle.std.specs.HashSet.{spare};
 ghost use Rattle.store_buf.specs.Requests.{entry_of};
 ghost use Rattle.store_buf.specs.Ordering.{OrderOk};
@@ -44,7 +44,6 @@ impl<P: Port> Parts<P> {
     // PartsKeep a request of an instance that had none, and makes room for the word that it may print and
     // the queue that it may join.
     pub(crate) fn keep(&mut self, program: &Program<'_>, kept: Kept) -> Result<(), NoMemory>
-        requires program { ProgramIs program.now }
         requires ok { PartsOk self.old }
         requires filed { PartsFiled (image_of program.now) self.old }
         requires fresh { entry_of self.old.order.kept.items kept.wave kept.instr ≡ None }
@@ -67,7 +66,6 @@ impl<P: Port> Parts<P> {
 
     // PartsKeep an address of an instance that had none.
     pub(crate) fn keep_bare(&mut self, program: &Program<'_>, kept: Kept) -> Result<(), NoMemory>
-        requires program { ProgramIs program.now }
         requires ok { PartsOk self.old }
         requires filed { PartsFiled (image_of program.now) self.old }
         requires fresh { entry_of self.old.order.kept.items kept.wave kept.instr ≡ None }

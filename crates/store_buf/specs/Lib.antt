@@ -14,3 +14,4 @@ pub mod Holds
 pub mod Contents
 pub mod Stores
 pub mod Runs
+pub mod Answer

@@ -8,7 +8,7 @@ use Rattle.port_set.specs.Ports.{Told}
 use Rattle.port_set.specs.declared.slots.Slots.{Slots}
 use Rattle.port_set.specs.Slots.{AllOpen, IsOpen, contents, slots, told_all}
 use Rattle.store_buf.specs.Outdoors.{AllTell, TellsLeft, world_with}
-use Rattle.fire_crew.specs.declared.run.RunEnd.{RunEnd}
+use Rattle.store_buf.specs.declared.finish.RunEnd.{RunEnd}
 use Rattle.multi_wave.specs.Parts.{Alone, PortsReady, EndSo, EndsAlone}
 use Rattle.wsc_top.specs.declared.status.Status.{Status}
 use Rattle.wsc_top.specs.declared.status.Status.TheVariants.{Done, Usage, Refused, Budget, ReadFault}

@@ -9,7 +9,7 @@ use Rattle.fire_crew.proofs.unknown.ask_all.Goals as goal
 
 pub ask-requires : goal.ask-requires
 ask-requires g c = let t = c.loop-place-test.true in let count = c.asked_count-place-end.ensures in
-    asks_at g.J.Job.image g.J.Job.world c.program.ensures.formed c.program.ensures.sound c.args.table.now
+    asks_at g.J.Job.image g.J.Job.world c.facts-2.ensures.formed c.facts-2.ensures.sound c.args.table.now
     c.facts.ensures.part c.asked_at.result c.asked_at.ensures.operands c.loop-place.place
     (omega (arith, t, count)) c.asked_at.ensures.at
 

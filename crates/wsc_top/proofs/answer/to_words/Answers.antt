@@ -13,7 +13,7 @@ returns-in-Ok-Run-clause-memory g c =
     c.in-Ok-Run.options c.in-Ok-Run.image c.in-Ok-Run.input
     (subst (StepSo _ _ _ (g.S.Source.faults c.args.source.now) (g.S.Source.faults c.prepare.new.source))
     is c.in-Ok-Run.ensures.ok) _ c.executed.ensures.image _ c.executed.ensures.threads _
-    c.executed.ensures.begun
+    c.executed.ensures.answered.begun
 
 pub returns-in-Err-clause-memory : goal.returns-in-Err-clause-memory
 returns-in-Err-clause-memory g c =
@@ -29,7 +29,7 @@ returns-in-Ok-Run-clause-answered g c =
     c.in-Ok-Run.options c.in-Ok-Run.image c.in-Ok-Run.input due _ c.executed.ensures.image _
     c.executed.ensures.threads _
     (λ status out e. c.what_is_due_is_answered.ensures _ _ _ _ _ _ _ c.in-Ok-Run.options c.in-Ok-Run.image
-    c.in-Ok-Run.input status out due c.requires.told e) c.executed.ensures.executes
+    c.in-Ok-Run.input status out due c.requires.told e) c.executed.ensures.answered.executes
 
 pub returns-in-Ok-Threads-clause-answered : goal.returns-in-Ok-Threads-clause-answered
 returns-in-Ok-Threads-clause-answered g c =

@@ -1,11 +1,6 @@
 use Rattle.std.proofs.Common.{◌∙◌, ap, subst, sym}
 use Rattle.port_set.specs.Slots.{AllOpen, contents}
-use Rattle.match_table.specs.Together.{AllServe}
 use Rattle.fire_crew.proofs.crew.Crew.run_over.Goals as goal
-
-pub returns-in-Ok-clause-serve : goal.returns-in-Ok-clause-serve
-returns-in-Ok-clause-serve g c = subst (λ t. AllServe t) (sym c.finish.ensures.tables)
-    c.run_from-ended.ensures.serve
 
 pub returns-in-Err-clause-open : goal.returns-in-Err-clause-open
 returns-in-Err-clause-open g c = subst AllOpen

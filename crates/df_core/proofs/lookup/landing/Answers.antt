@@ -1,5 +1,5 @@
 use Rattle.std.proofs.Common.{rules, ◌≡◌, ◌∙◌, ◌-◌, length, min, slice_index}
-use Rattle.df_core.proofs.program.landing.Goals as goal
+use Rattle.df_core.proofs.lookup.landing.Goals as goal
 use Rattle.ws_isa.proofs.Looking.{landing_found}
 
 pub returns : goal.returns
