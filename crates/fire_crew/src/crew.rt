@@ -14,14 +14,13 @@ ghost use Rattle.fire_crew.specs.Verdicts.{EndingSo, MovedOn};
 
 use crate::Gate;
 use crate::ends::few_tokens;
-use crate::finish::{CrewEnd, CrewFinish, finish};
+use crate::finish::{CrewEnd, CrewFinish, crew_end};
 use crate::judge::{Ending, Verdict, find_course};
-use crate::limits::fitting;
+use crate::shares::fitting;
 use crate::solo::run_solo;
 use crate::turn::turn;
 use df_core::{Code, Job, TokenList};
-use match_table::Tables;
-use match_table::together::fired;
+use match_table::{Tables, fired};
 use port_set::{Port, Slots};
 use std::alloc::Global;
 use std::sync::Wait;
@@ -156,7 +155,7 @@ pub fn run_over<J: Job + Send + Sync, P: Port + Send, G: Gate, R: Threads + Wait
     match Buffer::begin(alloc, code, input, ports) {
         Ok(buffer) => {
             let ended = run_from(rt, alloc, code, buffer, workers, budget, gate);
-            finish(code, ended.tables, ended.buffer, ended.ending, budget)
+            crew_end(code, ended.tables, ended.buffer, ended.ending, budget)
         }
         Err(ports) => stays(alloc, ports),
     }

@@ -8,9 +8,7 @@ ghost use Rattle.match_table.specs.Together.{AllServe, part_of};
 
 use crate::pour;
 use df_core::{Code, Job, Request, Token, TokenList};
-use match_table::bring::bring;
-use match_table::together::{fired, is_there};
-use match_table::{Results, Tables, Took};
+use match_table::{Results, Tables, Took, bring, fired, is_there};
 use port_set::Port;
 use std::alloc::Global;
 use store_buf::{BufFault, Buffer, MemoryOrder};

@@ -6,13 +6,12 @@ ghost use Rattle.match_table.specs.Together.{AllServe, part_of};
 ghost use Rattle.match_table.specs.Growth.{AllGrow};
 ghost use Rattle.match_table.specs.Rows.{contents};
 
-use crate::limits::{fitting, limits};
 use crate::own::see_brought;
 use crate::phase::{PhaseEnd, phase};
+use crate::shares::{fitting, limits};
 use crate::{Bare, Gate, Wrap};
 use df_core::{Code, Job, Token, TokenList};
-use match_table::together::fired;
-use match_table::{Tables, table_of};
+use match_table::{Tables, fired, table_of};
 use port_set::Port;
 use ready_pool::{SeatList, seats};
 use std::alloc::Global;

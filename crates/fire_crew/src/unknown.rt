@@ -8,9 +8,7 @@ ghost use Rattle.match_table.specs.Together.{part_of};
 ghost use Rattle.fire_crew.specs.Owing.{AllKnown, IsKnown};
 
 use df_core::{Code, Job, Request};
-use match_table::row::Tables;
-use match_table::together::table_at;
-use match_table::{Fired, Table};
+use match_table::{Fired, Table, Tables, table_at};
 use port_set::Port;
 use std::alloc::Global;
 use store_buf::{Buffer, MemoryOrder};

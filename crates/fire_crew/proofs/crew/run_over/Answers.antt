@@ -4,7 +4,7 @@ use Rattle.match_table.specs.Together.{AllServe}
 use Rattle.fire_crew.proofs.crew.run_over.Goals as goal
 
 pub returns-in-Ok-clause-serve : goal.returns-in-Ok-clause-serve
-returns-in-Ok-clause-serve g c = subst (λ t. AllServe t) (sym c.finish.ensures.tables)
+returns-in-Ok-clause-serve g c = subst (λ t. AllServe t) (sym c.crew_end.ensures.tables)
     c.run_from-ended.ensures.serve
 
 pub returns-in-Err-clause-open : goal.returns-in-Err-clause-open
