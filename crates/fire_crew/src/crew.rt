@@ -157,7 +157,7 @@ pub fn run_over<J: Job + Send + Sync, P: Port + Send, G: Gate, R: Threads + Wait
             let ended = run_from(rt, alloc, code, buffer, workers, budget, gate);
             crew_end(code, ended.tables, ended.buffer, ended.ending, budget)
         }
-        Err(ports) => stays(alloc, ports),
+        Err(ports) => starved_crew(alloc, ports),
     }
 }
 
@@ -187,7 +187,7 @@ fn run_from<J: Job + Send + Sync, P: Port + Send, G: Gate, R: Threads + Wait + S
 }
 
 /// For want of memory nothing was run.
-pub fn stays<J: Job, P: Port>(alloc: Global, ports: Slots<P>) -> CrewEnd<J, P>
+pub fn starved_crew<J: Job, P: Port>(alloc: Global, ports: Slots<P>) -> CrewEnd<J, P>
     ensures serve { AllServe result.tables }
     ensures none { length (part_of result.tables).fired ≡ 0 }
     ensures finish { result.finish ≡ NoMemory }

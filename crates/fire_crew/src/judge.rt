@@ -59,7 +59,7 @@ pub fn find_course<J: Job, P: Port>(
     {
         return go(token, tokens);
     }
-    if let Err(ending) = ask(alloc, code, tables, buffer) {
+    if let Err(ending) = submit_unknown(alloc, code, tables, buffer) {
         return Verdict::Ends(ending);
     }
     let most = if left == 0 { 1 } else { usize::MAX };
@@ -92,7 +92,7 @@ fn go<J: Job>(token: Token<J>, tokens: TokenList<J>) -> Verdict<J>
 
 // Submits the requests of instances that have fired and that the buffer doesn't know, so that it knows
 // all, unless it is stopped or memory runs out.
-fn ask<J: Job, P: Port>(
+fn submit_unknown<J: Job, P: Port>(
     alloc: Global,
     code: &Code<'_, J>,
     tables: &Tables<J>,

@@ -54,13 +54,13 @@ fn follow<J: Job, P: Port>(
 ) -> Result<(), NoMemory> {
     pour(results.sent.listed(alloc), tokens);
     match results.request {
-        Some(request) => ask(code, buffer, request, tokens),
+        Some(request) => submit_request(code, buffer, request, tokens),
         None => Ok(()),
     }
 }
 
 // Submits a request.
-fn ask<J: Job, P: Port>(
+fn submit_request<J: Job, P: Port>(
     code: &Code<'_, J>,
     buffer: &mut Buffer<J, P>,
     request: Request<J>,

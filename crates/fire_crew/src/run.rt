@@ -8,7 +8,7 @@ ghost use Rattle.fire_crew.specs.Answer.{CrewTells};
 ghost use Rattle.fire_crew.specs.Finishes.{EndsSo};
 
 use crate::Gate;
-use crate::crew::{run_over, stays};
+use crate::crew::{run_over, starved_crew};
 use crate::finish::{CrewEnd, CrewFinish};
 use crate::laws::ends_are_told;
 use df_core::{Code, Job};
@@ -106,6 +106,6 @@ pub fn crew_run<J: Job + Send + Sync, P: Port + Send, G: Gate, R: Threads + Wait
     told_ports_begin();
     match Code::of(alloc, image) {
         Ok(code) => run_over(rt, alloc, &code, input, ports, workers, budget, gate),
-        Err(_) => stays(alloc, ports),
+        Err(_) => starved_crew(alloc, ports),
     }
 }

@@ -46,7 +46,7 @@ pub fn turn<J: Job + Send + Sync, P: Port + Send, G: Gate, R: Threads + Wait + S
         → has ((part_of result.tables).held token.now.wave token.now.instr token.now.port) ≡ true }
 {
     let first = table_of(token.wave(), token.instr());
-    let mut after = work(
+    let mut after = run_phase(
         rt, alloc, tables, buffer, tokens, first, workers, budget, code, gate,
     );
     let brought = see_brought(
@@ -63,7 +63,7 @@ pub fn turn<J: Job + Send + Sync, P: Port + Send, G: Gate, R: Threads + Wait + S
 }
 
 // The work of a phase, in which the table `first` may fire where any may.
-fn work<J: Job + Send + Sync, P: Port + Send, G: Gate, R: Threads + Wait + Sync>(
+fn run_phase<J: Job + Send + Sync, P: Port + Send, G: Gate, R: Threads + Wait + Sync>(
     rt: &R,
     alloc: Global,
     tables: Tables<J>,
@@ -84,10 +84,10 @@ fn work<J: Job + Send + Sync, P: Port + Send, G: Gate, R: Threads + Wait + Sync>
 {
     let left = budget - fired(&tables);
     let Ok(limits) = limits(alloc, &tables, left, first) else {
-        return stays(tables, buffer, tokens);
+        return starved_phase(tables, buffer, tokens);
     };
     let Ok(deal) = dealt(alloc, tokens, workers) else {
-        return stays(tables, buffer, TokenList::empty(alloc));
+        return starved_phase(tables, buffer, TokenList::empty(alloc));
     };
     let after = phase::<J, Brand, P, G, R>(rt, alloc, tables, buffer, &limits, deal, code, gate);
     fitting(&after.tables, &limits);
@@ -95,7 +95,7 @@ fn work<J: Job + Send + Sync, P: Port + Send, G: Gate, R: Threads + Wait + Sync>
 }
 
 // Memory ran out before a worker could run.
-fn stays<J: Job, P: Port>(
+fn starved_phase<J: Job, P: Port>(
     tables: Tables<J>,
     buffer: Buffer<J, P>,
     tokens: TokenList<J>,

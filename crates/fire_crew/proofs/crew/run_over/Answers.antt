@@ -9,4 +9,5 @@ returns-in-Ok-clause-serve g c = subst (λ t. AllServe t) (sym c.crew_end.ensure
 
 pub returns-in-Err-clause-open : goal.returns-in-Err-clause-open
 returns-in-Err-clause-open g c = subst AllOpen
-    (sym (ap (λ s. contents g.P.Port.tells s) c.stays.ensures.ports ∙ c.in-Err.ensures.back)) c.requires.open
+    (sym (ap (λ s. contents g.P.Port.tells s) c.starved_crew.ensures.ports ∙ c.in-Err.ensures.back))
+    c.requires.open
