@@ -14,13 +14,12 @@ ghost use Rattle.fire_crew.specs.Verdicts.{EndingSo, MovedOn};
 
 use crate::Gate;
 use crate::ends::few_tokens;
-use crate::finish::{CrewEnd, finish};
+use crate::finish::{CrewEnd, crew_end};
 use crate::judge::{Ending, Verdict, find_course};
-use crate::limits::fitting;
+use crate::shares::fitting;
 use crate::solo::run_solo;
 use df_core::{Code, Job, TokenList};
-use match_table::Tables;
-use match_table::together::fired;
+use match_table::{Tables, fired};
 use port_set::{Port, Slots};
 use std::alloc::Global;
 use std::sync::Wait;
@@ -156,14 +155,14 @@ impl<'a, G: Gate, R: Threads + Wait + Sync> Crew<'a, G, R> {
                     ending,
                     phases: _,
                 } = self.run_from(code, buffer);
-                let end = finish(code, &tables, buffer, ending, self.budget);
+                let end = crew_end(code, &tables, buffer, ending, self.budget);
                 CrewEnd {
                     finish: end.finish,
                     ports: end.ports,
                     tables,
                 }
             }
-            Err(ports) => stays(self.alloc, ports),
+            Err(ports) => starved_crew(self.alloc, ports),
         }
     }
 
@@ -189,7 +188,7 @@ impl<'a, G: Gate, R: Threads + Wait + Sync> Crew<'a, G, R> {
 }
 
 /// For want of memory nothing was run.
-pub fn stays<J: Job, P: Port>(alloc: Global, ports: Slots<P>) -> CrewEnd<J, P>
+pub fn starved_crew<J: Job, P: Port>(alloc: Global, ports: Slots<P>) -> CrewEnd<J, P>
     ensures serve { AllServe result.tables }
     ensures none { length (part_of result.tables).fired ≡ 0 }
     ensures finish { result.finish ≡ NoMemory }

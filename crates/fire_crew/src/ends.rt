@@ -13,8 +13,7 @@ ghost use Rattle.fire_crew.specs.Ends.{AllRun, FaultRun, FrontRun, IsGoing, Port
 use df_core::{
     Code, Job, Token, counts, every_list_of_events, owing_nothing_is_rest, shown_is_fit,
 };
-use match_table::row::Tables;
-use match_table::together::facts;
+use match_table::{Tables, facts};
 use port_set::Port;
 use store_buf::{Buffer, MemoryOrder};
 

@@ -9,8 +9,7 @@ ghost use Rattle.fire_crew.specs.Verdicts.{EndingSo};
 use crate::ends::{fault_run, front_run, port_run};
 use crate::judge::Ending;
 use df_core::{Code, Job};
-use match_table::Tables;
-use match_table::together::fired;
+use match_table::{Tables, fired};
 use port_set::{Port, Slots};
 use store_buf::{BufFault, Buffer, MemoryOrder, RunEnd, RunFinish};
 
@@ -23,7 +22,7 @@ pub struct CrewEnd<J: Job, P: Port> {
 }
 
 /// What a run answers that has ended so.
-pub fn finish<J: Job, P: Port>(
+pub fn crew_end<J: Job, P: Port>(
     code: &Code<'_, J>,
     tables: &Tables<J>,
     buffer: Buffer<J, P>,

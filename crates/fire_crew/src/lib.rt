@@ -40,34 +40,39 @@
 //! (`Paid`), and where none is on the way the whole walk has been run.
 #![tactic(auto)]
 
-pub mod crew;
-pub mod ends;
-pub mod finish;
-pub mod follow;
-pub mod gate;
-pub mod hand;
-pub mod judge;
+mod crew;
+mod ends;
+mod finish;
+mod follow;
+mod gate;
+mod hand;
+mod judge;
 mod laws;
-pub mod limits;
-pub mod missing;
+mod missing;
 mod owed;
-pub mod own;
-pub mod phase;
+mod own;
+mod phase;
 mod pouring;
-pub mod run;
-pub mod solo;
+mod run;
+mod shares;
+mod solo;
 mod told;
-pub mod turn;
-pub mod unknown;
+mod turn;
+mod unknown;
 mod waiting;
-pub mod work;
+mod work;
 
-pub use crew::Crew;
-pub use finish::CrewEnd;
+pub use crew::{Crew, no_tables};
+pub use ends::few_tokens;
+pub use finish::{CrewEnd, crew_end};
 pub use follow::{Next, carry_on};
 pub use gate::{Free, Gate};
 pub use hand::{Bare, InHand, Wrap};
+pub use judge::{Ending, Verdict, find_course};
 pub use laws::ends_are_told;
+pub use own::see_brought;
 pub use pouring::pour;
 pub use run::crew_run;
+pub use shares::{fitting, limits};
 pub use store_buf::RunFinish as CrewFinish;
+pub use turn::deal;

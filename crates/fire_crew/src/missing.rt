@@ -11,9 +11,7 @@ ghost use Rattle.match_table.specs.Together.{AllServe, behind, part_behind, part
 
 use crate::owed::{keep, look_up, see_at};
 use df_core::{Code, Job, TokenList, start};
-use match_table::row::Tables;
-use match_table::together::{all_of, courses_of, facts, table_at};
-use match_table::{Course, Table};
+use match_table::{Course, Table, Tables, all_of, courses_of, facts, table_at};
 use port_set::Port;
 use std::alloc::Global;
 use store_buf::{Buffer, MemoryOrder};

@@ -8,7 +8,7 @@ ghost use Rattle.store_buf.specs.Answer.{RunTells};
 ghost use Rattle.fire_crew.specs.Finishes.{EndsSo};
 
 use crate::Gate;
-use crate::crew::{Crew, stays};
+use crate::crew::{Crew, starved_crew};
 use crate::finish::CrewEnd;
 use crate::laws::ends_are_told;
 use df_core::{Code, Job};
@@ -118,7 +118,7 @@ impl<'a, G: Gate, R: Threads + Wait + Sync> Crew<'a, G, R> {
         told_ports_begin();
         match Code::of(self.alloc, image) {
             Ok(code) => self.run_over(&code, input, ports),
-            Err(_) => stays(self.alloc, ports),
+            Err(_) => starved_crew(self.alloc, ports),
         }
     }
 }

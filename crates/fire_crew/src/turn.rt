@@ -7,13 +7,12 @@ ghost use Rattle.match_table.specs.Growth.{AllGrow};
 ghost use Rattle.match_table.specs.Rows.{contents};
 
 use crate::crew::Crew;
-use crate::limits::{fitting, limits};
 use crate::own::see_brought;
 use crate::phase::PhaseEnd;
+use crate::shares::{fitting, limits};
 use crate::{Bare, Gate, Wrap};
 use df_core::{Code, Job, Token, TokenList};
-use match_table::together::fired;
-use match_table::{Tables, table_of};
+use match_table::{Tables, fired, table_of};
 use port_set::Port;
 use ready_pool::{SeatList, seats};
 use std::alloc::Global;
@@ -44,7 +43,7 @@ impl<'a, G: Gate, R: Threads + Wait + Sync> Crew<'a, G, R> {
             → has ((part_of result.tables).held token.now.wave token.now.instr token.now.port) ≡ true }
     {
         let first = table_of(token.wave(), token.instr());
-        let mut after = self.work(code, tables, buffer, tokens, first);
+        let mut after = self.run_phase(code, tables, buffer, tokens, first);
         let brought = see_brought(
             self.alloc,
             code,
@@ -59,7 +58,7 @@ impl<'a, G: Gate, R: Threads + Wait + Sync> Crew<'a, G, R> {
     }
 
     // The work of a phase, in which the table `first` may fire where any may.
-    fn work<J: Job + Send + Sync, P: Port + Send>(
+    fn run_phase<J: Job + Send + Sync, P: Port + Send>(
         &self,
         code: &Code<'_, J>,
         tables: Tables<J>,
@@ -75,10 +74,10 @@ impl<'a, G: Gate, R: Threads + Wait + Sync> Crew<'a, G, R> {
     {
         let left = self.budget - fired(&tables);
         let Ok(limits) = limits(self.alloc, &tables, left, first) else {
-            return stays(tables, buffer, tokens);
+            return starved_phase(tables, buffer, tokens);
         };
         let Ok(deal) = dealt(self.alloc, tokens, self.workers) else {
-            return stays(tables, buffer, TokenList::empty(self.alloc));
+            return starved_phase(tables, buffer, TokenList::empty(self.alloc));
         };
         let after = self.phase::<J, Brand, P>(code, tables, buffer, &limits, deal);
         fitting(&after.tables, &limits);
@@ -87,7 +86,7 @@ impl<'a, G: Gate, R: Threads + Wait + Sync> Crew<'a, G, R> {
 }
 
 // Memory ran out before a worker could run.
-fn stays<J: Job, P: Port>(
+fn starved_phase<J: Job, P: Port>(
     tables: Tables<J>,
     buffer: Buffer<J, P>,
     tokens: TokenList<J>,

@@ -20,8 +20,7 @@ use crate::entry::Arrived;
 use crate::meeting::{Operands, Seen, is_taken, meet};
 use crate::ops::{dests_of, number_of, op_of, result_of, selector};
 use crate::table::{Accept, AcceptFault, Results, Table, Took};
-use df_core::program::{PlacedInstr, Program};
-use df_core::{Code, Job, Request, Sent, Token};
+use df_core::{Code, Job, PlacedInstr, Program, Request, Sent, Token};
 use std::alloc::Global;
 use ws_words::NoMemory;
 

@@ -7,7 +7,7 @@ ghost use Rattle.match_table.specs.Ports.{listed};
 ghost use Rattle.match_table.specs.Tables.{IsPlacedAt};
 
 use crate::meeting::Operands;
-use df_core::program::{PlacedInstr, Program};
+use df_core::{PlacedInstr, Program};
 use ws_isa::{Dest, Op};
 
 impl Operands {

@@ -22,11 +22,9 @@ ghost use Rattle.part_store.specs.Parts.{FollowsOn, issued_flag};
 use crate::entry::Queued;
 use crate::parts::Parts;
 use crate::rows::row_of;
-use df_core::program::Program;
+use df_core::Program;
 use port_set::Port;
-use store_buf::kept::Kept;
-use store_buf::outer::Outer;
-use store_buf::told::{PlainTokens, tell};
+use store_buf::{Kept, Outer, PlainTokens, tell};
 use ws_isa::Op;
 
 impl<P: Port> Parts<P> {

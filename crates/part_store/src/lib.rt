@@ -28,17 +28,17 @@
 //! and a store's address to the buffer before its data: no clause says so.
 #![tactic(auto)]
 
-pub mod bare;
-pub mod ends;
-pub mod entry;
-pub mod finish;
+mod bare;
+mod ends;
+mod entry;
+mod finish;
 mod follow;
-pub mod laws;
+mod laws;
 mod moves;
-pub mod part;
-pub mod parts;
-pub mod queues;
-pub mod quiet;
+mod part;
+mod parts;
+mod queues;
+mod quiet;
 mod room;
 mod rows;
 mod run;

@@ -24,11 +24,9 @@ use crate::entry::Queued;
 use crate::parts::Parts;
 use crate::queues::QUEUES;
 use crate::rows::{array_of, row_of};
-use df_core::program::Program;
+use df_core::Program;
 use port_set::Port;
-use store_buf::fault::{BufFault, Silent};
-use store_buf::kept::Kept;
-use store_buf::told::{PlainTokens, tell};
+use store_buf::{BufFault, Kept, PlainTokens, Silent, tell};
 use ws_isa::Op;
 use ws_words::NoMemory;
 

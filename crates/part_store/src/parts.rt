@@ -15,13 +15,9 @@ ghost use Rattle.part_store.specs.Parts.{AddressLeads, PartsOk, PartsFiled, Part
 use crate::bare::Bare;
 use crate::queues::Queues;
 use crate::rows::is_load;
-use df_core::program::Program;
+use df_core::Program;
 use port_set::Port;
-use store_buf::fault::BufFault;
-use store_buf::kept::Kept;
-use store_buf::order::Order;
-use store_buf::outer::Outer;
-use store_buf::told::PlainTokens;
+use store_buf::{BufFault, Kept, Order, Outer, PlainTokens};
 use ws_words::NoMemory;
 
 /// Requests, addresses and queues, and what they work on. An operation that is queued counts as issued

@@ -7,13 +7,11 @@ ghost use Rattle.store_buf.specs.Outdoors.{AllBegan};
 ghost use Rattle.store_buf.specs.Contents.{IsBuffer, opening_content};
 
 use crate::part::PartBuffer;
-use df_core::program::Program;
-use df_core::{Code, Job, every_list_of_events};
+use df_core::{Code, Job, Program, every_list_of_events};
 use port_set::{Port, Slots};
 use std::alloc::Global;
 use std::marker::Model;
-use store_buf::told::PlainTokens;
-use store_buf::{BufFault, BufferEnd, Kept, MemoryOrder};
+use store_buf::{BufFault, BufferEnd, Kept, MemoryOrder, PlainTokens};
 use ws_words::Words;
 
 /// It is a store buffer: no address comes without its data.

@@ -15,10 +15,9 @@ ghost use Rattle.part_store.specs.Parted.{is_store_op};
 ghost use Rattle.part_store.specs.Parts.{PartsOk, PartsFiled, Filled, kept_flag, PartsKeep};
 
 use crate::parts::Parts;
-use df_core::program::Program;
+use df_core::Program;
 use port_set::Port;
-use store_buf::kept::Kept;
-use store_buf::told::PlainTokens;
+use store_buf::{Kept, PlainTokens};
 use ws_words::NoMemory;
 
 // For each request that waits there has to be room for eight tokens.

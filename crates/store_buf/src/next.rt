@@ -9,7 +9,7 @@ ghost use Rattle.store_buf.specs.Ordering.{WaitsHere, kept_at, ready_flag, numbe
 
 use crate::kept::Kept;
 use crate::order::Order;
-use df_core::program::Program;
+use df_core::Program;
 use ws_isa::Op;
 
 impl Order {

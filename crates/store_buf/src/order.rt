@@ -20,8 +20,7 @@ use crate::later::Later;
 use crate::next::ripple_of;
 use crate::pass::pass_on;
 use crate::wave_places::WavePlaces;
-use df_core::chain::Chain;
-use df_core::program::Program;
+use df_core::{Chain, Program};
 use std::alloc::Global;
 use ws_words::NoMemory;
 

@@ -8,8 +8,7 @@ ghost use Rattle.df_core.specs.Stands.{Settles};
 ghost use Rattle.store_buf.specs.Earlies.{Numbered, early_ops};
 
 use crate::early::Early;
-use df_core::chain::{Chain, is_nothing};
-use df_core::program::Program;
+use df_core::{Chain, Program, is_nothing};
 
 /// The chain behind an issued operation. One that isn't next is kept.
 pub fn pass_on(program: &Program<'_>, chain: Chain, early: &mut Early, instr: u32) -> Chain

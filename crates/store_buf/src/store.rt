@@ -20,7 +20,7 @@ use crate::kept::Kept;
 use crate::order::Order;
 use crate::outer::Outer;
 use crate::told::{PlainTokens, tell};
-use df_core::program::Program;
+use df_core::Program;
 use port_set::Port;
 use ws_isa::Op;
 use ws_words::NoMemory;

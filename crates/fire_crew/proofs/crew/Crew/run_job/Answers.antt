@@ -16,4 +16,4 @@ run_over-requires-clause-ports g c κs within =
 
 pub returns-in-Err-clause-open : goal.returns-in-Err-clause-open
 returns-in-Err-clause-open g c = subst AllOpen
-    (sym (ap (λ s. contents g.P.Port.tells s) c.stays.ensures.ports)) c.requires.open
+    (sym (ap (λ s. contents g.P.Port.tells s) c.starved_crew.ensures.ports)) c.requires.open

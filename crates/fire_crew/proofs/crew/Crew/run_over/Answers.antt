@@ -4,4 +4,5 @@ use Rattle.fire_crew.proofs.crew.Crew.run_over.Goals as goal
 
 pub returns-in-Err-clause-open : goal.returns-in-Err-clause-open
 returns-in-Err-clause-open g c = subst AllOpen
-    (sym (ap (λ s. contents g.P.Port.tells s) c.stays.ensures.ports ∙ c.in-Err.ensures.back)) c.requires.open
+    (sym (ap (λ s. contents g.P.Port.tells s) c.starved_crew.ensures.ports ∙ c.in-Err.ensures.back))
+    c.requires.open

@@ -7,8 +7,7 @@ ghost use Rattle.match_table.specs.Growth.{content_at};
 ghost use Rattle.match_table.specs.Rows.{contents};
 
 use df_core::Job;
-use match_table::row::Tables;
-use match_table::together::table_at;
+use match_table::{Tables, table_at};
 use std::alloc::Global;
 use ws_words::NoMemory;
 

@@ -1,7 +1,7 @@
 use Rattle.std.proofs.Common.{refl}
 use Rattle.match_table.specs.Rows.{contents}
 use Rattle.match_table.proofs.Coming.{brought_grow, brought_one, brought_serve, brought_there}
-use Rattle.match_table.proofs.bring.bring.Goals as goal
+use Rattle.match_table.proofs.bringing.bring.Goals as goal
 
 pub returns-clause-serve : goal.returns-clause-serve
 returns-clause-serve g c = brought_serve g.J.Job.image (contents c.args.tables.now)

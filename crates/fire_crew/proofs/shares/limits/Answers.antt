@@ -1,7 +1,7 @@
 use Rattle.std.proofs.Common.{ℕ, ◌+◌, ◌-◌, List, length, ap, ◌∙◌, refl, subst, sym, arith}
 use Rattle.match_table.specs.Rows.{contents}
 use Rattle.match_table.proofs.Shares.{Given, give_more, fits}
-use Rattle.fire_crew.proofs.limits.limits.Goals as goal
+use Rattle.fire_crew.proofs.shares.limits.Goals as goal
 use Rattle.match_table.specs.Tables.{TableContent}
 
 pub loop-number-preserved : goal.loop-number-preserved

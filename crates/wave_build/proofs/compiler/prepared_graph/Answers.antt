@@ -1,7 +1,7 @@
 use Rattle.src_ast.specs.View as ast
 use Rattle.cfg_core.specs.View as view
 use Rattle.wave_build.proofs.CompilingRuns.{next_shows}
-use Rattle.wave_build.proofs.compiler.prepare.Goals as goal
+use Rattle.wave_build.proofs.compiler.prepared_graph.Goals as goal
 
 pub returns : goal.returns
 returns c =

@@ -4,7 +4,7 @@ use Rattle.wsc_top.specs.Steps.{StepSo}
 use Rattle.wsc_top.specs.Answers.{before}
 use Rattle.wsc_top.proofs.Due.{due_reply, due_starves}
 use Rattle.wsc_top.proofs.ThreadAnswers.{threads_reply, threads_fall, none_fall, some_inputs}
-use Rattle.wsc_top.proofs.answer.to_words.Goals as goal
+use Rattle.wsc_top.proofs.answer.answer_words.Goals as goal
 
 pub returns-in-Ok-Run-clause-memory : goal.returns-in-Ok-Run-clause-memory
 returns-in-Ok-Run-clause-memory g c =

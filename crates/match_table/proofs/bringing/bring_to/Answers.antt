@@ -2,7 +2,7 @@ use Rattle.std.proofs.Common.{◌≡◌, ◌+◌, ◌%◌, ℕ, ap, ◌∙◌, r
 use Rattle.match_table.specs.Rows.{contents}
 use Rattle.match_table.specs.Coming.{served}
 use Rattle.match_table.proofs.Coming.{brought_at}
-use Rattle.match_table.proofs.bring.bring_to.Goals as goal
+use Rattle.match_table.proofs.bringing.bring_to.Goals as goal
 
 pub returns-in_default : goal.returns-in_default
 returns-in_default g c =

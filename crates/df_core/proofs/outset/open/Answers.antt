@@ -8,7 +8,7 @@ use Rattle.df_core.specs.declared.way.Way.{Way}
 use Rattle.df_core.specs.Places.{image_of}
 use Rattle.df_core.specs.Ways.{SentTo}
 use Rattle.df_core.proofs.Opening.{start_few, opens_so}
-use Rattle.df_core.proofs.open.open.Goals as goal
+use Rattle.df_core.proofs.outset.open.Goals as goal
 use Rattle.df_core.specs.Outdoors.{MemoryIs}
 
 pub send-requires-clause-now : goal.send-requires-clause-now

@@ -1,6 +1,6 @@
 use Rattle.std.proofs.Common.{subst, sym}
 use Rattle.port_set.specs.Slots.{AllOpen}
-use Rattle.fire_crew.proofs.finish.finish.Goals as goal
+use Rattle.fire_crew.proofs.finish.crew_end.Goals as goal
 
 pub returns-in-Whole-clause-open : goal.returns-in-Whole-clause-open
 returns-in-Whole-clause-open g c = subst AllOpen (sym c.finish-end.ensures.ports) c.finish-end.ensures.open

@@ -1,5 +1,5 @@
 use Rattle.fire_crew.proofs.Rights.{request_right}
-use Rattle.fire_crew.proofs.unknown.ask.Goals as goal
+use Rattle.fire_crew.proofs.unknown.note_unknown.Goals as goal
 
 pub right-requires : goal.right-requires
 right-requires g c = request_right g.J.Job.image g.J.Job.world c.facts.ensures.formed
