@@ -38,10 +38,6 @@ use Rattle.ws_isa.proofs.Images.{writing_memory}
 use Rattle.ws_words.specs.Items.{nth, In}
 use Rattle.ws_words.proofs.Places.{nth_there}
 
-none_in : (es : List Queued) → ((e : Queued) → In e es → ⊥) → es ≡ []
-none_in [] f = refl
-none_in (e ∷ es) f = absurd (f e (inl refl))
-
 module _ (image : Image) (world : World) (formed : Formed image) (sound : Sound image)
     (began : List (Option Began)) (c : PartContent) (s : Parting image world began c) (fronts : Fronts c)
     (none : NoRule image c) (going : c.fault ≡ None) (t : Tables) (tok : TablesOk image world t)

@@ -129,14 +129,6 @@ taken_first all before after way more t c e put w i p v h = elim (c w i p v h) [
   ]
 ]
 
-pub all_taken : (all rest way : List Token) →
-    ((w i p v : ℕ) → IsSent all w i p v → IsSent way w i p v ⊎ IsSent rest w i p v) → rest ≡ [] →
-    Covers all way
-all_taken all rest way c e w i p v h = elim (c w i p v h) [
-  | inl g ↦ g
-  | inr g ↦ absurd (subst (λ (ts : List Token). IsSent ts w i p v) e g)
-]
-
 pub covers_on : (some mid all : List Token) → Covers some mid → Covers mid all → Covers some all
 covers_on some mid all c d w i p v h = d w i p v (c w i p v h)
 
