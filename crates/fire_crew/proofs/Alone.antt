@@ -1,6 +1,6 @@
 -- A token comes to the tables of a crew of one.
-use Rattle.std.proofs.Common.{ℕ, ◌≡◌, false, true, List, [], ◌∷◌, ◌++◌, Option, MatchOption, Some, None, length, slice_set, refl}
-use Rattle.std.proofs.Common.{sym, subst, arith}
+use Rattle.std.proofs.Common.{ℕ, ◌≡◌, false, true, List, [], ◌∷◌, ◌++◌, Option, MatchOption, Some, None}
+use Rattle.std.proofs.Common.{length, slice_set, refl, sym, subst, arith}
 use Rattle.ws_words.specs.Outside.{World}
 use Rattle.ws_isa.specs.Image.{Image, Token, is_memory, result_of, sends}
 use Rattle.ws_isa.specs.Formed.{Formed}
@@ -46,14 +46,14 @@ pub next_some : (o : Option Token) (x : Token) (sent old way : List Token) → o
     MatchOption o ((sent ≡ []) × (old ≡ [])) (λ t. Covers (sent ++ old) (t ∷ way)) →
     Covers (sent ++ old) (x ∷ way)
 next_some o x sent old way is m =
-    subst (λ (p : Option Token). MatchOption p ((sent ≡ []) × (old ≡ [])) (λ t. Covers (sent ++ old) (t ∷ way)))
-    is m
+    subst (λ (p : Option Token). MatchOption p ((sent ≡ []) × (old ≡ []))
+    (λ t. Covers (sent ++ old) (t ∷ way))) is m
 
 pub next_none : (o : Option Token) (sent old way : List Token) → o ≡ None →
     MatchOption o ((sent ≡ []) × (old ≡ [])) (λ t. Covers (sent ++ old) (t ∷ way)) → (sent ≡ []) × (old ≡ [])
 next_none o sent old way is m =
-    subst (λ (p : Option Token). MatchOption p ((sent ≡ []) × (old ≡ [])) (λ t. Covers (sent ++ old) (t ∷ way)))
-    is m
+    subst (λ (p : Option Token). MatchOption p ((sent ≡ []) × (old ≡ []))
+    (λ t. Covers (sent ++ old) (t ∷ way))) is m
 
 -- a run goes on where the buffer has a request, or has ended
 pub come_on : (image : Image) (world : World) (began : List (Option Began)) (o : Option Ending) (t : Part)
@@ -69,7 +69,8 @@ come_on image world began (Some e) t left c d r way sent more bare so tell = so 
 
 module _ (image : Image) (world : World) (formed : Formed image) (sound : Sound image)
     (old new : List TableContent) (x : Token)
-    (set : new ≡ slice_set old (served x) (content_at new (served x))) (c : Content) (way : List Token) (tok : TablesOk image world (together old))
+    (set : new ≡ slice_set old (served x) (content_at new (served x))) (c : Content) (way : List Token)
+    (tok : TablesOk image world (together old))
     (right : IsRight image world x) (paid : Paid image (together old) c (x ∷ way)) where
   abbrev before : TableContent
   before = content_at old (served x)

@@ -33,9 +33,9 @@ struct Solo<'i, J: Job, P: Port> {
     left: u64,
 }
 
-/// Brings tokens to tables, from the start pulse on, until none is on the way, so many instances have fired, or
-/// the buffer takes no more requests. Tokens go in rounds by wave, and the first result of a firing is brought at
-/// once if it is of the round.
+/// Brings tokens to tables, from the start pulse on, until none is on the way, so many instances have fired,
+/// or the buffer takes no more requests. Tokens go in rounds by wave, and the first result of a firing is
+/// brought at once if it is of the round.
 pub fn run_solo<J: Job, P: Port, G: Gate>(
     alloc: Global,
     code: &Code<'_, J>,
@@ -204,8 +204,8 @@ fn bring_on<'i, J: Job, P: Port>(
     ensures goes { GoesOn J.image J.world J.began (part_of run.new.tables) run.new.left run.new.buffer
         (run.new.results.sent ++ run.new.way) result }
 {
-    let _ = code.program();
-    let _ = token.wave();
+    code.facts();
+    token.facts();
     facts(&run.tables);
     let took = bring(code, &mut run.tables, &token, &mut run.results);
     match took {

@@ -24,9 +24,9 @@ returns-in-Waits-clause-goes g c =
     let new = contents c.bring-took.new.tables in (
       c.requires.going,
       subst (λ (ts : List Token). Paid g.J.Job.image (together new) buffer (ts ++ way)) (sym b.1.1.0)
-          (come_waits g.J.Job.image g.J.Job.world c.program.ensures.formed c.program.ensures.sound
-          (contents c.args.run.now.tables) new c.args.token b.0 buffer way c.facts.ensures.part
-          c.wave.ensures.right c.requires.paid b.1.0.0 b.1.0.2),
+          (come_waits g.J.Job.image g.J.Job.world c.facts.ensures.formed c.facts.ensures.sound
+          (contents c.args.run.now.tables) new c.args.token b.0 buffer way c.facts-3.ensures.part
+          c.facts-2.ensures.right c.requires.paid b.1.0.0 b.1.0.2),
     )
 
 pub returns-in-Fires-clause-count : goal.returns-in-Fires-clause-count
@@ -43,10 +43,10 @@ returns-in-Fires-clause-goes g c =
     let b = c.in-Fires.ensures.brought in
     let full = b.1.0.1 in (
       c.requires.going,
-      come_fires g.J.Job.image g.J.Job.world c.program.ensures.formed c.program.ensures.sound
+      come_fires g.J.Job.image g.J.Job.world c.facts.ensures.formed c.facts.ensures.sound
           (contents c.args.run.now.tables) (contents c.bring-took.new.tables) c.args.token b.0
-          c.args.run.now.buffer c.args.run.now.way c.facts.ensures.part c.wave.ensures.right c.requires.paid
-          c.bring-took.new.results.sent full.0 b.1.0.0 full.1 full.2.0 full.2.1,
+          c.args.run.now.buffer c.args.run.now.way c.facts-3.ensures.part c.facts-2.ensures.right
+          c.requires.paid c.bring-took.new.results.sent full.0 b.1.0.0 full.1 full.2.0 full.2.1,
     )
 
 pub returns-in-Some-clause-count : goal.returns-in-Some-clause-count
@@ -83,10 +83,10 @@ returns-in-Some-clause-goes g c =
     let new = contents c.bring-took.new.tables in
     come_on g.J.Job.image g.J.Job.world g.J.Job.began c.ask.result (together new) (c.args.run.now.left - 1)
     c.args.run.now.buffer c.ask.new.buffer r c.args.run.now.way c.bring-took.new.results.sent c.ask.new.way
-    b.1.2 c.ask.ensures (λ tell known. come_asks g.J.Job.image g.J.Job.world c.program.ensures.formed
-    c.program.ensures.sound (contents c.args.run.now.tables) new c.args.token b.0 c.args.run.now.buffer
-    c.args.run.now.way c.facts.ensures.part c.wave.ensures.right c.requires.paid c.ask.new.buffer c.ask.new.way
-    full.0 b.1.3.0 full.1 full.2.0 tell
+    b.1.2 c.ask.ensures (λ tell known. come_asks g.J.Job.image g.J.Job.world c.facts.ensures.formed
+    c.facts.ensures.sound (contents c.args.run.now.tables) new c.args.token b.0 c.args.run.now.buffer
+    c.args.run.now.way c.facts-3.ensures.part c.facts-2.ensures.right c.requires.paid c.ask.new.buffer
+    c.ask.new.way full.0 b.1.3.0 full.1 full.2.0 tell
     (subst (λ (q : ℕ × ℕ). Knows c.ask.new.buffer q.0 q.1) (λ j. (wave j, instr j)) known))
 
 pub returns-in-Old-clause-goes : goal.returns-in-Old-clause-goes
@@ -97,7 +97,7 @@ returns-in-Old-clause-goes g c =
     let new = contents c.bring-took.new.tables in (
       c.requires.going,
       subst (λ (ts : List Token). Paid g.J.Job.image (together new) buffer (ts ++ way)) (sym b.1.1.0)
-          (come_old g.J.Job.image g.J.Job.world c.program.ensures.formed c.program.ensures.sound
-          (contents c.args.run.now.tables) new c.args.token b.0 buffer way c.facts.ensures.part
-          c.wave.ensures.right c.requires.paid b.1.0.1 b.1.0.2),
+          (come_old g.J.Job.image g.J.Job.world c.facts.ensures.formed c.facts.ensures.sound
+          (contents c.args.run.now.tables) new c.args.token b.0 buffer way c.facts-3.ensures.part
+          c.facts-2.ensures.right c.requires.paid b.1.0.1 b.1.0.2),
     )

@@ -7,12 +7,14 @@ use Rattle.fire_crew.proofs.Phases.{steady_last, steady_more, steady_start}
 use Rattle.fire_crew.proofs.crew.Crew.run_phases.Goals as goal
 
 pub loop-phases-init : goal.loop-phases-init
-loop-phases-init g c = steady_start (contents c.args.tables) c.args.self.now.budget c.requires.serve c.requires.within
+loop-phases-init g c = steady_start (contents c.args.tables) c.args.self.now.budget c.requires.serve
+    c.requires.within
 
 pub loop-phases-preserved : goal.loop-phases-preserved
 loop-phases-preserved g c = steady_more (contents c.args.tables) (contents c.loop-phases.tables)
-    (contents c.turn-after.result.tables) c.args.self.now.budget c.loop-phases.phases (c.args.self.now.budget - c.fired.result)
-    c.loop-phases.invariant c.turn-after.ensures.grow (ap (λ (n : ℕ). c.args.self.now.budget - n) c.fired.ensures)
+    (contents c.turn-after.result.tables) c.args.self.now.budget c.loop-phases.phases
+    (c.args.self.now.budget - c.fired.result) c.loop-phases.invariant c.turn-after.ensures.grow
+    (ap (λ (n : ℕ). c.args.self.now.budget - n) c.fired.ensures)
     c.in-Go.ensures.0
     c.turn-after.ensures.serve c.turn-after.ensures.within c.in-Go.token.wave c.in-Go.token.instr
     c.in-Go.token.port c.in-Go.ensures.1 (c.turn-after.ensures.come c.if-after.false)
@@ -23,8 +25,9 @@ returns-then-after-clause-grow g c = all_grow_on (contents c.args.tables) (conte
 
 pub returns-then-after-clause-moved : goal.returns-then-after-clause-moved
 returns-then-after-clause-moved g c = steady_last (contents c.args.tables) (contents c.loop-phases.tables)
-    (contents c.turn-after.result.tables) c.args.self.now.budget c.loop-phases.phases (c.args.self.now.budget - c.fired.result)
-    c.loop-phases.invariant c.turn-after.ensures.grow (ap (λ (n : ℕ). c.args.self.now.budget - n) c.fired.ensures)
+    (contents c.turn-after.result.tables) c.args.self.now.budget c.loop-phases.phases
+    (c.args.self.now.budget - c.fired.result) c.loop-phases.invariant c.turn-after.ensures.grow
+    (ap (λ (n : ℕ). c.args.self.now.budget - n) c.fired.ensures)
     c.in-Go.ensures.0
 
 pub returns-clause-moved : goal.returns-clause-moved
