@@ -25,7 +25,6 @@ use Rattle.store_buf.proofs.Paying as P
 use Rattle.store_buf.proofs.Reaching as R
 use Rattle.df_core.specs.Began.{Began}
 use Rattle.df_core.specs.Rights.{Asked}
-use Rattle.fire_crew.specs.Ends.{IsGoing}
 use Rattle.fire_crew.specs.Solo.{AsksSo, GoesOn, Knows, Owes, Paid}
 use Rattle.fire_crew.specs.declared.judge.Ending.{Ending}
 

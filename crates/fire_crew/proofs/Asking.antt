@@ -1,27 +1,25 @@
 -- A request comes to the buffer of a crew of one, and what is known of the run stays true.
-use Rattle.std.proofs.Common.{ℕ, ◌≡◌, ◌⊎◌, false, List, [], ◌++◌, Option, Some, None, Err}
+use Rattle.std.proofs.Common.{ℕ, ◌≡◌, ◌⊎◌, false, List, [], ◌++◌, Option, Some, None}
 use Rattle.std.proofs.Common.{is_some, refl, sym, ap, ◌∙◌, subst, inl, inr}
 use Rattle.ws_words.specs.Outside.{Outside, World}
 use Rattle.ws_isa.specs.Image.{Image, Token, ports, answer, sends}
 use Rattle.ws_isa.specs.Walk.{Ports, start_tokens}
-use Rattle.df_core.specs.Core.{HasFired, operands_in}
+use Rattle.df_core.specs.Core.{HasFired}
 use Rattle.df_core.specs.Shown.{Buffer, Tables as Part, owed, plain_tokens, op_tokens, waits_if}
 use Rattle.df_core.specs.Began.{Began}
 use Rattle.df_core.specs.Rights.{Asked, operands_of}
 use Rattle.df_core.proofs.Owing.{nothing}
 use Rattle.df_core.proofs.Ports.{SameKey, with_key_cases}
-use Rattle.store_buf.specs.declared.fault.BufFault.{BufFault}
-use Rattle.store_buf.specs.declared.fault.BufFault.TheVariants as fault
 use Rattle.store_buf.specs.declared.kept.Kept.{Kept}
 use Rattle.store_buf.specs.Requests.{entry_of, issued_in, issued_keys, kept_in, operands_if, answer_if}
-use Rattle.store_buf.specs.Holds.{Issues, Issued, Stopped, stays, goes, stops}
-use Rattle.store_buf.specs.Contents.{Content, Comes, IsBuffer, RequestArrives, Submitted, SubmitSo, buffer_in}
+use Rattle.store_buf.specs.Holds.{Issues, Issued, stays, goes, stops}
+use Rattle.store_buf.specs.Contents.{Content, Comes, IsBuffer, Submitted, buffer_in}
 use Rattle.store_buf.specs.Runs.{AllReach, Covers}
 use Rattle.store_buf.proofs.Paying.{pay_buffer, pay_more}
 use Rattle.store_buf.proofs.Reaching as R
 use Rattle.fire_crew.specs.Ends.{IsGoing}
-use Rattle.fire_crew.specs.Owing.{AllKnown, HaveCome}
-use Rattle.fire_crew.specs.Solo.{AsksSo, Knows, Owes, Paid, ending_of}
+use Rattle.fire_crew.specs.Owing.{HaveCome}
+use Rattle.fire_crew.specs.Solo.{AsksSo, Knows, Owes, Paid}
 use Rattle.fire_crew.proofs.Paid.{come_append, come_ops, come_plain}
 use Rattle.ws_words.specs.Items.{or_else}
 
@@ -140,20 +138,6 @@ module _ (image : Image) (world : World) (began : List (Option Began)) (old new 
         now_known image world began old new m r ts s,
         λ t paid. pay_submitted image world began old new m r ts s t way more keep sent paid,
       )
-
-  -- or it hasn't
-  pub faulted : (f : BufFault) (way : List Token) → SubmitSo image world began old r (Err f) new →
-      AsksSo image world began old r way new way (ending_of f)
-  faulted fault.Old way so = (
-    subst IsGoing (sym so.2) going,
-    subst (λ (c : Content). Knows c r.wave r.instr) (sym so.2) (ap is_some so.1.1),
-    λ t paid. subst (λ (c : Content). Paid image t c way) (sym so.2) paid,
-  )
-  faulted fault.NoMemory way so = λ fired left. tt
-  faulted (fault.Index a) way so = λ fired left on. nothing a (sym on.0 ∙ so.1.3)
-  faulted (fault.Port p) way so = λ fired left on. nothing p (sym on.1 ∙ so.0.1.4)
-  faulted (fault.Stopped p) way so = λ fired left on. nothing p (sym going.1 ∙ so.1)
-  faulted (fault.Ended a) way so = λ fired left on. nothing a (sym going.0 ∙ so.0)
 
 -- where nothing is on the way all that is owed has come
 module _ (image : Image) (t : Part) (c : Content) (m : Outside) (paid : Paid image t c [])

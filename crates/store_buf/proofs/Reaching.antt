@@ -129,9 +129,6 @@ taken_first all before after way more t c e put w i p v h = elim (c w i p v h) [
   ]
 ]
 
-pub covers_on : (some mid all : List Token) → Covers some mid → Covers mid all → Covers some all
-covers_on some mid all c d w i p v h = d w i p v (c w i p v h)
-
 -- the others that an instance sent, and what was on the way, where the first is brought or put by
 pub covers_rest : (all rest old way : List Token) (t : Token) → all ≡ t ∷ rest → Covers old way →
     Covers rest way → Covers (all ++ old) (t ∷ way)

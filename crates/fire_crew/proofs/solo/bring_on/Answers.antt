@@ -1,10 +1,10 @@
-use Rattle.std.proofs.Common.{◌≡◌, ◌∷◌, ◌++◌, ◌-◌, ℕ, List, refl, sym, ap, ◌∙◌, subst, arith}
+use Rattle.std.proofs.Common.{◌≡◌, ◌++◌, ◌-◌, ℕ, List, refl, sym, ap, ◌∙◌, subst, arith}
 use Rattle.ws_isa.specs.Image.{Token}
 use Rattle.df_core.specs.Rights.{Asked}
 use Rattle.match_table.specs.Rows.{contents}
-use Rattle.match_table.specs.Together.{part_of, together}
+use Rattle.match_table.specs.Together.{together}
 use Rattle.match_table.specs.Tables.{TableContent}
-use Rattle.match_table.proofs.Brought.{brought_none, count_same, count_one}
+use Rattle.match_table.proofs.Brought.{count_same, count_one}
 use Rattle.fire_crew.specs.Solo.{Knows, Paid}
 use Rattle.fire_crew.proofs.Alone.{come_waits, come_fires, come_asks, come_old, come_on}
 use Rattle.fire_crew.proofs.solo.bring_on.Goals as goal

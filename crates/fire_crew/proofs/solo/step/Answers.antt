@@ -1,4 +1,4 @@
-use Rattle.std.proofs.Common.{◌≡◌, ◌∷◌, ◌++◌, List, sym, subst}
+use Rattle.std.proofs.Common.{◌∷◌, ◌++◌, List, sym, subst}
 use Rattle.ws_isa.specs.Image.{Token}
 use Rattle.df_core.proofs.Ports.{has_some}
 use Rattle.match_table.specs.Together.{part_of}
