@@ -56,7 +56,7 @@ impl<J: Job> Token<J> {
     pub fn facts(&self)
         ensures right { IsRight J.image J.world self.now }
     {
-        let _ = self.wave;
+        let _ = self.wave();
     }
 
     /// The number of its wave.
