@@ -50,7 +50,7 @@ class Buffers:
         self.open_at = [0 for _ in self.chains]
         # by cycle what comes: requests, and data of stores whose address came before
         self.requests: dict[int, list[Request]] = {}
-        self.data: dict[int, list[tuple[Request, int, int, int]]] = {}
+        self.data: dict[int, list[tuple[Request, int, int]]] = {}
         # requests that aren't done
         self.pending = 0
 
@@ -70,7 +70,7 @@ class Buffers:
         """A request leaves for the store buffer."""
         request = Request(instr, wave, self.flat.seq[instr], operands, this)
         came = self.way(instr, wave, left, now) + self.latency
-        request.left, request.came = left, came
+        request.came = came
         self.run.at(came)
         self.requests.setdefault(came, []).append(request)
         return request
@@ -80,15 +80,15 @@ class Buffers:
         came = max(self.way(request.instr, request.wave, left, now) + self.latency, request.came)
         request.value = value
         self.run.at(came)
-        self.data.setdefault(came, []).append((request, this, left, came))
+        self.data.setdefault(came, []).append((request, this, came))
 
     def file(self, now: int) -> None:
         """What has come is filed."""
         for request in self.requests.pop(now, ()):
             self.chains[self.flat.program[request.instr].number].file(request)
             self.pending += 1
-        for request, event, left, came in self.data.pop(now, ()):
-            request.bare, request.data, request.data_left, request.data_came = False, event, left, came
+        for request, event, came in self.data.pop(now, ()):
+            request.bare, request.data, request.data_came = False, event, came
 
     # Issues.
 
@@ -137,10 +137,11 @@ class Buffers:
         home = self.homes.of(number, wave)
         since = max(chain.event if is_next else request.since, chain.turns[wave])
         key = wave * flat.count + i
-        this = record.event(ISSUE, key, now, *self.reason(number, request, since))
+        why, cause, came, could = self.reason(number, request, since)
+        takes = self.access(number, request, home)
+        this = record.event(ISSUE, key, now, why, cause, now + takes, came, could)
         record.events.append(~(4 * key))
         record.issued.extend((this, request.fired, request.came, not is_next))
-        takes = self.access(number, request, home)
         result = chain.issue(request, this)
         if chain.fault is not None:
             return
@@ -164,17 +165,17 @@ class Buffers:
             return 0
         return self.cache.access(op, self.flat.bases[number][arg] + request.index, home)
 
-    def reason(self, number: int, request: Request, since: int) -> tuple[int, int, int, int, int]:
+    def reason(self, number: int, request: Request, since: int) -> tuple[int, int, int, int]:
         """What the issue waited for last: the request, or the chain; why, and then the event, when what that one sent
-        left, when that came, and since when the request could be issued."""
+        came, and since when the request could be issued."""
         record = self.record
         at = record.when[since] if since >= 0 else 0
         opened = max(at, self.open_at[number])
         if since >= 0 and opened > request.came:
-            return BY_CHAIN, since, at, at, opened
+            return BY_CHAIN, since, at, opened
         if request.data >= 0 and request.data_came > request.came:
-            return BY_TOKEN, request.data, request.data_left, request.data_came - self.latency, request.data_came
-        return BY_TOKEN, request.fired, request.left, request.came - self.latency, request.came
+            return BY_TOKEN, request.data, request.data_came - self.latency, request.data_came
+        return BY_TOKEN, request.fired, request.came - self.latency, request.came
 
     def follow(self, now: int, number: int) -> int:
         """The first operation of each queue is done, where it has its data and wasn't put there in this cycle."""
@@ -185,14 +186,15 @@ class Buffers:
             if request.bare or record.when[here] == now:
                 continue
             at = record.when[here]
-            told = (BY_QUEUE, here, at, at, at + 1)
+            why, cause, came, could = BY_QUEUE, here, at, at + 1
             if request.data >= 0 and request.data_came > at + 1:
-                told = (BY_TOKEN, request.data, request.data_left, request.data_came - self.latency, request.data_came)
+                why, cause, could = BY_TOKEN, request.data, request.data_came
+                came = could - self.latency
             i, wave = request.instr, request.wave
-            this = record.event(FOLLOW, wave * self.flat.count + i, now, *told)
-            home = self.homes.of(number, wave)
+            home, this = self.homes.of(number, wave), len(record.when)
             _, result = chain.follow(cell, this)
             takes = self.access(number, request, home)
+            record.event(FOLLOW, wave * self.flat.count + i, now, why, cause, now + takes, came, could)
             if result is not None and self.flat.instrs[i].lists[0]:
                 self.run.send(self.flat.answer(i, home), wave, result, this, now + takes, now)
             self.run.at(now + 1)

@@ -52,13 +52,13 @@ def small() -> Iterator[str]:
     cells = (0, 5, 3, 8, 4, 8)
     if (told := [cache.access("load", cell, 0) for cell in cells]) != [9, 9, 1, 9, 9, 1]:
         yield f"the cache takes {told} for {cells}"
-    tables = Tables(machine_of("", {"element.entries": 1, "element.ways": 1, "waves": 1}), 1)
+    tables = Tables(machine_of("", {"element.entries": 1, "element.ways": 1, "waves": 1}), [0], [0], 1)
     # the first of 7 has the entry; 8 takes it; 7 takes it back and is complete, so that 8 stays in memory
-    told = [tables.admit(key, 0, 0, 0) for key in (7, 7, 8, 7)]
-    tables.complete(7)
-    told.append(tables.admit(8, 0, 0, 0))
-    tables.free(7)
-    told += [tables.admit(8, 0, 0, 0), tables.admit(8, 0, 0, 0)]
+    told = [tables.admit(key, 0, 0) for key in (7, 7, 8, 7)]
+    tables.complete(7, 0, 0)
+    told.append(tables.admit(8, 0, 0))
+    tables.free(7, 0, 0)
+    told += [tables.admit(8, 0, 0), tables.admit(8, 0, 0)]
     if told != [True, True, False, False, False, False, True]:
         yield f"the matching table tells {told}"
 

@@ -44,8 +44,8 @@ def parts_of(run: Run, event: int) -> list[tuple[str, int]]:
     """The cycles from what an event waited for to the event, by parts."""
     record = run.record
     cause, in_buffer = record.cause[event], record.kind[event] >= ISSUE
-    left, came, could, when = record.left[event], record.came[event], record.could[event], record.when[event]
-    began = record.when[cause] if cause >= 0 else 0
+    came, could, when = record.came[event], record.could[event], record.when[event]
+    began, left = (record.when[cause], record.leaves[cause]) if cause >= 0 else (0, 0)
     made: list[tuple[str, int]] = []
     if record.why[event] == BY_TOKEN:
         made.append(("data" if cause >= 0 and record.kind[cause] >= ISSUE else "operations", left - began))
@@ -57,7 +57,7 @@ def parts_of(run: Run, event: int) -> list[tuple[str, int]]:
     elif record.why[event] == BY_QUEUE:
         made.append(("queues", could - came))
     else:
-        assert record.why[event] == BY_WAVES and left == came == could
+        assert record.why[event] == BY_WAVES and came == could
     last = "queues" if record.kind[event] == FOLLOW else "buffer issues" if in_buffer else "busy elements"
     made.append((last, when - could))
     return made

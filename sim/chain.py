@@ -14,17 +14,17 @@ from parameters import Values
 
 
 class Request:
-    """A request: instance, sequence number, operands, the event of its firing, when that left and when it came, and since which event a
-    load may be early. `data` is the event of a late store's data, or -1, with when it left and came; `queued` and
-    `before` are the events by which it came into a queue and to the front of it."""
+    """A request: instance, sequence number, operands, the event of its firing, when it came, and since which event a
+    load may be early. `data` is the event of a late store's data, or -1, with when that came; `queued` and `before`
+    are the events by which it came into a queue and to the front of it."""
 
-    __slots__ = ("instr", "wave", "seq", "index", "value", "bare", "fired", "left", "came", "since",
-                 "data", "data_left", "data_came", "queued", "before")
+    __slots__ = ("instr", "wave", "seq", "index", "value", "bare", "fired", "came", "since",
+                 "data", "data_came", "queued", "before")
 
     def __init__(self, instr: int, wave: int, seq: int, operands: tuple[int, int], fired: int) -> None:
         self.instr, self.wave, self.seq, (self.index, self.value) = instr, wave, seq, operands
-        self.fired, self.left, self.came, self.since = fired, 0, 0, -1
-        self.bare, self.data, self.data_left, self.data_came = False, -1, 0, 0
+        self.fired, self.came, self.since = fired, 0, -1
+        self.bare, self.data, self.data_came = False, -1, 0
         self.queued, self.before = -1, -1
 
     def __lt__(self, other: Request) -> bool:

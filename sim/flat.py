@@ -20,6 +20,9 @@ from shape import BUFFER, CLASSES, Link, Shape
 CONST, OF_TWO, COPY, STEER, PHI, SEND, MEMORY = range(7)
 KINDS = {"const": CONST, "merge": COPY, "advance": COPY, "steer": STEER, "phi": PHI, "send": SEND,
          **dict.fromkeys(ALU, OF_TWO)}
+# in a token so many bits are below its slot
+SHIFT = 30
+LOW = (1 << SHIFT) - 1
 # what stands in a note for none, and for one that depends on the path
 NONE, OPEN = -1, -2
 
@@ -30,7 +33,7 @@ def link(word: Any) -> int:
 
 
 class Arcs:
-    """A list of destinations from one place: slots and cycles, the links of each way where one has a width, how many
+    """A list of destinations from one place: slots, as they stand in tokens, and cycles, the links of each way where one has a width, how many
     ways there are of each class, where they lead from and to, and how often all was taken."""
 
     __slots__ = ("to", "links", "kinds", "ends", "used")
@@ -121,7 +124,7 @@ class Flat:
                 links = shape.buffer_links(there, ~source, 1)
             else:
                 (kind, cycles), links = shape.way(source, there), shape.links(source, there)
-            made.to.append((4 * (first + instr + shift * self.count) + port, cycles))
+            made.to.append((4 * (first + instr + shift * self.count) + port << SHIFT, cycles))
             made.links.append(links)
             made.kinds[kind] += 1
             made.ends.append((source, there))

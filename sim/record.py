@@ -26,9 +26,11 @@ class Record:
         count = flat.shape.count
         self.events = array("q")
         self.kind, self.why = array("b"), array("b")
-        # the instance, the cycle, the event that it waited for last, when what that one sent left and came, and
-        # when this event could be at first
-        self.key, self.when, self.cause, self.left, self.came, self.could = (array("q") for _ in range(6))
+        # the instance, the cycle, the event that it waited for last, when what this one sends leaves, when what that
+        # one sent came, and when this event could be at first
+        self.key, self.when, self.cause, self.leaves, self.came, self.could = (array("q") for _ in range(6))
+        # by one more than an event, what it sent, as the engine keeps words
+        self.sent = array("q", [0])
         # issues, four numbers each: the event, that of its firing, when the request could be issued at first, and
         # whether it was early
         self.issued = array("q")
@@ -39,16 +41,17 @@ class Record:
         self.marks, self.rows = array("q"), array("i")
         self.cycles = 0
 
-    def event(self, kind: int, key: int, now: int, why: int, cause: int, left: int, came: int, could: int) -> int:
+    def event(self, kind: int, key: int, now: int, why: int, cause: int, leaves: int, came: int, could: int) -> int:
         """A firing or an issue; its number."""
         self.kind.append(kind)
         self.why.append(why)
         self.key.append(key)
         self.when.append(now)
         self.cause.append(cause)
-        self.left.append(left)
+        self.leaves.append(leaves)
         self.came.append(came)
         self.could.append(could)
+        self.sent.append(0)
         return len(self.when) - 1
 
     def end(self) -> None:

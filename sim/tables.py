@@ -13,51 +13,59 @@ from parameters import Values
 class Tables:
     """The entries of all elements."""
 
-    def __init__(self, machine: Values, elements: int) -> None:
+    def __init__(self, machine: Values, place: list[int], local: list[int], elements: int) -> None:
         self.ways, self.waves = machine["element.ways"], machine["waves"]
         self.sets = machine["element.entries"] // self.ways
-        # of each set its instances, the one that was used last behind; true is one that has all its tokens
-        self.rows: list[dict[int, bool]] = [{} for _ in range(elements * self.sets)]
-        self.row_of: dict[int, dict[int, bool]] = {}
+        # of each instruction its element's first set, and its number on the element times the waves in flight
+        self.first = [element * self.sets for element in place]
+        self.step = [number * self.waves for number in local]
+        # of each set its instances, the one that was used last behind: twice the number, and one more where all its
+        # tokens have come
+        self.rows: list[list[int]] = [[] for _ in range(elements * self.sets)]
         self.outside: set[int] = set()
 
-    def admit(self, key: int, element: int, local: int, wave: int) -> bool:
+    def admit(self, key: int, instr: int, wave: int) -> bool:
         """A token of the instance comes: whether it finds its entry, or a free one where it is the first.
 
         Where the set is full the entry that was used longest ago leaves, of those that still want a token; where
         none does, the instance stays in memory.
         """
-        place = element * self.sets + (local * self.waves + wave % self.waves) % self.sets
-        row = self.rows[place]
-        if key in row:
-            if len(row) > 1:
-                row[key] = row.pop(key)
+        row = self.rows[self.first[instr] + (self.step[instr] + wave % self.waves) % self.sets]
+        entry = 2 * key
+        # one that has all its tokens gets one more where a store's address went alone
+        there = entry + 1 if entry + 1 in row else entry
+        if there in row:
+            if row[-1] != there:
+                row.remove(there)
+                row.append(there)
             return True
-        hit = key not in self.outside
+        hit = not self.outside or key not in self.outside
         if len(row) >= self.ways:
             hit = False
-            leaves = next((one for one, full in row.items() if not full), None)
-            if leaves is None:
+            leaves = next((at for at, one in enumerate(row) if not one & 1), -1)
+            if leaves < 0:
                 self.outside.add(key)
                 return False
-            del row[leaves], self.row_of[leaves]
-            self.outside.add(leaves)
+            self.outside.add(row.pop(leaves) >> 1)
         self.outside.discard(key)
-        row[key], self.row_of[key] = False, row
+        row.append(entry)
         return hit
 
-    def complete(self, key: int) -> None:
+    def complete(self, key: int, instr: int, wave: int) -> None:
         """The instance has all its tokens, and stays until it fires."""
-        if key in self.row_of:
-            self.row_of[key][key] = True
+        row = self.rows[self.first[instr] + (self.step[instr] + wave % self.waves) % self.sets]
+        if 2 * key in row:
+            row[row.index(2 * key)] += 1
 
-    def free(self, key: int) -> None:
+    def free(self, key: int, instr: int, wave: int) -> None:
         """The instance fires."""
-        row = self.row_of.pop(key, None)
-        if row is None:
-            self.outside.discard(key)
+        row = self.rows[self.first[instr] + (self.step[instr] + wave % self.waves) % self.sets]
+        if 2 * key + 1 in row:
+            row.remove(2 * key + 1)
+        elif 2 * key in row:
+            row.remove(2 * key)
         else:
-            del row[key]
+            self.outside.discard(key)
 
 
 class Instructions:

@@ -27,25 +27,34 @@ def has_trace(run: Run) -> bool:
 
 def lines_of(run: Run, number: int) -> Iterator[str]:
     """The lines of the trace of a thread, by pieces; before those of a cycle stands a comment with its number."""
-    flat, wide = run.flat, run.flat.wide
-    program = flat.programs[number]
-    low, high = 4 * program.first, 4 * (program.first + len(program.image.instrs))
-    alone = len(flat.programs) == 1
+    record, wide = run.record, run.flat.wide
+    program = run.flat.programs[number]
+    low, high = 4 * program.first + 4, 4 * (program.first + len(program.image.instrs))
+    # of each slot of a wave what stands behind the wave's number, and of its issue
+    matches = [f" {at >> 2} {at & 3}\n" for at in range(4, high - low + 4)]
+    issues = [f" {at >> 2}\n" for at in range(4, high - low + 4)]
     made: list[str] = []
-    for cycle, slots in run.record.pieces():
-        told = False
-        for slot in slots:
-            asks = slot >= 0
-            wave, rest = divmod(slot if asks else ~slot, wide)
-            if alone or low + 3 < rest < high:
-                if not told:
-                    told = True
-                    made.append(f"# cycle {cycle}\n")
-                at = rest - low
-                made.append(f"match {wave} {at >> 2} {at & 3}\n" if asks else f"issue {wave} {at >> 2}\n")
-        if len(made) > PIECE:
-            yield "".join(made)
-            made.clear()
+    events, marks, first = record.events, record.marks, 0
+    for mark in range(0, len(marks), 2):
+        begun, end = len(made), marks[mark + 1]
+        for at in range(first, end):
+            slot = events[at]
+            if slot >= 0:
+                wave = slot // wide
+                rest = slot - wave * wide
+                if low <= rest < high:
+                    made.append(f"match {wave}{matches[rest - low]}")
+            else:
+                wave = ~slot // wide
+                rest = ~slot - wave * wide
+                if low <= rest < high:
+                    made.append(f"issue {wave}{issues[rest - low]}")
+        first = end
+        if len(made) > begun:
+            made[begun] = f"# cycle {marks[mark]}\n{made[begun]}"
+            if len(made) > PIECE:
+                yield "".join(made)
+                made.clear()
     yield "".join(made)
 
 
