@@ -24,7 +24,6 @@ from line import Line, add_program, given, whole  # noqa: E402
 from program import call  # noqa: E402
 from rules import Rules  # noqa: E402
 from surely import surely  # noqa: E402
-from wavescalar.reader import rows_of  # noqa: E402
 
 
 def words_of(lines, start):
@@ -43,9 +42,8 @@ def faults_of(text, draft=False):
     lines = lines_of(text)
     _, cut = next(sections_of(lines))
     own, found = lines[:cut], []
-    rows = rows_of(own)
-    if not surely(own, rows, draft):
-        read = Text(own, cut + (cut < len(lines)), rows)
+    if not surely(own, draft):
+        read = Text(own, cut + (cut < len(lines)))
         found = read.faults + Rules(read, draft).found
     found += words_of(lines[cut + 1 :], cut + 2)
     return sorted(found, key=lambda f: (f.line, f.column))

@@ -1,26 +1,33 @@
-"""Whether a text is surely right: a sound image, or a draft that can get notes. Its lines are read all at once and gone
-over once, with no object for any of them; a text that isn't surely right is looked at by rules.py, which tells.
+"""Whether a text is surely right: a sound image, or a draft that can get notes. It is gone over block by
+block, with no object for a line; a text that isn't surely right is looked at by rules.py, which tells.
 
-A token is the text of its port, `I.P`, as lists name it. It has to be taken by an instruction behind it on each path, or
-by an advance of the wave that follows: so what is sent backwards, into another wave or to what isn't there shows as a
-token that is left. Each wave is looked at, also one that no path reaches.
+A token is the text of its port, `I.P`, as lists name it. It has to be taken by an instruction behind it on
+each path, or by an advance of the wave that follows: so what is sent backwards, into another wave or to what
+isn't there shows as a token that is left, and so does an exit that leads there. Each wave is looked at, also
+one that no path reaches.
 """
 
 import re
 
 from fit import GIVES, Fit
-from wavescalar.isa import KINDS, LIMITS, WORDS
-from wavescalar.reader import MEMORY, lexemes_of, rows_of
+from wavescalar.isa import KINDS, LIMITS
+from wavescalar.reader import MEMORY, RANGES, SPECIAL, USUAL, lexemes_of
 
-DEST = r"[A-Za-z0-9_]+\.[0-2]"
-# All other lines, as they are printed; a line of another layout is brought to it.
-COUNT = r"(?:0|[1-9]\d{0,8})"
-HEAD = re.compile(rf"wavescalar [12]|array [A-Za-z_]\w{{0,63}} {COUNT}|hidden {COUNT}|wave {COUNT}|block \w+|"
-                  rf"pad {COUNT}(?: {DEST})*|(?:go|if|send)(?: \w+)+|stop|end|", re.ASCII)
+LABEL, COUNT = "[A-Za-z0-9_]+", "(?:0|[1-9][0-9]{0,8})"
+NAME = re.compile("[A-Za-z_][A-Za-z0-9_]{0,63}")
+DESTS = rf"(?: {LABEL}\.[0-2]){{0,{LIMITS[1].destinations}}}"
+# A line as it is printed: of an instruction label, head, first list, second list with its mark; or any other.
+ROW = re.compile(rf"^(?:({LABEL}): ([a-z][^-|\n]*(?:->)?)({DESTS})( \|{DESTS})?|(.*))$", re.MULTILINE)
+# A head: word, number, the four parts of a note, the mark of the lists.
+NOTE = rf"<([?.]|{COUNT}), ({COUNT}), ([?.]|{COUNT})>\.({COUNT})"
+HEAD = re.compile(rf"([a-z]+)(?: (0|[1-9][0-9]{{0,19}}))?(?: {NOTE})?( ->)?")
+PAD = re.compile(rf"pad ({COUNT})({DESTS})")
+FRONT = re.compile(rf"wavescalar ([12])((?:\n(?:array {NAME.pattern}|hidden) {COUNT})*)\nwave 1")
+# Other lines in the printed layout; a line of another layout is brought to it.
+OTHER = re.compile(rf"wavescalar [12]|(?:array {NAME.pattern}|hidden|wave) {COUNT}|block {LABEL}|"
+                   rf"{PAD.pattern}|(?:go|if|send)(?: {LABEL})+|stop|end")
 EXITS = {"go": (1, 1), "if": (3, 3), "send": (2, 2049), "stop": (0, 0)}  # how many labels
 WRITES = MEMORY - {"load", "nop"}
-MOST = LIMITS[1].destinations
-FORM = {op: (kind.ports, kind.argument or "", kind.memory, kind.lists) for op, kind in KINDS.items() if op != "advance"}
 
 
 class Perhaps(Exception):
@@ -34,23 +41,52 @@ def want(holds):
 
 def plain(line):
     """A line in the layout that the program prints, or something that has no form."""
-    text = " ".join(lexemes_of(line)).replace(" :", ":").replace(" ,", ",").replace("< ", "<").replace(" >", ">")
-    return text.replace(" . ", ".")
+    words = lexemes_of(line)
+    if "-" in words:  # which is no part of `->` where a blank stands behind it
+        return line
+    text = " ".join(words).replace(" :", ":").replace(" ,", ",")
+    return text.replace("< ", "<").replace(" >", ">").replace(" . ", ".")
 
 
-def dests_of(part):
-    """The destinations of a list, and whether they are few."""
-    found = part.split()
-    want(len(found) <= MOST)
-    return found
+def printed(lines):
+    """The lines in that layout, those left out in which nothing stands; the same where all are so."""
+    made = []
+    for line, (_, head, _, _, other) in zip(lines, ROW.findall("\n".join(lines))):
+        line = line if head and HEAD.fullmatch(head) or OTHER.fullmatch(other) else plain(line)
+        if line:
+            made.append(line)
+    return made
+
+
+class Heads(dict):
+    """What heads of instructions mean, as far as they were met: the count of ports, the note, and the word
+    where more is to be done than to take tokens and to give them to one list."""
+
+    def __init__(self, arrays):
+        self.arrays = arrays
+
+    def __missing__(self, head):
+        found = HEAD.fullmatch(head)
+        want(found)
+        op, arg, pred, seq, succ, ripple, mark = found.groups()
+        number, memory, listed, _ = USUAL[op]
+        want((arg is not None, seq is not None, mark is not None) == (number, memory, listed))
+        if number:
+            least, below = RANGES.get(op) or (1, self.arrays + 1)
+            want(least <= int(arg) < below)
+        note = (pred, seq, succ, int(seq), int(ripple), op) if memory else None
+        self[head] = meant = (KINDS[op].ports, note, op if op in SPECIAL else "")
+        return meant
 
 
 class Block:
-    """A block as fit.py looks at it: its operations by their places, its instructions where they are asked for."""
+    """A block as fit.py looks at it."""
 
-    def __init__(self, label, wave, pads, rows, kind, labels):
-        self.label, self.wave, self.pads, self.rows, self.kind, self.labels = label, wave, pads, rows, kind, labels
-        self.number, self.first, self.memory, self.targets = 0, False, [], []
+    line = column = 0
+
+    def __init__(self, label, number, first, kind, labels, rows):
+        self.label, self.number, self.first, self.kind, self.labels = label, number, first, kind, labels
+        self.rows, self.memory, self.targets = rows, [row for row in rows if "<" in row[1]], []
 
     @property
     def instrs(self):
@@ -58,107 +94,234 @@ class Block:
 
     @property
     def special(self):
-        return [Instr(row) for row in self.rows if row[1] == "steer"]
+        return [it for it in self.instrs if it.op == "steer"]
 
     def called(self):
         return self.label
 
 
 class Instr:
+    """An instruction as fit.py looks at it."""
+
     def __init__(self, row):
-        self.op, self.lists = row[1], (row[7][3:].split(), row[8][2:].split())
+        self.number, self.op, self.lists = row[0], row[1].split()[0], (row[2].split(), row[3][2:].split())
+
+    def called(self):
+        return self.number
 
 
-def heads_of(rows):
-    """The lines that are no instructions, with their places."""
-    return [(at, row[9]) for at, row in enumerate(rows) if not row[1]]
+def joined(slots, opens):
+    """What waits, with what an exit opens: each token is another."""
+    tokens = slots.union(opens)
+    if len(tokens) != len(slots) + len(opens):
+        raise Perhaps
+    return tokens
 
 
-def blocks_of(rows, heads):
-    """The version, the arrays' lengths, and the blocks; the lines between them have to stand in order."""
-    version, arrays, blocks, state, behind, wave = "", [], [], "first", 0, 0
-    label, pads, begin = "", {}, 0
-    for at, text in heads:
-        word, _, rest = text.partition(" ")
-        if state != "body" and at != behind:
-            raise Perhaps
-        behind = at + 1
-        if word in EXITS:
-            labels, (least, most) = rest.split(), EXITS[word]
-            want(state == "body" and least <= len(labels) <= most)
-            blocks.append(Block(label, wave, pads, rows[begin:at], word, labels))
-            state = "next"
-        elif word == "block":
-            want(state in ("wave", "next"))
-            label, pads, begin, state = rest, {}, behind, "body"
-        elif word == "pad":
-            number, *dests = rest.split()
-            want(state == "body" and at == begin and max(pads, default=-1) < int(number) < 16 and len(dests) <= MOST)
-            pads[int(number)], begin = dests, behind
-        elif word == "wave":
-            wave += 1
-            want(state in ("arrays", "next") and rest == str(wave))
-            state = "wave"
-        elif word in ("array", "hidden"):
-            want(state == "arrays")
-            arrays.append(int(rest.split()[-1]))
-        elif word == "end":
-            want(state == "next")
-            state = "done"
-        elif word:
-            want(state == "first")
-            version, state = rest, "arrays"
-    want(state == "done" and behind == len(rows))
-    return int(version), arrays, blocks
+def ended(before):
+    """Whether each of the operations that may be last in a wave says so."""
+    return all(old and old[2] == "." for old in before)
 
 
 class Surely:
-    """One pass over the blocks of a text. `Perhaps`, or KeyError, is raised where it isn't surely right."""
+    """One pass over a text. `Perhaps`, KeyError, IndexError or StopIteration: it isn't surely right."""
 
-    def __init__(self, lines, rows, draft):
-        heads = heads_of(rows)
-        if not all(HEAD.fullmatch(text) for _, text in heads) or not all(text for _, text in heads[:-1]):
-            rows = [row for row in rows_of([line if row[1] else plain(line) for line, row in zip(lines, rows)])
-                    if row[1] or row[9]]
-            heads = heads_of(rows)
-            want(all(HEAD.fullmatch(text) for _, text in heads))
-        self.draft = draft
-        self.version, arrays, self.blocks = blocks_of(rows, heads)
-        self.arrays, most = len(arrays), LIMITS[self.version]
-        want(self.arrays <= most.arrays and max(arrays, default=0) <= most.length and sum(arrays) <= most.cells)
-        labels = [row[0] for row in rows if row[1]]
-        want(len(labels) <= most.instructions and len(self.blocks) <= most.blocks and self.blocks[-1].wave <= most.waves)
-        self.named(labels)
-        self.named([b.label for b in self.blocks])
-        self.at = {b.label: b for b in self.blocks}
-        self.lead(most.landings)
-        self.come, self.due, self.leaves = {}, {}, []  # tokens that wait at a block, that it wants, that come to it
-        self.last, self.top, self.used = {}, {}, set()
-        for b in self.blocks:
-            self.block(b)
-        want(all(self.due[label] == tokens for label, tokens in self.leaves))
-        want(sorted(self.blocks[0].pads[0]) == sorted(self.due[self.blocks[0].label]))
+    def __init__(self, text, draft):
+        text = text.removesuffix("\n")
+        front, *pieces = text.removesuffix("\nend").split("\nblock ")
+        found = FRONT.fullmatch(front)
+        want(found and text.endswith("\nend"))
+        self.draft, self.version, self.most = draft, int(found[1]), LIMITS[int(found[1])]
+        self.heads = Heads(self.lengths([int(line.split()[-1]) for line in found[2].splitlines()[1:]]))
+        self.labels, self.called, self.blocks = [], [], []  # of instructions; of blocks; a draft's blocks
+        self.due, self.pads = {}, {}  # what the first block of each wave wants, and its pads
+        self.come, self.left, self.sent = {}, [], []  # what comes inside a wave, out of it, by sends
+        self.wave, self.first, self.used, self.met = 1, True, set(), {"advance": 0, "halt": 0, "send": 0}
+        for piece in pieces:
+            self.block(ROW.findall(piece))
+        self.end()
         if draft:
-            Fit(self)
+            self.fit()
+
+    def lengths(self, arrays):
+        """The count of arrays of these lengths."""
+        most = self.most
+        want(len(arrays) <= most.arrays and sum(arrays) <= most.cells)
+        want(max(arrays, default=0) <= most.length)
+        return len(arrays)
+
+    def end(self):
+        """What can be said where the text ends."""
+        self.leave_wave()
+        most = self.most
+        want(len(self.labels) <= most.instructions and len(self.called) <= most.blocks)
+        want(self.wave - 1 <= most.waves and not self.first)
+        self.named(self.labels)
+        self.named(self.called)
+        want(self.met["advance"] == sum(map(len, self.due.values())) and not self.met["halt"])
+        for label, slots, pads in self.sent:
+            self.left.append((label, joined(slots, [dest for pad in pads for dest in self.pads[label][pad]])))
+        want(all(self.due[label] == tokens for label, tokens in self.left))
+        one = self.called[0]
+        want(sorted(self.pads[one][0]) == sorted(self.due[one]))
 
     def named(self, labels):
         """Each label is the number that is next, or a name that no other has."""
         if labels != list(map(str, range(1, len(labels) + 1))):
             own = [label for at, label in enumerate(labels, 1) if label != str(at)]
-            want(self.version == 2 and len(set(own)) == len(own))
-            want(all(len(label) <= 64 and not label[0].isdigit() for label in own))
+            want(self.version == 2 and len(set(own)) == len(own) and all(map(NAME.fullmatch, own)))
 
-    def lead(self, landings):
-        """Exits lead to what is there: onward in the wave, or to the first block of a wave."""
-        wave = 0
-        for number, b in enumerate(self.blocks, 1):
-            b.number, b.first, wave = number, b.wave != wave, b.wave
-        self.first = {b: b.first for b in self.blocks}
+    # A block.
+
+    def block(self, rows):
+        """Goes over a block: rows of its label, its pads, its instructions, its exit, perhaps of a wave."""
+        leave, last = rows.pop()[4], False
+        if leave == f"wave {self.wave + 1}":
+            leave, last = rows.pop()[4], True
+        (kind, *labels), label, first = leave.split(" "), rows[0][4], self.first
+        least, most = EXITS[kind]
+        want(least <= len(labels) <= most)
+        self.called.append(label)
+        if first:
+            rows = self.front(label, rows)
+            slots, before, top = set(self.due[label]), () if self.draft else (None,), 0
+        else:
+            del rows[0]
+            slots, before, top = self.come.pop(label)
+        self.labels += [row[0] for row in rows]
+        memory, steers, pads = self.fire(rows, slots)
+        if self.draft:
+            self.blocks.append(Block(label, len(self.called), first, kind, labels, rows))
+        else:
+            before, top = self.noted(memory, before, top)
+        want((kind == "stop") == bool(memory and memory[-1][5] == "halt") and (kind == "if" or not steers)
+             and (kind == "send" or not pads))
+        if kind == "go":
+            self.arrive(labels[0], slots, before, top)
+        elif kind == "if":
+            self.chosen(rows, labels[0], [row[0] + ".1" for row in steers])
+            lists = [row[2] for row in steers], [row[3][2:] for row in steers]
+            for target, opens in zip(labels[1:], lists):
+                self.arrive(target, joined(slots, "".join(opens).split()), before, top)
+        elif kind == "send":
+            self.chosen(rows, labels[0], [row[0] + ".0" for row in rows if row[1].startswith("send ")])
+            self.send(labels[1:], slots, pads, before)
+        else:
+            self.met["halt"] -= 1
+            want(not slots and ended(before))
+        self.first = last
+        if last:
+            self.leave_wave()
+
+    def front(self, label, rows):
+        """The instructions of a first block. Notes its pads and what it wants: its advances' tokens."""
+        pads, due, at = {}, set(), 1
+        while rows[at][4]:
+            found = PAD.fullmatch(rows[at][4])
+            want(found)
+            number, dests = found.groups()
+            want(max(pads, default=-1) < int(number) < self.most.pads)
+            pads[int(number)] = dests.split()
+            at += 1
+        own = rows[at:]
+        for name, head, _, _, _ in own:
+            if head != "advance ->":
+                break
+            due.add(name + ".0")
+        want(all(map(due.issuperset, pads.values())))
+        self.due[label], self.pads[label] = due, pads
+        return own
+
+    def fire(self, rows, slots):
+        """Lets instructions take tokens and give others: the notes, the rows of steers, the pads of sends."""
+        heads, remove, update, size = self.heads, slots.remove, slots.update, len(slots)
+        memory, steers, pads = [], [], []
+        for row in rows:
+            label, head, one, two, _ = row
+            ports, note, word = heads[head]
+            remove(label + ".0")
+            if ports > 1:
+                remove(label + ".1")
+                if ports > 2:
+                    remove(label + ".2")
+            size -= ports
+            if word:
+                if word == "steer":
+                    if not two:
+                        raise Perhaps
+                    steers.append(row)
+                    continue
+                self.met[word] += 1
+                if word == "send":
+                    pads.append(int(head[5:]))
+            if note:
+                memory.append(note)
+            if one:
+                dests = one.split()
+                size += len(dests)
+                update(dests)
+            if two:
+                raise Perhaps
+        if len(slots) != size:  # two tokens came to a port
+            raise Perhaps
+        return memory, steers, pads
+
+    def chosen(self, rows, source, ports):
+        """Looks whether the exit's result comes to all of these ports, directly or through merges."""
+        own = next(row for row in rows if row[0] == source)
+        fed = set(own[2].split())
+        want(own[1].split()[0] in GIVES)
+        if not fed.issuperset(ports):
+            for label, head, one, _, _ in rows:
+                if head == "merge ->" and label + ".0" in fed:
+                    fed.update(one.split())
+            want(fed.issuperset(ports))
+
+    def arrive(self, label, tokens, before, top):
+        """Notes what comes to a block: tokens, the last operations, the number of the last that writes."""
+        found = self.come.get(label)
+        if found:
+            want(found[0] == tokens)
+            before, top = {*before, *found[1]}, max(top, found[2])
+        self.come[label] = tokens, before, top
+
+    def send(self, labels, slots, pads, before):
+        """Notes what comes to landings, whose pads may stand further on."""
+        want(len(labels) <= self.most.landings and ended(before))
+        self.sent += [(label, slots, pads) for label in labels]
+
+    def leave_wave(self):
+        """What no block of the wave has taken comes to the first blocks of others, or of its own."""
+        for label, (tokens, before, _) in self.come.items():
+            want(ended(before))
+            self.left.append((label, tokens))
+        self.come, self.used = {}, set()
+        self.wave += 1
+
+    # Notes, along the paths inside a wave.
+
+    def noted(self, memory, before, top):
+        """Looks at notes: the last operations behind the block, and the number of the last that writes."""
+        for note in memory:
+            pred, seq, _, number, ripple, op = note
+            writes = op in WRITES
+            if not number or number in self.used or not (ripple == number if writes else ripple >= top):
+                raise Perhaps
+            self.used.add(number)
+            for old in before:
+                if pred != "." if old is None else not follows(old, pred, number, seq):
+                    raise Perhaps
+            top = max(top, number) if writes else top
+            before = (note,)
+        return before, top
+
+    def fit(self):
+        """Looks whether a draft can get notes."""
+        at = {b.label: b for b in self.blocks}
         for b in self.blocks:
-            b.targets = [self.at[label] for label in b.labels[1 if b.kind in ("if", "send") else 0:]]
-            want(len(b.targets) <= landings and (b.first or not b.pads))
-            for t in b.targets:
-                want(t.first or t.wave == b.wave and t.number > b.number and b.kind != "send")
+            b.targets = [at[label] for label in b.labels[1 if b.kind in ("if", "send") else 0:]]
+        self.first = {b: b.first for b in self.blocks}
+        Fit(self)
 
     # What fit.py would say.
 
@@ -170,134 +333,24 @@ class Surely:
     def add(self, *_, **more):
         raise Perhaps
 
-    # A block.
 
-    def block(self, b):
-        rows, feeds = b.rows, self.feeds(b) if b.kind in ("if", "send") else ()
-        if b.first:
-            rows, slots = self.advances(b)
-            self.last[b.label], self.top[b.label], self.used = [None], 0, set()
-        else:
-            slots = self.come.pop(b.label)
-        remove, update = slots.remove, slots.update
-        for row in rows:
-            label, op, arg, _, seq, _, _, one, two, _ = row
-            ports, wants, noted, lists = FORM[op]
-            remove(label + ".0")
-            if ports > 1:
-                remove(label + ".1")
-                if ports > 2:
-                    remove(label + ".2")
-            if arg or seq or wants or noted:
-                self.numbers(b, row, wants, noted)
-            if lists == 1:
-                dests = one[4:].split()
-                if dests:
-                    size = len(slots) + len(dests)
-                    update(dests)
-                    if len(slots) != size or len(dests) > MOST:
-                        raise Perhaps
-                if two or not one:
-                    raise Perhaps
-            elif (one != "", two != "") != (lists > 0, lists > 0):
-                raise Perhaps
-            elif op == "steer" or op == "send":
-                want(f"{label}.{1 if op == 'steer' else 0}" in feeds)
-        if not self.draft:
-            self.notes(b)
-        self.leave(b, slots)
-
-    def advances(self, b):
-        """Notes the tokens that the first block of a wave wants. The instructions behind its advances, and what these send."""
-        due, count, sent = set(), 0, []
-        for label, op, arg, _, seq, _, _, one, two, _ in b.rows:
-            if op != "advance":
-                break
-            want(one and not (arg or seq or two))
-            due.add(label + ".0")
-            sent += dests_of(one[3:])
-            count += 1
-        self.due[b.label] = due
-        slots = set(sent)
-        want(len(slots) == len(sent) and all(due.issuperset(dests) for dests in b.pads.values()))
-        return b.rows[count:], slots
-
-    def numbers(self, b, row, wants, noted):
-        """The number and the note that stand behind a word."""
-        arg, seq = row[2], row[4]
-        want(bool(arg) == bool(wants) and bool(seq) == noted)
-        if wants == "word":
-            want(len(arg) < 20 or int(arg) < WORDS)
-        elif wants:
-            least, most = {"pad": (0, 15), "array": (1, self.arrays), "port": (1, 7)}[wants]
-            want(least <= int(arg) <= most)
-        if noted:
-            want(not b.memory or b.memory[-1][1] != "halt")
-            b.memory.append(row)
-
-    def feeds(self, b):
-        """The ports to which the result comes that the exit names, directly or through merges of the block."""
-        of = {row[0]: row for row in b.rows}
-        todo, found = [of[b.labels[0]]], set()
-        want(todo[0][1] in GIVES)
-        while todo:
-            for dest in todo.pop()[7][4:].split():
-                label, _, port = dest.partition(".")
-                if dest not in found and port == "0" and label in of and of[label][1] == "merge":
-                    todo.append(of[label])
-                found.add(dest)
-        return found
-
-    def leave(self, b, slots):
-        """What waits where the block is left goes to the blocks behind it."""
-        kind, steers, sends = b.kind, [], []
-        if kind in ("if", "send"):
-            steers, sends = ([row for row in b.rows if row[1] == op] for op in ("steer", "send"))
-            want(not (sends if kind == "if" else steers))
-        want((kind == "stop") == bool(b.memory and b.memory[-1][1] == "halt"))
-        want(kind != "stop" or not slots)
-        for place, t in enumerate(b.targets):
-            lists = [dests_of(row[7 + place][3 - place:]) for row in steers] + [t.pads[int(row[2])] for row in sends]
-            opens = [dest for dests in lists for dest in dests]
-            tokens = slots.union(opens)
-            if len(tokens) != len(slots) + len(opens):
-                raise Perhaps
-            if t.first:
-                self.leaves.append((t.label, tokens))
-            elif self.come.setdefault(t.label, tokens) != tokens:
-                raise Perhaps
-
-    # Notes, along the paths inside a wave.
-
-    def notes(self, b):
-        before, top = self.last.pop(b.label), self.top[b.label]
-        for _, op, _, pred, seq, succ, ripple, _, _, _ in b.memory:
-            number, writes = int(seq), op in WRITES
-            if not number or number in self.used or not (ripple == seq if writes else int(ripple) >= top):
-                raise Perhaps
-            self.used.add(number)
-            for old in before:
-                if not (pred == "." if old is None else follows(*old, pred, number, seq)):
-                    raise Perhaps
-            top = max(top, number) if writes else top
-            before = [(seq, succ)]
-        if b.kind == "stop" or any(t.first for t in b.targets):
-            want(all(old and old[1] == "." for old in before))
-        for t in b.targets:
-            if not t.first:
-                self.last[t.label] = list({*self.last.get(t.label, ()), *before})
-                self.top[t.label] = max(self.top.get(t.label, 0), top)
-
-
-def follows(was, named, pred, number, seq):
+def follows(old, pred, number, seq):
     """Whether one of two operations names the other, and neither a third."""
-    return number > int(was) and named in ("?", seq) and pred in ("?", was) and not pred == named == "?"
+    _, was, named, least, _, _ = old
+    return number > least and named in ("?", seq) and pred in ("?", was) and not pred == named == "?"
 
 
-def surely(lines, rows, draft):
-    """Whether the text of these lines, with these rows (`rows_of`), is surely right."""
+def holds(lines, draft):
     try:
-        Surely(lines, rows, draft)
-    except (Perhaps, KeyError, IndexError):
+        Surely("\n".join(lines), draft)
+    except (Perhaps, KeyError, IndexError, StopIteration):
         return False
     return True
+
+
+def surely(lines, draft):
+    """Whether the text of these lines is surely right, as it stands or in the program's layout."""
+    if holds(lines, draft):
+        return True
+    made = printed(lines)
+    return made != (lines if lines and lines[-1] else lines[:-1]) and holds(made, draft)
