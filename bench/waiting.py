@@ -7,26 +7,22 @@ Of each kind there are waves of 100 to 800 operations, and of some 100,000 firin
 images. The table has the processor time of one run, less that of a run with no firings, for each firing.
 """
 
-import os
-import pathlib
-import subprocess
 import sys
-import tempfile
 from collections.abc import Iterator
 
-ROOT = pathlib.Path(__file__).resolve().parent.parent
-PROGRAM = sys.argv[1] if len(sys.argv) > 1 else str(ROOT / "crates" / "wsc" / "out" / "wsc")
+# Nothing is left beside the scripts.
+sys.dont_write_bytecode = True
+from runs import BUILT, MOST, each, head, job, row, run
+
+PROGRAM = sys.argv[1] if len(sys.argv) > 1 else BUILT
 DELAY = 60
 
 
-def job(count: int, turns: int, before: str, statement: str, behind: str) -> str:
+def late(count: int, turns: int, before: str, statement: str, behind: str) -> str:
     """A loop whose first operation waits for a long sum, with so many statements behind it."""
-    slow = "".join("    x = x * 3 + 1;\n" for _ in range(DELAY))
-    body = "".join("    " + statement.format(k=k % 8, j=k) + "\n" for k in range(count))
-    return (
-        "array a[8];\nproc main() {\n  var i, s, x;\n"
-        f"  while (i < {turns}) {{\n    x = i;\n{slow}    {before}\n{body}    {behind}\n    i = i + 1;\n  }}\n}}\n"
-    )
+    slow = ["x = x * 3 + 1;"] * DELAY
+    body = (statement.format(k=k % 8, j=k) for k in range(count))
+    return job("isx", each("i", turns, "x = i;", *slow, before, *body, behind), a=8)
 
 
 JOBS = {
@@ -52,34 +48,27 @@ def image(count: int, forwards: bool) -> Iterator[str]:
     yield f"{first + 1 + count}: halt <{count + 1}, {count + 2}, .>.{count + 2}\nstop\nend\n"
 
 
-def timed(text: str, *words: str) -> tuple[float, int]:
-    """The processor seconds and the firings of a run."""
-    with tempfile.NamedTemporaryFile("w") as file:
-        file.write(text)
-        file.flush()
-        before = os.times()
-        with open(file.name) as given:
-            done = subprocess.run([PROGRAM, *words, "--stats"], stdin=given, capture_output=True, text=True)
-        after = os.times()
-    firings = [line for line in done.stdout.splitlines() if line.startswith("firings")]
-    if not firings:
-        sys.exit(done.stdout[-200:])
-    return after.children_user - before.children_user, int(firings[-1].split()[1])
-
-
-def row(name: str, text: str, command: str) -> None:
+def timed(name: str, text: str, command: str) -> None:
     """Times a run, and prints its row."""
-    least = min(timed(text, command, "--budget", "0")[0] for _ in range(3))
-    runs = [timed(text, command, "--budget", "4000000") for _ in range(3)]
-    seconds, firings = min(runs)[0] - least, runs[0][1]
-    print(f"| {name} | {firings} | {seconds:.3f} s | {1e9 * seconds / firings:.0f} ns |", flush=True)
+    stats = (PROGRAM, command, "--stats", "--budget")
+    none, whole = ([run((*stats, budget), text) for _ in range(3)] for budget in ("0", MOST))
+    seconds = min(it.processor for it in whole) - min(it.processor for it in none)
+    firings = whole[0].firings
+    row(name, str(firings), f"{seconds:.3f} s", f"{1e9 * seconds / firings:.0f} ns")
 
 
-print("| Wave | Firings | Time | A firing |\n|---|---|---|---|")
-for name, (before, statement, behind) in JOBS.items():
-    for count in (100, 200, 400, 800):
-        row(f"{count} {name}", job(count, 300_000 // (5 * count + 200), before, statement, behind), "run")
-for forwards in (False, True):
-    for count in (10_000, 20_000, 40_000):
-        name = "prints of an image, in their order" if forwards else "prints of an image, backwards"
-        row(f"{count} {name}", "".join(image(count, forwards)), "exec")
+def main() -> None:
+    """Prints the table."""
+    head("Wave", "Firings", "Time", "A firing")
+    for name, (before, statement, behind) in JOBS.items():
+        for count in (100, 200, 400, 800):
+            text = late(count, 300_000 // (5 * count + 200), before, statement, behind)
+            timed(f"{count} {name}", text, "run")
+    for forwards in (False, True):
+        for count in (10_000, 20_000, 40_000):
+            name = "prints of an image, in their order" if forwards else "prints of an image, backwards"
+            timed(f"{count} {name}", "".join(image(count, forwards)), "exec")
+
+
+if __name__ == "__main__":
+    main()

@@ -1,7 +1,6 @@
 -- The first blocks of waves that are come to.
-use Rattle.std.proofs.Common.{ℕ, zero, suc, ◌+◌, ◌≡◌, ◌<◌, ◌⊎◌, Bool, true, false, List, [], ◌∷◌, ◌++◌}
-use Rattle.std.proofs.Common.{length, get_or, set, refl, sym, ap, ◌∙◌, inl, inr, arith, length-append}
-use Rattle.std.proofs.Common.{length-set}
+use Rattle.std.proofs.Common.{ℕ, zero, suc, ◌+◌, ◌≡◌, ◌<◌, Bool, true, false, List, [], ◌∷◌, ◌++◌, length}
+use Rattle.std.proofs.Common.{get_or, set, refl, sym, ap, ◌∙◌, inl, inr, arith, length-append, length-set}
 use Rattle.std.proofs.lemmas.Bool.{cases_eq}
 use Rattle.std.proofs.lemmas.List.{get_or-set_other, get_or-set_same}
 use Rattle.annot_check.specs.declared.worklist.Waves.{Waves}
@@ -53,29 +52,6 @@ come_more old new n l f e t = record {
   where
     there : flag_at new.come.items n ≡ true
     there = ap (λ (x : List Bool). flag_at x n) e ∙ get_or-set_same old.come.items n true false l
-
-pub come_there : (old new : Waves) (n : ℕ) → n < length old.come.items →
-    new.come.items ≡ set old.come.items n true → flag_at new.come.items n ≡ true
-come_there old new n l e = ap (λ (x : List Bool). flag_at x n) e ∙ get_or-set_same old.come.items n true false
-    l
-
-pub come_new : (old new : Waves) (n : ℕ) → new.come.items ≡ set old.come.items n true → (b : ℕ) →
-    flag_at new.come.items b ≡ true → (flag_at old.come.items b ≡ true) ⊎ (b ≡ n)
-come_new old new n e b h = elim (cases_eq b n) [
-  | inl g ↦ inr g
-  | inr m ↦ inl (sym (get_or-set_other old.come.items n b true false m) ∙
-      (sym (ap (λ (x : List Bool). flag_at x b) e) ∙ h))
-]
-
-pub come_same : (w : Waves) → MoreCome w w
-come_same w = record {
-  size = refl;
-  keeps = λ b h. h;
-  is_new = λ b h. inl h;
-  todo = λ b h. h;
-  todo_come = λ b h. inl h;
-  less = omega arith;
-}
 
 pub come_twice : (a b c : Waves) → MoreCome a b → MoreCome b c → MoreCome a c
 come_twice a b c f g = record {

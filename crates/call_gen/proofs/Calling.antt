@@ -219,9 +219,6 @@ module _ (g : Graph) (live : List (List ℕ)) (G : Given g live) (F : Placed g l
       (λ y i same. C.apart home e y x up lt calling
       (omega (arith, kept_low g live G F C b there r back y i, (F.home b there).1)) same)
 
-  frame : Frame
-  frame = record { result = r; back = back; vars = s.vars }
-
   waits : Waits g live after f (address g f b) (record { result = r; back = back; vars = s.vars }) b
   waits = record {
     there = there;

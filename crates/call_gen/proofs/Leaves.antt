@@ -43,11 +43,6 @@ result_is : (r : Option ℕ) (f : ℕ) (ts : List Term) (back x : ℕ) → ExitW
 result_is None f ts back x h = absurd h
 result_is (Some y) f ts back x h = grind (arith, nat_tests)
 
--- the variable into which a call's result lands
-result_place : (r : Option ℕ) (v : ℕ) → (((y : ℕ) × (r ≡ Some y)) → or_else r v < v) → or_else r v < suc v
-result_place None v h = omega arith
-result_place (Some y) v h = omega (arith, h (y, refl))
-
 module _ (g : Graph) (live : List (List ℕ)) (G : Given g live) (F : Placed g live) (C : Celled g) (b : ℕ)
     (there : b < length (spots g)) where
   abbrev home : ℕ
@@ -211,17 +206,6 @@ module _ (g : Graph) (live : List (List ℕ)) (G : Given g live) (F : Placed g l
   -- at the return point of a call in this block, with this result
   module _ (r : Option ℕ) (f : ℕ) (ts : List Term) (back : ℕ)
       (is : (block_at g b).exit ≡ Call r f ts back) where
-    result_low : (y : ℕ) → r ≡ Some y → y < v
-    result_low y e = by_result r e (exit_in g live G F b (Call r f ts back) is).0
-      where
-        by_result : (q : Option ℕ) → q ≡ Some y → Rattle.cfg_core.specs.Rules.TargetIn v q → y < v
-        by_result None e h = absurd (cc)
-        by_result (Some z) e h = let same : z ≡ y = cc in omega (arith, same, h)
-
-    landed_place : or_else r v < suc v
-    landed_place = result_place r v (λ p. let e : or_else r v ≡ p.0 = ap (λ q. or_else q v) p.1 in
-        omega (arith, e, result_low p.0 p.1))
-
     calling : is_calling g home ≡ true
     calling = (F.called b r f ts back there is).1
 

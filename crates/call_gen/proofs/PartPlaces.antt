@@ -63,14 +63,6 @@ length_if : {A : Type 0} (v : Bool) (x : A) (xs : List A) → length (if v then 
 length_if true x xs = omega arith
 length_if false x xs = omega arith
 
-entry_shift : (n m : ℕ) (ps : List GraphProc) (e : ℕ) → e < length ps → entry_from (n + m) ps e
-    ≡ n + entry_from m ps e
-entry_shift n m [] e lt = absurd (omega arith)
-entry_shift n m (p ∷ ps) zero lt = refl
-entry_shift n m (p ∷ ps) (suc e) lt =
-    let z : (n + m) + length p.blocks ≡ n + (m + length p.blocks) = omega arith in
-    ap (λ k. entry_from k ps e) z ∙ entry_shift n (m + length p.blocks) ps e (omega arith)
-
 module _ (keep : ℕ → Bool) (name : Exit → Exit) where
   pub blocks_count : (b : ℕ) (xs : List Block) → length (part_blocks keep name b xs) + before keep b
       ≡ before keep (b + length xs)

@@ -14,8 +14,6 @@ use Rattle.cfg_core.specs.Shape.{is_branch, TestsInATurn, OnlyFrom, BranchesApar
 use Rattle.call_gen.specs.Keeps.{NoSend, HasNoSend}
 use Rattle.call_gen.specs.Reached.{Enters}
 use Rattle.call_gen.specs.Part.{before, keeps, number, name, part}
-use Rattle.call_gen.proofs.Facts.{Placed}
-use Rattle.call_gen.proofs.Places.{all_placed}
 use Rattle.call_gen.proofs.PartPlaces.{before_less, before_apart, before_order, part_spot, part_from}
 use Rattle.call_gen.proofs.PartPlaces.{procs_numbered}
 use Rattle.call_gen.proofs.PartWalk.{Closed, spot_from, exit_in, earlier_at}
@@ -60,9 +58,6 @@ unfolding spot_at
 none_past h k le = past (spots h) k le
 
 module _ (g : Graph) (keep : ℕ → Bool) (rules : IsGraph g) (C : Closed g keep) (no_send : HasNoSend g) where
-  F : Placed g []
-  F = all_placed g [] rules
-
   abbrev h : Graph
   h = part g keep
 

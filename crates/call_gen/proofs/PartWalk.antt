@@ -19,8 +19,6 @@ use Rattle.cfg_core.proofs.Paired.{Match}
 use Rattle.call_gen.specs.Keeps.{NoSend, HasNoSend}
 use Rattle.call_gen.specs.Reached.{Enters}
 use Rattle.call_gen.specs.Part.{before, part_proc, keeps, number, name, part}
-use Rattle.call_gen.proofs.Facts.{Placed}
-use Rattle.call_gen.proofs.Places.{all_placed}
 use Rattle.call_gen.proofs.PartPlaces.{before_kept, part_at, part_spot, part_spots, Whole, spots_part}
 use Rattle.call_gen.proofs.PartPlaces.{procs_count, Stands, proc_placed}
 use Rattle.ws_words.specs.Items.{nth, or_else}
@@ -56,9 +54,6 @@ earlier_at g rules b = each_at (λ (s : Spot). CallsEarlier s.home s.block.exit)
     rules.earlier tt b
 
 module _ (g : Graph) (keep : ℕ → Bool) (rules : IsGraph g) (C : Closed g keep) where
-  F : Placed g []
-  F = all_placed g [] rules
-
   abbrev pub h : Graph
   h = part g keep
 

@@ -14,7 +14,7 @@ use Rattle.seq_run.specs.Resolving as resolving
 use Rattle.seq_run.specs.InRange.{ProgramIn}
 use Rattle.seq_run.specs.TurnsLeft.{AtMost}
 use Rattle.cfg_core.specs.Graph.{Graph, GraphProc, proc_at, entry_of}
-use Rattle.cfg_core.specs.Walk.{Frame, Config, At, Over, Going, IsOver, entered, walk, opening, cells_of}
+use Rattle.cfg_core.specs.Walk.{Frame, Config, At, Over, Going, IsOver, entered, opening, cells_of}
 use Rattle.cfg_build.specs.Lowered.{last_part, made, proc_blocks, arrays, lowered}
 use Rattle.cfg_build.specs.Keeps.{KeepsRun}
 use Rattle.cfg_build.proofs.Stand.{HasAt, has_blocks, proc_is, count_procs}
@@ -43,13 +43,6 @@ by_number : (g : Graph) (b : Bool) (o u : CallEnd) (c : Config) (fs : List Frame
     → FollowsCall g (if b then o else u) c fs
 by_number g true o u c fs h i = h refl
 by_number g false o u c fs h i = i refl
-
--- where a walk is over it stays
-stays : (g : Graph) (n : ℕ) (c : Config) → IsOver c → walk g n c ≡ c
-stays g zero c h = refl
-stays g (suc n) (At b s fs k) h = absurd h
-stays g (suc n) (Over o k) h = stays g n (Over o k) tt
-stays g (suc n) (Going o) h = stays g n (Going o) tt
 
 -- how the run of a program shows in its graph
 abbrev end_of : CallEnd → Config

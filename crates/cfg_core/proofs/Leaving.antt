@@ -5,7 +5,7 @@ use Rattle.std.proofs.Common.{append_assoc, arith}
 use Rattle.ws_words.specs.Outside.{ProcState, zeros}
 use Rattle.ws_words.proofs.Rows.{zeros_more}
 use Rattle.cfg_core.specs.Walk as walks
-use Rattle.cfg_core.specs.Walk.{value, values, value_of, values_of, leave, landing, Config, At, Over, landed}
+use Rattle.cfg_core.specs.Walk.{value, values, value_of, values_of, leave, landing, Config, At, landed}
 use Rattle.cfg_core.specs.Walk.{returned, with_result}
 use Rattle.ws_words.specs.Memory.{OutIs}
 use Rattle.cfg_core.specs.Shows.{Shows, NextIs, stacked}
@@ -59,12 +59,6 @@ landed_past named words vars whole i j lt le h =
     ∙ sym (landed_none (drop i named) vars)
     ∙ sym (ap (λ (ws : List ℕ). landed (drop i named) ws vars) (drop_all words i le)) ∙ h
 
--- all variables are filled
-pub landed_all : (named words vars whole : List ℕ) (i : ℕ) → length named ≤ i
-    → landed (drop i named) (drop i words) vars ≡ whole → vars ≡ whole
-landed_all named words vars whole i le h =
-    sym (ap (λ (xs : List ℕ). landed xs (drop i words) vars) (drop_all named i le)) ∙ h
-
 stacked_last : (fs : List Frame) (f : Frame) (below : List walks.Frame)
     → stacked (fs ++ f ∷ []) below ≡ record { result = f.result; back = f.back; vars = f.vars } ∷ stacked fs
     below
@@ -81,15 +75,6 @@ given_back s frames k v w n f sh ef ev on et =
     [] = sh.waiting ∙ ap (λ (fs : List Frame). stacked fs []) ef ∙ stacked_last n.frames.items f [] in
     subst (λ (fs : List walks.Frame). NextIs (returned v s.out fs k) (next.At f.back) n) (sym same)
     (refl, record { vars = sym ev; outside = on; waiting = refl; turns = sh.turns ∙ sym et })
-
--- no call waits
-pub none_waits : (s : ProcState) (frames : List walks.Frame) (k v : ℕ) (w n : Walker) → Shows s frames k w
-    → w.frames.items ≡ [] → OutIs s.out n.memory → n.turns ≡ w.turns → NextIs (returned v s.out frames k)
-    next.Over n
-none_waits s frames k v w n sh ef on et =
-    let same : frames ≡ [] = sh.waiting ∙ ap (λ (fs : List Frame). stacked fs []) ef in
-    subst (λ (fs : List walks.Frame). NextIs (returned v s.out fs k) next.Over n) (sym same)
-    (on, sh.turns ∙ sym et)
 
 -- the code's exit is that of the graph
 pub from_exit : (g : Graph) (x y : Leave) (s : ProcState) (frames : List walks.Frame) (k : ℕ) (n : Next)

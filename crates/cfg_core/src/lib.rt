@@ -7,12 +7,12 @@
 //! blocks and its turns pay, for any weights of blocks (`weights_are_paid`).
 #![tactic(auto)]
 
-pub mod blocks;
+mod blocks;
 mod copies;
 mod exits;
-pub mod laws;
-pub mod run;
-pub mod table;
+mod laws;
+mod run;
+mod table;
 mod terms;
 mod walker;
 

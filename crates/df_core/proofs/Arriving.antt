@@ -103,23 +103,6 @@ pushed_once (x ∷ a) r o = (
 pub pushed : (a : List Request) (r : Request) → Alike (r ∷ a) (a ++ r ∷ [])
 pushed a r = record { to = pushed_to a r; from = pushed_from a r; once = pushed_once a r }
 
--- tokens that were sent stand on the way
-pub sent_on : (image : Image) (world : World) (f : Ports) (old new : Way) (ts : List plain.Token)
-    (asked : List Request) (early : List ℕ) (t : State) → SentTo old new ts
-    → Stands image world f (way_of old ++ ts) asked early t → Stands image world f (way_of new) asked early t
-sent_on image world f old new ts asked early t (inl h) st =
-    subst (λ (ws : List plain.Token). Stands image world f ws asked early t)
-    (ap (λ (xs : List plain.Token). xs ++ map token_of old.later.items) (sym h.0)
-    ∙ ap (λ (xs : List Token). map token_of new.now.items ++ map token_of xs) (sym h.1))
-    (stands_reordered image world f (way_of old ++ ts) ((map token_of old.now.items ++ ts) ++ map token_of
-    old.later.items) asked early t (behind_first (map token_of old.now.items)
-    (map token_of old.later.items) ts) st)
-sent_on image world f old new ts asked early t (inr h) st =
-    subst (λ (ws : List plain.Token). Stands image world f ws asked early t)
-    (append_assoc (map token_of old.now.items) (map token_of old.later.items) ts
-    ∙ ap (λ (xs : List plain.Token). map token_of old.now.items ++ xs) (sym h.1)
-    ∙ ap (λ (xs : List Token). map token_of xs ++ map token_of new.later.items) (sym h.0)) st
-
 -- and so do others beside them
 pub sent_beside : (image : Image) (world : World) (f : Ports) (beside : List plain.Token) (old new : Way)
     (ts : List plain.Token) (asked : List Request) (early : List ℕ) (t : State) → SentTo old new ts
@@ -309,9 +292,6 @@ module _ (image : Image) (world : World) (formed : Formed image) (sound : Sound 
             (result_of image tok.instr (listed (ports image tok.instr) o))
 
   module _ (tok : Token) (old : Flow) (s : State) (h : FlowIs image world (token_of tok ∷ beside) old s) where
-    partial : Ports
-    partial = partial_of old.slots.slots.items old.slots.spill
-
     there : s.way tok.wave tok.instr tok.port ≡ Some tok.value
     there = h.stands.way_from tok.wave tok.instr tok.port tok.value (inl (refl, refl, refl, refl))
 

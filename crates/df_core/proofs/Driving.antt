@@ -201,15 +201,6 @@ pub alone : (image : Image) (taken : List plain.Token) (flow : Flow) → Going i
     → GoingBeside image taken flow
 alone image taken flow g = record { beside = []; going = g }
 
-pub same_going : (image : Image) (a b : Flow) → SameParts a b → Going image [] a → Going image [] b
-same_going image a b e g = record {
-  world = g.world;
-  state = g.state;
-  formed = g.formed;
-  sound = g.sound;
-  holds = same_holds image g.world [] a b g.state e g.holds;
-}
-
 -- a token is taken and arrives
 pub takes_on : (image : Image) (a b mid c : Flow) (tok : Token) → SameParts a b → TakenFrom b.way mid.way tok
     → mid.slots ≡ b.slots → mid.asked ≡ b.asked → mid.early ≡ b.early → mid.chain ≡ b.chain

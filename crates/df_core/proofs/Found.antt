@@ -1,14 +1,13 @@
 -- Tokens on the way, by place.
-use Rattle.std.proofs.Common.{ℕ, zero, suc, ◌≡◌, ◌<◌, ◌≤◌, List, [], ◌∷◌, ◌++◌, length, map, take, drop}
+use Rattle.std.proofs.Common.{ℕ, zero, suc, ◌≡◌, ◌<◌, List, [], ◌∷◌, ◌++◌, length, map, take, drop}
 use Rattle.std.proofs.Common.{slice_index_or, sym, ap, ◌∙◌, inl, inr, arith}
 use Rattle.std.specs.List.{remove}
-use Rattle.std.proofs.lemmas.Bool.{cases_eq}
 use Rattle.ws_isa.specs.Image as plain
 use Rattle.df_core.specs.Core.{IsSent}
 use Rattle.df_core.specs.declared.plain.Token.{Token}
 use Rattle.df_core.specs.declared.way.Way.{Way}
 use Rattle.df_core.specs.Ways.{token_of, way_of, NoneAt, IsTokenAt, TakenAt, no_token}
-use Rattle.df_core.proofs.Issuing.{split_at, or_any}
+use Rattle.df_core.proofs.Issuing.{split_at}
 use Rattle.ws_words.proofs.Lists.{append_on, map_append}
 
 pub none_at : (ts : List Token) (w i p : ℕ) → ((k : ℕ) → k < length ts → IsTokenAt ts k w i p → ⊥)
@@ -24,30 +23,6 @@ pub none_both : (xs ys : List plain.Token) (w i p : ℕ) → NoneAt xs w i p →
 none_both [] ys w i p f g v h = g v h
 none_both (x ∷ xs) ys w i p f g v (inl h) = f v (inl h)
 none_both (x ∷ xs) ys w i p f g v (inr h) = none_both xs ys w i p (λ u k. f u (inr k)) g v h
-
--- a place further down has no such token, where this one has none
-pub none_further : (ts : List Token) (place n : ℕ) (t : Token) (w i p : ℕ) → n ≡ suc place → place < length ts
-    → t ≡ slice_index_or ts place t → ((t.wave ≡ w) → (t.instr ≡ i) → (t.port ≡ p) → ⊥) →
-    ((k : ℕ) → n ≤ k → k < length ts → IsTokenAt ts k w i p → ⊥) → (k : ℕ) → place ≤ k → k < length ts
-    → IsTokenAt ts k w i p → ⊥
-none_further ts place n t w i p e l is not' rest k a b h = elim (cases_eq k place) [
-  | inl g ↦ (let same : t ≡ slice_index_or ts k no_token = or_any ts place t no_token l is
-      ∙ ap (λ m. slice_index_or ts m no_token) (sym g) in
-      not' (ap (λ (x : Token). x.wave) same ∙ h.wave) (ap (λ (x : Token). x.instr) same ∙ h.instr)
-      (ap (λ (x : Token). x.port) same ∙ h.port))
-  | inr g ↦ rest k (omega arith) b h
-]
-
-pub found_at : (ts : List Token) (place : ℕ) (t : Token) (w i p : ℕ) → place < length ts
-    → t ≡ slice_index_or ts place t → t.wave ≡ w → t.instr ≡ i → t.port ≡ p → IsTokenAt ts place w i p
-found_at ts place t w i p l is a b c = let same : t ≡ slice_index_or ts place no_token =
-    or_any ts place t no_token l is in
-    record {
-      wave = ap (λ (x : Token). x.wave) (sym same) ∙ a;
-      instr = ap (λ (x : Token). x.instr) (sym same)
-          ∙ b;
-      port = ap (λ (x : Token). x.port) (sym same) ∙ c;
-    }
 
 -- a list with one token taken out
 pub taken_out : (ts new : List Token) (k : ℕ) (t : Token) → k < length ts → new ≡ remove ts k

@@ -20,7 +20,6 @@ pub mod FromSound
 pub mod ShownFit
 pub mod Counting
 pub mod Same
-pub mod Untruncate
 pub mod OpsPassed
 pub mod OpsCount
 pub mod Ends

@@ -11,7 +11,7 @@ use Rattle.ws_isa.specs.Walk.{Inst, pos, fires}
 use Rattle.ws_isa.specs.Sound.{ShapeRules}
 use Rattle.df_core.specs.Effect.{effect_after}
 use Rattle.df_core.specs.Core.{Chain, State, Event, Match, Issue, IsNext, NextAfter, Passes, stays, passes}
-use Rattle.df_core.specs.Core.{pass, pass_by, Ready, issued_with, issue, matched, Same, Step, Enabled}
+use Rattle.df_core.specs.Core.{pass, Ready, issued_with, issue, matched, Same, Step, Enabled}
 use Rattle.df_core.specs.Fit.{FiresAt, RightRequest, NoOp, IssuedOp, Ordered, Fit}
 use Rattle.df_core.proofs.Facts.{WalkFacts}
 use Rattle.df_core.proofs.Passing.{same_fired, ordered_next}
@@ -161,12 +161,6 @@ module _ (image : Image) (world : World) (facts : WalkFacts image world) (shape 
     left : List ℕ
     fewer : length left < length xs
     covers : Covers issued c cut left
-
-  link_wave : (c : Chain) (n : Note) (l : Link) → ((pass_by c n l).wave ≡ c.wave)
-      ⊎ ((pass_by c n l).wave ≡ suc c.wave)
-  link_wave c n Nothing = inr refl
-  link_wave c n Unknown = inl refl
-  link_wave c n (Is k) = inl refl
 
   after_pass : (issued : ℕ → ℕ → Option ℕ) (c : Chain) (m : Outside) (cut i a : ℕ) (xs : List ℕ)
       → Ordered image world cut issued c m → Covers issued c cut xs → In i xs →

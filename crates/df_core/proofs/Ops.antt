@@ -251,10 +251,6 @@ module _ (image : Image) (world : World) where
     turn_next t x fx m = rw (chain_is t (op_over t x fx))
         (next_after (P t).wave (L t) x.instr (follows t x fx m))
 
-    -- positions rise
-    abbrev R : ℕ → ℕ
-    R t = position_after (chain_at image world t).last
-
     rise_of : (w : ℕ) (l : Option ℕ) (k : ℕ) → ComesNext image l k → position_after (chain_of image w l).last
         < seq image k
     rise_of w None k f = links.positive k None f

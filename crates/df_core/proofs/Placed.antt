@@ -8,7 +8,8 @@ use Rattle.ws_isa.specs.View as view
 use Rattle.ws_isa.specs.declared.instr.Instr as code
 use Rattle.ws_isa.specs.declared.image.Block as code_block
 use Rattle.df_core.specs.declared.program.PlacedInstr.{PlacedInstr}
-use Rattle.df_core.specs.Places.{place_in_code, places, PlaceIs}
+use Rattle.df_core.specs.Listed.{place_in_code, places}
+use Rattle.df_core.specs.Places.{PlaceIs}
 use Rattle.ws_words.proofs.Lists.{length_map}
 use Rattle.ws_words.specs.Items.{nth, or_else}
 use Rattle.ws_words.proofs.Places.{nth_append_left}

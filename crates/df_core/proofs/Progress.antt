@@ -19,9 +19,6 @@ pub record IsDone (image : Image) (s : State) (x : Inst) : Type 0 where
 
 module _ (image : Image) (world : World) (facts : WalkFacts image world) (s : State) (fit : Fit image world s)
     (rest : Rest image s) (going : s.stopped ≡ false) where
-  DoneBelow : ℕ → Type 0
-  DoneBelow t = (k : ℕ) (x : Inst) → k < t → fires image world k ≡ Some x → IsDone image s x
-
   held_of : (w i p v : ℕ) → IsThere s w i p v → (u : ℕ) × (s.held w i p ≡ Some u)
   held_of w i p v (inl e) = (v, e)
   held_of w i p v (inr e) = absurd (rest (Match w i p) (v, e))

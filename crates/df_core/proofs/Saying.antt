@@ -6,12 +6,12 @@ use Rattle.ws_words.specs.Outside.{Outside, World}
 use Rattle.ws_isa.specs.Image as plain
 use Rattle.ws_isa.specs.Image.{Image}
 use Rattle.ws_isa.specs.Formed.{Formed}
-use Rattle.ws_isa.specs.Walk.{Inst, mem, walk, CostAtMost}
+use Rattle.ws_isa.specs.Walk.{mem, walk, CostAtMost}
 use Rattle.ws_isa.specs.Operations.{ops, effect_of, Effect, FaultsAt, NoFault}
 use Rattle.ws_isa.specs.Sound.{Sound}
 use Rattle.df_core.specs.Effect.{effect_at}
-use Rattle.df_core.specs.Core.{State, HasFired, core_opening}
-use Rattle.df_core.specs.Fit.{FiresAt, RightToken, NoOp}
+use Rattle.df_core.specs.Core.{State, core_opening}
+use Rattle.df_core.specs.Fit.{NoOp}
 use Rattle.df_core.specs.Ends.{WholeRun, AtFault, AfterFired}
 use Rattle.df_core.proofs.Facts.{WalkFacts}
 use Rattle.df_core.proofs.FromSound.{facts_of}
@@ -78,13 +78,6 @@ module _ (image : Image) (world : World) (facts : WalkFacts image world) (budget
             (no_op_no_write image world t (t + w.end) quiet)) ∙ w.memory (t + w.end) (omega arith)
             );
       }
-
-  fired_at : (w i : ℕ) → HasFired s.fired w i → (t : ℕ) × (x : Inst) × FiresAt image world w i t x
-  fired_at w i has =
-      let f = k.fit.fired_full w i has in
-      let g = f.1 0 f.0 in
-      let r : RightToken image world w i 0 g.0 = k.fit.held_right w i 0 g.0 g.1 in
-      (r.time, r.inst, r.at)
 
   cut : IsSpent image budget s → CutShort image world budget (done_of flow)
   cut p =

@@ -7,7 +7,7 @@ use Rattle.ws_words.specs.Outside.{World}
 use Rattle.ws_isa.specs.declared.instr.Op.{Op}
 use Rattle.ws_isa.specs.declared.instr.Op.TheVariants.{Merge, Steer, Send}
 use Rattle.ws_isa.specs.declared.instr.Dest.{Dest}
-use Rattle.ws_isa.specs.Image.{Image, Instr, Exit, Branch, Landings, ports, instr_at, is_memory, is_advance}
+use Rattle.ws_isa.specs.Image.{Image, Exit, Branch, Landings, ports, instr_at, is_memory, is_advance}
 use Rattle.ws_isa.specs.Image.{is_advance_op, is_memory_op, first_number, block_at, block_of, stops, is_stop}
 use Rattle.ws_isa.specs.Image.{target, now_dests, edge_dests, edge_of, selector, selector_of, result_of}
 use Rattle.ws_isa.specs.Image.{result_of_op, tokens_to, sends, is_first, start_dests, size_of, IsIn, IsBlock}
@@ -351,9 +351,6 @@ module _ (image : Image) (world : World) (formed : PortsThere image) (shape : Sh
       r.at.instr in
       nth_slice x.operands q ((P te).results s) (subst (λ (n : ℕ). nth x.operands q ≡ Some n) ds.result
       (subst (λ (y : Inst). nth y.operands q ≡ Some ds.inst.result) e r.operand))
-
-  edge_of_same : (b r k : ℕ) (i : Instr) (o : Op) → o ≡ o → edge_of image b r i o ≡ edge_of image b r i o
-  edge_of_same b r k i o e = refl
 
   -- a steer or a send that has destinations on an edge: the list is that of the exit's number
   agree : (te t : ℕ) (x : Inst) (o : Op) → (instr_at image x.instr).op ≡ o → (P te).over ≡ false

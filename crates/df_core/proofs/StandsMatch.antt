@@ -170,11 +170,6 @@ module _ (image : Image) (world : World) (facts : WalkFacts image world) where
         early_all = st.early_all;
       }
 
-      pub match_waits : Stands image world (with_at w i p (Some v) partial) rest asked early
-          (matched image s w i p v)
-      match_waits = subst (Stands image world (with_at w i p (Some v) partial) rest asked early)
-          (sym waits_is) waits_stands
-
     -- the instance is full
     module _ (full : is_full (with_at w i p (Some v) partial) w i (ports image i) ≡ true) where
       held_cleared : (a b q : ℕ) → (((w ≡ a) × (i ≡ b)) ⊎ HasFired s.fired a b → ⊥)
@@ -267,15 +262,6 @@ module _ (image : Image) (world : World) (facts : WalkFacts image world) where
           early_issued = st.early_issued;
           early_all = st.early_all;
         }
-
-        pub match_asks : Stands image world (cleared w i partial) rest
-            (record {
-              wave = w;
-              instr = i;
-              operands = gather (with_at w i p (Some v) partial) w i 0
-                  (ports image i);
-            } ∷ asked) early (matched image s w i p v)
-        match_asks = subst (Stands image world (cleared w i partial) rest _ early) (sym asks_is) asks_stands
 
       module _ (plain : is_memory image i ≡ false) where
         pub tells_is : matched image s w i p v ≡ tells image w i (arrived s w i p v)
@@ -393,11 +379,3 @@ module _ (image : Image) (world : World) (facts : WalkFacts image world) where
           early_issued = st.early_issued;
           early_all = st.early_all;
         }
-
-        pub match_tells : Stands image world (cleared w i partial)
-            (rest ++ sends image w i (gather (with_at w i p (Some v) partial) w i 0 (ports image i))
-            (result_of image i (gather (with_at w i p (Some v) partial) w i 0 (ports image i)))) asked early
-            (matched image s w i p v)
-        unfolding listed
-        match_tells = subst (Stands image world (cleared w i partial) (rest ++ listed) asked early)
-            (sym tells_is) tells_stands

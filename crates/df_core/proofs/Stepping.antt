@@ -34,7 +34,6 @@ use Rattle.ws_words.proofs.Lists.{append_on}
 pub kept_same : (core : Core) (flow : Flow) → SameParts core.flow flow
     → SameStates core (record { program = core.program; flow = flow })
 kept_same core flow same image world s at = record {
-  program = at.program;
   image_is = at.image_is;
   formed = at.formed;
   sound = at.sound;
@@ -134,7 +133,6 @@ module _ (core : Core) (prepared mid : Flow) (w i p : ℕ) (tok : Token) (same :
         r.0,
         subst (λ (im : Image). MatchStep im s w i p r.0) at.image_is st,
         record {
-          program = rw program at.program;
           image_is = ap image_of program ∙ at.image_is;
           formed = at.formed;
           sound = at.sound;
@@ -215,7 +213,6 @@ module _ (core : Core) (prepared : Flow) (same : SameParts core.flow prepared) w
         r.0,
         subst (λ (im : Image). Step im s (Issue w i) r.0) at.image_is st,
         record {
-          program = rw program at.program;
           image_is = ap image_of program ∙ at.image_is;
           formed = at.formed;
           sound = at.sound;

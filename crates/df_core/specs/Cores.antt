@@ -12,7 +12,7 @@ use Rattle.df_core.specs.declared.engine.Event.{Event}
 use Rattle.df_core.specs.declared.engine.Event.TheVariants as code
 use Rattle.df_core.specs.declared.engine.StepFault.{StepFault}
 use Rattle.df_core.specs.declared.engine.StepFault.TheVariants as fault
-use Rattle.df_core.specs.Places.{ProgramIs, image_of}
+use Rattle.df_core.specs.Places.{image_of}
 use Rattle.df_core.specs.Flows.{Reaches, FlowIs, FlowRoom}
 use Rattle.df_core.specs.Told.{done_of}
 use Rattle.df_core.specs.Ends.{AfterFired}
@@ -21,7 +21,6 @@ use Rattle.df_core.specs.Finishes.{is_budget}
 
 -- the core stands at this state of a run of an image in a world
 pub record IsAt (image : Image) (world : World) (core : Core) (s : State) : Type 0 where
-  pub program : ProgramIs core.program
   pub image_is : image_of core.program ≡ image
   pub formed : Formed image
   pub sound : Sound image

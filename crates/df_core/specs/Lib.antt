@@ -21,3 +21,4 @@ pub mod Quiet
 pub mod Began
 pub mod Codes
 pub mod Rights
+pub mod Listed

@@ -3,7 +3,7 @@
 ghost use Rattle.std.specs.Prelude.{◌≡◌};
 ghost use Rattle.ws_isa.specs.Formed.{Formed};
 ghost use Rattle.ws_isa.specs.Sound.{Sound};
-ghost use Rattle.df_core.specs.Places.{ProgramIs, image_of};
+ghost use Rattle.df_core.specs.Places.{image_of};
 
 use crate::job::Job;
 use crate::program::Program;
@@ -42,9 +42,16 @@ impl<'i, J: Job> Code<'i, J> {
         })
     }
 
+    /// What is true of every code: the job's image is formed and sound. A call brings this to a proof.
+    pub fn facts(&self)
+        ensures formed { Formed J.image }
+        ensures sound { Sound J.image }
+    {
+        let _ = &self.program;
+    }
+
     /// The instructions of the job's image, which is formed and sound.
     pub fn program(&self) -> &Program<'i>
-        ensures program { ProgramIs result.now }
         ensures image { image_of result.now ≡ J.image }
         ensures formed { Formed J.image }
         ensures sound { Sound J.image }

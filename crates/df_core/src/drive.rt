@@ -6,7 +6,7 @@ ghost use Rattle.ws_words.specs.Outside.{World};
 ghost use Rattle.ws_isa.specs.Formed.{Formed};
 ghost use Rattle.ws_isa.specs.Sound.{Sound};
 ghost use Rattle.df_core.specs.Core.{State};
-ghost use Rattle.df_core.specs.Places.{ProgramIs, image_of};
+ghost use Rattle.df_core.specs.Places.{image_of};
 ghost use Rattle.df_core.specs.Flows.{Going, RunsOn, weight, FlowRoom};
 ghost use Rattle.df_core.specs.Finishes.{Ended, is_budget, is_fault, stopped_at};
 
@@ -32,7 +32,6 @@ const MOST_EARLY: usize = 16;
 /// Makes events until none is left or so many instances have fired, and then issues what may be
 /// issued. Takes no memory.
 pub fn run(program: &Program<'_>, flow: &mut Flow<'_>, budget: u64) -> Finish
-    requires program { ProgramIs program.now }
     requires going { Going (image_of program.now) [] flow.old }
     requires fired { flow.old.fired ≤ budget }
     requires room { FlowRoom flow.old 0 (budget - flow.old.fired) }
@@ -60,7 +59,6 @@ pub fn run(program: &Program<'_>, flow: &mut Flow<'_>, budget: u64) -> Finish
 
 /// The same, and takes the memory that it needs on its way.
 pub fn run_on(program: &Program<'_>, flow: &mut Flow<'_>, budget: u64) -> Result<Finish, NoMemory>
-    requires program { ProgramIs program.now }
     requires going { Going (image_of program.now) [] flow.old }
     requires fired { flow.old.fired ≤ budget }
     ensures within { OnOk result (flow.new.fired ≤ budget) }
@@ -108,7 +106,6 @@ fn stopped_at(flow: &Flow<'_>) -> Finish
 
 // Matches the next token on the way, and issues the operations that then are next.
 fn match_next(program: &Program<'_>, flow: &mut Flow<'_>)
-    requires program { ProgramIs program.now }
     requires going { Going (image_of program.now) [] flow.old }
     requires fired { flow.old.fired + 1 < 2 ^ 64 }
     requires some { 0 < vec_len flow.old.way.now + vec_len flow.old.way.later }
@@ -133,7 +130,6 @@ fn match_next(program: &Program<'_>, flow: &mut Flow<'_>)
 
 // Issues the last request if it may be issued, and few were issued early.
 fn issue_last(program: &Program<'_>, flow: &mut Flow<'_>)
-    requires program { ProgramIs program.now }
     requires going { Going (image_of program.now) [] flow.old }
     requires fired { flow.old.fired < 2 ^ 64 }
     requires running { is_some flow.old.fault ≡ false }
@@ -152,7 +148,6 @@ fn issue_last(program: &Program<'_>, flow: &mut Flow<'_>)
 
 // Issues the requests that are next, one after another, as far as hints of them go.
 fn issue_next(program: &Program<'_>, flow: &mut Flow<'_>)
-    requires program { ProgramIs program.now }
     requires going { Going (image_of program.now) [] flow.old }
     requires fired { flow.old.fired < 2 ^ 64 }
     requires room { FlowRoom flow.old 0 0 }

@@ -18,7 +18,7 @@ ghost use Rattle.df_core.specs.Cores.{SameStates, RoomFor, KeepsRoom};
 
 use crate::drive::{Finish, run};
 use crate::flow::Flow;
-use crate::open::open;
+use crate::outset::open;
 use crate::plain::Token;
 use crate::program::Program;
 use crate::quiet::quiet_token;

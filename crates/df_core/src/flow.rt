@@ -7,7 +7,7 @@ ghost use Rattle.ws_isa.specs.Image.{is_memory_op, result_of_op, selector_of, to
 ghost use Rattle.ws_isa.specs.Formed.{Formed};
 ghost use Rattle.df_core.specs.Core.{Match, Issue};
 ghost use Rattle.df_core.specs.Chains.{chain_of, may_flag};
-ghost use Rattle.df_core.specs.Places.{ProgramIs, image_of, destinations};
+ghost use Rattle.df_core.specs.Places.{image_of, destinations};
 ghost use Rattle.df_core.specs.Ways.{token_of, SentTo};
 ghost use Rattle.df_core.specs.Flows.{GoingBeside, EventLeads, flight, AskedMore, all_of, asked_at, NotReady};
 ghost use Rattle.df_core.specs.Flows.{SameParts, weight, FlowRoom, NoneAskedMay, AskedMay};
@@ -47,7 +47,6 @@ impl<'w> Flow<'w> {
     /// A token that was taken off the way arrives at its port. If it is the last one of its
     /// instance, that fires.
     pub fn arrive(&mut self, program: &Program<'_>, token: Token)
-        requires program { ProgramIs program.now }
         requires going { GoingBeside (image_of program.now) (token_of token ∷ []) self.old }
         requires room { FlowRoom self.old 1 1 }
         requires fired { self.old.fired + 1 < 2 ^ 64 }
@@ -119,7 +118,6 @@ impl<'w> Flow<'w> {
 
     /// The place of a request that may be issued, if there is one.
     pub fn issuable(&self, program: &Program<'_>) -> Option<usize>
-        requires { ProgramIs program.now }
         ensures { MatchOption result ((is_some self.now.fault ≡ true)
             ⊎ NoneAskedMay (image_of program.now) self.now)
             (λ place. (place < length self.now.asked.items) × (is_some self.now.fault ≡ false)
@@ -140,7 +138,6 @@ impl<'w> Flow<'w> {
 
     /// The place of the request that is next, where there is a hint of it.
     pub fn next_up(&self, program: &Program<'_>) -> Option<usize>
-        requires { ProgramIs program.now }
         ensures { IfSome result (λ place. (place < length self.now.asked.items)
             × (is_some self.now.fault ≡ false)
             × AskedMay (image_of program.now) self.now place) }
@@ -157,7 +154,6 @@ impl<'w> Flow<'w> {
 
     /// Whether a request may be issued, where the chain isn't stopped.
     pub fn may_issue(&self, program: &Program<'_>, asked: Asked) -> bool
-        requires { ProgramIs program.now }
         ensures { result ≡ may_flag (image_of program.now)
             (chain_of self.now.chain) asked.wave asked.instr asked.operands.first }
     {
@@ -172,7 +168,6 @@ impl<'w> Flow<'w> {
 
     /// The place of the request of an instance, if it may be issued.
     pub fn ready(&self, program: &Program<'_>, wave: u64, instr: u32) -> Option<usize>
-        requires { ProgramIs program.now }
         ensures { MatchOption result (NotReady (image_of program.now) self.now wave instr)
             (λ place. (place < length self.now.asked.items) × (is_some self.now.fault ≡ false)
             × AskedMay (image_of program.now) self.now place
@@ -194,7 +189,6 @@ impl<'w> Flow<'w> {
 
     /// Issues a request that may be issued; one past the end stops the chain.
     pub fn issue(&mut self, program: &Program<'_>, place: usize)
-        requires program { ProgramIs program.now }
         requires going { GoingBeside (image_of program.now) [] self.old }
         requires place { place < length self.old.asked.items }
         requires running { is_some self.old.fault ≡ false }
@@ -226,7 +220,6 @@ impl<'w> Flow<'w> {
 
     // An instance fires: its request waits, or its result is on the way.
     fn fire(&mut self, program: &Program<'_>, op: Op, wave: u64, instr: u32, operands: Operands)
-        requires program { ProgramIs program.now }
         requires formed { Formed (image_of program.now) }
         requires asked { vec_len self.old.asked < vec_capacity self.old.asked }
         requires now { vec_len self.old.way.now + 8 ≤ vec_capacity self.old.way.now }
@@ -270,9 +263,7 @@ impl<'w> Flow<'w> {
 }
 
 // A request may have come to this place.
-fn look_again(program: &Program<'_>, asked: &[Asked], hints: &mut Hints, place: usize)
-    requires { ProgramIs program.now }
-{
+fn look_again(program: &Program<'_>, asked: &[Asked], hints: &mut Hints, place: usize) {
     if place < asked.len() {
         hints.set(program.note(asked[place].instr), place);
     }

@@ -11,9 +11,7 @@ ghost use Rattle.df_core.specs.Outdoors.{CarriesOut, Space, HasSpace, rows_of, S
 
 use std::alloc::Global;
 use ws_isa::{ArrayDecl, Op};
-use ws_words::memory::place_of;
-use ws_words::tape::{next_of, tapes};
-use ws_words::{Cells, NoMemory, PORTS, Tape, Words, World};
+use ws_words::{Cells, NoMemory, PORTS, Tape, Words, World, next_of, place_of, tapes};
 
 /// What a run has outside. Of its acts it keeps the words that were printed and taken.
 #[derive(Drop)]

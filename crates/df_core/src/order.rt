@@ -6,7 +6,7 @@ ghost use Rattle.ws_isa.specs.Image.{note_of};
 ghost use Rattle.df_core.specs.Core.{IsNext};
 ghost use Rattle.df_core.specs.Stands.{Settles, left_after};
 ghost use Rattle.df_core.specs.Chains.{chain_of, PassedOn};
-ghost use Rattle.df_core.specs.Places.{ProgramIs, image_of};
+ghost use Rattle.df_core.specs.Places.{image_of};
 ghost use Rattle.ws_words.specs.Items.{In};
 
 use crate::chain::{Chain, is_nothing};
@@ -15,7 +15,6 @@ use ws_isa::Note;
 
 /// The chain behind an issued operation. One that isn't next is kept.
 pub fn pass_on(program: &Program<'_>, chain: Chain, early: &mut Vec<u32>, instr: u32) -> Chain
-    requires program { ProgramIs program.now }
     requires wave { chain.wave + 1 < 2 ^ 64 }
     requires room { vec_len early.old < vec_capacity early.old }
     ensures passed { PassedOn (image_of program.now)
@@ -38,7 +37,6 @@ pub fn pass_on(program: &Program<'_>, chain: Chain, early: &mut Vec<u32>, instr:
 
 /// The chain behind those of these operations that are next, until none is. They are taken out.
 pub fn settle(program: &Program<'_>, chain: Chain, early: &mut Vec<u32>) -> Chain
-    requires program { ProgramIs program.now }
     requires wave { chain.wave + 1 < 2 ^ 64 }
     ensures settles { Settles (image_of program.now)
         (chain_of chain) early.old.items (chain_of result) early.new.items }
@@ -71,7 +69,6 @@ pub fn forget(note: Note, early: &mut Vec<u32>)
 
 // The place of one that is next, looked for from both ends: mostly it stands at one of them.
 fn find_next(program: &Program<'_>, chain: &Chain, early: &[u32]) -> Option<usize>
-    requires { ProgramIs program.now }
     ensures { MatchOption result ((i : ℕ) → In i early.now →
         IsNext (chain_of chain.now) (note_of (image_of program.now) i) → ⊥)
         (λ place. (place < length early.now)

@@ -2,7 +2,7 @@
 
 ghost use Rattle.std.specs.Prelude.{◌≡◌, Some, false, map, MatchOption};
 ghost use Rattle.df_core.specs.Core.{IsSent, is_full, has, with_at};
-ghost use Rattle.df_core.specs.Places.{ProgramIs, image_of};
+ghost use Rattle.df_core.specs.Places.{image_of};
 ghost use Rattle.df_core.specs.Partial.{partial_of};
 ghost use Rattle.df_core.specs.Ways.{token_of, way_of};
 ghost use Rattle.df_core.specs.Quiet as spec;
@@ -14,7 +14,6 @@ use crate::slots::MatchStore;
 
 /// A token on the way that doesn't fill its instance, if there is one.
 pub fn quiet_token(program: &Program<'_>, flow: &Flow<'_>) -> Option<Token>
-    requires { ProgramIs program.now }
     ensures { MatchOption result
         (spec.AllFill (image_of program.now) flow.now.slots (way_of flow.now.way))
         (λ token. IsSent (way_of flow.now.way) token.wave token.instr token.port token.value
@@ -28,7 +27,6 @@ pub fn quiet_token(program: &Program<'_>, flow: &Flow<'_>) -> Option<Token>
 
 // One of these tokens that doesn't fill its instance, if there is one.
 fn quiet_among(program: &Program<'_>, slots: &MatchStore, tokens: &[Token]) -> Option<Token>
-    requires { ProgramIs program.now }
     ensures { MatchOption result
         (spec.AllFill (image_of program.now) slots.now (map token_of tokens.now))
         (λ token. IsSent (map token_of tokens.now) token.wave token.instr token.port token.value
@@ -47,7 +45,6 @@ fn quiet_among(program: &Program<'_>, slots: &MatchStore, tokens: &[Token]) -> O
 
 /// Whether the instance of a token is full with it.
 pub fn fills(program: &Program<'_>, slots: &MatchStore, token: Token) -> bool
-    requires { ProgramIs program.now }
     ensures { result ≡ spec.fills (image_of program.now) slots.now (token_of token) }
 {
     is_filled(slots, token, program.op(token.instr).ports())

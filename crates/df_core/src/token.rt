@@ -52,6 +52,13 @@ impl<J: Job> Token<J> {
         }
     }
 
+    /// What is true of every token: it is right. A call brings this to a proof.
+    pub fn facts(&self)
+        ensures right { IsRight J.image J.world self.now }
+    {
+        let _ = self.wave();
+    }
+
     /// The number of its wave.
     pub fn wave(&self) -> u64
         ensures wave { result ≡ self.now.wave }

@@ -6,7 +6,7 @@ ghost use Rattle.df_core.specs.Answer.{RunSo};
 
 use crate::answer::{RunAnswer, run_of};
 use crate::drive::run_on;
-use crate::open::open;
+use crate::outset::open;
 use crate::program::Program;
 use std::alloc::Global;
 use ws_isa::Checked;

@@ -3,5 +3,6 @@ pub mod Paid
 pub mod Endings
 pub mod Fronts
 pub mod Phases
-pub mod Stops
 pub mod Telling
+pub mod Asking
+pub mod Alone

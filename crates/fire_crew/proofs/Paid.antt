@@ -16,9 +16,7 @@ use Rattle.df_core.specs.Shown.{Buffer, owed, plain_tokens, op_tokens}
 use Rattle.df_core.proofs.Ports.{has_some}
 use Rattle.df_core.proofs.SlotLists.{is_sent_append_cases}
 use Rattle.df_core.specs.Rights.{operands_of}
-use Rattle.match_table.specs.declared.table.Fired.{Fired}
-use Rattle.match_table.specs.Ports.{listed}
-use Rattle.match_table.specs.Tables.{held, key_of, of_memory, TableContent}
+use Rattle.match_table.specs.Tables.{held, of_memory, TableContent}
 use Rattle.store_buf.specs.declared.kept.Kept.{Kept}
 use Rattle.store_buf.specs.Requests.{entry_of, issued_keys, key_if, operands_if, answer_if}
 use Rattle.store_buf.specs.Contents as buf
@@ -139,12 +137,6 @@ pub told_key : (image : Image) (all : Ports) (place : ℕ) (c : TableContent) (k
     → ResultsCame image all (operands_in image (held c) k.wave k.instr) k → ResultsCameAt image all place c
 told_key image all place c k at now d =
     subst (λ (y : Key). ResultsCame image all (operands_in image (held c) y.wave y.instr) y) (sym (at d)) now
-
-pub told_at : (image : Image) (all : Ports) (place : ℕ) (c : TableContent) (f : Fired)
-    → ((d : Key) → slice_index_or c.fired place d ≡ key_of f) → listed f.operands ≡ operands_in image (held c)
-    f.wave f.instr → ResultsCame image all (listed f.operands) (key_of f) → ResultsCameAt image all place c
-told_at image all place c f at operands now = told_key image all place c (key_of f) at
-    (subst (λ (xs : List ℕ). ResultsCame image all xs (key_of f)) operands now)
 
 -- one more of a stretch is done
 pub told_more : (image : Image) (all : Ports) (from place : ℕ) (c : TableContent)

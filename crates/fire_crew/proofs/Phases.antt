@@ -32,10 +32,6 @@ steady_start cs budget s w = record {
   came = came_none (together cs).held;
 }
 
-pub steady_moved : (old new : List TableContent) (budget phases : ℕ) → Steady old new budget phases
-    → MovedOn (together old).held (together new).held phases
-steady_moved old new budget phases s = (s.count, s.few, s.came)
-
 module _ (old mid new : List TableContent) (budget phases left : ℕ) (s : Steady old mid budget phases)
     (grow : AllGrow mid new) (is : left ≡ budget - length (all_fired mid)) (some : 0 < left) where
   no_more : phases ≤ s.count

@@ -6,15 +6,15 @@ use Rattle.ws_isa.specs.Walk.{walk, CostAtMost}
 use Rattle.df_core.specs.Core.{Key}
 use Rattle.port_set.specs.Ports.{Told}
 use Rattle.store_buf.specs.Outdoors.{RoseAt, RoseSince, began_of}
-use Rattle.fire_crew.specs.declared.finish.CrewFinish.{CrewFinish}
-use Rattle.fire_crew.specs.declared.finish.CrewFinish.TheVariants.{Done, Budget, Fault, Port, NoMemory}
-use Rattle.fire_crew.specs.Answer.{CrewTells}
+use Rattle.store_buf.specs.declared.finish.RunFinish.{RunFinish}
+use Rattle.store_buf.specs.declared.finish.RunFinish.TheVariants.{Done, Budget, Fault, Port, NoMemory}
+use Rattle.store_buf.specs.Answer.{RunTells}
 use Rattle.fire_crew.specs.Finishes.{EndsSo, FinishSo}
 
 module _ (image : Image) (world : World) (budget : ℕ) (listed : List Key) (handed back : List (Option Told))
     (since : (port : ℕ) → RoseSince (began_of handed) port back → RoseAt port handed back) where
-  finish_tells : (finish : CrewFinish) → FinishSo image world (began_of handed) budget listed back finish →
-      CrewTells image world handed budget finish back
+  finish_tells : (finish : RunFinish) → FinishSo image world (began_of handed) budget listed back finish →
+      RunTells image world handed budget finish back
   finish_tells (Done printed arrays fired) f =
       let run = f.2.1 in
       let all : length listed ≡ length (walk image world run.steps) = run.count in
@@ -67,12 +67,12 @@ module _ (image : Image) (world : World) (budget : ℕ) (listed : List Key) (han
       let run = f.3 in
       inr (run.front, run.within, run.left.slots_are)
 
-  stays_tells : (finish : CrewFinish) → finish ≡ NoMemory → back ≡ handed →
-      CrewTells image world handed budget finish back
+  stays_tells : (finish : RunFinish) → finish ≡ NoMemory → back ≡ handed →
+      RunTells image world handed budget finish back
   stays_tells finish is same =
-      subst (λ (f : CrewFinish). CrewTells image world handed budget f back) (sym is) (inl same)
+      subst (λ (f : RunFinish). RunTells image world handed budget f back) (sym is) (inl same)
 
-  pub tells : (finish : CrewFinish) → EndsSo image world (began_of handed) budget listed handed back finish →
-      CrewTells image world handed budget finish back
+  pub tells : (finish : RunFinish) → EndsSo image world (began_of handed) budget listed handed back finish →
+      RunTells image world handed budget finish back
   tells finish (inl s) = stays_tells finish s.0 s.1
   tells finish (inr e) = finish_tells finish e

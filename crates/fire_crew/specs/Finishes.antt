@@ -7,15 +7,15 @@ use Rattle.df_core.specs.Began.{Began}
 use Rattle.port_set.specs.Ports.{Told}
 use Rattle.store_buf.specs.Outdoors.{Holding}
 use Rattle.fire_crew.specs.Ends.{AllRun, SomeRun, FaultRun, PortRun, FrontRun}
-use Rattle.fire_crew.specs.declared.finish.CrewFinish.{CrewFinish}
-use Rattle.fire_crew.specs.declared.finish.CrewFinish.TheVariants.{Done, Budget, Fault, Port, NoMemory}
+use Rattle.store_buf.specs.declared.finish.RunFinish.{RunFinish}
+use Rattle.store_buf.specs.declared.finish.RunFinish.TheVariants.{Done, Budget, Fault, Port, NoMemory}
 
 abbrev pub holding : List (List ℕ) → List ℕ → List ℕ → List (Option Told) → Holding
 holding cells input printed ports = record { cells = cells; input = input; printed = printed; ports = ports }
 
 -- with this budget, where these instances are listed as fired and the ports have been given back as they are
 abbrev pub FinishSo : Image → World → List (Option Began) → ℕ → List Key → List (Option Told) →
-    CrewFinish → Type 0
+    RunFinish → Type 0
 FinishSo image world began budget listed ports (Done printed arrays fired) =
     (fired ≡ length listed) × (fired ≤ budget)
     × ((input : List ℕ) × AllRun image world began listed (holding arrays input printed ports))
@@ -34,6 +34,6 @@ FinishSo image world began budget listed ports NoMemory =
 -- for want of memory nothing was run and the ports are given back as they were handed in, or a run has ended
 -- so
 abbrev pub EndsSo : Image → World → List (Option Began) → ℕ → List Key → List (Option Told) →
-    List (Option Told) → CrewFinish → Type 0
+    List (Option Told) → RunFinish → Type 0
 EndsSo image world began budget listed handed back finish =
     ((finish ≡ NoMemory) × (back ≡ handed)) ⊎ FinishSo image world began budget listed back finish

@@ -1,5 +1,5 @@
 pub mod Owing
 pub mod Ends
 pub mod Verdicts
+pub mod Solo
 pub mod Finishes
-pub mod Answer

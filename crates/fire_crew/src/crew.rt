@@ -1,31 +1,43 @@
 //! The run of a crew.
 
-ghost use Rattle.std.specs.Prelude.{◌≡◌, ◌+◌, ◌*◌, ◌≤◌, ◌-◌, ℕ, length};
+ghost use Rattle.std.specs.Prelude.{◌≡◌, ◌+◌, ◌*◌, ◌≤◌, ◌-◌, ℕ, [], length};
 ghost use Rattle.ws_isa.specs.Walk.{CostAtMost};
 ghost use Rattle.port_set.specs.Slots.{AllOpen, contents};
 ghost use Rattle.store_buf.specs.Outdoors.{AllBegan};
 ghost use Rattle.match_table.specs.Growth.{AllGrow};
 ghost use Rattle.match_table.specs.Rows.{contents as all_contents};
 ghost use Rattle.match_table.specs.Together.{AllServe, part_of};
-ghost use Rattle.fire_crew.specs.declared.finish.CrewFinish.TheVariants.{NoMemory};
+ghost use Rattle.store_buf.specs.declared.finish.RunFinish.TheVariants.{NoMemory};
+ghost use Rattle.fire_crew.specs.Ends.{IsGoing};
 ghost use Rattle.fire_crew.specs.Finishes.{EndsSo};
 ghost use Rattle.fire_crew.specs.Verdicts.{EndingSo, MovedOn};
 
 use crate::Gate;
 use crate::ends::few_tokens;
-use crate::finish::{CrewEnd, CrewFinish, finish};
+use crate::finish::{CrewEnd, crew_end};
 use crate::judge::{Ending, Verdict, find_course};
-use crate::limits::fitting;
-use crate::turn::turn;
+use crate::shares::fitting;
+use crate::solo::run_solo;
 use df_core::{Code, Job, TokenList};
-use match_table::Tables;
-use match_table::together::fired;
+use match_table::{Tables, fired};
 use port_set::{Port, Slots};
 use std::alloc::Global;
 use std::sync::Wait;
 use std::thread::Threads;
-use store_buf::Buffer;
+use store_buf::{Buffer, RunFinish};
 use ws_words::Words;
+
+/// Who runs an image: from 1 to 8 workers, and the gate that each asks before it brings a token. They go on
+/// until so many instances have fired.
+#[derive(Drop)]
+pub struct Crew<'a, G, R> {
+    pub rt: &'a R,
+    pub alloc: Global,
+    pub gate: &'a G,
+    pub workers: u32,
+    pub budget: u64,
+    pub ghost few: { (1 ≤ workers) × (workers ≤ 8) },
+}
 
 /// Where a run has ended, and after how many phases.
 #[derive(Drop)]
@@ -36,140 +48,154 @@ pub struct CrewLeft<J: Job, P: Port> {
     pub phases: u64,
 }
 
-/// Runs phase after phase until the run has ended. Each phase but the last has brought a token that no
-/// table had, so that there are no more phases than one and the tokens that the tables hold: no more
-/// than one and three for each instance of the walk.
-pub fn run_on<J: Job + Send + Sync, P: Port + Send, G: Gate, R: Threads + Wait + Sync>(
-    rt: &R,
-    alloc: Global,
-    tables: Tables<J>,
-    buffer: Buffer<J, P>,
-    workers: u32,
-    budget: u64,
-    code: &Code<'_, J>,
-    gate: &G,
-) -> CrewLeft<J, P>
-    requires serve { AllServe tables }
-    requires within { length (part_of tables).fired ≤ budget }
-    requires workers { (1 ≤ workers) × (workers ≤ 8) }
-    ensures serve { AllServe result.tables }
-    ensures within { length (part_of result.tables).fired ≤ budget }
-    ensures ended { EndingSo J.image J.world J.began (part_of result.tables).fired
-        (budget - length (part_of result.tables).fired) result.buffer result.ending }
-    ensures grow { AllGrow (all_contents tables) (all_contents result.tables) }
-    ensures moved { MovedOn (part_of tables).held (part_of result.tables).held result.phases }
-    ensures few { (cost : ℕ) → CostAtMost J.image J.world cost → result.phases ≤ 3 * cost + 1 }
-{
-    let ended = run_phases(rt, alloc, tables, buffer, workers, budget, code, gate);
-    few_tokens(code, &ended.tables);
-    ended
-}
+impl<'a, G: Gate, R: Threads + Wait + Sync> Crew<'a, G, R> {
+    /// Runs phase after phase until the run has ended. Each phase but the last has brought a token that no
+    /// table had, so that there are no more phases than one and the tokens that the tables hold: no more
+    /// than one and three for each instance of the walk.
+    pub fn run_on<J: Job + Send + Sync, P: Port + Send>(
+        &self,
+        code: &Code<'_, J>,
+        tables: Tables<J>,
+        buffer: Buffer<J, P>,
+    ) -> CrewLeft<J, P>
+        requires serve { AllServe tables }
+        requires within { length (part_of tables).fired ≤ self.now.budget }
+        ensures serve { AllServe result.tables }
+        ensures within { length (part_of result.tables).fired ≤ self.now.budget }
+        ensures ended { EndingSo J.image J.world J.began (part_of result.tables).fired
+            (self.now.budget - length (part_of result.tables).fired) result.buffer result.ending }
+        ensures grow { AllGrow (all_contents tables) (all_contents result.tables) }
+        ensures moved { MovedOn (part_of tables).held (part_of result.tables).held result.phases }
+        ensures few { (cost : ℕ) → CostAtMost J.image J.world cost → result.phases ≤ 3 * cost + 1 }
+    {
+        let ended = self.run_phases(code, tables, buffer);
+        few_tokens(code, &ended.tables);
+        ended
+    }
 
-// Runs phase after phase.
-fn run_phases<J: Job + Send + Sync, P: Port + Send, G: Gate, R: Threads + Wait + Sync>(
-    rt: &R,
-    alloc: Global,
-    tables: Tables<J>,
-    buffer: Buffer<J, P>,
-    workers: u32,
-    budget: u64,
-    code: &Code<'_, J>,
-    gate: &G,
-) -> CrewLeft<J, P>
-    requires serve { AllServe tables }
-    requires within { length (part_of tables).fired ≤ budget }
-    requires workers { (1 ≤ workers) × (workers ≤ 8) }
-    ensures serve { AllServe result.tables }
-    ensures within { length (part_of result.tables).fired ≤ budget }
-    ensures ended { EndingSo J.image J.world J.began (part_of result.tables).fired
-        (budget - length (part_of result.tables).fired) result.buffer result.ending }
-    ensures grow { AllGrow (all_contents tables) (all_contents result.tables) }
-    ensures moved { MovedOn (part_of tables).held (part_of result.tables).held result.phases }
-{
-    let mut tables = tables;
-    let mut buffer = buffer;
-    let mut tokens = TokenList::empty(alloc);
-    for phases in 0..u64::MAX {
-        let left = budget - fired(&tables);
-        match find_course(alloc, code, &tables, &mut buffer, tokens, left) {
-            Verdict::Ends(ending) => {
-                return CrewLeft {
-                    tables,
-                    buffer,
-                    ending,
-                    phases,
-                };
-            }
-            Verdict::Go { token, tokens: all } => {
-                let after = turn(
-                    rt, alloc, tables, buffer, &token, all, workers, budget, code, gate,
-                );
-                tables = after.tables;
-                buffer = after.buffer;
-                tokens = after.let_go;
-                if after.starved {
+    // Runs phase after phase.
+    fn run_phases<J: Job + Send + Sync, P: Port + Send>(
+        &self,
+        code: &Code<'_, J>,
+        tables: Tables<J>,
+        buffer: Buffer<J, P>,
+    ) -> CrewLeft<J, P>
+        requires serve { AllServe tables }
+        requires within { length (part_of tables).fired ≤ self.now.budget }
+        ensures serve { AllServe result.tables }
+        ensures within { length (part_of result.tables).fired ≤ self.now.budget }
+        ensures ended { EndingSo J.image J.world J.began (part_of result.tables).fired
+            (self.now.budget - length (part_of result.tables).fired) result.buffer result.ending }
+        ensures grow { AllGrow (all_contents tables) (all_contents result.tables) }
+        ensures moved { MovedOn (part_of tables).held (part_of result.tables).held result.phases }
+    {
+        let mut tables = tables;
+        let mut buffer = buffer;
+        let mut tokens = TokenList::empty(self.alloc);
+        for phases in 0..u64::MAX {
+            let left = self.budget - fired(&tables);
+            match find_course(self.alloc, code, &tables, &mut buffer, tokens, left) {
+                Verdict::Ends(ending) => {
                     return CrewLeft {
                         tables,
                         buffer,
-                        ending: Ending::Starved,
-                        phases: phases + 1,
+                        ending,
+                        phases,
                     };
+                }
+                Verdict::Go { token, tokens: all } => {
+                    let after = self.turn(code, tables, buffer, &token, all);
+                    tables = after.tables;
+                    buffer = after.buffer;
+                    tokens = after.let_go;
+                    if after.starved {
+                        return CrewLeft {
+                            tables,
+                            buffer,
+                            ending: Ending::Starved,
+                            phases: phases + 1,
+                        };
+                    }
                 }
             }
         }
-    }
 
-    // So many tokens take more memory than there is.
-    CrewLeft {
-        tables,
-        buffer,
-        ending: Ending::Starved,
-        phases: u64::MAX,
-    }
-}
-
-/// Runs the image of a job with so many workers, until the whole walk has been run, so many instances
-/// have fired, or a port fails. The job names this image, this input, and the ports as they are handed
-/// in, with the words that they have left.
-pub fn run_over<J: Job + Send + Sync, P: Port + Send, G: Gate, R: Threads + Wait + Sync>(
-    rt: &R,
-    alloc: Global,
-    code: &Code<'_, J>,
-    input: Words,
-    ports: Slots<P>,
-    workers: u32,
-    budget: u64,
-    gate: &G,
-) -> CrewEnd<J, P>
-    requires input { input ≡ J.world.input }
-    requires ports { AllBegan J.began J.world.left (contents P.tells ports) }
-    requires open { AllOpen (contents P.tells ports) }
-    requires workers { (1 ≤ workers) × (workers ≤ 8) }
-    ensures serve { AllServe result.tables }
-    ensures within { length (part_of result.tables).fired ≤ budget }
-    ensures finish { EndsSo J.image J.world J.began budget (part_of result.tables).fired
-        (contents P.tells ports) (contents P.tells result.ports) result.finish }
-    ensures open { AllOpen (contents P.tells result.ports) }
-{
-    match Buffer::begin(alloc, code, input, ports) {
-        Ok(buffer) => {
-            let tables = no_tables(alloc);
-            let ended = run_on(rt, alloc, tables, buffer, workers, budget, code, gate);
-            finish(code, ended.tables, ended.buffer, ended.ending, budget)
+        // So many tokens take more memory than there is.
+        CrewLeft {
+            tables,
+            buffer,
+            ending: Ending::Starved,
+            phases: u64::MAX,
         }
-        Err(ports) => stays(alloc, ports),
+    }
+
+    /// Runs the image of a job with so many workers, until the whole walk has been run, so many instances
+    /// have fired, or a port fails. The job names this image, this input, and the ports as they are handed
+    /// in, with the words that they have left.
+    pub fn run_over<J: Job + Send + Sync, P: Port + Send>(
+        &self,
+        code: &Code<'_, J>,
+        input: Words,
+        ports: Slots<P>,
+    ) -> CrewEnd<J, P>
+        requires input { input ≡ J.world.input }
+        requires ports { AllBegan J.began J.world.left (contents P.tells ports) }
+        requires open { AllOpen (contents P.tells ports) }
+        ensures serve { AllServe result.tables }
+        ensures within { length (part_of result.tables).fired ≤ self.now.budget }
+        ensures finish { EndsSo J.image J.world J.began self.now.budget (part_of result.tables).fired
+            (contents P.tells ports) (contents P.tells result.ports) result.finish }
+        ensures open { AllOpen (contents P.tells result.ports) }
+    {
+        match Buffer::begin(self.alloc, code, input, ports) {
+            Ok(buffer) => {
+                let CrewLeft {
+                    tables,
+                    buffer,
+                    ending,
+                    phases: _,
+                } = self.run_from(code, buffer);
+                let end = crew_end(code, &tables, buffer, ending, self.budget);
+                CrewEnd {
+                    finish: end.finish,
+                    ports: end.ports,
+                    tables,
+                }
+            }
+            Err(ports) => starved_crew(self.alloc, ports),
+        }
+    }
+
+    // Runs the code from its start with its opening buffer. One worker runs it alone, in no phase.
+    fn run_from<J: Job + Send + Sync, P: Port + Send>(
+        &self,
+        code: &Code<'_, J>,
+        buffer: Buffer<J, P>,
+    ) -> CrewLeft<J, P>
+        requires going { IsGoing buffer }
+        requires none { buffer.kept ≡ [] }
+        ensures serve { AllServe result.tables }
+        ensures within { length (part_of result.tables).fired ≤ self.now.budget }
+        ensures ended { EndingSo J.image J.world J.began (part_of result.tables).fired
+            (self.now.budget - length (part_of result.tables).fired) result.buffer result.ending }
+    {
+        if self.workers == 1 {
+            return run_solo(self.alloc, code, buffer, self.budget, self.gate);
+        }
+        let tables = no_tables(self.alloc);
+        self.run_on(code, tables, buffer)
     }
 }
 
 /// For want of memory nothing was run.
-pub fn stays<J: Job, P: Port>(alloc: Global, ports: Slots<P>) -> CrewEnd<J, P>
+pub fn starved_crew<J: Job, P: Port>(alloc: Global, ports: Slots<P>) -> CrewEnd<J, P>
     ensures serve { AllServe result.tables }
     ensures none { length (part_of result.tables).fired ≡ 0 }
     ensures finish { result.finish ≡ NoMemory }
     ensures ports { result.ports ≡ ports }
 {
     CrewEnd {
-        finish: CrewFinish::NoMemory,
+        finish: RunFinish::NoMemory,
         ports,
         tables: no_tables(alloc),
     }

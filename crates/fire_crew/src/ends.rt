@@ -13,8 +13,7 @@ ghost use Rattle.fire_crew.specs.Ends.{AllRun, FaultRun, FrontRun, IsGoing, Port
 use df_core::{
     Code, Job, Token, counts, every_list_of_events, owing_nothing_is_rest, shown_is_fit,
 };
-use match_table::row::Tables;
-use match_table::together::facts;
+use match_table::{Tables, facts};
 use port_set::Port;
 use store_buf::{Buffer, MemoryOrder};
 
@@ -27,9 +26,9 @@ pub fn all_run<J: Job, P: Port>(code: &Code<'_, J>, tables: &Tables<J>, buffer: 
         (owed J.image (part_of tables.now) (buffer_in J.image buffer.now m)) }
     ensures { AllRun J.image J.world J.began (part_of tables.now).fired buffer.now.outside }
 {
-    let _ = code.program();
     facts(tables);
     buffer.facts();
+    code.facts();
     shown_is_fit();
     owing_nothing_is_rest();
     every_list_of_events();
@@ -49,10 +48,10 @@ pub fn some_run<J: Job, P: Port>(
     requires missing { IsMissing (part_of tables.now).held token.now }
     ensures { SomeRun J.image J.world J.began (part_of tables.now).fired buffer.now.outside }
 {
-    let _ = code.program();
-    let _ = token.wave();
     facts(tables);
     buffer.facts();
+    code.facts();
+    token.facts();
     shown_is_fit();
     counts();
 }
@@ -68,9 +67,9 @@ pub fn fault_run<J: Job, P: Port>(
     requires fault { buffer.now.fault ≡ Some array }
     ensures { FaultRun J.image J.world J.began array buffer.now.outside }
 {
-    let _ = code.program();
     facts(tables);
     buffer.facts();
+    code.facts();
     shown_is_fit();
     every_list_of_events();
     counts();
@@ -81,8 +80,8 @@ pub fn port_run<J: Job, P: Port>(code: &Code<'_, J>, buffer: &Buffer<J, P>, port
     requires failed { buffer.now.failed ≡ Some port }
     ensures { PortRun J.image J.world J.began port buffer.now.outside }
 {
-    let _ = code.program();
     buffer.facts();
+    code.facts();
 }
 
 /// What is outside is at all times what the walk leaves with its first operations, none of them past
@@ -99,6 +98,6 @@ pub fn few_tokens<J: Job>(code: &Code<'_, J>, tables: &Tables<J>)
     ensures { (old : Ports) (count cost : ℕ) → Came old (part_of tables.now).held count
         → CostAtMost J.image J.world cost → count ≤ 3 * cost }
 {
-    let _ = code.program();
     facts(tables);
+    code.facts();
 }

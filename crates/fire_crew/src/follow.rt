@@ -36,7 +36,9 @@ pub fn carry_on<L: Wrap<Token<J>, T>, J: Job, T: Drop, P: Port, R: Wait>(
             hand.hand_on::<L, T>(seat, let_go);
             Next::More
         }
-        Offer::Took(Took::Asks) => ask::<L, J, T, P, R>(rt, hand, seat, let_go, buffer, code),
+        Offer::Took(Took::Asks) => submit_in_hand::<L, J, T, P, R>(
+            rt, hand, seat, let_go, buffer, code,
+        ),
         Offer::Took(Took::NoMemory) => Next::Starved,
         Offer::Spent => {
             let _ = let_go.push(token);
@@ -47,7 +49,7 @@ pub fn carry_on<L: Wrap<Token<J>, T>, J: Job, T: Drop, P: Port, R: Wait>(
 
 // Submits the request in hand, under the buffer's lock. Its answers are put by.
 #[inline(always)]
-fn ask<L: Wrap<Token<J>, T>, J: Job, T: Drop, P: Port, R: Wait>(
+fn submit_in_hand<L: Wrap<Token<J>, T>, J: Job, T: Drop, P: Port, R: Wait>(
     rt: &R,
     hand: &mut InHand<'_, J>,
     seat: &mut Seat<T>,

@@ -13,8 +13,7 @@ use crate::ends::{all_run, some_run};
 use crate::missing::missing;
 use crate::unknown::unknown;
 use df_core::{Code, Job, Request, Token, TokenList};
-use match_table::Tables;
-use match_table::together::is_there;
+use match_table::{Tables, is_there};
 use port_set::Port;
 use std::alloc::Global;
 use store_buf::{Buffer, MemoryOrder};
@@ -60,7 +59,7 @@ pub fn find_course<J: Job, P: Port>(
     {
         return go(token, tokens);
     }
-    if let Err(ending) = ask(alloc, code, tables, buffer) {
+    if let Err(ending) = submit_unknown(alloc, code, tables, buffer) {
         return Verdict::Ends(ending);
     }
     let most = if left == 0 { 1 } else { usize::MAX };
@@ -93,7 +92,7 @@ fn go<J: Job>(token: Token<J>, tokens: TokenList<J>) -> Verdict<J>
 
 // Submits the requests of instances that have fired and that the buffer doesn't know, so that it knows
 // all, unless it is stopped or memory runs out.
-fn ask<J: Job, P: Port>(
+fn submit_unknown<J: Job, P: Port>(
     alloc: Global,
     code: &Code<'_, J>,
     tables: &Tables<J>,

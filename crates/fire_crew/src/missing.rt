@@ -11,9 +11,7 @@ ghost use Rattle.match_table.specs.Together.{AllServe, behind, part_behind, part
 
 use crate::owed::{keep, look_up, see_at};
 use df_core::{Code, Job, TokenList, start};
-use match_table::row::Tables;
-use match_table::together::{all_of, courses_of, facts, table_at};
-use match_table::{Course, Table};
+use match_table::{Course, Table, Tables, all_of, courses_of, facts, table_at};
 use port_set::Port;
 use std::alloc::Global;
 use store_buf::{Buffer, MemoryOrder};
@@ -135,8 +133,6 @@ fn look_through<J: Job>(
     ensures none { OnOk result (found.new ≡ [] → (found.old ≡ [])
         × ToldIn J.image (part_behind tables.now).held from to table.now) }
 {
-    table.facts();
-    let _ = code.program();
     let end = table.fired_count().min(to);
     for place in from..end {
         see_at(code, tables, courses, table, place, found)?;
@@ -158,7 +154,7 @@ fn look_back<J: Job, P: Port>(
         × All (HasAnswered J.image (part_behind tables.now).held) buffer.now.kept) }
 {
     buffer.facts();
-    let _ = code.program();
+    code.facts();
     for kept in buffer.kept() {
         look_up(code, tables, courses, *kept, found)?;
     }

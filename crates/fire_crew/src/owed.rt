@@ -12,8 +12,7 @@ ghost use Rattle.fire_crew.specs.Owing.{HasAnswered, ResultsCame, ResultsCameAt,
 
 use crate::told::has_told;
 use df_core::{Code, Job, Token, TokenList};
-use match_table::together::holds;
-use match_table::{Course, Fired, Table, ops};
+use match_table::{Course, Fired, Table, holds, number_of, result_of, selector};
 use store_buf::Kept;
 use ws_isa::Dest;
 use ws_words::NoMemory;
@@ -38,7 +37,7 @@ pub(crate) fn see_at<J: Job>(
         return Ok(());
     }
     table.facts();
-    let _ = code.program();
+    code.facts();
     look_at(code, tables, courses, table.fired_at(code, place), found)
 }
 
@@ -64,11 +63,11 @@ fn look_at<J: Job>(
     if op.is_memory() {
         return Ok(());
     }
-    let Some(number) = ops::number_of(op, fired.wave) else {
+    let Some(number) = number_of(op, fired.wave) else {
         return Err(NoMemory);
     };
-    let choice = ops::selector(op, fired.operands);
-    let word = ops::result_of(op, fired.operands);
+    let choice = selector(op, fired.operands);
+    let word = result_of(op, fired.operands);
     let dests = code.program().destinations(fired.instr, choice);
     keep_sent(tables, courses, number, dests, word, found)?;
     Ok(())
@@ -96,7 +95,7 @@ pub(crate) fn look_up<J: Job>(
         return Ok(());
     };
     let program = code.program();
-    let Some(number) = ops::number_of(program.op(kept.instr), kept.wave) else {
+    let Some(number) = number_of(program.op(kept.instr), kept.wave) else {
         return Err(NoMemory);
     };
     keep_sent(

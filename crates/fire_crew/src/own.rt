@@ -8,9 +8,7 @@ ghost use Rattle.match_table.specs.Together.{AllServe, part_of};
 
 use crate::pour;
 use df_core::{Code, Job, Request, Token, TokenList};
-use match_table::bring::bring;
-use match_table::together::{fired, is_there};
-use match_table::{Results, Tables, Took};
+use match_table::{Results, Tables, Took, bring, fired, is_there};
 use port_set::Port;
 use std::alloc::Global;
 use store_buf::{BufFault, Buffer, MemoryOrder};
@@ -56,13 +54,13 @@ fn follow<J: Job, P: Port>(
 ) -> Result<(), NoMemory> {
     pour(results.sent.listed(alloc), tokens);
     match results.request {
-        Some(request) => ask(code, buffer, request, tokens),
+        Some(request) => submit_request(code, buffer, request, tokens),
         None => Ok(()),
     }
 }
 
 // Submits a request.
-fn ask<J: Job, P: Port>(
+fn submit_request<J: Job, P: Port>(
     code: &Code<'_, J>,
     buffer: &mut Buffer<J, P>,
     request: Request<J>,

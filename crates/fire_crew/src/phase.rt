@@ -4,6 +4,7 @@ ghost use Rattle.std.specs.Prelude.{◌≡◌, length};
 ghost use Rattle.match_table.specs.Growth.{AllGrow};
 ghost use Rattle.match_table.specs.Rows.{Fits, contents};
 
+use crate::crew::Crew;
 use crate::gate::Gate;
 use crate::pouring::pour;
 use crate::work::{Worked, work};
@@ -27,52 +28,49 @@ pub struct PhaseEnd<J: Job, P: Port> {
     pub starved: bool,
 }
 
-/// A worker for each seat, until none finds a token. Each table keeps within its limit and loses
-/// nothing. Where no thread can be started the caller's does all.
-pub fn phase<
-    J: Job + Send + Sync,
-    Q: Quotas + Send + Sync,
-    P: Port + Send,
-    G: Gate,
-    R: Threads + Wait + Sync,
->(
-    rt: &R,
-    alloc: Global,
-    tables: Tables<J>,
-    buffer: Buffer<J, P>,
-    limits: &[usize],
-    deal: SeatList<Token<J>>,
-    code: &Code<'_, J>,
-    gate: &G,
-) -> PhaseEnd<J, P>
-    requires limits { (limits.now ≡ Q.most) × (length limits.now ≡ 16) }
-    requires fits { Fits tables limits.now }
-    requires began { contents tables ≡ Q.began }
-    ensures fits { Fits result.tables limits.now }
-    ensures grow { AllGrow (contents tables) (contents result.tables) }
-{
-    let row: Row<J, Q> = Row::new(tables, limits);
-    let lock = Mutex::new(buffer);
-    let shared = &row;
-    let behind = &lock;
-    let at_work = AtomicU64::new(deal.len() as u64);
-    let counted = &at_work;
-    let back = thread::map_vec(
-        rt,
-        deal,
-        &|seat: Seat<Token<J>>| -> Worked<J> {
-            work(rt, alloc, seat, counted, shared, behind, code, gate)
-        },
-    );
-    let (let_go, starved) = match back {
-        Ok(all) => gather(alloc, all),
-        Err(_) => (TokenList::empty(alloc), true),
-    };
-    PhaseEnd {
-        tables: row.gather(),
-        buffer: lock.into_inner(),
-        let_go,
-        starved,
+impl<'a, G: Gate, R: Threads + Wait + Sync> Crew<'a, G, R> {
+    /// A worker for each seat, until none finds a token. Each table keeps within its limit and loses
+    /// nothing. Where no thread can be started the caller's does all.
+    pub fn phase<J: Job + Send + Sync, Q: Quotas + Send + Sync, P: Port + Send>(
+        &self,
+        code: &Code<'_, J>,
+        tables: Tables<J>,
+        buffer: Buffer<J, P>,
+        limits: &[usize],
+        deal: SeatList<Token<J>>,
+    ) -> PhaseEnd<J, P>
+        requires limits { (limits.now ≡ Q.most) × (length limits.now ≡ 16) }
+        requires fits { Fits tables limits.now }
+        requires began { contents tables ≡ Q.began }
+        ensures fits { Fits result.tables limits.now }
+        ensures grow { AllGrow (contents tables) (contents result.tables) }
+    {
+        let rt = self.rt;
+        let alloc = self.alloc;
+        let gate = self.gate;
+        let row: Row<J, Q> = Row::new(tables, limits);
+        let lock = Mutex::new(buffer);
+        let shared = &row;
+        let behind = &lock;
+        let at_work = AtomicU64::new(deal.len() as u64);
+        let counted = &at_work;
+        let back = thread::map_vec(
+            rt,
+            deal,
+            &|seat: Seat<Token<J>>| -> Worked<J> {
+                work(rt, alloc, seat, counted, shared, behind, code, gate)
+            },
+        );
+        let (let_go, starved) = match back {
+            Ok(all) => gather(alloc, all),
+            Err(_) => (TokenList::empty(alloc), true),
+        };
+        PhaseEnd {
+            tables: row.gather(),
+            buffer: lock.into_inner(),
+            let_go,
+            starved,
+        }
     }
 }
 

@@ -8,8 +8,7 @@ ghost use Rattle.match_table.specs.Together.{part_behind};
 ghost use Rattle.fire_crew.specs.Owing.{ResultsCameAt, HaveCome};
 
 use df_core::{Code, Job};
-use match_table::together::holds;
-use match_table::{Course, Table, ops};
+use match_table::{Course, Table, holds, number_of, selector};
 use ws_isa::{Dest, Op};
 
 // Whether all that the instance owes has come that fired at this place of a table's list. What it sends isn't
@@ -30,7 +29,7 @@ pub(crate) fn has_told<J: Job>(
     if op.is_memory() {
         return true;
     }
-    let Some(number) = ops::number_of(op, wave) else {
+    let Some(number) = number_of(op, wave) else {
         return false;
     };
     let choice = choice_at(code, table, place, op);
@@ -46,7 +45,7 @@ fn choice_at<J: Job>(code: &Code<'_, J>, table: &Table<J>, place: usize, op: Op)
         (slice_index_or table.now.fired place d).wave (slice_index_or table.now.fired place d).instr) }
 {
     match op {
-        Op::Steer | Op::Send(_) => ops::selector(op, table.fired_at(code, place).operands),
+        Op::Steer | Op::Send(_) => selector(op, table.fired_at(code, place).operands),
         _ => 0,
     }
 }

@@ -6,13 +6,13 @@ ghost use Rattle.match_table.specs.Together.{AllServe, part_of};
 ghost use Rattle.match_table.specs.Growth.{AllGrow};
 ghost use Rattle.match_table.specs.Rows.{contents};
 
-use crate::limits::{fitting, limits};
+use crate::crew::Crew;
 use crate::own::see_brought;
-use crate::phase::{PhaseEnd, phase};
+use crate::phase::PhaseEnd;
+use crate::shares::{fitting, limits};
 use crate::{Bare, Gate, Wrap};
 use df_core::{Code, Job, Token, TokenList};
-use match_table::together::fired;
-use match_table::{Tables, table_of};
+use match_table::{Tables, fired, table_of};
 use port_set::Port;
 use ready_pool::{SeatList, seats};
 use std::alloc::Global;
@@ -22,81 +22,71 @@ use std::thread::Threads;
 use store_buf::Buffer;
 use ws_words::NoMemory;
 
-/// A phase with these tokens. No more instances fire than the budget allows, and no table loses
-/// anything. Where more may fire then a table has had the token that is named: if no worker brought it,
-/// the caller's thread does, with no other at work.
-pub fn turn<J: Job + Send + Sync, P: Port + Send, G: Gate, R: Threads + Wait + Sync>(
-    rt: &R,
-    alloc: Global,
-    tables: Tables<J>,
-    buffer: Buffer<J, P>,
-    token: &Token<J>,
-    tokens: TokenList<J>,
-    workers: u32,
-    budget: u64,
-    code: &Code<'_, J>,
-    gate: &G,
-) -> PhaseEnd<J, P>
-    requires serve { AllServe tables }
-    requires within { length (part_of tables).fired ≤ budget }
-    requires workers { (1 ≤ workers) × (workers ≤ 8) }
-    ensures serve { AllServe result.tables }
-    ensures within { length (part_of result.tables).fired ≤ budget }
-    ensures grow { AllGrow (contents tables) (contents result.tables) }
-    ensures come { result.starved ≡ false → length (part_of result.tables).fired < budget
-        → has ((part_of result.tables).held token.now.wave token.now.instr token.now.port) ≡ true }
-{
-    let first = table_of(token.wave(), token.instr());
-    let mut after = work(
-        rt, alloc, tables, buffer, tokens, first, workers, budget, code, gate,
-    );
-    let brought = see_brought(
-        alloc,
-        code,
-        &mut after.tables,
-        &mut after.buffer,
-        token,
-        &mut after.let_go,
-        budget,
-    );
-    after.starved = after.starved || brought.is_err();
-    after
-}
+impl<'a, G: Gate, R: Threads + Wait + Sync> Crew<'a, G, R> {
+    /// A phase with these tokens. No more instances fire than the budget allows, and no table loses
+    /// anything. Where more may fire then a table has had the token that is named: if no worker brought it,
+    /// the caller's thread does, with no other at work.
+    pub fn turn<J: Job + Send + Sync, P: Port + Send>(
+        &self,
+        code: &Code<'_, J>,
+        tables: Tables<J>,
+        buffer: Buffer<J, P>,
+        token: &Token<J>,
+        tokens: TokenList<J>,
+    ) -> PhaseEnd<J, P>
+        requires serve { AllServe tables }
+        requires within { length (part_of tables).fired ≤ self.now.budget }
+        ensures serve { AllServe result.tables }
+        ensures within { length (part_of result.tables).fired ≤ self.now.budget }
+        ensures grow { AllGrow (contents tables) (contents result.tables) }
+        ensures come { result.starved ≡ false → length (part_of result.tables).fired < self.now.budget
+            → has ((part_of result.tables).held token.now.wave token.now.instr token.now.port) ≡ true }
+    {
+        let first = table_of(token.wave(), token.instr());
+        let mut after = self.run_phase(code, tables, buffer, tokens, first);
+        let brought = see_brought(
+            self.alloc,
+            code,
+            &mut after.tables,
+            &mut after.buffer,
+            token,
+            &mut after.let_go,
+            self.budget,
+        );
+        after.starved = after.starved || brought.is_err();
+        after
+    }
 
-// The work of a phase, in which the table `first` may fire where any may.
-fn work<J: Job + Send + Sync, P: Port + Send, G: Gate, R: Threads + Wait + Sync>(
-    rt: &R,
-    alloc: Global,
-    tables: Tables<J>,
-    buffer: Buffer<J, P>,
-    tokens: TokenList<J>,
-    first: u64,
-    workers: u32,
-    budget: u64,
-    code: &Code<'_, J>,
-    gate: &G,
-) -> PhaseEnd<J, P>
-    requires serve { AllServe tables }
-    requires within { length (part_of tables).fired ≤ budget }
-    requires workers { (1 ≤ workers) × (workers ≤ 8) }
-    ensures serve { AllServe result.tables }
-    ensures within { length (part_of result.tables).fired ≤ budget }
-    ensures grow { AllGrow (contents tables) (contents result.tables) }
-{
-    let left = budget - fired(&tables);
-    let Ok(limits) = limits(alloc, &tables, left, first) else {
-        return stays(tables, buffer, tokens);
-    };
-    let Ok(deal) = dealt(alloc, tokens, workers) else {
-        return stays(tables, buffer, TokenList::empty(alloc));
-    };
-    let after = phase::<J, Brand, P, G, R>(rt, alloc, tables, buffer, &limits, deal, code, gate);
-    fitting(&after.tables, &limits);
-    after
+    // The work of a phase, in which the table `first` may fire where any may.
+    fn run_phase<J: Job + Send + Sync, P: Port + Send>(
+        &self,
+        code: &Code<'_, J>,
+        tables: Tables<J>,
+        buffer: Buffer<J, P>,
+        tokens: TokenList<J>,
+        first: u64,
+    ) -> PhaseEnd<J, P>
+        requires serve { AllServe tables }
+        requires within { length (part_of tables).fired ≤ self.now.budget }
+        ensures serve { AllServe result.tables }
+        ensures within { length (part_of result.tables).fired ≤ self.now.budget }
+        ensures grow { AllGrow (contents tables) (contents result.tables) }
+    {
+        let left = self.budget - fired(&tables);
+        let Ok(limits) = limits(self.alloc, &tables, left, first) else {
+            return starved_phase(tables, buffer, tokens);
+        };
+        let Ok(deal) = dealt(self.alloc, tokens, self.workers) else {
+            return starved_phase(tables, buffer, TokenList::empty(self.alloc));
+        };
+        let after = self.phase::<J, Brand, P>(code, tables, buffer, &limits, deal);
+        fitting(&after.tables, &limits);
+        after
+    }
 }
 
 // Memory ran out before a worker could run.
-fn stays<J: Job, P: Port>(
+fn starved_phase<J: Job, P: Port>(
     tables: Tables<J>,
     buffer: Buffer<J, P>,
     tokens: TokenList<J>,

@@ -8,9 +8,7 @@ ghost use Rattle.match_table.specs.Together.{part_of};
 ghost use Rattle.fire_crew.specs.Owing.{AllKnown, IsKnown};
 
 use df_core::{Code, Job, Request};
-use match_table::row::Tables;
-use match_table::together::table_at;
-use match_table::{Fired, Table};
+use match_table::{Fired, Table, Tables, table_at};
 use port_set::Port;
 use std::alloc::Global;
 use store_buf::{Buffer, MemoryOrder};
@@ -28,13 +26,13 @@ pub fn unknown<J: Job, P: Port>(
 {
     let mut requests = Vec::new(alloc);
     for number in 0..16 {
-        ask_all(code, table_at(tables, number), buffer, &mut requests)?;
+        note_all_unknown(code, table_at(tables, number), buffer, &mut requests)?;
     }
     Ok(requests)
 }
 
 // Those of one table.
-fn ask_all<J: Job, P: Port>(
+fn note_all_unknown<J: Job, P: Port>(
     code: &Code<'_, J>,
     table: &Table<J>,
     buffer: &Buffer<J, P>,
@@ -44,15 +42,15 @@ fn ask_all<J: Job, P: Port>(
         × All (IsKnown buffer.now.kept) (of_memory J.image table.now.fired)) }
 {
     table.facts();
-    let _ = code.program();
+    code.facts();
     for place in 0..table.asked_count() {
-        ask(code, table.asked_at(code, place), buffer, requests)?;
+        note_unknown(code, table.asked_at(code, place), buffer, requests)?;
     }
     Ok(())
 }
 
 // That of one instance of memory.
-fn ask<J: Job, P: Port>(
+fn note_unknown<J: Job, P: Port>(
     code: &Code<'_, J>,
     fired: Fired,
     buffer: &Buffer<J, P>,
@@ -62,7 +60,7 @@ fn ask<J: Job, P: Port>(
     ensures { OnOk result (requests.new.items ≡ [] → (requests.old.items ≡ [])
         × IsKnown buffer.now.kept (key_of fired)) }
 {
-    let _ = code.program();
+    code.facts();
     if buffer.knows(fired.wave, fired.instr) {
         return Ok(());
     }

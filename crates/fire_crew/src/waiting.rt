@@ -8,13 +8,21 @@ use df_core::{Job, Token, TokenList};
 use ready_pool::Seat;
 use std::alloc::Global;
 use std::collections::VecDeque;
+use std::mem::swap;
 use std::sync::Wait;
 
-/// Tokens that wait in the hand of a worker that is alone, first in, first out. Another worker's wait in its
-/// seat, where they can be taken.
+// How many waves beyond that of the first token of a round still belong to it.
+const AHEAD: u64 = 16;
+
+/// Tokens that wait in the hand of a worker that is alone, in rounds, first in, first out. Those that are far
+/// ahead of a round, by their waves, wait for the next one: so what waits for them is little, and lies near.
+/// Another worker's wait in its seat, where they can be taken.
 #[derive(Drop)]
 pub struct Waiting<J: Job> {
-    tokens: VecDeque<Token<J>>,
+    round: VecDeque<Token<J>>,
+    next: VecDeque<Token<J>>,
+    // The last wave of the round.
+    last: u64,
     alone: bool,
 }
 
@@ -22,7 +30,9 @@ impl<J: Job> Waiting<J> {
     /// No tokens, and none may wait here.
     pub fn none(alloc: Global) -> Waiting<J> {
         Waiting {
-            tokens: VecDeque::new(alloc),
+            round: VecDeque::new(alloc),
+            next: VecDeque::new(alloc),
+            last: AHEAD,
             alone: false,
         }
     }
@@ -32,33 +42,17 @@ impl<J: Job> Waiting<J> {
         self.alone
     }
 
-    // Whether one more token may wait here, and there is room for it.
-    #[inline(always)]
-    fn has_room(&mut self) -> bool
-        ensures { result ≡ true → deque_len self.new.tokens < deque_capacity self.new.tokens }
-    {
-        self.tokens.len() < self.tokens.capacity() || self.makes_room()
-    }
-
-    // Makes room for one more token, if one may wait here.
-    #[inline(never)]
-    fn makes_room(&mut self) -> bool
-        ensures { result ≡ true → deque_len self.new.tokens < deque_capacity self.new.tokens }
-    {
-        self.alone && self.tokens.reserve(1).is_ok()
-    }
-
     /// From now on tokens may wait here. Takes up those that lie in a seat, as far as there is memory.
     pub fn stay_alone<R: Wait>(&mut self, rt: &R, seat: &mut Seat<Token<J>>) {
         self.alone = true;
         for _ in rt.forever() {
-            if !self.has_room() {
+            if !has_room(&mut self.round) {
                 break;
             }
             let Some(token) = seat.drain() else {
                 break;
             };
-            self.tokens.push_back_reserved(token);
+            self.round.push_back_reserved(token);
         }
     }
 
@@ -70,25 +64,61 @@ impl<J: Job> Waiting<J> {
         let_go: &mut TokenList<J>,
         token: Token<J>,
     ) {
-        if self.has_room() {
-            self.tokens.push_back_reserved(token);
+        if self.alone && token.wave() > self.last && has_room(&mut self.next) {
+            self.next.push_back_reserved(token);
+        } else if self.alone && has_room(&mut self.round) {
+            self.round.push_back_reserved(token);
         } else {
             put::<L, J, T>(seat, let_go, token);
         }
     }
 
-    /// Takes the first token.
+    /// Takes the first token. Where none is left of a round, the next one begins.
     #[inline(always)]
     pub fn next(&mut self) -> Option<Token<J>> {
-        self.tokens.pop_front()
+        match self.round.pop_front() {
+            Some(token) => Some(token),
+            None => self.begin_round(),
+        }
+    }
+
+    // The first token of the next round, if there is one.
+    #[inline(never)]
+    fn begin_round(&mut self) -> Option<Token<J>> {
+        swap(&mut self.round, &mut self.next);
+        let first = self.round.pop_front()?;
+        self.last = first.wave().saturating_add(AHEAD);
+        Some(first)
     }
 
     /// Puts all tokens behind others, as far as there is memory.
     pub fn pour(self, to: &mut TokenList<J>) {
-        let mut tokens = self.tokens;
-        while let Some(token) = tokens.pop_front() {
-            let _ = to.push(token);
-        }
+        pour_all(self.round, to);
+        pour_all(self.next, to);
+    }
+}
+
+// Whether there is room for one token more, or it can be made.
+#[inline(always)]
+fn has_room<J: Job>(tokens: &mut VecDeque<Token<J>>) -> bool
+    ensures { result ≡ true → deque_len tokens.new < deque_capacity tokens.new }
+{
+    tokens.len() < tokens.capacity() || makes_room(tokens)
+}
+
+// Makes room for one token more, if there is memory.
+#[inline(never)]
+fn makes_room<J: Job>(tokens: &mut VecDeque<Token<J>>) -> bool
+    ensures { result ≡ true → deque_len tokens.new < deque_capacity tokens.new }
+{
+    tokens.reserve(1).is_ok()
+}
+
+// Puts all of these behind others, as far as there is memory.
+fn pour_all<J: Job>(tokens: VecDeque<Token<J>>, to: &mut TokenList<J>) {
+    let mut tokens = tokens;
+    while let Some(token) = tokens.pop_front() {
+        let _ = to.push(token);
     }
 }
 

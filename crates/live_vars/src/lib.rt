@@ -9,7 +9,7 @@ mod block;
 mod flow;
 mod make;
 mod marks;
-pub mod sets;
+mod sets;
 
 pub use make::live;
 pub use sets::LiveSets;

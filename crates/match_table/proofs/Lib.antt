@@ -15,3 +15,4 @@ pub mod Union
 pub mod Coming
 pub mod Shares
 pub mod Few
+pub mod Brought

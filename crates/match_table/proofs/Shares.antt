@@ -5,7 +5,7 @@ use Rattle.std.proofs.Common.{arith}
 use Rattle.std.specs.Prelude.{sum}
 use Rattle.std.proofs.Math.Nat.{div-one, div-lt_self}
 use Rattle.std.proofs.lemmas.Bool.{cases_lt}
-use Rattle.std.proofs.lemmas.List.{take_all, get_or_append_left, get_or_push}
+use Rattle.std.proofs.lemmas.List.{get_or_append_left, get_or_push}
 use Rattle.std.proofs.lemmas.List.Sums.{sum_by-cons, sum_by_push}
 use Rattle.match_table.specs.Rows.{FitFrom}
 use Rattle.match_table.specs.Together.{ServeFrom, all_fired}
@@ -30,15 +30,6 @@ take_suc (c ∷ cs) (suc k) lt = let e = take_suc cs k (omega (arith, lt)) in om
 pub take_more : (cs : List TableContent) (k : ℕ) → k < length cs → total (take (k + 1) cs) ≡ total (take k cs)
     + length (content_at cs k).fired
 take_more cs k lt = rw (add-one k) (take_suc cs k lt)
-
-pub front_below : (cs : List TableContent) (k : ℕ) → k < length cs
-    → total (take k cs) + length (content_at cs k).fired ≤ total cs
-front_below [] k lt = absurd (omega (arith, lt))
-front_below (c ∷ cs) zero lt = omega arith
-front_below (c ∷ cs) (suc k) lt = let e = front_below cs k (omega (arith, lt)) in omega (arith, e)
-
-pub all_taken : (cs : List TableContent) (k : ℕ) → length cs ≤ k → total (take k cs) ≡ length (all_fired cs)
-all_taken cs k le = ap total (take_all k cs le) ∙ sym (all_count cs)
 
 pub sum_allows : (cs : List TableContent) (most : List ℕ) → length cs ≡ length most
     → ((k : ℕ) → k < length cs → length (content_at cs k).fired ≤ slice_index most k) → total cs ≤ sum most

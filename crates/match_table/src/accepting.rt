@@ -7,7 +7,7 @@ ghost use Rattle.ws_isa.specs.Image.{instr_at, is_memory, no_instr, ports};
 ghost use Rattle.ws_isa.specs.Sound.{Sound};
 ghost use Rattle.ws_isa.specs.Walk.{gather};
 ghost use Rattle.df_core.specs.Core.{is_full};
-ghost use Rattle.df_core.specs.Places.{ProgramIs, image_of};
+ghost use Rattle.df_core.specs.Places.{image_of};
 ghost use Rattle.match_table.specs.declared.meeting.Seen.TheVariants.{Waits, Fills};
 ghost use Rattle.match_table.specs.declared.table.Took.TheVariants as took;
 ghost use Rattle.match_table.specs.Matching.{Accepted, TookAs, Arrives, FiresSo, Full, HandedOn};
@@ -20,8 +20,7 @@ use crate::entry::Arrived;
 use crate::meeting::{Operands, Seen, is_taken, meet};
 use crate::ops::{dests_of, number_of, op_of, result_of, selector};
 use crate::table::{Accept, AcceptFault, Results, Table, Took};
-use df_core::program::{PlacedInstr, Program};
-use df_core::{Code, Job, Request, Sent, Token};
+use df_core::{Code, Job, PlacedInstr, Program, Request, Sent, Token};
 use std::alloc::Global;
 use ws_words::NoMemory;
 
@@ -173,7 +172,6 @@ impl<J: Job> Table<J> {
         arrived: Option<Arrived>,
         results: &mut Results<'i, J>,
     ) -> Took
-        requires program { ProgramIs program.now }
         requires image { image_of program.now ≡ J.image }
         requires placed { IsPlacedAt (image_of program.now) token.now.instr placed }
         requires formed { Formed J.image }
@@ -226,7 +224,6 @@ impl<J: Job> Table<J> {
         operands: Operands,
         results: &mut Results<'i, J>,
     ) -> Result<Took, NoMemory>
-        requires program { ProgramIs program.now }
         requires image { image_of program.now ≡ J.image }
         requires placed { IsPlacedAt (image_of program.now) token.now.instr placed }
         requires formed { Formed J.image }

@@ -32,26 +32,29 @@
 #![tactic(auto)]
 
 mod accepting;
-pub mod bring;
+mod bringing;
 mod chain;
-pub mod course;
-pub mod entry;
-pub mod laws;
-pub mod limit;
+mod course;
+mod entry;
+mod laws;
+mod limit;
 mod looking;
-pub mod meeting;
-pub mod ops;
+mod meeting;
+mod ops;
 mod pages;
 mod places;
-pub mod rank;
-pub mod row;
-pub mod table;
-pub mod together;
+mod rank;
+mod row;
+mod table;
+mod together;
 
+pub use bringing::bring;
 pub use course::Course;
 pub use entry::Arrived;
 pub use limit::{Limited, Offer, Quotas};
 pub use meeting::Operands;
+pub use ops::{number_of, result_of, selector};
 pub use rank::Rank;
 pub use row::{Row, Tables, table_of};
 pub use table::{Accept, AcceptFault, Fired, Results, Table, Took};
+pub use together::{all_of, courses_of, facts, fired, holds, is_there, table_at};

@@ -147,7 +147,7 @@ impl<J: Job> Table<J> {
         ensures old { IsOldSo self.now token.now result }
     {
         let _ = &self.fired;
-        let _ = token.wave();
+        token.facts();
         meet(arrived, token.port(), token.value(), count)
     }
 

@@ -2,12 +2,12 @@
 
 ghost use Rattle.std.specs.Prelude.{◌≡◌, ◌<◌, ◌+◌, ◌^◌, ℕ, suc, cond, slice_index, IfSome, IsSome};
 ghost use Rattle.ws_isa.specs.Image.{Image, instr_at, is_advance_op, selector_of, result_of_op};
-ghost use Rattle.df_core.specs.Places.{ProgramIs, destinations, image_of};
+ghost use Rattle.df_core.specs.Places.{destinations, image_of};
 ghost use Rattle.match_table.specs.Ports.{listed};
 ghost use Rattle.match_table.specs.Tables.{IsPlacedAt};
 
 use crate::meeting::Operands;
-use df_core::program::{PlacedInstr, Program};
+use df_core::{PlacedInstr, Program};
 use ws_isa::{Dest, Op};
 
 impl Operands {
@@ -85,7 +85,6 @@ pub(crate) fn dests_of<'i>(
     instr: u32,
     selector: u64,
 ) -> &'i [Dest]
-    requires program { ProgramIs program.now }
     requires placed { IsPlacedAt (image_of program.now) instr placed }
     ensures { result.now ≡ destinations (image_of program.now) instr selector }
 {

@@ -2,11 +2,12 @@
 
 ghost use Rattle.multi_wave.specs.Parts.{PortsReady, alone};
 
-use multi_wave::{Each, Part, ThreadEnd, ThreadFinish, ThreadGate, multi_run};
+use multi_wave::{Each, Part, ThreadGate, multi_run};
 use port_set::{Port, PortError, Slots};
 use std::alloc::Global;
 use std::sync::Wait;
 use std::thread::Threads;
+use store_buf::{RunEnd, RunFinish};
 use ws_isa::Checked;
 use ws_words::Words;
 
@@ -54,18 +55,18 @@ pub enum End {
 }
 
 // How a part ended.
-fn finish_of(finish: &ThreadFinish) -> End {
+fn finish_of(finish: &RunFinish) -> End {
     match finish {
-        ThreadFinish::Done { printed, fired, .. } => End::Done(printed.word(0), *fired),
-        ThreadFinish::Budget { printed, fired } => End::Budget(printed.word(0), *fired),
-        ThreadFinish::Fault { array, printed, .. } => End::Fault(printed.word(0), *array),
-        ThreadFinish::Port { port, printed } => End::Port(printed.word(0), *port),
-        ThreadFinish::NoMemory => End::NoMemory,
+        RunFinish::Done { printed, fired, .. } => End::Done(printed.word(0), *fired),
+        RunFinish::Budget { printed, fired } => End::Budget(printed.word(0), *fired),
+        RunFinish::Fault { array, printed, .. } => End::Fault(printed.word(0), *array),
+        RunFinish::Port { port, printed } => End::Port(printed.word(0), *port),
+        RunFinish::NoMemory => End::NoMemory,
     }
 }
 
 // The same of an end, which is let go here, so that whoever has four needn't say how each is let go.
-fn end_of<P: Port>(end: Option<ThreadEnd<P>>) -> End {
+fn end_of<P: Port>(end: Option<RunEnd<P>>) -> End {
     match end {
         Some(end) => finish_of(&end.finish),
         None => End::Absent,

@@ -10,7 +10,7 @@ use Rattle.match_table.specs.Rows.{contents}
 use Rattle.match_table.specs.Tables.{TableContent}
 use Rattle.match_table.specs.Together.{part_of, together}
 use Rattle.match_table.proofs.Growth.{all_grow_on}
-use Rattle.fire_crew.specs.declared.run.RunEnd.{RunEnd}
+use Rattle.store_buf.specs.declared.finish.RunEnd.{RunEnd}
 use Rattle.fire_crew.proofs.Phases.{Steady, steady_more, steady_start}
 use Rattle.multi_wave.specs.declared.desk.Desk.{Desk}
 use Rattle.multi_wave.specs.declared.desk.Desk.TheVariants.{Idle, Open}

@@ -9,7 +9,7 @@ use Rattle.match_table.specs.Growth.{AllGrow}
 use Rattle.match_table.specs.Rows.{contents}
 use Rattle.match_table.specs.Together.{part_of}
 use Rattle.fire_crew.specs.Owing.{IsMissing}
-use Rattle.fire_crew.specs.declared.run.RunEnd.{RunEnd}
+use Rattle.store_buf.specs.declared.finish.RunEnd.{RunEnd}
 use Rattle.multi_wave.specs.declared.desk.Desk.{Desk}
 use Rattle.multi_wave.specs.declared.desk.Desk.TheVariants.{Idle, Open}
 use Rattle.multi_wave.specs.declared.lane.Lane.{Lane}

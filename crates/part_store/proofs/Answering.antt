@@ -20,9 +20,6 @@ some_of : (o : Option ℕ) → is_some o ≡ true → (a : ℕ) × (o ≡ Some a
 some_of None e = absurd (both_ways false refl e)
 some_of (Some a) e = (a, refl)
 
-one_same : (o : Option ℕ) (a b n : ℕ) → o ≡ Some a → one_if o n ≡ n
-one_same o a b n e = ap (λ (x : Option ℕ). one_if x n) e
-
 -- as many wait
 unissued_same : (ks : List Kept) (p a b : ℕ) (k d : Kept) → p < length ks →
     (slice_index_or ks p d).answer ≡ Some a → k.answer ≡ Some b → unissued (slice_set ks p k) ≡ unissued ks

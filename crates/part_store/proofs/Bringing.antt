@@ -14,7 +14,10 @@ use Rattle.store_buf.specs.declared.fault.BufFault.{BufFault}
 use Rattle.store_buf.specs.declared.fault.BufFault.TheVariants as fault
 use Rattle.store_buf.specs.declared.kept.Kept.{Kept}
 use Rattle.store_buf.specs.Requests.{entry_of, issued_in, answer_if}
+use Rattle.store_buf.specs.Runs.{AllReach, Covers, IsOffered}
 use Rattle.store_buf.proofs.Coming.{entry_push}
+use Rattle.store_buf.proofs.Paying.{pay_buffer}
+use Rattle.store_buf.proofs.Reaching as R
 use Rattle.part_store.specs.declared.entry.Queued.{Queued}
 use Rattle.part_store.specs.Queues.{is_queued, joined, without}
 use Rattle.part_store.specs.Contents.{is_bare, PartContent}
@@ -22,13 +25,23 @@ use Rattle.part_store.specs.Parted.{Parting}
 use Rattle.part_store.specs.Rules.{Alike, Counted, Fills, Followed, Moves, MovesTo, stays, opens, ComesIn}
 use Rattle.part_store.specs.Rules.{joins, issues, follows, stops, answered, entry_at, operands_at, word_of}
 use Rattle.part_store.specs.Calls.{AddressedSo, SubmittedSo, CameSo, comes, fills, PartTookSo}
-use Rattle.part_store.specs.Runs.{AllReach, Covers, HaveAnswered, IsOffered, IsWhole, Paid, GoesOn}
+use Rattle.part_store.specs.Runs.{IsWhole, Owes, Paid, GoesOn}
 use Rattle.part_store.proofs.Fronts as F
 use Rattle.part_store.proofs.Keys.{key_cases}
 use Rattle.part_store.proofs.Ops as O
-use Rattle.part_store.proofs.Reaching as R
 use Rattle.part_store.proofs.Paying as P
 use Rattle.df_core.proofs.Owing.{nothing}
+
+-- what is done has told its result tokens: they have come or are on the way
+abbrev HaveAnswered : Image → Ports → List Token → PartContent → Type 0
+HaveAnswered image held way c = (w i a : ℕ) (k : Kept) → entry_of c.kept w i ≡ Some k → k.answer ≡ Some a →
+    is_queued c.queued w i ≡ false →
+    AllReach held way (sends image w i (operands_of (ports image i) k.first k.second) a)
+
+have_answered : (image : Image) (t : Tables) (c : PartContent) (way : List Token) → Paid image t c way →
+    HaveAnswered image t.held way c
+have_answered image t c way paid w i a k e s q = paid.answered
+    (sends image w i (operands_of (ports image i) k.first k.second) a) (w, i, a, k, e, s, q, refl)
 
 pub both_ok : {A E : Type 0} {X Y Z : Type 0} (r : Result A E) → (X → Y → Z) → OnOk r X → OnOk r Y → OnOk r Z
 both_ok (Ok a) f x y = f x y
@@ -294,15 +307,12 @@ module _ (image : Image) where
       ]
 
   -- what is known stays true where the buffer changes so
-  pay_buffer : (t : Tables) (c d : PartContent) (way : List Token)
+  pay_part : (t : Tables) (c d : PartContent) (way : List Token)
       → ((w i : ℕ) → IsWhole c w i → IsWhole d w i) →
       HaveAnswered image t.held way d → Paid image t c way → Paid image t d way
-  pay_buffer t c d way whole done paid = record {
-    start = paid.start;
-    told = paid.told;
-    asked = λ w i h m. whole w i (paid.asked w i h m);
-    answered = done;
-  }
+  pay_part t c d way whole done paid = pay_buffer image t (IsWhole c) (IsWhole d) (Owes image c)
+      (Owes image d) way whole (λ ts o. subst (λ (us : List Token). AllReach t.held way us) (sym o.7)
+      (done o.0 o.1 o.2 o.3 o.4 o.5 o.6)) paid
 
   pay_came : (t : Tables) (c d : PartContent) (k : Kept) (b : Bool) (ts old way : List Token) (x : Option ℕ)
       (y : Option ℕ) (z : Bool) → CameSo image c k b ts x y z d → Covers old way → Covers ts way →
@@ -310,9 +320,10 @@ module _ (image : Image) where
   pay_came t c d k b ts old way x y z m more sent paid =
       let up = P.pay_more image t c old way more paid in
       let mid = m.1.0 in
-      pay_buffer t c d way (λ w i h. last_whole mid d w i (to_last mid d ts m.1.2)
+      pay_part t c d way (λ w i h. last_whole mid d w i (to_last mid d ts m.1.2)
       (come_whole c mid k b w i m.1.1 h))
-      (to_done t.held way mid d ts m.1.2 sent (come_done t.held way c mid k b m.1.1 up.answered)) up
+      (to_done t.held way mid d ts m.1.2 sent
+      (come_done t.held way c mid k b m.1.1 (have_answered image t c way up))) up
 
   pub addressed : (c d : PartContent) (k : Kept) (answer : Result (List Token) BufFault)
       (old way : List Token) →
@@ -348,13 +359,13 @@ module _ (image : Image) where
     pay_took t d k ts old way x y z m more sent paid =
         let up = P.pay_more image t c old way more paid in
         let mid = m.1.0 in
-        pay_buffer t c d way (λ w i h. last_whole mid d w i (to_last mid d ts m.1.2) (elim m.1.1 [
+        pay_part t c d way (λ w i h. last_whole mid d w i (to_last mid d ts m.1.2) (elim m.1.1 [
           | comes g ↦ come_whole c mid k false w i g h
           | fills g ↦ fill_whole c mid k w i g h
         ]))
         (to_done t.held way mid d ts m.1.2 sent (elim m.1.1 [
-          | comes g ↦ come_done t.held way c mid k false g up.answered
-          | fills g ↦ fill_done t.held way world began c mid k parting g up.answered
+          | comes g ↦ come_done t.held way c mid k false g (have_answered image t c way up)
+          | fills g ↦ fill_done t.held way world began c mid k parting g (have_answered image t c way up)
         ])) up
 
     pub submitted : (d : PartContent) (k : Kept) (answer : Result (List Token) BufFault)

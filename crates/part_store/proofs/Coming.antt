@@ -106,10 +106,6 @@ module _ {P : Type 0} where
       outside = keeps.outer j;
     }
 
-    abbrev Early : List Kept × code.Chain × List ℕ → Type 0
-    Early x = EarlyIssued (issued_in x.0) (chain_of x.1) x.2 ×
-        HasEarly image world (issued_in x.0) (chain_of x.1) x.2
-
     pub unchanged : Calm image world began old → Calm image world began new
     unchanged calm =
         let e : EarlyIssued (issued_in new.order.kept.items)

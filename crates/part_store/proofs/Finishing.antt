@@ -75,9 +75,6 @@ module _ {P : Type 0} (image : Image) (world : World) (formed : Formed image) (s
     (printed : n.outer.printed ≡ s.outer.printed) (ports : n.outer.ports ≡ s.outer.ports)
     (queued : n.queues.entries.items ≡ without s.queues.entries.items e.wave e.instr)
     (same : Beside s n) where
-  abbrev k : Kept
-  k = kept_at s.order p
-
   at : A.Flagged s.order p e.wave e.instr
   at = A.flagged s.order p e.wave e.instr flag
 
@@ -88,16 +85,6 @@ module _ {P : Type 0} (image : Image) (world : World) (formed : Formed image) (s
 
   word_so : word ≡ word_of image (content_of s) e
   word_so = word_is
-
-  abbrev Entries : ℕ → ℕ → ℕ → Type 0
-  Entries a b v = (w i : ℕ) → entry_of n.order.kept.items w i ≡ with_key a b
-      (Some (record {
-        wave = a;
-        instr = b;
-        first = (kept_at s.order p).first;
-        second = (kept_at s.order p).second;
-        answer = Some v;
-      })) (entry_of s.order.kept.items) w i
 
   entries : (w i : ℕ) → entry_of n.order.kept.items w i ≡ with_key e.wave e.instr
       (Some (record {
@@ -118,9 +105,6 @@ module _ {P : Type 0} (image : Image) (world : World) (formed : Formed image) (s
         answer = Some x.2;
       })) (entry_of s.order.kept.items) w i)
       (λ j. (at.wave j, at.instr j, word_so j)) (U.answered image s.order ok p l word n.order.kept.items kept)
-
-  abbrev tokens : List Token
-  tokens = sends image e.wave e.instr (operands_at image (kept_at s.order p)) (word_of image (content_of s) e)
 
   followed : Followed image (content_of s) e
       (sends image e.wave e.instr (operands_at image (kept_at s.order p)) (word_of image (content_of s) e))

@@ -121,9 +121,6 @@ module _ (image : Image) (world : World) (formed : Formed image) (sound : Sound 
         (sym store_inst ∙ s))
   ]
 
-  abbrev left : List (List ℕ)
-  left = cells_left image c k e
-
   cells_store : is_store_op (instr_at image e.instr).op ≡ true →
       cells_left image c k e ≡ C.stored c.outside.cells e.row e.index k.second
   cells_store s = cond-true (is_store_op (instr_at image e.instr).op) _ _ s

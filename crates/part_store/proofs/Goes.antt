@@ -24,7 +24,7 @@ use Rattle.part_store.specs.declared.entry.Queued.{Queued}
 use Rattle.part_store.specs.declared.parts.Parts.{Parts}
 use Rattle.part_store.specs.Bares.{is_in}
 use Rattle.part_store.specs.Queues.{joined, open_queues}
-use Rattle.part_store.specs.Contents.{asking, holds_op, PartContent}
+use Rattle.part_store.specs.Contents.{asking, holds_op}
 use Rattle.part_store.specs.Parted.{Parting, IsAddressed}
 use Rattle.part_store.specs.Rules.{Alike, Waits, OpensQueue, GoesByChain, Faults, Counted, Moves, stays}
 use Rattle.part_store.specs.Rules.{opens, joins, issues, stops, operands_at, entry_at, is_past_at}
@@ -74,9 +74,6 @@ module _ {P : Type 0} (image : Image) (world : World) (formed : Formed image) (s
     (going : s.fault ≡ None) (p : ℕ) (goes : GoesAt image s p) where
   abbrev k : Kept
   k = kept_at s.order p
-
-  abbrev c : PartContent
-  c = content_of s
 
   parting : Parting image world began (content_of s)
   parting = calm.0.parting
@@ -397,17 +394,6 @@ module _ {P : Type 0} (image : Image) (world : World) (began : List (Option Bega
   cells_same : (holding n.outer).cells ≡ (holding s.outer).cells
   cells_same = sym (kept began (O.with_cells calm.0.parting.memory s.outer.cells)
       calm.0.parting.partly.outside).cells_are
-
-  moved : Parts P
-  moved = record {
-    order = s.order;
-    bare = s.bare;
-    queues = s.queues;
-    outer = n.outer;
-    fault = s.fault;
-    failed = n.failed;
-    starved = n.starved;
-  }
 
   calm_moved : Calm image world began (record {
     order = s.order;

@@ -45,9 +45,6 @@ module _ (image : Image) (world : World) (formed : Formed image) (sound : Sound 
   abbrev facts : WalkFacts image world
   facts = T.facts image world formed sound
 
-  abbrev xs : List ℕ
-  xs = operands_at image k
-
   abbrev counts' : ℕ → ℕ → Option ℕ
   counts' = issued_with image counts memory k.wave k.instr (operands_at image k)
 

@@ -9,7 +9,6 @@ use Rattle.ws_isa.specs.Sound.{Sound}
 use Rattle.df_core.specs.Effect.{effect_at, effect_after}
 use Rattle.df_core.specs.Core.{Issuable, has, issued_with}
 use Rattle.df_core.specs.Fit.{Legal, RightRequest}
-use Rattle.df_core.proofs.Facts.{WalkFacts}
 use Rattle.df_core.proofs.Ports.{SameKey, with_key_cases}
 use Rattle.df_core.specs.Began.{Began}
 use Rattle.store_buf.specs.declared.kept.Kept.{Kept}
@@ -42,9 +41,6 @@ module _ (image : Image) (world : World) (formed : Formed image) (sound : Sound 
     (word : ℕ) (d : PartContent) (go : Counted image c k word (joined (entry_at image k) c.queued) c.outside
     d)
   where
-    abbrev facts : WalkFacts image world
-    facts = T.facts image world formed sound
-
     abbrev f : Queued
     f = record {
       wave = k.wave;
@@ -185,9 +181,6 @@ module _ (image : Image) (world : World) (formed : Formed image) (sound : Sound 
           ]
         ]
 
-    abbrev memory_is : memory ≡ effect_at image world legal.cut
-    memory_is = legal.ordered.memory
-
     -- off its cell memory stays
     off_cell : (r j : ℕ) → (IsOn f r j → ⊥) → cell memory'.cells r j ≡ cell memory.cells r j
     off_cell r j n = elim (cases_Bool (is_store_op (instr_at image k.instr).op)) [
@@ -197,9 +190,6 @@ module _ (image : Image) (world : World) (formed : Formed image) (sound : Sound 
           (λ a b. n (record { row = a; index = sym first_is ∙ b }))
       | inr s ↦ ap (λ (cs : List (List ℕ)). cell cs r j) (C.plain_cells image k.instr xs memory s)
     ]
-
-    abbrev Few : Type 0
-    Few = open_queues (joined f c.queued) ≤ 16
 
     -- the fields that depend on the cell's queue, old or new
     module _ (few : open_queues (joined f c.queued) ≤ 16)

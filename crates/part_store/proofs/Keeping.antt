@@ -141,10 +141,6 @@ module _ (image : Image) (world : World) (formed : Formed image) (sound : Sound 
           has_entry None a e = absurd (let g : None ≡ Some a = e in cc)
           has_entry (Some x) a e = (x, refl)
 
-      abbrev New : Type 0
-      New = Partly image world began (issued_with image s.counts s.memory k.wave k.instr xs)
-          (effect_after image k.instr xs s.memory) d
-
       move_to : (r j : ℕ) (o : Option Queued) → IsOn f r j →
           front c.queued (array_at image k.instr - 1) k.first ≡ o → front c.queued r j ≡ o
       move_to r j o on h = subst (λ (n : ℕ). front c.queued r n ≡ o) on.index

@@ -1,7 +1,7 @@
 -- Cases of keys and cells.
-use Rattle.std.proofs.Common.{ℕ, ◌≡◌, ◌⊎◌, true, false, Option, Some, refl, ap, inl, inr, eq-eqb, ne_eqb}
+use Rattle.std.proofs.Common.{ℕ, ◌≡◌, ◌⊎◌, true, false, refl, inl, inr, eq-eqb, ne_eqb}
 use Rattle.std.proofs.lemmas.Bool.{cases_eq}
-use Rattle.df_core.specs.Core.{has, same_key}
+use Rattle.df_core.specs.Core.{same_key}
 use Rattle.df_core.proofs.Ports.{SameKey}
 use Rattle.part_store.specs.declared.entry.Queued.{Queued}
 use Rattle.part_store.specs.Queues.{same_cell}
@@ -36,6 +36,3 @@ same_key_is w i = rw (eq-eqb w w refl, eq-eqb i i refl) refl
 
 pub same_cell_is : (e : Queued) (r j : ℕ) → IsOn e r j → same_cell e r j ≡ true
 same_cell_is e r j o = rw (eq-eqb e.row r o.row, eq-eqb e.index j o.index) refl
-
-pub some_has : {A : Type 0} (o : Option A) (x : A) → o ≡ Some x → has o ≡ true
-some_has o x e = ap has e

@@ -3,14 +3,10 @@ use Rattle.std.proofs.Common.{ℕ, ◌≡◌, Bool, List, [], ◌++◌, Option, 
 use Rattle.std.proofs.Common.{refl, sym, ap, ◌∙◌, subst}
 use Rattle.std.proofs.lemmas.List.{append_assoc, append-nil}
 use Rattle.ws_isa.specs.Image.{Image, Token, sends}
-use Rattle.store_buf.specs.declared.fault.Silent.{Silent}
-use Rattle.store_buf.specs.declared.fault.Silent.TheVariants.{Failed, NoMemory}
-use Rattle.store_buf.specs.Outdoors.{FaultsGrow}
 use Rattle.part_store.specs.declared.parts.Parts.{Parts}
 use Rattle.part_store.proofs.Goes as G
 use Rattle.part_store.specs.Rules.{Alike, Moves, stays, opens, joins, issues, follows, stops, operands_at}
-use Rattle.part_store.specs.Parts.{MovesOn, Calm, StaysCalm, content_of, PartsSilentSo, PartsLeadTo}
-use Rattle.store_buf.proofs.Failing.{rose_from}
+use Rattle.part_store.specs.Parts.{MovesOn, Calm, StaysCalm, content_of, PartsLeadTo}
 use Rattle.part_store.specs.Contents.{PartContent}
 
 no_going : {X : Type 0} (c : PartContent) (a : ℕ) → c.fault ≡ Some a → c.fault ≡ None → X
@@ -93,11 +89,6 @@ module _ {P : Type 0} where
         all.2 world began formed sound calm in let q = so world began r.1 in
         (record { mid = content_of b; moves = r.0; alike = q.1 }, q.0),
   )
-
-  pub silent_from : (image : Image) (a b c : Parts P) (why : Silent) →
-      FaultsGrow a.outer.ports b.outer.ports → PartsSilentSo image b c why → PartsSilentSo image a c why
-  silent_from image a b c (Failed p) grow s = (s.0, rose_from _ _ _ (grow p) s.1)
-  silent_from image a b c (NoMemory p) grow s = s
 
   -- it doesn't matter where what waits is found
   pub sought : (image : Image) (a b c : Parts P) (t0 t1 : List Token) →

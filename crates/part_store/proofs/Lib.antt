@@ -29,7 +29,6 @@ pub mod After
 pub mod Opening
 pub mod Wholly
 pub mod Quieting
-pub mod Reaching
 pub mod Paying
 pub mod Bringing
 pub mod Whole

@@ -47,11 +47,6 @@ store_row_op : (op : Op) → is_store_op op ≡ true → is_on_row op (array_of_
 store_row_op (Store a) e = eq-eqb (a - 1) (a - 1) refl
 store_row_op _ e = absurd (both_ways false refl e)
 
-load_or_store_op : (op : Op) (r : ℕ) → is_on_row op r ≡ true → is_store_op op ≡ false → is_load_op op ≡ true
-load_or_store_op (Load a) r e f = refl
-load_or_store_op (Store a) r e f = absurd (both_ways true f refl)
-load_or_store_op _ r e f = absurd (both_ways false refl e)
-
 store_no_load_op : (op : Op) → is_store_op op ≡ true → is_load_op op ≡ false
 store_no_load_op (Store a) e = refl
 store_no_load_op _ e = absurd (both_ways false refl e)
@@ -94,11 +89,6 @@ module _ (image : Image) where
   unfolding array_at
   cases_row es i j = elim (row_cases es (instr_at image i).op j)
       [ inl h ↦ inl (h.row, h.held) | inr h ↦ inr (h.row, h.held) ]
-
-  pub row_load : (i r : ℕ) → is_on_row (instr_at image i).op r ≡ true →
-      is_store_op (instr_at image i).op ≡ false → is_load image i ≡ true
-  unfolding is_load
-  row_load i r e f = load_or_store_op (instr_at image i).op r e f
 
   pub store_no_load : (i : ℕ) → is_store_op (instr_at image i).op ≡ true → is_load image i ≡ false
   unfolding is_load

@@ -24,7 +24,7 @@ use Rattle.store_buf.specs.Stores.{asked_of}
 use Rattle.store_buf.proofs.Coming.{entry_push, issued_push, kept_push}
 use Rattle.part_store.specs.Contents.{NoBare, is_bare, whole_of, PartContent}
 use Rattle.part_store.specs.Parted.{Parted}
-use Rattle.part_store.specs.Rules.{MovesTo, ComesIn}
+use Rattle.part_store.specs.Rules.{ComesIn}
 use Rattle.part_store.specs.Calls.{ComesWhole, SameAs, SubmittedSo, request_of, PartTookSo}
 use Rattle.part_store.specs.Calls.{comes, fills}
 use Rattle.part_store.proofs.Keys.{key_cases}
@@ -52,12 +52,6 @@ module _ (image : Image) (world : World) (formed : Formed image) (sound : Sound 
 
   module _ (tokens : List Token) (f p : Option ℕ) (s : Bool)
       (took : PartTookSo image old (request_of r) tokens f p s new) where
-    abbrev mid : PartContent
-    mid = took.1.0
-
-    abbrev to : MovesTo image took.1.0 tokens new
-    to = took.1.2
-
     running : old.fault ≡ None
     running = took.0.0
 

@@ -30,13 +30,13 @@ use Rattle.store_buf.specs.Outdoors.{HoldsOut, RoseAt, SlotsAre, began_of, port_
 use Rattle.store_buf.specs.Contents.{FaultIs, PortWaits}
 use Rattle.store_buf.specs.Ended.{PortFailed, RunWhole, Spent, Starved, Tripped}
 use Rattle.store_buf.proofs.Outside.{out_of}
+use Rattle.store_buf.proofs.Paying as P
 use Rattle.part_store.specs.Contents.{is_bare, PartContent}
 use Rattle.part_store.specs.Parted.{Fronts, IsKept, Parting, is_store_op}
 use Rattle.part_store.specs.Rules.{NoRule}
 use Rattle.part_store.specs.Runs.{Paid}
 use Rattle.part_store.specs.Queues as Q
 use Rattle.part_store.proofs.Ops as O
-use Rattle.part_store.proofs.Paying as P
 use Rattle.part_store.proofs.Times as T
 use Rattle.part_store.proofs.Whole as W
 use Rattle.part_store.proofs.Wholly as Wholly

@@ -117,9 +117,6 @@ module _ (image : Image) (world : World) (formed : Formed image) (sound : Sound 
   abbrev facts : WalkFacts image world
   facts = T.facts image world formed sound
 
-  abbrev Counts : ℕ → ℕ → Option ℕ
-  Counts = issued_with image counts memory w i xs
-
   going : OrderGoes image world counts waiting false (chain_of o.chain) memory (early_ops o.early)
   going = record {
     legal = legal;

@@ -20,14 +20,16 @@ use Rattle.df_core.specs.Began.{Began}
 use Rattle.df_core.specs.Rights.{IsAsked, operands_of}
 use Rattle.store_buf.specs.declared.kept.Kept.{Kept}
 use Rattle.store_buf.specs.Requests.{entry_of, issued_in, answer_if}
+use Rattle.store_buf.specs.Runs.{AllReach}
 use Rattle.store_buf.specs.Stores.{asked_of}
+use Rattle.store_buf.proofs.Reaching.{reach_none}
 use Rattle.df_core.proofs.Settling.{one_time}
 use Rattle.part_store.specs.declared.entry.Queued.{Queued}
 use Rattle.part_store.specs.Queues.{front, is_queued}
 use Rattle.part_store.specs.Contents.{is_bare, PartContent}
 use Rattle.part_store.specs.Parted.{Fronts, IsKept, Parting}
 use Rattle.part_store.specs.Rules.{NoRule, is_past_at, operands_at}
-use Rattle.part_store.specs.Runs.{AllReach, Paid}
+use Rattle.part_store.specs.Runs.{Paid}
 use Rattle.part_store.proofs.Fronts as F
 use Rattle.part_store.proofs.Ops as O
 use Rattle.part_store.proofs.Times as T
@@ -35,10 +37,6 @@ use Rattle.df_core.proofs.Owing.{nothing}
 use Rattle.ws_isa.proofs.Images.{writing_memory}
 use Rattle.ws_words.specs.Items.{nth, In}
 use Rattle.ws_words.proofs.Places.{nth_there}
-
-none_in : (es : List Queued) → ((e : Queued) → In e es → ⊥) → es ≡ []
-none_in [] f = refl
-none_in (e ∷ es) f = absurd (f e (inl refl))
 
 module _ (image : Image) (world : World) (formed : Formed image) (sound : Sound image)
     (began : List (Option Began)) (c : PartContent) (s : Parting image world began c) (fronts : Fronts c)
@@ -58,10 +56,6 @@ module _ (image : Image) (world : World) (formed : Formed image) (sound : Sound 
 
   abbrev DoneBelow : ℕ → Type 0
   DoneBelow u = (k : ℕ) (y : Inst) → k < u → fires image world k ≡ Some y → IsDone y
-
-  come : (ts : List Token) → AllReach t.held [] ts → (w i p v : ℕ) → IsSent ts w i p v →
-      (u : ℕ) × (t.held w i p ≡ Some u)
-  come ts all w i p v h = elim (all w i p v h) [ inl g ↦ g | inr g ↦ absurd g.1 ]
 
   -- the request of a memory instance that has fired
   record Asked (x : Inst) : Type 0 where
@@ -115,8 +109,9 @@ module _ (image : Image) (world : World) (formed : Formed image) (sound : Sound 
         let all : AllReach t.held [] (sends image x.wave x.instr x.operands x.result) =
         subst (λ (q : List ℕ × ℕ). AllReach t.held [] (sends image x.wave x.instr q.0 q.1))
         (λ j. (ops j, result j))
-        (paid.answered x.wave x.instr a.0 k.kept k.entry answer (d.left m)) in
-        come _ all w i p v h)
+        (paid.answered (sends image x.wave x.instr (operands_of (ports image x.instr) k.kept.first
+        k.kept.second) a.0) (x.wave, x.instr, a.0, k.kept, k.entry, answer, d.left m, refl)) in
+        reach_none t.held _ all w i p v h)
     | inr m ↦ (let ops : operands_in image t.held x.wave x.instr ≡ x.operands =
         right_operands image world facts t.held x.wave x.instr u x
         (record { fires = fx; wave = refl; instr = refl }) (tok.right x.wave x.instr)
@@ -129,7 +124,7 @@ module _ (image : Image) (world : World) (formed : Formed image) (sound : Sound 
         let all' : AllReach t.held [] (sends image x.wave x.instr x.operands x.result) =
         subst (λ (n : ℕ). AllReach t.held [] (sends image x.wave x.instr x.operands n))
         (sym (facts.plain u x fx m)) all in
-        come _ all' w i p v h)
+        reach_none t.held _ all' w i p v h)
   ]
 
   has_fired : (u : ℕ) (x : Inst) → DoneBelow u → fires image world u ≡ Some x →
@@ -138,7 +133,7 @@ module _ (image : Image) (world : World) (formed : Formed image) (sound : Sound 
       let len : length x.operands ≡ ports image x.instr = facts.filled u x fx in
       let n : (v : ℕ) × (nth x.operands p ≡ Some v) = nth_there x.operands p (omega (arith, l, len)) in
       elim (facts.made u x fx p n.0 n.1) [
-        | inl h ↦ come _ paid.start x.wave x.instr p n.0 h
+        | inl h ↦ reach_none t.held _ paid.start x.wave x.instr p n.0 h
         | inr m ↦ sent_come m.time m.inst m.fires
             (below m.time m.inst m.earlier m.fires) x.wave x.instr p n.0 m.sent
       ])

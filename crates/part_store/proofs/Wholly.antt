@@ -262,9 +262,6 @@ module _ (image : Image) (world : World) (formed : Formed image) (sound : Sound 
       abbrev k' : Kept
       k' = record { wave = k.wave; instr = k.instr; first = k.first; second = k.second; answer = Some word }
 
-      abbrev m' : Outside
-      m' = effect_after image k.instr (operands_at image k) m
-
       word_is : word ≡ answer image k.instr (operands_at image k) m
       word_is = answers.answer ∙ sym ((O.operands_alike image k m).0)
           ∙ sym (O.answer_is image k.instr (operands_at image k) m)

@@ -7,4 +7,3 @@ pub mod Parts
 pub mod Calls
 pub mod Held
 pub mod Runs
-pub mod Answer

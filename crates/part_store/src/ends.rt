@@ -23,9 +23,9 @@ pub fn whole_run<J: Job, P: Port>(code: &Code<'_, J>, table: &Table<J>, buffer: 
         RunWhole J.image J.world handed buffer.now.outside.printed buffer.now.outside.cells
         (length table.now.fired) buffer.now.outside.ports }
 {
-    let _ = code.program();
     table.facts();
     buffer.facts();
+    code.facts();
 }
 
 /// Where a token hasn't come the walk has more instances than have fired.
@@ -36,9 +36,9 @@ pub fn spent_run<J: Job, P: Port>(code: &Code<'_, J>, table: &Table<J>, buffer: 
         Spent J.image J.world handed (length table.now.fired) buffer.now.outside.printed
         buffer.now.outside.ports }
 {
-    let _ = code.program();
     table.facts();
     buffer.facts();
+    code.facts();
 }
 
 /// Where the chain is stopped it is so at the walk's first load or store past the end.
@@ -48,8 +48,8 @@ pub fn fault_run<J: Job, P: Port>(code: &Code<'_, J>, buffer: &PartBuffer<J, P>,
         Tripped J.image J.world handed array buffer.now.outside.printed buffer.now.outside.cells
         buffer.now.outside.ports }
 {
-    let _ = code.program();
     buffer.facts();
+    code.facts();
 }
 
 /// Where a port has failed the walk's next operation is on it.
@@ -59,8 +59,8 @@ pub fn port_run<J: Job, P: Port>(code: &Code<'_, J>, buffer: &PartBuffer<J, P>, 
         PortFailed J.image J.world handed port buffer.now.outside.printed
         buffer.now.outside.ports }
 {
-    let _ = code.program();
     buffer.facts();
+    code.facts();
     told_ports_begin();
 }
 

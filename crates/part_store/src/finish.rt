@@ -7,49 +7,15 @@ ghost use Rattle.match_table.specs.Tables.{held, part};
 ghost use Rattle.port_set.specs.Ports.{Told};
 ghost use Rattle.port_set.specs.Slots.{AllOpen, contents};
 ghost use Rattle.store_buf.specs.Outdoors.{began_of};
-ghost use Rattle.part_store.specs.Answer.{PartTells};
+ghost use Rattle.store_buf.specs.Answer.{RunTells};
 ghost use Rattle.part_store.specs.Runs.{Paid, PartEndingSo, GoesOn};
 
 use crate::ends::{fault_run, front_run, port_run, spent_run, whole_run};
 use crate::part::PartBuffer;
 use df_core::{Code, Job};
 use match_table::Table;
-use port_set::{Port, Slots};
-use store_buf::BufFault;
-use ws_words::{Cells, Words};
-
-/// How a run ended. `Done`: the whole walk has been run. `Budget`: as many instances have fired as
-/// may, and the walk has more. `Fault`: the walk's first load or store past the end has stopped it,
-/// on the array with this number from 1. `Port`: this port has failed.
-#[derive(Debug, Drop)]
-pub enum PartFinish {
-    Done {
-        printed: Words,
-        arrays: Cells,
-        fired: u64,
-    },
-    Budget {
-        printed: Words,
-        fired: u64,
-    },
-    Fault {
-        array: u32,
-        printed: Words,
-        arrays: Cells,
-    },
-    Port {
-        port: u8,
-        printed: Words,
-    },
-    NoMemory,
-}
-
-/// How a run ended, with its ports.
-#[derive(Drop)]
-pub struct PartEnd<P: Port> {
-    pub finish: PartFinish,
-    pub ports: Slots<P>,
-}
+use port_set::Port;
+use store_buf::{BufFault, RunEnd, RunFinish};
 
 /// Why a run goes no further. `Whole`: nothing is on the way. `Spent`: as many instances have fired as
 /// may, and a token is on the way. `Stopped`: the buffer takes no more, or memory ran out.
@@ -67,11 +33,11 @@ pub fn finish<J: Job, P: Port>(
     buffer: PartBuffer<J, P>,
     ending: Ending,
     budget: u64,
-) -> PartEnd<P>
+) -> RunEnd<P>
     requires within { length table.fired ≤ budget }
     requires ended { PartEndingSo J.image J.world budget table buffer ending }
     ensures tells { (handed : List (Option Told)) → J.began ≡ began_of handed →
-        PartTells J.image J.world handed budget result.finish (contents P.tells result.ports) }
+        RunTells J.image J.world handed budget result.finish (contents P.tells result.ports) }
     ensures open { AllOpen (contents P.tells result.ports) }
 {
     match ending {
@@ -87,19 +53,19 @@ fn whole<J: Job, P: Port>(
     table: Table<J>,
     buffer: PartBuffer<J, P>,
     budget: u64,
-) -> PartEnd<P>
+) -> RunEnd<P>
     requires within { length table.fired ≤ budget }
     requires going { GoesOn buffer }
     requires paid { Paid J.image (part table) buffer [] }
     ensures tells { (handed : List (Option Told)) → J.began ≡ began_of handed →
-        PartTells J.image J.world handed budget result.finish (contents P.tells result.ports) }
+        RunTells J.image J.world handed budget result.finish (contents P.tells result.ports) }
     ensures open { AllOpen (contents P.tells result.ports) }
 {
     whole_run(code, &table, &buffer);
     let fired = table.fired_count() as u64;
     let end = buffer.finish();
-    PartEnd {
-        finish: PartFinish::Done {
+    RunEnd {
+        finish: RunFinish::Done {
             printed: end.printed,
             arrays: end.arrays,
             fired,
@@ -114,19 +80,19 @@ fn spent<J: Job, P: Port>(
     table: Table<J>,
     buffer: PartBuffer<J, P>,
     budget: u64,
-) -> PartEnd<P>
+) -> RunEnd<P>
     requires fired { length table.fired ≡ budget }
     requires missing { (x : Plain) × IsRight J.image J.world x
         × (held table x.wave x.instr x.port ≡ None) }
     ensures tells { (handed : List (Option Told)) → J.began ≡ began_of handed →
-        PartTells J.image J.world handed budget result.finish (contents P.tells result.ports) }
+        RunTells J.image J.world handed budget result.finish (contents P.tells result.ports) }
     ensures open { AllOpen (contents P.tells result.ports) }
 {
     spent_run(code, &table, &buffer);
     let fired = table.fired_count() as u64;
     let end = buffer.finish();
-    PartEnd {
-        finish: PartFinish::Budget {
+    RunEnd {
+        finish: RunFinish::Budget {
             printed: end.printed,
             fired,
         },
@@ -135,9 +101,9 @@ fn spent<J: Job, P: Port>(
 }
 
 // The run has ended before the walk and the budget did.
-fn stopped<J: Job, P: Port>(code: &Code<'_, J>, buffer: PartBuffer<J, P>, budget: u64) -> PartEnd<P>
+fn stopped<J: Job, P: Port>(code: &Code<'_, J>, buffer: PartBuffer<J, P>, budget: u64) -> RunEnd<P>
     ensures tells { (handed : List (Option Told)) → J.began ≡ began_of handed →
-        PartTells J.image J.world handed budget result.finish (contents P.tells result.ports) }
+        RunTells J.image J.world handed budget result.finish (contents P.tells result.ports) }
     ensures open { AllOpen (contents P.tells result.ports) }
 {
     front_run(&buffer);
@@ -145,8 +111,8 @@ fn stopped<J: Job, P: Port>(code: &Code<'_, J>, buffer: PartBuffer<J, P>, budget
         Some(BufFault::Ended { array }) => {
             fault_run(code, &buffer, array);
             let end = buffer.finish();
-            PartEnd {
-                finish: PartFinish::Fault {
+            RunEnd {
+                finish: RunFinish::Fault {
                     array,
                     printed: end.printed,
                     arrays: end.arrays,
@@ -157,8 +123,8 @@ fn stopped<J: Job, P: Port>(code: &Code<'_, J>, buffer: PartBuffer<J, P>, budget
         Some(BufFault::Stopped { port }) => {
             port_run(code, &buffer, port);
             let end = buffer.finish();
-            PartEnd {
-                finish: PartFinish::Port {
+            RunEnd {
+                finish: RunFinish::Port {
                     port,
                     printed: end.printed,
                 },
@@ -167,8 +133,8 @@ fn stopped<J: Job, P: Port>(code: &Code<'_, J>, buffer: PartBuffer<J, P>, budget
         }
         _ => {
             let end = buffer.finish();
-            PartEnd {
-                finish: PartFinish::NoMemory,
+            RunEnd {
+                finish: RunFinish::NoMemory,
                 ports: end.ports,
             }
         }

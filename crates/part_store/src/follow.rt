@@ -6,7 +6,7 @@ ghost use Rattle.smallvec.specs.SmallVec.{HasRoomFor};
 ghost use Rattle.ws_words.specs.Outside.{row, with_row};
 ghost use Rattle.ws_isa.specs.Formed.{Formed};
 ghost use Rattle.ws_isa.specs.Image.{Image};
-ghost use Rattle.df_core.specs.Places.{ProgramIs, image_of};
+ghost use Rattle.df_core.specs.Places.{image_of};
 ghost use Rattle.df_core.specs.Rights.{tokens_of};
 ghost use Rattle.store_buf.specs.Requests.{entry_of};
 ghost use Rattle.store_buf.specs.Ordering.{OrderOk, kept_at};
@@ -22,17 +22,14 @@ ghost use Rattle.part_store.specs.Parts.{FollowsOn, issued_flag};
 use crate::entry::Queued;
 use crate::parts::Parts;
 use crate::rows::row_of;
-use df_core::program::Program;
+use df_core::Program;
 use port_set::Port;
-use store_buf::kept::Kept;
-use store_buf::outer::Outer;
-use store_buf::told::{PlainTokens, tell};
+use store_buf::{Kept, Outer, PlainTokens, tell};
 use ws_isa::Op;
 
 impl<P: Port> Parts<P> {
     // The first entries on the cell of a store whose data has come are done.
     pub(crate) fn drain(&mut self, program: &Program<'_>, kept: Kept, told: &mut PlainTokens)
-        requires program { ProgramIs program.now }
         requires formed { Formed (image_of program.now) }
         requires ok { PartsOk self.old }
         requires filed { PartsFiled (image_of program.now) self.old }
@@ -51,7 +48,6 @@ impl<P: Port> Parts<P> {
 
     // The first entries of a cell's queue are done, up to the next store without data.
     fn follow(&mut self, program: &Program<'_>, row: usize, index: u64, told: &mut PlainTokens)
-        requires program { ProgramIs program.now }
         requires formed { Formed (image_of program.now) }
         requires ok { PartsOk self.old }
         requires filed { PartsFiled (image_of program.now) self.old }
@@ -74,7 +70,6 @@ impl<P: Port> Parts<P> {
 
     // The first entry on a cell, where it isn't a store without data.
     fn ready_front(&self, program: &Program<'_>, row: usize, index: u64) -> Option<Queued>
-        requires program { ProgramIs program.now }
         requires ok { PartsOk self.now }
         requires filed { PartsFiled (image_of program.now) self.now }
         ensures some { IfSome result (λ e. (front self.now.queues.entries.items row index ≡ Some e)
@@ -97,7 +92,6 @@ impl<P: Port> Parts<P> {
 
     // The first entry of a queue is done, and leaves it.
     fn finish_front(&mut self, program: &Program<'_>, entry: Queued, told: &mut PlainTokens)
-        requires program { ProgramIs program.now }
         requires formed { Formed (image_of program.now) }
         requires ok { PartsOk self.old }
         requires filed { PartsFiled (image_of program.now) self.old }

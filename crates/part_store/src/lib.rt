@@ -20,33 +20,31 @@
 //! (`moves_keep`, `arrivals_keep`, `data_keeps`).
 //!
 //! `part_image` runs an image on one thread, over one table and one such buffer; `part_run` does so for a job
-//! that names the image. **They tell what `run_image` of fire_crew tells** (`PartTells`, the five cases of
-//! `CrewTells`): `Done` where no load or store of the walk is past the end, with the walk's count of firings,
-//! within the budget, and its printed words, arrays and ports; `Budget` where as many instances have fired as
-//! may and the walk has more; `Fault` at the walk's first load or store past the end, with its array and what
-//! the walk leaves before it; `Port` where the walk's next operation is on a port that failed in the run.
-//! Tokens are brought in rounds by wave, and a store's address to the buffer before its data: no clause
-//! says so.
+//! that names the image. **They tell what `run_image` of fire_crew tells** (`RunTells`): `Done` where no load
+//! or store of the walk is past the end, with the walk's count of firings, within the budget, and its printed
+//! words, arrays and ports; `Budget` where as many instances have fired as may and the walk has more; `Fault`
+//! at the walk's first load or store past the end, with its array and what the walk leaves before it; `Port`
+//! where the walk's next operation is on a port that failed in the run. Tokens are brought in rounds by wave,
+//! and a store's address to the buffer before its data: no clause says so.
 #![tactic(auto)]
 
-pub mod bare;
-pub mod ends;
-pub mod entry;
-pub mod finish;
+mod bare;
+mod ends;
+mod entry;
+mod finish;
 mod follow;
-pub mod laws;
+mod laws;
 mod moves;
-pub mod part;
-pub mod parts;
-pub mod queues;
-pub mod quiet;
+mod part;
+mod parts;
+mod queues;
+mod quiet;
 mod room;
-mod rounds;
 mod rows;
 mod run;
 mod search;
 
-pub use finish::{PartEnd, PartFinish};
 pub use part::PartBuffer;
 pub use quiet::Quiet;
 pub use run::{part_image, part_run};
+pub use store_buf::{RunEnd as PartEnd, RunFinish as PartFinish};

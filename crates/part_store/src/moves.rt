@@ -6,7 +6,7 @@ ghost use Rattle.smallvec.specs.SmallVec.{HasRoomFor};
 ghost use Rattle.ws_isa.specs.Formed.{Formed};
 ghost use Rattle.df_core.specs.Core.{has};
 ghost use Rattle.df_core.specs.Chains.{PassedOn, chain_of};
-ghost use Rattle.df_core.specs.Places.{ProgramIs, image_of};
+ghost use Rattle.df_core.specs.Places.{image_of};
 ghost use Rattle.df_core.specs.Rights.{tokens_of};
 ghost use Rattle.store_buf.specs.Earlies.{early_ops};
 ghost use Rattle.store_buf.specs.Ordering.{MayAt, kept_at};
@@ -24,11 +24,9 @@ use crate::entry::Queued;
 use crate::parts::Parts;
 use crate::queues::QUEUES;
 use crate::rows::{array_of, row_of};
-use df_core::program::Program;
+use df_core::Program;
 use port_set::Port;
-use store_buf::fault::{BufFault, Silent};
-use store_buf::kept::Kept;
-use store_buf::told::{PlainTokens, tell};
+use store_buf::{BufFault, Kept, PlainTokens, Silent, tell};
 use ws_isa::Op;
 use ws_words::NoMemory;
 
@@ -40,7 +38,6 @@ impl<P: Port> Parts<P> {
         first: Option<usize>,
         told: &mut PlainTokens,
     ) -> Result<(), BufFault>
-        requires program { ProgramIs program.now }
         requires formed { Formed (image_of program.now) }
         requires ok { PartsOk self.old }
         requires filed { PartsFiled (image_of program.now) self.old }
@@ -77,7 +74,6 @@ impl<P: Port> Parts<P> {
         first: Option<usize>,
         told: &mut PlainTokens,
     ) -> Result<(), Silent>
-        requires program { ProgramIs program.now }
         requires formed { Formed (image_of program.now) }
         requires ok { PartsOk self.old }
         requires filed { PartsFiled (image_of program.now) self.old }
@@ -109,7 +105,6 @@ impl<P: Port> Parts<P> {
     // wave with the smallest sequence number, or a load before its turn. In a buffer of a run it is
     // None only where none may.
     fn ready(&mut self, program: &Program<'_>, this: Option<usize>) -> Option<usize>
-        requires program { ProgramIs program.now }
         requires ok { PartsOk self.old }
         requires filed { PartsFiled (image_of program.now) self.old }
         ensures ok { PartsOk self.new }
@@ -136,7 +131,6 @@ impl<P: Port> Parts<P> {
 
     // Whether the request or address at a place may go.
     fn may_go(&self, program: &Program<'_>, place: usize) -> bool
-        requires program { ProgramIs program.now }
         requires ok { PartsOk self.now }
         requires filed { PartsFiled (image_of program.now) self.now }
         ensures yes { result ≡ true → place < length self.now.order.kept.items }
@@ -154,7 +148,6 @@ impl<P: Port> Parts<P> {
     // Whether the rules let one go that the chain lets go: an address within its array where a queue
     // holds its cell or one is free, and a request within its array or where no queue is open.
     fn may_by_rules(&self, program: &Program<'_>, kept: Kept) -> bool
-        requires program { ProgramIs program.now }
         requires ok { PartsOk self.now }
         requires filed { PartsFiled (image_of program.now) self.now }
         ensures { result ≡ rule_flag (image_of program.now) self.now kept }
@@ -198,7 +191,6 @@ impl<P: Port> Parts<P> {
         place: usize,
         told: &mut PlainTokens,
     ) -> Result<(), Silent>
-        requires program { ProgramIs program.now }
         requires formed { Formed (image_of program.now) }
         requires ok { PartsOk self.old }
         requires filed { PartsFiled (image_of program.now) self.old }
@@ -239,7 +231,6 @@ impl<P: Port> Parts<P> {
 
     // The request or address at a place joins the queue of its cell, and counts as issued.
     fn wait_on(&mut self, program: &Program<'_>, place: usize)
-        requires program { ProgramIs program.now }
         requires ok { PartsOk self.old }
         requires filed { PartsFiled (image_of program.now) self.old }
         requires may { MayAt (image_of program.now) self.old.order place }

@@ -19,16 +19,11 @@ ghost use Rattle.part_store.specs.Parts.{PartsStanding};
 use crate::bare::Bare;
 use crate::parts::Parts;
 use crate::queues::Queues;
-use df_core::program::Program;
-use df_core::{Code, Job, Request, Token, TokenList, every_list_of_events};
+use df_core::{Code, Job, Program, Request, Token, TokenList, every_list_of_events};
 use port_set::{OpenSet, Port, Slots};
 use std::alloc::Global;
 use std::marker::{Model, PhantomData};
-use store_buf::kept::Kept;
-use store_buf::order::Order;
-use store_buf::outer::{BufferEnd, Outer, empty_cells};
-use store_buf::told::PlainTokens;
-use store_buf::{BufFault, BufferAnswers};
+use store_buf::{BufFault, BufferAnswers, BufferEnd, Kept, Order, Outer, PlainTokens, empty_cells};
 use ws_isa::Op;
 use ws_words::Words;
 

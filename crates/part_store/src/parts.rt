@@ -5,7 +5,7 @@ ghost use Rattle.ws_isa.specs.Formed.{Formed};
 ghost use Rattle.ws_isa.specs.Image.{instr_at};
 ghost use Rattle.store_buf.specs.Contents.{stop_of};
 ghost use Rattle.df_core.specs.Chains.{chain_of, may_flag};
-ghost use Rattle.df_core.specs.Places.{ProgramIs, image_of};
+ghost use Rattle.df_core.specs.Places.{image_of};
 ghost use Rattle.df_core.specs.Rights.{tokens_of};
 ghost use Rattle.store_buf.specs.Requests.{entry_of};
 ghost use Rattle.part_store.specs.Bares.{is_in};
@@ -15,13 +15,9 @@ ghost use Rattle.part_store.specs.Parts.{AddressLeads, PartsOk, PartsFiled, Part
 use crate::bare::Bare;
 use crate::queues::Queues;
 use crate::rows::is_load;
-use df_core::program::Program;
+use df_core::Program;
 use port_set::Port;
-use store_buf::fault::BufFault;
-use store_buf::kept::Kept;
-use store_buf::order::Order;
-use store_buf::outer::Outer;
-use store_buf::told::PlainTokens;
+use store_buf::{BufFault, Kept, Order, Outer, PlainTokens};
 use ws_words::NoMemory;
 
 /// Requests, addresses and queues, and what they work on. An operation that is queued counts as issued
@@ -59,7 +55,6 @@ impl<P: Port> Parts<P> {
         kept: Kept,
         told: &mut PlainTokens,
     ) -> Result<(), BufFault>
-        requires program { ProgramIs program.now }
         requires formed { Formed (image_of program.now) }
         requires ok { PartsOk self.old }
         requires filed { PartsFiled (image_of program.now) self.old }
@@ -90,7 +85,6 @@ impl<P: Port> Parts<P> {
     // Whether the chain lets the operation of a request or address issue: it is next, or a load before
     // its turn.
     fn lets(&self, program: &Program<'_>, kept: Kept) -> bool
-        requires { ProgramIs program.now }
         ensures { result ≡ may_flag (image_of program.now) (chain_of self.now.order.chain)
             kept.wave kept.instr kept.first }
     {
@@ -106,7 +100,6 @@ impl<P: Port> Parts<P> {
 
     // Keeps an address that the chain doesn't let go, so that no rule is applicable then.
     fn put_by_address(&mut self, program: &Program<'_>, kept: Kept) -> Result<(), BufFault>
-        requires program { ProgramIs program.now }
         requires ok { PartsOk self.old }
         requires filed { PartsFiled (image_of program.now) self.old }
         requires fresh { entry_of self.old.order.kept.items kept.wave kept.instr ≡ None }
@@ -134,7 +127,6 @@ impl<P: Port> Parts<P> {
         kept: Kept,
         told: &mut PlainTokens,
     ) -> Result<(), BufFault>
-        requires program { ProgramIs program.now }
         requires formed { Formed (image_of program.now) }
         requires ok { PartsOk self.old }
         requires filed { PartsFiled (image_of program.now) self.old }
@@ -167,7 +159,6 @@ impl<P: Port> Parts<P> {
         kept: Kept,
         told: &mut PlainTokens,
     ) -> Result<(), BufFault>
-        requires program { ProgramIs program.now }
         requires formed { Formed (image_of program.now) }
         requires ok { PartsOk self.old }
         requires filed { PartsFiled (image_of program.now) self.old }
@@ -202,7 +193,6 @@ impl<P: Port> Parts<P> {
 
     // Keeps a request that the chain doesn't let go, so that no rule is applicable then.
     fn put_by(&mut self, program: &Program<'_>, kept: Kept) -> Result<(), BufFault>
-        requires program { ProgramIs program.now }
         requires ok { PartsOk self.old }
         requires filed { PartsFiled (image_of program.now) self.old }
         requires fresh { entry_of self.old.order.kept.items kept.wave kept.instr ≡ None }
@@ -229,7 +219,6 @@ impl<P: Port> Parts<P> {
         kept: Kept,
         told: &mut PlainTokens,
     ) -> Result<(), BufFault>
-        requires program { ProgramIs program.now }
         requires formed { Formed (image_of program.now) }
         requires ok { PartsOk self.old }
         requires filed { PartsFiled (image_of program.now) self.old }
@@ -261,7 +250,6 @@ impl<P: Port> Parts<P> {
         kept: Kept,
         told: &mut PlainTokens,
     ) -> Result<(), BufFault>
-        requires program { ProgramIs program.now }
         requires formed { Formed (image_of program.now) }
         requires ok { PartsOk self.old }
         requires filed { PartsFiled (image_of program.now) self.old }

@@ -7,13 +7,11 @@ ghost use Rattle.store_buf.specs.Outdoors.{AllBegan};
 ghost use Rattle.store_buf.specs.Contents.{IsBuffer, opening_content};
 
 use crate::part::PartBuffer;
-use df_core::program::Program;
-use df_core::{Code, Job, every_list_of_events};
+use df_core::{Code, Job, Program, every_list_of_events};
 use port_set::{Port, Slots};
 use std::alloc::Global;
 use std::marker::Model;
-use store_buf::told::PlainTokens;
-use store_buf::{BufFault, BufferEnd, Kept, MemoryOrder};
+use store_buf::{BufFault, BufferEnd, Kept, MemoryOrder, PlainTokens};
 use ws_words::Words;
 
 /// It is a store buffer: no address comes without its data.
@@ -55,7 +53,7 @@ impl<J: Job, P: Port> Quiet<J, P> {
             contents P.tells slots ≡ contents P.tells ports) }
     {
         every_list_of_events();
-        let _ = code.program();
+        code.facts();
         match PartBuffer::begin(alloc, code, input, ports) {
             Ok(inner) => Ok(Quiet { inner }),
             Err(ports) => Err(ports),

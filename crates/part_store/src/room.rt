@@ -5,7 +5,7 @@ ghost use Rattle.std.specs.Prelude.{length, IfSome, IfNone, OnOk, OnErr};
 ghost use Rattle.smallvec.specs.SmallVec.{HasRoomFor};
 ghost use Rattle.ws_isa.specs.Image.{Image, instr_at};
 ghost use Rattle.df_core.specs.Core.{same_key};
-ghost use Rattle.df_core.specs.Places.{ProgramIs, image_of};
+ghost use Rattle.df_core.specs.Places.{image_of};
 ghost use Rattle.std.specs.HashSet.{spare};
 ghost use Rattle.store_buf.specs.Requests.{entry_of};
 ghost use Rattle.store_buf.specs.Ordering.{OrderOk};
@@ -15,10 +15,9 @@ ghost use Rattle.part_store.specs.Parted.{is_store_op};
 ghost use Rattle.part_store.specs.Parts.{PartsOk, PartsFiled, Filled, kept_flag, PartsKeep};
 
 use crate::parts::Parts;
-use df_core::program::Program;
+use df_core::Program;
 use port_set::Port;
-use store_buf::kept::Kept;
-use store_buf::told::PlainTokens;
+use store_buf::{Kept, PlainTokens};
 use ws_words::NoMemory;
 
 // For each request that waits there has to be room for eight tokens.
@@ -44,7 +43,6 @@ impl<P: Port> Parts<P> {
     // PartsKeep a request of an instance that had none, and makes room for the word that it may print and
     // the queue that it may join.
     pub(crate) fn keep(&mut self, program: &Program<'_>, kept: Kept) -> Result<(), NoMemory>
-        requires program { ProgramIs program.now }
         requires ok { PartsOk self.old }
         requires filed { PartsFiled (image_of program.now) self.old }
         requires fresh { entry_of self.old.order.kept.items kept.wave kept.instr ≡ None }
@@ -67,7 +65,6 @@ impl<P: Port> Parts<P> {
 
     // PartsKeep an address of an instance that had none.
     pub(crate) fn keep_bare(&mut self, program: &Program<'_>, kept: Kept) -> Result<(), NoMemory>
-        requires program { ProgramIs program.now }
         requires ok { PartsOk self.old }
         requires filed { PartsFiled (image_of program.now) self.old }
         requires fresh { entry_of self.old.order.kept.items kept.wave kept.instr ≡ None }

@@ -12,20 +12,20 @@ ghost use Rattle.match_table.specs.Tables.{part};
 ghost use Rattle.port_set.specs.Ports.{Told};
 ghost use Rattle.port_set.specs.Slots.{AllOpen, contents};
 ghost use Rattle.store_buf.specs.Outdoors.{AllBegan, AllTell, began_of, world_with};
-ghost use Rattle.part_store.specs.declared.finish.PartFinish.TheVariants as finish;
+ghost use Rattle.store_buf.specs.declared.finish.RunFinish.TheVariants as finish;
+ghost use Rattle.store_buf.specs.Answer.{RunTells};
+ghost use Rattle.store_buf.specs.Runs.{Covers};
 ghost use Rattle.part_store.specs.Parted.{is_store_op};
-ghost use Rattle.part_store.specs.Answer.{PartTells};
-ghost use Rattle.part_store.specs.Runs.{Covers, IsWhole, Paid, PaidWhile, PartEndingSo, GoesOn};
+ghost use Rattle.part_store.specs.Runs.{IsWhole, Paid, PaidWhile, PartEndingSo, GoesOn};
 
-use crate::finish::{Ending, PartEnd, PartFinish, finish};
+use crate::finish::{Ending, finish};
 use crate::part::PartBuffer;
-use crate::rounds::Rounds;
 use df_core::{Code, Job, Request, Token, start};
 use match_table::{Results, Table, Took};
 use port_set::{Port, Slots};
 use std::alloc::Global;
 use std::marker::Brand;
-use store_buf::{BufferAnswers, told_ports_begin};
+use store_buf::{BufferAnswers, Rounds, RunEnd, RunFinish, told_ports_begin};
 use ws_isa::{Checked, Op};
 use ws_words::{NoMemory, Words};
 
@@ -48,10 +48,10 @@ pub fn part_image<P: Port>(
     input: Words,
     ports: Slots<P>,
     budget: u64,
-) -> PartEnd<P>
+) -> RunEnd<P>
     requires told { AllTell (contents P.tells ports) }
     requires open { AllOpen (contents P.tells ports) }
-    ensures tells { PartTells image.now (world_with input (contents P.tells ports))
+    ensures tells { RunTells image.now (world_with input (contents P.tells ports))
         (contents P.tells ports) budget result.finish (contents P.tells result.ports) }
     ensures open { AllOpen (contents P.tells result.ports) }
 {
@@ -66,13 +66,13 @@ pub fn part_run<J: Job, P: Port>(
     input: Words,
     ports: Slots<P>,
     budget: u64,
-) -> PartEnd<P>
+) -> RunEnd<P>
     requires image { image.now ≡ J.image }
     requires world { J.world ≡ world_with input (contents P.tells ports) }
     requires began { J.began ≡ began_of (contents P.tells ports) }
     requires told { AllTell (contents P.tells ports) }
     requires open { AllOpen (contents P.tells ports) }
-    ensures tells { PartTells J.image J.world (contents P.tells ports) budget result.finish
+    ensures tells { RunTells J.image J.world (contents P.tells ports) budget result.finish
         (contents P.tells result.ports) }
     ensures open { AllOpen (contents P.tells result.ports) }
 {
@@ -90,12 +90,12 @@ fn run_over<J: Job, P: Port>(
     input: Words,
     ports: Slots<P>,
     budget: u64,
-) -> PartEnd<P>
+) -> RunEnd<P>
     requires input { input ≡ J.world.input }
     requires ports { AllBegan J.began J.world.left (contents P.tells ports) }
     requires began { J.began ≡ began_of (contents P.tells ports) }
     requires open { AllOpen (contents P.tells ports) }
-    ensures tells { PartTells J.image J.world (contents P.tells ports) budget result.finish
+    ensures tells { RunTells J.image J.world (contents P.tells ports) budget result.finish
         (contents P.tells result.ports) }
     ensures open { AllOpen (contents P.tells result.ports) }
 {
@@ -111,10 +111,10 @@ fn run_from<J: Job, P: Port>(
     code: &Code<'_, J>,
     buffer: PartBuffer<J, P>,
     budget: u64,
-) -> PartEnd<P>
+) -> RunEnd<P>
     requires none { buffer.kept ≡ [] }
     ensures tells { (handed : List (Option Told)) → J.began ≡ began_of handed →
-        PartTells J.image J.world handed budget result.finish (contents P.tells result.ports) }
+        RunTells J.image J.world handed budget result.finish (contents P.tells result.ports) }
     ensures open { AllOpen (contents P.tells result.ports) }
 {
     let mut run = PartRun {
@@ -138,12 +138,12 @@ fn begin<J: Job>(alloc: Global, code: &Code<'_, J>, way: &mut Rounds<J>) -> Resu
 }
 
 // For want of memory nothing was run.
-fn stays<P: Port>(ports: Slots<P>) -> PartEnd<P>
+fn stays<P: Port>(ports: Slots<P>) -> RunEnd<P>
     ensures finish { result.finish ≡ finish.NoMemory }
     ensures ports { result.ports ≡ ports }
 {
-    PartEnd {
-        finish: PartFinish::NoMemory,
+    RunEnd {
+        finish: RunFinish::NoMemory,
         ports,
     }
 }
@@ -201,12 +201,12 @@ fn bring<J: Job, P: Port>(
     ensures paid { OnOk result
         (PaidWhile J.image (part run.new.table) run.new.buffer run.new.way) }
 {
-    let _ = code.program();
-    let _ = token.wave();
     run.table.facts();
+    code.facts();
+    token.facts();
     let mut results = Results::none();
     let took = run.table.accept_into(code, &token, &mut results);
-    let Results { sent, request } = results;
+    let Results { mut sent, request } = results;
     match took {
         Took::Waits => match address_of(code, token) {
             Some(address) => tell(
@@ -218,7 +218,7 @@ fn bring<J: Job, P: Port>(
             ),
             None => Ok(()),
         },
-        Took::Fires => run.way.send_all(sent),
+        Took::Fires => run.way.send_all(&mut sent),
         Took::Asks => match request {
             Some(request) => ask(
                 code,

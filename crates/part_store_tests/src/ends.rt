@@ -2,9 +2,10 @@
 
 use crate::images::{CELLS, PAST, PORTS, image_of};
 use crate::tapes::tapes;
-use part_store::{PartFinish, part_image};
+use part_store::part_image;
 use std::alloc::Global;
 use std::test::Fail;
+use store_buf::RunFinish;
 use ws_words::{NoMemory, Words};
 
 // How a run ended: how many words were printed, the first of them, and the firings, or the array or the port.
@@ -17,15 +18,15 @@ enum PartEnding {
     NoMemory,
 }
 
-fn end_of(finish: &PartFinish) -> PartEnding {
+fn end_of(finish: &RunFinish) -> PartEnding {
     match finish {
-        PartFinish::Done { printed, fired, .. } => {
+        RunFinish::Done { printed, fired, .. } => {
             PartEnding::Done(printed.len(), printed.word(0), *fired)
         }
-        PartFinish::Budget { fired, .. } => PartEnding::Budget(*fired),
-        PartFinish::Fault { array, arrays, .. } => PartEnding::Fault(*array, arrays.word(0, 0)),
-        PartFinish::Port { port, .. } => PartEnding::Port(*port),
-        PartFinish::NoMemory => PartEnding::NoMemory,
+        RunFinish::Budget { fired, .. } => PartEnding::Budget(*fired),
+        RunFinish::Fault { array, arrays, .. } => PartEnding::Fault(*array, arrays.word(0, 0)),
+        RunFinish::Port { port, .. } => PartEnding::Port(*port),
+        RunFinish::NoMemory => PartEnding::NoMemory,
     }
 }
 

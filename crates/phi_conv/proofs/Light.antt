@@ -53,10 +53,6 @@ after [] s = s
 after (Assign x t ∷ ops) s = after ops (write s x (value t s.vars s.out.cells))
 after (_ ∷ ops) s = after ops s
 
--- takes so many turns, and goes on
-abbrev pub spending : ℕ → ProcState → ℕ → (ProcState → ℕ → OpsOutcome) → OpsOutcome
-spending n s k go = and_then (spend n s k) go
-
 spend_more : (n m : ℕ) (s : ProcState) (k : ℕ) (go : ProcState → ℕ → OpsOutcome)
     → and_then (spend n s k) (λ r j. and_then (spend m r j) go) ≡ and_then (spend (n + m) s k) go
 spend_more zero m s k go = let z : m ≡ zero + m = omega arith in ap (λ i. and_then (spend i s k) go) z

@@ -12,13 +12,6 @@ use Rattle.ws_words.proofs.Numbers.{is_self}
 use Rattle.ws_words.specs.Items.{In}
 use Rattle.ws_words.proofs.Places.{in_left, in_right, in_both}
 
-not_self : (n m : ℕ) → (n ≡ m → ⊥) → (n == m) ≡ false
-not_self n m ne = by_test (n == m) refl
-  where
-    by_test : (b : Bool) → (n == m) ≡ b → (n == m) ≡ false
-    by_test true e = absurd (ne (grind (arith, nat_tests)))
-    by_test false e = e
-
 -- a number that isn't there where it isn't in a longer list
 pub less_among : (xs ys : List ℕ) (x : ℕ) → (is_among xs x ≡ true → is_among ys x ≡ true)
     → is_among ys x ≡ false → is_among xs x ≡ false

@@ -10,12 +10,12 @@
 //! faults rose.
 #![tactic(auto)]
 
-pub mod boxed;
-pub mod line;
-pub mod open;
-pub mod port;
-pub mod slots;
-pub mod tape;
+mod boxed;
+mod line;
+mod open;
+mod port;
+mod slots;
+mod tape;
 
 pub use line::LinePort;
 pub use open::{OpenPort, OpenSet};

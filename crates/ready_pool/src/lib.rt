@@ -11,9 +11,9 @@
 
 mod calls;
 mod end;
-pub mod hand;
+mod hand;
 mod make;
-pub mod seat;
+mod seat;
 
 pub use end::{seats_stay_together, settle_all};
 pub use make::seats;

@@ -134,12 +134,6 @@ stops_at_once start part s turns c m held vars lt e h st = record {
   within = subst (λ (o : PartEnd). AreWithin (lengths_of start.cells) (seen o).0) (sym e) h.out.within;
 }
 
--- where no turn is left
-pub no_turn : (start : Outside) (part : ℕ → PartEnd) (s : ProcState) (turns : ℕ) (m : Memory) (vars : List ℕ)
-    → turns ≡ 0 → part 0 ≡ Out s.out → Holds start s m vars → PartOut start (part turns) m
-no_turn start part s turns m vars z e h = subst (λ (o : PartEnd). PartOut start o m) (sym (ap part z ∙ e))
-    h.out
-
 -- the value of one term more
 pub values_more : (ts : List CodeTerm) (vars : List ℕ) (cells : List (List ℕ)) (i : ℕ) (t : CodeTerm)
     (words : List ℕ) → i < length ts → t ≡ slice_index_or ts i t → words ≡ values (map graph.term (take i ts))
@@ -525,12 +519,6 @@ result_is start t s m vars v (suc j) h lt none ev = (
   sym (value_is start s m vars h t) ∙ sym ev,
   omega arith,
 )
-
--- it wants a turn
-pub result_wants : (start : Outside) (t : Term) (s : ProcState) (m : Memory) (vars : List ℕ) (j k : ℕ)
-    → Holds start s m vars → j ≡ 0 → ReplyIs start (finish (Some t) s) j replies.Out m k
-result_wants start t s m vars zero k h e = h.out
-result_wants start t s m vars (suc j) k h e = absurd (omega (arith, e))
 
 -- it has a load that is past
 pub result_stops : (start : Outside) (t : Term) (s : ProcState) (m : Memory) (vars : List ℕ) (c j : ℕ)

@@ -16,10 +16,6 @@ use Rattle.ws_words.proofs.Bools.{and_parts as both_hold, either_right as not_se
 use Rattle.ws_words.proofs.Bools.{no_both}
 use Rattle.src_check.proofs.Parts.{declared_by-append as declared_append}
 
-not_first : (a b : Bool) → (a || b) ≡ false → a ≡ false
-not_first true b h = absurd (cc)
-not_first false b h = refl
-
 -- among names in a row, a name is the first or the others
 pub in_front_or_after : (xs ys : List Declared) (text : List ℕ) (s : Sort) → has_sort (xs ++ ys) text s ≡ true
     → (has_sort xs text s ≡ true) ⊎ (has_sort ys text s ≡ true)

@@ -12,7 +12,7 @@ use Rattle.src_ast.specs.Same.{bare, bare_names, bare_expression, bare_expressio
 use Rattle.src_ast.specs.Same.{bare_statements, bare_ending, bare_part, bare_parts, Same}
 use Rattle.src_ast.specs.Syntax.{Expression, Number, Variable, Cell, Signed, Binary, Statement, Assign, Store}
 use Rattle.src_ast.specs.Syntax.{Print, Read, Give, Take, Call, If, While, Statements, Nothing, Then, Last}
-use Rattle.src_ast.specs.Syntax.{Procedure, Part, Array, Proc}
+use Rattle.src_ast.specs.Syntax.{Part, Array, Proc}
 use Rattle.src_ast.specs.Written.{IsWrittenName, AreWrittenNames, IsWrittenNumber, IsWrittenExpression}
 use Rattle.src_ast.specs.Written.{AreWrittenExpressions, rounded, width, list_width, names_width, FitsRow}
 use Rattle.src_ast.specs.Written.{IsWrittenStatement, AreWrittenStatements, IsWrittenEnding}
@@ -111,16 +111,6 @@ ending_written (Some last) = λ i. expression_written last.value i × FitsRow (w
 
 cast : {S T : Type 0} → S ≡ T → S → T
 cast e h = subst (λ (T : Type 0). T) e h
-
-bare_procedure : (p : Procedure) → Procedure
-bare_procedure p =
-    record {
-      name = bare p.name;
-      params = bare_names p.params;
-      vars = bare_names p.vars;
-      body = bare_statements p.body;
-      ending = bare_ending p.ending;
-    }
 
 without_places : (all : List Part) → AreNearlyWritten all → AreNearlyWritten (bare_parts all)
 without_places [] h = tt

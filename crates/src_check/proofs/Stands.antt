@@ -19,10 +19,6 @@ pub stands_same : {f g : List ℕ → Option Sort} {visible : List Declared} →
     → StandsFor f visible → StandsFor g visible
 stands_same e st = record { agrees = λ text test. st.agrees text test ∙ ap (passes test) (sym (e text)) }
 
--- nothing is found
-pub stands_for_none : {f : List ℕ → Option Sort} → ((text : List ℕ) → f text ≡ None) → StandsFor f []
-stands_for_none e = record { agrees = λ text test. sym (ap (passes test) (e text)) }
-
 -- lists that change places
 pub stands_moved : {f : List ℕ → Option Sort} (xs ys : List Declared) → StandsFor f (xs ++ ys)
     → StandsFor f (ys ++ xs)

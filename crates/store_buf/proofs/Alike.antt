@@ -77,12 +77,6 @@ early_alike image world f a stopped c m xs ys to from h = record {
   early_all = λ cut w i n t e is x at me l. to i (h.early_all cut w i n t e is x at me l);
 }
 
--- no two requests of the list are of one instance
-Once : List Kept → Type 0
-Once ks = (p q : ℕ) → p < length ks → q < length ks → (slice_index_or ks p no_request).wave
-    ≡ (slice_index_or ks q no_request).wave → (slice_index_or ks p no_request).instr
-    ≡ (slice_index_or ks q no_request).instr → p ≡ q
-
 pub once_of : (ks : List Kept) (f : ℕ → ℕ → Option ℕ)
     → ((p : ℕ) → p < length ks → f (slice_index_or ks p no_request).wave
     (slice_index_or ks p no_request).instr ≡ Some p) →

@@ -18,9 +18,6 @@ module _ (image : Image) (world : World) (facts : WalkFacts image world) (issued
     (waiting : ℕ → ℕ → Option (List ℕ)) (stopped : Bool) (chain : Chain) (memory : Outside) (early : List ℕ)
     (g : OrderGoes image world issued waiting stopped chain memory early) (w i : ℕ) (xs : List ℕ)
     (r : RightRequest image world w i xs) (may : Issuable image issued chain stopped w i xs) where
-  new_issued : ℕ → ℕ → Option ℕ
-  new_issued = issued_with image issued memory w i xs
-
   pub answer_right : answer image i xs memory ≡ r.inst.result
   answer_right = B.answer_right image world facts issued chain stopped memory g.legal.settled w i xs may
       r.time r.inst r.at r.operands r.memory g.legal.cut g.legal.ordered

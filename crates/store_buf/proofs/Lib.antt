@@ -25,3 +25,5 @@ pub mod Idle
 pub mod Telling
 pub mod Searched
 pub mod Planted
+pub mod Reaching
+pub mod Paying

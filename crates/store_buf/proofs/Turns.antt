@@ -6,17 +6,13 @@ use Rattle.ws_isa.specs.Image.{Image, Token}
 use Rattle.df_core.specs.Core.{has}
 use Rattle.df_core.specs.Shown.{Buffer}
 use Rattle.df_core.specs.Chains.{chain_of}
-use Rattle.store_buf.specs.declared.fault.Silent.{Silent}
-use Rattle.store_buf.specs.declared.fault.Silent.TheVariants.{Failed, NoMemory}
 use Rattle.store_buf.specs.declared.order.Order.{Order}
 use Rattle.store_buf.specs.declared.store.Store.{Store}
 use Rattle.store_buf.specs.declared.wave_places.WavePlaces.{WavePlaces}
-use Rattle.store_buf.specs.Outdoors.{FaultsGrow}
 use Rattle.store_buf.specs.Contents.{FaultIs, RightTokens}
 use Rattle.store_buf.specs.Holds.{Issued, Stopped, Issues, stays, goes, stops, part}
-use Rattle.store_buf.specs.Stores.{buffer_of, IssueLeads, StaysSo, AllLead, SilentSo}
+use Rattle.store_buf.specs.Stores.{buffer_of, IssueLeads, StaysSo, AllLead}
 use Rattle.df_core.proofs.SlotLists.{is_sent_append_cases as sent_either}
-use Rattle.store_buf.proofs.Failing.{rose_from}
 
 pub issues_on : (image : Image) (a b c : Buffer) (xs ys : List Token) → Issues image a xs b
     → Issues image b ys c → Issues image a (xs ++ ys) c
@@ -116,9 +112,3 @@ module _ {P : Type 0} where
         let r = all.2 world began m formed sound stands in
         record { memory = r.memory; issues = r.issues; right = r.right; fault = r.fault; stands = r.stands },
   )
-
-  -- a count that rose at last has risen since before
-  pub silent_from : (image : Image) (a b c : Store P) (why : Silent) → FaultsGrow a.outer.ports b.outer.ports
-      → SilentSo image b c why → SilentSo image a c why
-  silent_from image a b c (Failed p) grow s = (s.0, rose_from _ _ _ (grow p) s.1)
-  silent_from image a b c (NoMemory p) grow s = s

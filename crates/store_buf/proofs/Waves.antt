@@ -16,9 +16,6 @@ link_cases c n Nothing early = inr (refl, refl)
 link_cases c n Unknown early = inl refl
 link_cases c n (Is k) early = inl refl
 
-Few : Chain → Chain → Type 0
-Few c d = (c.wave ≤ d.wave) × (d.wave ≤ suc c.wave)
-
 none_left : (image : Image) (c d : Chain) (early left : List ℕ) → ((i : ℕ) → In i early → ⊥)
     → Settles image c early d left → d.wave ≡ c.wave
 none_left image c d early left none (done n) = refl

@@ -13,3 +13,5 @@ pub mod Outers
 pub mod Holds
 pub mod Contents
 pub mod Stores
+pub mod Runs
+pub mod Answer

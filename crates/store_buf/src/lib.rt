@@ -13,32 +13,39 @@
 //! nothing. Where a port has failed, its count of faults rose since the run began (`FailedSo`). `Buffer` is
 //! the one of this crate: `begin` gives the opening buffer or the ports back; ports that tell what they have
 //! left are as a run finds them that is given these words (`told_ports_begin`); `knows`, `kept`, `answer`,
-//! `stop` and `finish` tell the content.
+//! `stop` and `finish` tell the content. `Rounds` has a run's tokens on the way, by wave, and lets go the one
+//! alone that it gives (`Covers`).
 #![tactic(auto)]
 
 mod answers;
 mod buffer;
 mod early;
-pub mod fault;
-pub mod index;
-pub mod kept;
+mod fault;
+mod finish;
+mod index;
+mod kept;
 mod later;
 mod laws;
-pub mod memory_order;
+mod memory_order;
 mod next;
 mod node;
-pub mod order;
-pub mod outer;
+mod order;
+mod outer;
 mod pass;
 mod places;
+mod rounds;
 mod store;
-pub mod told;
+mod told;
 mod wave_places;
 
 pub use answers::BufferAnswers;
 pub use buffer::Buffer;
-pub use fault::BufFault;
+pub use fault::{BufFault, Silent};
+pub use finish::{RunEnd, RunFinish};
 pub use kept::Kept;
 pub use laws::told_ports_begin;
 pub use memory_order::MemoryOrder;
-pub use outer::BufferEnd;
+pub use order::Order;
+pub use outer::{BufferEnd, Outer, empty_cells};
+pub use rounds::Rounds;
+pub use told::{PlainTokens, tell};

@@ -15,8 +15,7 @@ use crate::fault::BufFault;
 use crate::kept::Kept;
 use crate::outer::BufferEnd;
 use crate::told::PlainTokens;
-use df_core::program::Program;
-use df_core::{Code, Job, Request, TokenList};
+use df_core::{Code, Job, Program, Request, TokenList};
 use port_set::Port;
 use std::alloc::Global;
 

@@ -2,14 +2,14 @@
 
 ghost use Rattle.std.specs.Prelude.{◌≡◌, ◌<◌, ℕ, Some, true, false, length, MatchOption, IfSome};
 ghost use Rattle.ws_isa.specs.Image.{is_load_op};
-ghost use Rattle.df_core.specs.Places.{ProgramIs, image_of};
+ghost use Rattle.df_core.specs.Places.{image_of};
 ghost use Rattle.df_core.specs.Chains.{chain_of, may_flag};
 ghost use Rattle.store_buf.specs.Ordering.{AllFiled, MayAt, NoneFound, NoneEarly, IsForemost, GoesEarly};
 ghost use Rattle.store_buf.specs.Ordering.{WaitsHere, kept_at, ready_flag, number_of, ripple_of};
 
 use crate::kept::Kept;
 use crate::order::Order;
-use df_core::program::Program;
+use df_core::Program;
 use ws_isa::Op;
 
 impl Order {
@@ -17,7 +17,6 @@ impl Order {
     /// smallest sequence number, or of a load before its turn. In a buffer of a run it is None only
     /// where none may.
     pub fn issuable(&mut self, program: &Program<'_>) -> Option<usize>
-        requires program { ProgramIs program.now }
         requires filed { AllFiled (image_of program.now) self.old }
         ensures filed { AllFiled (image_of program.now) self.new }
         ensures same { self.new ≡ record self.old { near = self.new.near } }
@@ -37,7 +36,6 @@ impl Order {
     /// The place of a request that may be issued: this one, or else one that is looked for.
     #[inline(always)]
     pub fn this_or_issuable(&mut self, program: &Program<'_>, this: Option<usize>) -> Option<usize>
-        requires program { ProgramIs program.now }
         requires filed { AllFiled (image_of program.now) self.old }
         requires this { IfSome this (MayAt (image_of program.now) self.old) }
         ensures filed { AllFiled (image_of program.now) self.new }
@@ -54,7 +52,6 @@ impl Order {
     /// The place of the request with the smallest sequence number of those that wait in the current
     /// wave.
     pub fn first(&mut self, program: &Program<'_>) -> Option<usize>
-        requires program { ProgramIs program.now }
         requires filed { AllFiled (image_of program.now) self.old }
         ensures filed { AllFiled (image_of program.now) self.new }
         ensures same { self.new ≡ record self.old { near = self.new.near } }
@@ -73,7 +70,6 @@ impl Order {
 
     /// The place of a load of the current wave that may be issued before its turn.
     pub fn early(&mut self, program: &Program<'_>) -> Option<usize>
-        requires program { ProgramIs program.now }
         requires filed { AllFiled (image_of program.now) self.old }
         ensures filed { AllFiled (image_of program.now) self.new }
         ensures same { self.new ≡ record self.old { near = self.new.near } }
@@ -95,7 +91,6 @@ impl Order {
 
     // Whether the request at a place waits in the current wave, and has this sequence number.
     fn has_number(&self, program: &Program<'_>, place: usize, number: u32) -> bool
-        requires { ProgramIs program.now }
         ensures yes { result ≡ true → WaitsHere self.now place
             × (number_of (image_of program.now) (kept_at self.now place) ≡ number) }
         ensures no { result ≡ false → WaitsHere self.now place
@@ -114,7 +109,6 @@ impl Order {
     // Whether the request at a place waits in the current wave, and is a load within its array with
     // this ripple.
     fn has_ripple(&self, program: &Program<'_>, place: usize, ripple: u32) -> bool
-        requires { ProgramIs program.now }
         ensures yes { result ≡ true → WaitsHere self.now place
             × (ripple_of (image_of program.now) (kept_at self.now place) ≡ Some ripple) }
         ensures no { result ≡ false → WaitsHere self.now place
@@ -132,7 +126,6 @@ impl Order {
 
     /// Whether the request at a place has no answer and the chain lets it issue.
     pub fn may_issue(&self, program: &Program<'_>, place: usize) -> bool
-        requires { ProgramIs program.now }
         ensures yes { result ≡ true → place < length self.now.kept.items }
         ensures ready { place < length self.now.kept.items
             → result ≡ ready_flag (image_of program.now) self.now (kept_at self.now place) }
@@ -145,7 +138,6 @@ impl Order {
 
     /// Whether the chain lets a request issue: it is next, or a load before its turn.
     pub fn lets(&self, program: &Program<'_>, kept: Kept) -> bool
-        requires { ProgramIs program.now }
         ensures { result ≡ may_flag (image_of program.now) (chain_of self.now.chain)
             kept.wave kept.instr kept.first }
     {
@@ -161,7 +153,6 @@ impl Order {
 
 /// The ripple of a load within its array.
 pub fn ripple_of(program: &Program<'_>, kept: Kept) -> Option<u32>
-    requires { ProgramIs program.now }
     ensures { result ≡ ripple_of (image_of program.now) kept }
 {
     let op = program.op(kept.instr);

@@ -4,7 +4,7 @@ ghost use Rattle.std.specs.Prelude.{◌≡◌, ◌∷◌, ◌++◌, [], ℕ, ◌
 ghost use Rattle.std.specs.Prelude.{slice_set, OnOk, OnErr};
 ghost use Rattle.std.specs.BinaryHeap.{heap_capacity};
 ghost use Rattle.ws_isa.specs.Image.{Image};
-ghost use Rattle.df_core.specs.Places.{ProgramIs, image_of};
+ghost use Rattle.df_core.specs.Places.{image_of};
 ghost use Rattle.df_core.specs.Chains.{chain_of, PassedOn};
 ghost use Rattle.store_buf.specs.Requests.{entry_of};
 ghost use Rattle.store_buf.specs.Finding.{place_in};
@@ -20,8 +20,7 @@ use crate::later::Later;
 use crate::next::ripple_of;
 use crate::pass::pass_on;
 use crate::wave_places::WavePlaces;
-use df_core::chain::Chain;
-use df_core::program::Program;
+use df_core::{Chain, Program};
 use std::alloc::Global;
 use ws_words::NoMemory;
 
@@ -95,7 +94,6 @@ impl Order {
 
     /// Keeps a request of an instance that had none, and makes room for its answer.
     pub fn add(&mut self, program: &Program<'_>, kept: Kept) -> Result<(), NoMemory>
-        requires program { ProgramIs program.now }
         requires ok { OrderOk self.old }
         requires filed { AllFiled (image_of program.now) self.old }
         requires fresh { entry_of self.old.kept.items kept.wave kept.instr ≡ None }
@@ -127,7 +125,6 @@ impl Order {
 
     // Puts the place of a request among those of its wave.
     fn file(&mut self, program: &Program<'_>, kept: Kept, place: usize) -> Result<(), NoMemory>
-        requires { ProgramIs program.now }
         ensures here { OnOk result (kept.wave ≤ self.old.chain.wave
             → IsFiled self.new.near (number_of (image_of program.now) kept)
             (ripple_of (image_of program.now) kept) place) }
@@ -160,7 +157,6 @@ impl Order {
     /// The request at a place, which may be issued, has this answer. The chain passes what is next and
     /// issued.
     pub fn issue(&mut self, program: &Program<'_>, place: usize, word: u64)
-        requires program { ProgramIs program.now }
         requires ok { OrderOk self.old }
         requires filed { AllFiled (image_of program.now) self.old }
         requires may { MayAt (image_of program.now) self.old place }

@@ -14,8 +14,7 @@ use crate::fault::Silent;
 use port_set::{OpenSet, Port, PortError, Slots};
 use std::alloc::Global;
 use ws_isa::{ArrayDecl, Op};
-use ws_words::memory::place_of;
-use ws_words::{Cells, NoMemory, Words};
+use ws_words::{Cells, NoMemory, Words, place_of};
 
 /// What a run leaves: the words printed, the cells of all arrays, hidden ones too, and the ports.
 #[derive(Drop)]

@@ -3,17 +3,15 @@
 ghost use Rattle.std.specs.Prelude.{◌≡◌, ◌<◌, ◌≤◌, ◌+◌, ◌^◌};
 ghost use Rattle.std.specs.BinaryHeap.{heap_len, heap_capacity};
 ghost use Rattle.df_core.specs.Chains.{chain_of, PassedOn};
-ghost use Rattle.df_core.specs.Places.{ProgramIs, image_of};
+ghost use Rattle.df_core.specs.Places.{image_of};
 ghost use Rattle.df_core.specs.Stands.{Settles};
 ghost use Rattle.store_buf.specs.Earlies.{Numbered, early_ops};
 
 use crate::early::Early;
-use df_core::chain::{Chain, is_nothing};
-use df_core::program::Program;
+use df_core::{Chain, Program, is_nothing};
 
 /// The chain behind an issued operation. One that isn't next is kept.
 pub fn pass_on(program: &Program<'_>, chain: Chain, early: &mut Early, instr: u32) -> Chain
-    requires program { ProgramIs program.now }
     requires wave { chain.wave + 1 < 2 ^ 64 }
     requires room { heap_len early.old.heap < heap_capacity early.old.heap }
     requires numbered { Numbered (image_of program.now) early.old }
@@ -39,7 +37,6 @@ pub fn pass_on(program: &Program<'_>, chain: Chain, early: &mut Early, instr: u3
 // The chain behind those of these operations that are next, until none is. They are taken out, and so are
 // those behind it. The first one tells: where it is ahead and isn't next, none of a run's is.
 fn settle(program: &Program<'_>, chain: Chain, early: &mut Early) -> Chain
-    requires program { ProgramIs program.now }
     requires wave { chain.wave + 1 < 2 ^ 64 }
     requires numbered { Numbered (image_of program.now) early.old }
     ensures settles { Settles (image_of program.now)

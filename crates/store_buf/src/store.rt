@@ -7,7 +7,7 @@ ghost use Rattle.ws_isa.specs.Formed.{Formed};
 ghost use Rattle.ws_isa.specs.Image.{Image, array_of_op};
 ghost use Rattle.df_core.specs.Core.{has};
 ghost use Rattle.df_core.specs.Chains.{chain_of, may_flag};
-ghost use Rattle.df_core.specs.Places.{ProgramIs, image_of};
+ghost use Rattle.df_core.specs.Places.{image_of};
 ghost use Rattle.df_core.specs.Rights.{tokens_of};
 ghost use Rattle.store_buf.specs.Requests.{entry_of};
 ghost use Rattle.store_buf.specs.Ordering.{MayAt};
@@ -20,7 +20,7 @@ use crate::kept::Kept;
 use crate::order::Order;
 use crate::outer::Outer;
 use crate::told::{PlainTokens, tell};
-use df_core::program::Program;
+use df_core::Program;
 use port_set::Port;
 use ws_isa::Op;
 use ws_words::NoMemory;
@@ -47,7 +47,6 @@ impl<P: Port> Store<P> {
         kept: Kept,
         told: &mut PlainTokens,
     ) -> Result<(), BufFault>
-        requires program { ProgramIs program.now }
         requires formed { Formed (image_of program.now) }
         requires ok { StoreOk (image_of program.now) self.old }
         requires waits { kept.answer ≡ None }
@@ -77,7 +76,6 @@ impl<P: Port> Store<P> {
 
     // StoreKeeps a request that the chain doesn't let issue, so that nothing may be issued then.
     fn put_by(&mut self, program: &Program<'_>, kept: Kept) -> Result<(), BufFault>
-        requires program { ProgramIs program.now }
         requires ok { StoreOk (image_of program.now) self.old }
         requires fresh { entry_of self.old.order.kept.items kept.wave kept.instr ≡ None }
         requires waits { kept.answer ≡ None }
@@ -102,7 +100,6 @@ impl<P: Port> Store<P> {
         lets: bool,
         told: &mut PlainTokens,
     ) -> Result<(), BufFault>
-        requires program { ProgramIs program.now }
         requires formed { Formed (image_of program.now) }
         requires ok { StoreOk (image_of program.now) self.old }
         requires lets { lets ≡ may_flag (image_of program.now) (chain_of self.old.order.chain)
@@ -145,7 +142,6 @@ impl<P: Port> Store<P> {
 
     // StoreKeeps a request of an instance that had none, and makes room for the word that it may print.
     fn keep(&mut self, program: &Program<'_>, kept: Kept) -> Result<(), NoMemory>
-        requires program { ProgramIs program.now }
         requires ok { StoreOk (image_of program.now) self.old }
         requires fresh { entry_of self.old.order.kept.items kept.wave kept.instr ≡ None }
         requires waits { kept.answer ≡ None }
@@ -172,7 +168,6 @@ impl<P: Port> Store<P> {
         first: Option<usize>,
         told: &mut PlainTokens,
     ) -> Result<(), BufFault>
-        requires program { ProgramIs program.now }
         requires formed { Formed (image_of program.now) }
         requires ok { StoreOk (image_of program.now) self.old }
         requires first { IfSome first (MayAt (image_of program.now) self.old.order) }
@@ -208,7 +203,6 @@ impl<P: Port> Store<P> {
         place: usize,
         told: &mut PlainTokens,
     ) -> Result<(), Silent>
-        requires program { ProgramIs program.now }
         requires formed { Formed (image_of program.now) }
         requires ok { StoreOk (image_of program.now) self.old }
         requires may { MayAt (image_of program.now) self.old.order place }
@@ -249,7 +243,6 @@ impl<P: Port> Store<P> {
         first: Option<usize>,
         told: &mut PlainTokens,
     ) -> Result<(), Silent>
-        requires program { ProgramIs program.now }
         requires formed { Formed (image_of program.now) }
         requires ok { StoreOk (image_of program.now) self.old }
         requires first { IfSome first (MayAt (image_of program.now) self.old.order) }

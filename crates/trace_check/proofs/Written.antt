@@ -21,11 +21,6 @@ word_fits n h = omega arith
 byte_fits : (n : ℕ) → n < 256 → min n 255 ≡ n
 byte_fits n h = omega arith
 
-spells : (event : Event) → Fits event → event_of (lexemes_of event) ≡ Some event
-unfolding event_of lexemes_of
-spells (Match wave i p) h = rw (word_fits i h.1, byte_fits p h.2) refl
-spells (Issue wave i) h = rw (word_fits i h.1) refl
-
 are_lexemes : (event : Event) → Fits event → AreLexemes (lexemes_of event)
 unfolding lexemes_of
 are_lexemes (Match wave i p) h =

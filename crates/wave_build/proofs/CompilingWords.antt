@@ -1,11 +1,9 @@
 -- That all numbers of a graph are words, block by block.
-use Rattle.std.proofs.Common.{◌≡◌, ℕ, suc, ◌<◌, ◌≤◌, List, [], ◌∷◌, ◌++◌, length, map, drop, slice_index_or}
-use Rattle.std.proofs.Common.{sym, subst}
+use Rattle.std.proofs.Common.{ℕ, suc, List, [], ◌∷◌, ◌++◌}
 use Rattle.std.specs.List.{AllByRecursion}
 use Rattle.cfg_core.specs.Graph.{Block, GraphProc, Graph, Spot, spots_in, spots_from}
 use Rattle.wave_gen.specs.Words.{OpOfWords, ExitOfWords, GraphOfWords}
 use Rattle.wave_build.specs.Wordy.{BlockOfWords, ProcOfWords}
-use Rattle.ws_words.proofs.Lists.{drop_next, drop_all}
 
 abbrev SpotOfWords : Spot → Type 0
 SpotOfWords s = AllByRecursion OpOfWords s.block.ops × ExitOfWords s.block.exit
@@ -28,16 +26,3 @@ in_procs home (p ∷ procs) a = both (spots_in home p.vars p.blocks) (spots_from
 
 pub graph_words : (g : Graph) → AllByRecursion ProcOfWords g.procs → GraphOfWords g
 graph_words g a = in_procs 0 g.procs a
-
--- one more of a list is seen
-pub one_seen : {A B : Type 0} (P : B → Type 0) (f : A → B) (xs : List A) (i j : ℕ) (x : A) → j ≡ suc i
-    → i < length xs → x ≡ slice_index_or xs i x → P (f x) →
-    (AllByRecursion P (map f (drop i xs)) → AllByRecursion P (map f xs))
-    → AllByRecursion P (map f (drop j xs)) → AllByRecursion P (map f xs)
-one_seen P f xs i j x n l e p h a =
-    h (subst (λ ys. AllByRecursion P (map f ys)) (sym (drop_next xs i j x n l e)) (p, a))
-
--- all are seen
-pub all_seen : {A B : Type 0} (P : B → Type 0) (f : A → B) (xs : List A) (i : ℕ) → length xs ≤ i
-    → (AllByRecursion P (map f (drop i xs)) → AllByRecursion P (map f xs)) → AllByRecursion P (map f xs)
-all_seen P f xs i l h = h (subst (λ ys. AllByRecursion P (map f ys)) (sym (drop_all xs i l)) tt)

@@ -4,7 +4,6 @@ pub mod CompilingRuns
 pub mod CompilingShown
 pub mod CompilingWalks
 pub mod CompilingWords
-pub mod Fitting
 pub mod Sizing
 pub mod Weights
 pub mod Counting

@@ -39,7 +39,7 @@ fn begin(alloc: Global, accepted: &Accepted) -> Result<Graph, NoMemory>
 }
 
 // The graph of which the draft is made.
-fn prepare(alloc: Global, accepted: &Accepted) -> Result<Graph, NoMemory>
+fn prepared_graph(alloc: Global, accepted: &Accepted) -> Result<Graph, NoMemory>
     ensures { let parts = ast.parts accepted.now.program.items.items in
         IfOk result (λ graph. Prepared parts (view.graph graph)) }
 {
@@ -68,7 +68,7 @@ fn image_of(alloc: Global, accepted: &Accepted) -> Result<Image, NoMemory>
     walks_answer();
     written_is_narrow();
     accepted_has_few_variables();
-    let graph = prepare(alloc, accepted)?;
+    let graph = prepared_graph(alloc, accepted)?;
     see_words(&graph);
     open_drafts_fit();
     let live = live(alloc, &graph)?;

@@ -12,7 +12,6 @@
 #![tactic(auto)]
 
 mod compiler;
-mod laws;
 mod words;
 
 pub use compiler::compile;

@@ -541,9 +541,6 @@ module _ (width : ℕ) (ps : List Plan) where
         xs : List ℕ
         xs = (plan_at ps b).entries
 
-        low : ℕ
-        low = F b + length (plan_at ps b).entries
-
         core : Made
         core = renew b (plan_at ps b).entries (body_made width S b (plan_at ps b))
 

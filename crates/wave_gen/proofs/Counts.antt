@@ -40,9 +40,6 @@ module _ (w waves : ℕ → ℕ) where
   lists b n k zero = []
   lists b n k (suc m) = of_wave waves k b n ++ lists b n (suc k) m
 
-  sum : List ℕ → ℕ
-  sum xs = sum_by w xs
-
   lists_none : (b k m : ℕ) → sum_by w (lists b 0 k m) ≡ 0
   lists_none b k zero = refl
   lists_none b k (suc m) = lists_none b (suc k) m

@@ -212,10 +212,6 @@ module _ (arrays : List Array) (width : ℕ) (ps : List Plan) (Live : ℕ → �
         → Lines P (body_made width S b (plan_at ps b)).code
     block_lines P m k i = body_lines P m width S b (plan_at ps b) k i
 
-    -- a line behind the front: of a first block, behind its advances
-    pub record BehindFront (P : Op → Type 0) (i : ℕ) (l : WiredInstr) : Type 0 where
-      pub kind : P l.op
-
     pub inner_line : (P : Op → Type 0) → P Merge → Kind P (plan_at ps b).exit → Items P (plan_at ps b).items
         → (plan_at ps b).first ≡ false → (i : ℕ) (l : WiredInstr) → nth (made_at width ps b).code i ≡ Some l
         → P l.op
@@ -342,12 +338,6 @@ module _ (arrays : List Array) (width : ℕ) (ps : List Plan) (Live : ℕ → �
     abbrev Any : Op → Type 0
     Any op = Unit {0}
 
-    any_tails : (e : HowLeft) → Kind Any e
-    any_tails (Onto c) = tt
-    any_tails (Either op from c d) = (tt, tt)
-    any_tails (Lands op from values ls) = (tt, λ p. tt)
-    any_tails Halts = tt
-
     any_items : (is : List Item) → Items Any is
     any_items [] = tt
     any_items (Make x op from ∷ is) = (tt, any_items is)
@@ -395,9 +385,6 @@ module _ (arrays : List Array) (width : ℕ) (ps : List Plan) (Live : ℕ → �
         (chose : chooses (plan_at ps b).exit ≡ true)
         (made : exit_made width S b (plan_at ps b) (plan_at ps b).exit ≡ make b (plan_at ps b).test op from
         (behind_source width S b (plan_at ps b))) where
-      behind : Made
-      behind = with_rooms b (length from) from (behind_source width S b (plan_at ps b))
-
       ts : List Tail
       ts = tails_of width S (plan_at ps b).exit
 

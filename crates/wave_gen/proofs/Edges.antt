@@ -194,9 +194,6 @@ module _ (arrays : List Array) (width : ℕ) (ps : List Plan) (Live : ℕ → �
   one_name b h x y j q d e = let a : Some x ≡ Some y = sym (has b h x j q d) ∙ has b h y j q e in cc
 
   module _ (b : ℕ) (h : Is b) where
-    E : Wants
-    E = end_wants width S (plan_at ps b).exit
-
     later : (c : ℕ) → b < c → c ≤ length ps → Facts width ps Live plans.each c
     later c m k = facts width ps Live plans.each c (omega (arith, h.0), k)
 
@@ -300,9 +297,6 @@ module _ (arrays : List Array) (width : ℕ) (ps : List Plan) (Live : ℕ → �
     -- two edges
     module _ (op : Op) (from : List ℕ) (c d : ℕ) (q0 : (plan_at ps b).exit ≡ Either op from c d) (hc : Is c)
         (hd : Is d) where
-      arm : ℕ → ℕ
-      arm r = cond (eqb r 0) d c
-
       arm_is : (r : ℕ) → Is (cond (eqb r 0) d c)
       arm_is r = go (eqb r 0)
         where
@@ -542,15 +536,6 @@ module _ (arrays : List Array) (width : ℕ) (ps : List Plan) (Live : ℕ → �
           let z : k + suc i ≡ suc k + i = omega arith in
           rw (ne_eqb k (k + suc i) (λ f. (let g : k ≡ k + suc i = f in omega arith)))
           (rw z (pads_nth c i (suc k) entries xs x e))
-
-      pads_none : (c i k : ℕ) (entries xs : List ℕ) → length xs ≤ i → pad_of (pads_of F c k entries xs)
-          (k + i) ≡ []
-      pads_none c i k entries [] l = refl
-      pads_none c zero k entries (y ∷ xs) l = absurd (omega arith)
-      pads_none c (suc i) k entries (y ∷ xs) l =
-          let z : k + suc i ≡ suc k + i = omega arith in
-          rw (ne_eqb k (k + suc i) (λ f. (let g : k ≡ k + suc i = f in omega arith)))
-          (rw z (pads_none c i (suc k) entries xs (omega arith)))
 
       sends_nth : (p : ℕ) (vs : List ℕ) (i v : ℕ) → nth vs i ≡ Some v
           → nth (sends p vs) i ≡ Some

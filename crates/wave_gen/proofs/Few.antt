@@ -247,11 +247,6 @@ tail_uses : (b r : ℕ) (op : Op) (w : Wants) (h s : ℕ) → (h ≡ s → ⊥)
 tail_uses b r (Send p) w h s n = turned s h (two_uses b r w s h (λ e. n (sym e)))
 tail_uses b r _ w h s n = two_uses b r w h s n
 
-below_in : (z : ℕ) (xs : List ℕ) (y : ℕ) → AllBelow z xs → In y xs → y < z
-below_in z [] y a h = absurd h
-below_in z (x ∷ xs) y a (inl e) = let l : x < z = a.0 in omega arith
-below_in z (x ∷ xs) y a (inr h) = below_in z xs y a.1 h
-
 abbrev pub Emptied : Wants → List ℕ → Type 0
 Emptied w [] = Unit {0}
 Emptied w (x ∷ xs) = (w x ≡ []) × Emptied w xs

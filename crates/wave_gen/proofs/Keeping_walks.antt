@@ -6,7 +6,6 @@ use Rattle.std.specs.List.{AllByRecursion}
 use Rattle.ws_words.specs.Past.{ActsBegin}
 use Rattle.ws_words.specs.Outside.{Act, Outside, ProcState, World}
 use Rattle.ws_isa.specs.Image.{Image, Array, first_number, is_first, IsBlock}
-use Rattle.ws_isa.specs.Sound.{SlotRules}
 use Rattle.ws_isa.specs.Walk.{opening_memory, mem, has_ended, CostAtMost}
 use Rattle.ws_isa.specs.Walk.{walk as instances}
 use Rattle.ws_isa.proofs.Ending.{over_is_whole}
@@ -24,11 +23,11 @@ use Rattle.wave_gen.specs.Keeps.{KeepsWalk}
 use Rattle.wave_gen.proofs.IsDrawn.{IsDrawn}
 use Rattle.wave_gen.specs.Lists.{ListsFit}
 use Rattle.wave_gen.proofs.ShortLists.{lists_fit}
-use Rattle.wave_gen.proofs.Turns.{waits_slots, stands_end}
+use Rattle.wave_gen.proofs.Turns.{stands_end}
 use Rattle.wave_gen.proofs.Fronts.{advances_count}
 use Rattle.wave_gen.proofs.Blocks.{made_is, begins_next}
 use Rattle.wave_gen.proofs.Starts.{first_is}
-use Rattle.wave_gen.proofs.Number.{number_is, is_block, blocks_count}
+use Rattle.wave_gen.proofs.Number.{number_is, is_block}
 use Rattle.wave_gen.proofs.Growth.{fires_enough}
 use Rattle.wave_gen.proofs.Paced.{ops_most, Leaves, exit_leaves, last_block}
 use Rattle.wave_gen.proofs.OutOfTurns.{append_assoc, outside, front_run, exit_longer}
@@ -139,10 +138,6 @@ module _ (g : Graph) (arrays : List Array) (width : ℕ) (ps : List Plan) (live 
   pub draft_lists : ListsFit I
   draft_lists = lists_fit arrays width ps (λ b x. live b x ≡ true) d.plans
 
-  pub draft_slots : SlotRules I
-  draft_slots = waits_slots I C (shape arrays width ps (λ b x. live b x ≡ true) d.plans)
-      (waits arrays width ps (λ b x. live b x ≡ true) d.plans)
-
   -- a first block fires the advance of the pulse
   busy : (b : ℕ) → IsBlock I b → is_first I b ≡ true → 1 ≤ count ((code_of width ps).steps b)
   unfolding code_of
@@ -194,10 +189,6 @@ module _ (g : Graph) (arrays : List Array) (width : ℕ) (ps : List Plan) (live 
         absurd (let z : Over o' k ≡ At b st frames left = e in cc)
     block_case p c (out_of_turns o') b st frames left e =
         absurd (let z : Going o' ≡ At b st frames left = e in cc)
-
-    blocks_many : length I.blocks ≡ length ps
-    unfolding draft_of
-    blocks_many = blocks_count arrays width ps 1 (length ps)
 
     ended : (m : ℕ) (o : Outside) (left : ℕ) → walk g m (opening g world turns) ≡ Over o left →
         (t : ℕ) × (has_ended I world t ≡ true) × (mem I world t ≡ o) × CostAtMost I world

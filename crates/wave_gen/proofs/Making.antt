@@ -73,12 +73,6 @@ pub room_made : (b n x : ℕ) (m k : Maker) (s : Made) (r : Bool)
 room_made b n x m k s r e t st end = subst (λ z. HasMade b k (cond z (gather b x s) s))
     (sym t ∙ full_is b n x m s r e st) end
 
-pub room_there : (b n x : ℕ) (m : Maker) (s : Made) (r : Bool)
-    → r ≡ ltb most (length (listed m.wants.lists.items x) + n) → r ≡ false → HasMade b m s
-    → HasMade b m (with_room b n x s)
-room_there b n x m s r e t st = subst (λ z. HasMade b m (cond z (gather b x s) s))
-    (sym t ∙ full_is b n x m s r e st) st
-
 pub alias_stands : (b x y : ℕ) (m k n : Maker) (s : Made) (r : Bool) (l : List Target)
     → l ≡ listed m.wants.lists.items y → r ≡ ltb most (length (listed m.wants.lists.items x) + length l)
     → (r ≡ true → HasMade b k (gather b y (gather b x s))) → (r ≡ false → HasMade b k s)

@@ -1,17 +1,13 @@
 -- What is said of each block by all exits.
-use Rattle.std.proofs.Common.{ℕ, zero, suc, ◌-◌, ◌≡◌, ◌<◌, ◌≤◌, ◌||◌, cond, ltb, true, false, Bool, List, []}
-use Rattle.std.proofs.Common.{◌∷◌, length, drop, replicate, refl, sym, ap, ◌∙◌, arith}
+use Rattle.std.proofs.Common.{ℕ, zero, suc, ◌-◌, ◌≡◌, ◌<◌, ◌≤◌, ◌||◌, cond, ltb, Bool, List, []}
+use Rattle.std.proofs.Common.{◌∷◌, length, drop, refl, sym, ap, ◌∙◌, arith}
 use Rattle.std.proofs.lemmas.Bool.{lt-ltb, le-ltb}
 use Rattle.cfg_core.specs.Graph as graph
 use Rattle.cfg_core.specs.Graph.{Graph, Spot, no_spot, spots, spot_at, block_at}
 use Rattle.wave_gen.specs.Plans.{is_among}
 use Rattle.wave_gen.specs.Listing.{in_some, most_vars}
 use Rattle.ws_words.proofs.Bools.{or_comm, or_false}
-use Rattle.ws_words.specs.Items.{nth, or_else, flag_at}
-
-pub or_assoc : (x y z : Bool) → ((x || y) || z) ≡ (x || (y || z))
-or_assoc true y z = refl
-or_assoc false y z = refl
+use Rattle.ws_words.specs.Items.{nth, or_else}
 
 pub spot_drop : (g : Graph) (i : ℕ) → i < length (spots g) → drop i (spots g) ≡ spot_at g i ∷ drop (suc i)
     (spots g)
@@ -43,15 +39,6 @@ none_marked f s b v e h =
 pub none_vars : (s : Spot) → s ≡ no_spot → 0 ≡ s.vars
 unfolding no_spot
 none_vars s h = sym (ap (λ (x : Spot). x.vars) h)
-
-pub none_set : (n b : ℕ) → flag_at (replicate n false) b ≡ false
-none_set zero b = refl
-none_set (suc n) zero = refl
-none_set (suc n) (suc b) = none_set n b
-
-pub drop_none : {A : Type 0} (xs : List A) → drop (length xs) xs ≡ []
-drop_none [] = refl
-drop_none (x ∷ xs) = drop_none xs
 
 pub vars_next : (g : Graph) (j most vars : ℕ) → 0 < j → j ≤ length (spots g)
     → most ≡ most_vars (drop j (spots g)) → vars ≡ (spot_at g (j - 1)).vars

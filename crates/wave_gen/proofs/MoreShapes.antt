@@ -6,24 +6,20 @@ use Rattle.ws_isa.specs.declared.instr.Op.{Op}
 use Rattle.ws_isa.specs.declared.instr.Op.TheVariants.{Send, Halt, Advance}
 use Rattle.ws_isa.specs.Image as image
 use Rattle.ws_isa.specs.Image.{Image, Instr, Block, Pad, Array, instr_at, block_at, first_number, is_first}
-use Rattle.ws_isa.specs.Image.{is_advance, is_giving, is_giving_op, is_memory, stops, target, now_dests}
-use Rattle.ws_isa.specs.Image.{edge_dests, IsIn, IsBlock}
+use Rattle.ws_isa.specs.Image.{is_advance, is_giving, is_giving_op, is_memory, stops, target, IsIn, IsBlock}
 use Rattle.ws_isa.specs.Formed.{WavesInOrder, WavesFrom}
-use Rattle.ws_isa.specs.Sound.{HasDest, HasPad, IsAhead}
-use Rattle.wave_gen.specs.Waits.{Code}
+use Rattle.ws_isa.specs.Sound.{HasDest, HasPad}
 use Rattle.wave_gen.specs.Wire.{Item, Make, Act, Same, Wants, dests_of, WiredInstr}
 use Rattle.wave_gen.specs.Plans.{Tail, HowLeft, Onto, Either, Lands, Halts, Plan, pulse, fronts, plan_at}
-use Rattle.wave_gen.specs.Plans.{starts_at, begins, pads_of, blocks_of, draft_of, code_of, exit_of, source_of}
-use Rattle.wave_gen.specs.Plans.{chooses, operands_needed, exit_made, tails_of, sends, made_at, selected}
-use Rattle.wave_gen.specs.Plans.{end_wants}
+use Rattle.wave_gen.specs.Plans.{starts_at, begins, pads_of, blocks_of, draft_of, exit_of, source_of, chooses}
+use Rattle.wave_gen.specs.Plans.{operands_needed, exit_made, tails_of, sends, made_at, selected, end_wants}
 use Rattle.wave_gen.proofs.Planned.{ItemsAre, is_act_op, AllIn, PadsFit, PlansAre, EdgesAre, Outer}
 use Rattle.wave_gen.proofs.More.{ItemsGive, SourceGives, PlansGive}
 use Rattle.wave_gen.proofs.Starts.{first_is, waits_first, starts_has}
 use Rattle.wave_gen.proofs.Blocks.{starts_outer, begins_next}
 use Rattle.wave_gen.proofs.Edges.{exit_is, target_is}
-use Rattle.wave_gen.proofs.Waiting.{stops_is, waits, chooses_by, lands_by}
-use Rattle.wave_gen.proofs.Shape.{send_only, shape, shape_sends, source_op}
-use Rattle.wave_gen.proofs.Valid.{now_slot, edge_slot, slot_ahead}
+use Rattle.wave_gen.proofs.Waiting.{stops_is, chooses_by, lands_by}
+use Rattle.wave_gen.proofs.Shape.{send_only, shape_sends, source_op}
 use Rattle.wave_gen.proofs.Number.{number_is, block_at_is, is_block, instr_is}
 use Rattle.wave_gen.proofs.Lines.{Items, Lines, line_at}
 use Rattle.wave_gen.proofs.Drafts.{Kind, LineOf, line_in, inner_line, outer_line, front_line}
@@ -55,9 +51,6 @@ module _ (arrays : List Array) (width : ℕ) (ps : List Plan) (Live : ℕ → �
     (plans : PlansAre ps width Live) (gives : PlansGive ps) where
   abbrev I : Image
   I = draft_of arrays width ps
-
-  abbrev C : Code
-  C = code_of width ps
 
   abbrev Is : ℕ → Type 0
   Is b = (1 ≤ b) × (b ≤ length ps)
@@ -111,19 +104,6 @@ module _ (arrays : List Array) (width : ℕ) (ps : List Plan) (Live : ℕ → �
       let h : Is b = is_block arrays width ps b hb in
       ap (λ (k : Block). k.pads) (block_at_is arrays width ps b h) ∙ no_pads b (plan_at ps b).entries
       (plan_at ps b).pads (gives.pads b h (sym (first_is arrays width ps Live plans b h) ∙ f))
-
-  -- destinations at an instruction's turn and on its edges
-  pub more_now_ahead : (b k j q : ℕ) → IsBlock I b → IsIn I b k → HasDest (now_dests I k) j q
-      → IsAhead I b k j
-  more_now_ahead b k j q h i d = slot_ahead I C (shape arrays width ps Live plans)
-      (waits arrays width ps Live plans) b k j q (now_slot I C (shape arrays width ps Live plans)
-      (waits arrays width ps Live plans) b k j q h i d)
-
-  pub more_edge_ahead : (b r k j q : ℕ) → IsBlock I b → stops I b ≡ false → IsIn I b k
-      → HasDest (edge_dests I b r k) j q → IsAhead I b k j
-  more_edge_ahead b r k j q h s i d = slot_ahead I C (shape arrays width ps Live plans)
-      (waits arrays width ps Live plans) b k j q (edge_slot I C (shape arrays width ps Live plans)
-      (waits arrays width ps Live plans) b r k j q h s i d)
 
   -- pads send to advances of their block
   pub pad_front : (b i : ℕ) (entries xs : List ℕ) (p : Pad) (j q : ℕ)

@@ -107,10 +107,6 @@ block_most (s ∷ ss) (suc b) = let h : ops_most (or_else (nth ss b) no_spot).bl
     block_most ss b in omega (arith, h)
 
 module _ (g : Graph) where
-  -- more than any block takes
-  abbrev pub T : ℕ
-  T = suc (spots_most (spots g))
-
   few : (b : ℕ) → ops_most (block_at g b).ops < suc (spots_most (spots g))
   unfolding spot_at
   few b = let h = block_most (spots g) b in omega (arith, h)

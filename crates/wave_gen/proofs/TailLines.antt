@@ -29,9 +29,6 @@ is_tail_op _ = false
 abbrev pub NoTail : Op → Type 0
 NoTail op = is_tail_op op ≡ false
 
-one_dest : List Dest
-one_dest = record { instr = 0; port = 0 } ∷ []
-
 sends_no_tail : (op : Op) → ((ds : List Dest) → now_of op ds ≡ ds) → NoTail op
 sends_no_tail Steer h = absurd (let e : [] ≡ record { instr = 0; port = 0 } ∷ [] =
     h (record { instr = 0; port = 0 } ∷ []) in cc)
@@ -62,9 +59,6 @@ module _ (arrays : List Array) (width : ℕ) (ps : List Plan) (Live : ℕ → �
 
   abbrev S : ℕ → Wants
   S = starts_at width ps
-
-  abbrev pub ts : List Tail
-  ts = tails_of width S (plan_at ps b).exit
 
   abbrev hung_made : Made
   hung_made = hang b 6 (plan_at ps b).test (tails_of width S (plan_at ps b).exit)
@@ -125,10 +119,6 @@ module _ (arrays : List Array) (width : ℕ) (ps : List Plan) (Live : ℕ → �
       (exit_made width S b (plan_at ps b) (plan_at ps b).exit) behind_hung
       (exit_more (plan_at ps b).exit (plans b h).source))
       made_exit
-
-  -- how many lines stand before them
-  ahead : ℕ
-  ahead = length made_more.front
 
   length_append : (xs ys : List WiredInstr) → length (xs ++ ys) ≡ length xs + length ys
   length_append [] ys = omega arith

@@ -381,9 +381,6 @@ module _ (arrays : List Array) (width : ℕ) (ps : List Plan) (Live : ℕ → �
       high = let x : (spot_at g b).vars < width = d.wide in
           let y : width ≤ (gen_ops width (graph.block_at g b).ops).next = z.next in omega arith
 
-      fine' : ExitFine (graph.block_at g b).exit st'
-      fine' = fine.exit st' k l e
-
       same_vars : (c : ℕ) → StaysIn g (spot_at g b).home c → (spot_at g c).vars ≡ length st'.vars
       same_vars c h = same_home g b c a.there h.0 h.1 ∙ len
 
@@ -714,12 +711,6 @@ module _ (arrays : List Array) (width : ℕ) (ps : List Plan) (Live : ℕ → �
 
   -- from the opening
   module _ (world : World) (turns : ℕ) (cells : image.cells_of arrays ≡ walks.cells_of g.arrays) where
-    main : ℕ
-    main = graph.entry_of g (length g.procs - 1)
-
-    pub main_there : Type 0
-    main_there = graph.entry_of g (length g.procs - 1) < length (spots g)
-
     pub begins_so : graph.entry_of g (length g.procs - 1) < length (spots g)
         → (spot_at g (graph.entry_of g (length g.procs - 1))).vars
         ≡ (graph.proc_at g (length g.procs - 1)).vars

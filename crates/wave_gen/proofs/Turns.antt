@@ -192,16 +192,6 @@ module _ (image : Image) (b : ℕ) (Kept : ℕ → ℕ → Type 0) where
     once = t.once;
   }
 
-  alike_turn_after : (o p p' : Owner) (k : ℕ) → Alike' p p' → Turn image o p' k → Turn image o p k
-  alike_turn_after o p p' k a t = record {
-    has = t.has;
-    lists = λ j q h. a j q ∙ t.lists j q h;
-    before = t.before;
-    other = λ j q h n. a j q ∙ t.other j q h n;
-    fresh = λ q. a k q ∙ t.fresh q;
-    once = t.once;
-  }
-
   owner_alike : (f g : Owner) → f ≡ g → Alike' f g
   owner_alike f g e j q = ap (λ (h : Owner). is_some (h j q)) e
 

@@ -90,9 +90,6 @@ renamed_append new (x ∷ xs) ys = ap (λ (l : List Dest). record { instr = new 
 module _ (draft image : Image) (new : ℕ → ℕ) (b r sh lo hi : ℕ) (X : ℕ → List Dest)
     (each : (k : ℕ) → lo ≤ k → k < hi → edge_dests image b r (k + sh) ≡ renamed new (edge_dests draft b r k)
     ++ X k) where
-  Image_edge : ℕ → ℕ → List Dest
-  Image_edge k n = edge_all image b r (k + sh) n
-
   next_number : (k n : ℕ) → edge_all image b r (suc (k + sh)) n ≡ edge_all image b r (suc k + sh) n
   next_number k n = ap (λ (m : ℕ). edge_all image b r m n) (sum k sh)
     where

@@ -213,12 +213,6 @@ module _ (draft : Image) (open_to : FitForNotes draft) where
       minus : (n : ℕ) → suc n - 1 ≡ n
       minus n = omega arith
 
-  block : (n : ℕ) → n < length draft.blocks → IsBlock draft (suc n)
-  block n l = (omega arith, l)
-
-  is_block : (b : ℕ) → 1 ≤ b → b ≤ count → IsBlock draft b
-  is_block b l h = (l, h)
-
   by_suc : (P : ℕ → Type 0) → ((n : ℕ) → n < length draft.blocks → P (suc n)) → (b : ℕ) → 1 ≤ b → b ≤ count
       → P b
   by_suc P f zero l h = absurd (omega arith)

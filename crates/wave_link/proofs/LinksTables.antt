@@ -162,9 +162,6 @@ states_length Out full s t = refl
 states_length (On b) full s t = length-set t b (cond full Sole s)
 states_length (Fork a b) full s t = length-set (set t a Shared) b Shared ∙ length-set t a Shared
 
-abbrev pub added_to : Option Behind → Behind → Option Behind
-added_to o y = Some (joined o y)
-
 pub hit_behind : (w : Way) (c : ℕ) (y : Behind) (t : List (Option Behind)) → Parts w → Leads w c
     → c < length t → get_or (hand_way w y t) c None ≡ Some (joined (get_or t c None) y)
 hit_behind Out c y t p h l = absurd h

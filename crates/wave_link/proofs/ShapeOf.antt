@@ -237,9 +237,6 @@ module _ (draft : Image) (ok : FitForNotes draft) where
   refs : References draft
   refs = ok.walkable.suited.references
 
-  img : Image
-  img = annotated draft
-
   -- the same wave, by an instruction's block
   wave_of_block : (c m : ℕ) → IsBlock draft c → IsIn (annotated draft) c m
       → (block_at (annotated draft) (block_of (annotated draft) m)).wave ≡ (block_at draft c).wave

@@ -164,12 +164,6 @@ module _ (draft image : Image) (g : Grown draft image) where
       point m q (inl e) = rw (eq-eqb n m e) (sym (up_none o m q (ap g.origin (sym e) ∙ r)))
       point m q (inr e) = rw (ne_eqb n m e) refl
 
-  Start : ℕ → ℕ
-  Start b = first_number draft b
-
-  End : ℕ → ℕ
-  End b = first_number draft (suc b)
-
   -- a path of the image is a path of the draft
   pub record Real (b m : ℕ) (o : OpenSlots) : Type 0 where
     pub here : IsBlock draft b

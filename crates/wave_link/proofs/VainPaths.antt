@@ -314,10 +314,6 @@ module _ (image : Image) (n : ℕ) (x : ℕ → Outline) (low : ℕ → ℕ) (he
         omega arith)
   ]
 
-  first_same : (s : ℕ) → IsBlock image s → (f g : FirstOp s) → f.op ≡ g.op
-  first_same s h f g = apart_in image n x low heads ways states behind sq wr run marked s f.op g.op h f.is_in
-      g.is_in f.is_op g.is_op (f.number ∙ sym g.number)
-
   abbrev Comes_to : ℕ → Option ℕ → ℕ → Type 0
   Comes_to w o k = Comes image nop positive marked.targets w o k
 

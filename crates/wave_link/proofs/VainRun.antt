@@ -39,9 +39,6 @@ module _ (n : ℕ) (x : ℕ → Outline) (low : ℕ → ℕ) (heads : List Link)
   abbrev Edge : ℕ → ℕ → ℕ → Type 0
   Edge a c m = Came n x low heads ways states behind run a c m
 
-  abbrev kind_of : ℕ → ℕ → Behind → Behind → Type 0
-  kind_of b c y z = Kind n x low heads ways states behind run b c y z
-
   abbrev Entry : ℕ → ℕ → Behind → Type 0
   Entry b c y = Into n x low heads ways states behind run b c y
 

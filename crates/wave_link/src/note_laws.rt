@@ -1,22 +1,16 @@
 //! Laws of drafts, of notes, and of images without a no-op.
 
-ghost use Rattle.std.specs.Prelude.{◌≡◌, ℕ, None};
+ghost use Rattle.std.specs.Prelude.{◌≡◌, None};
 ghost use Rattle.ws_isa.specs.Open.{OpenToNotes};
-ghost use Rattle.ws_isa.specs.Sound.{Sound};
 ghost use Rattle.wave_link.specs.Fit.{FitForNotes};
 ghost use Rattle.wave_link.specs.Renoted.{renoted};
 ghost use Rattle.wave_link.specs.Samples.{annotated_b, draft_b};
-ghost use Rattle.wave_link.specs.Vain.{Unlinkable, without};
+ghost use Rattle.wave_link.specs.Vain.{without};
 ghost use Rattle.ws_isa.specs.Image.{Image};
 
 /// A law: a draft that is open to notes can get them.
 pub fn open_drafts_fit()
     ensures { (draft : Image) → OpenToNotes draft → FitForNotes draft }
-{}
-
-/// A law: an image with paths that can't be linked isn't sound, whatever its notes are.
-pub fn unlinkable_is_unsound()
-    ensures { (image : Image) (wave : ℕ) → Unlinkable image wave → Sound image → ⊥ }
 {}
 
 /// A law: the image of a small draft, without its no-op and with no notes, is the draft again.

@@ -7,13 +7,13 @@
 #![tactic(auto)]
 
 mod calls;
-pub mod mem_sink;
-pub mod mem_source;
-pub mod number;
-pub mod read;
-pub mod standard;
-pub mod stream;
-pub mod write;
+mod mem_sink;
+mod mem_source;
+mod number;
+mod read;
+mod standard;
+mod stream;
+mod write;
 
 pub use mem_sink::MemSink;
 pub use mem_source::MemSource;

@@ -15,13 +15,6 @@ block_read [] n d l = absurd (omega arith)
 block_read (y ∷ xs) zero d l = refl
 block_read (y ∷ xs) (suc n) d l = block_read xs n d (omega arith)
 
--- the code's block at a place is that of the image
-pub block_found : (xs : List Block) (n : ℕ) (x : Block) → n < length xs → x ≡ slice_index_or xs n x
-    → or_else (nth (map view.block xs) n) no_block ≡ view.block x
-block_found [] n x l e = absurd (omega arith)
-block_found (y ∷ xs) zero x l e = ap view.block (sym e)
-block_found (y ∷ xs) (suc n) x l e = block_found xs n x (omega arith) e
-
 -- the length of an array that is there
 pub array_found : (xs : List ArrayDecl) (a n : ℕ) (x : ArrayDecl) → a ≡ suc n → n < length xs
     → x ≡ slice_index_or xs n x → x.length ≡ array_length (map view.array xs) a

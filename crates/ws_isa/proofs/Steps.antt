@@ -174,10 +174,6 @@ module _ (image : Image) (world : World) (shape : ShapeRules image) where
   place zero o = rw pos_start place_start
   place (suc t) o = place_step t o (step_case image world t) (λ h. place t h)
 
-  -- later in the walk
-  pub IsLater : Pos → Pos → Type 0
-  IsLater p q = (p.wave < q.wave) ⊎ ((p.wave ≡ q.wave) × (p.next ≤ q.next))
-
   -- a step leads to a later wave, or further in the same wave
   pub later_step : (t : ℕ) → (pos image world (suc t)).over ≡ false → StepCase image world t
       → ((pos image world t).wave < (pos image world (suc t)).wave)

@@ -1,6 +1,5 @@
 -- References of an image: what they name is there.
-use Rattle.std.proofs.Common.{ℕ, zero, suc, ◌≡◌, ◌<◌, Bool, true, false, cond, List, [], ◌∷◌, Some, eqb, sym}
-use Rattle.std.proofs.Common.{subst, inl, inr}
+use Rattle.std.proofs.Common.{ℕ, zero, suc, ◌<◌, Bool, true, false, cond, List, [], ◌∷◌, eqb, sym, inl, inr}
 use Rattle.std.specs.List.{AllByRecursion}
 use Rattle.ws_isa.specs.declared.instr.Op.{Op}
 use Rattle.ws_isa.specs.declared.instr.Op.TheVariants.{Const, Alu, Merge, Advance, Steer, Phi, Send, Load}
@@ -18,12 +17,6 @@ pub all_nth : {A : Type 0} (P : A → Type 0) (xs : List A) (k : ℕ) (d : A) �
 all_nth P [] k d h all = h
 all_nth P (x ∷ xs) zero d h all = all.0
 all_nth P (x ∷ xs) (suc k) d h all = all_nth P xs k d h all.1
-
-pub all_in : {A : Type 0} (P : A → Type 0) (xs : List A) (k : ℕ) (x : A) → nth xs k ≡ Some x
-    → AllByRecursion P xs → P x
-all_in P [] k x e all = absurd (cc)
-all_in P (y ∷ xs) zero x e all = let f : y ≡ x = cc in subst P f all.0
-all_in P (y ∷ xs) (suc k) x e all = all_in P xs k x e all.1
 
 -- what is known of a destination
 abbrev pub There : Image → List Dest → Type 0

@@ -62,18 +62,6 @@ silent_none = record { printed = refl; took = λ p. refl }
 pub silent_load : (a i : ℕ) → Silent (loads a i ∷ [])
 silent_load a i = record { printed = refl; took = λ p. refl }
 
--- a store is silent
-pub silent_store : (a i w : ℕ) → Silent (stores a i w ∷ [])
-silent_store a i w = record { printed = refl; took = λ p. refl }
-
--- a read is silent
-pub silent_read : Silent (reads ∷ [])
-silent_read = record { printed = refl; took = λ p. refl }
-
--- a word given by a port is silent
-pub silent_give : (q : ℕ) → Silent (gives q ∷ [])
-silent_give q = record { printed = refl; took = λ p. refl }
-
 from_same : (n q : ℕ) (xs ys : List Act) → ((p : ℕ) → q ≤ p → took_words p xs ≡ took_words p ys)
     → took_from q n xs ≡ took_from q n ys
 from_same zero q xs ys f = refl

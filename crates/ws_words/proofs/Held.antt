@@ -5,7 +5,7 @@ use Rattle.std.specs.Prelude.{Vec}
 use Rattle.std.proofs.lemmas.List.{append_assoc}
 use Rattle.std.specs.declared.alloc.Global.{Global}
 use Rattle.ws_words.specs.Outside.{Act, loads, stores, reads, prints, gives, takes, Outside, row, with_row}
-use Rattle.ws_words.specs.Outside.{head_or_zero, rest_of}
+use Rattle.ws_words.specs.Outside.{rest_of}
 use Rattle.ws_words.specs.Past.{length_of, after_act, after_acts}
 use Rattle.ws_words.specs.Plain.{took_by_ports}
 use Rattle.ws_words.specs.Memory.{OutIs, lengths_of}
@@ -40,10 +40,6 @@ module _ (o : Outside) (m : Memory) (h : OutIs o m) where
     same_took = took_same o.acts (stores a i v ∷ []) (λ p. refl) ∙ h.same_took;
   }
 
-  -- the word that a read gives
-  pub read_word : (word : ℕ) → word ≡ head_or_zero m.input → word ≡ head_or_zero o.input
-  read_word word e = e ∙ ap head_or_zero (sym h.same_input)
-
   -- a read
   pub read : (now : List ℕ) → now ≡ rest_of m.input → OutIs (after_act o reads) (record m { input = now })
   read now e = record {
@@ -65,12 +61,6 @@ module _ (o : Outside) (m : Memory) (h : OutIs o m) where
         ∙ sym e;
     same_took = took_same o.acts (prints v ∷ []) (λ p. refl) ∙ h.same_took;
   }
-
-  -- the word that a port gives
-  pub given_word : (p k word : ℕ) → k ≡ p - 1 → word ≡ head_or_zero (row m.left.items k)
-      → word ≡ head_or_zero (row o.left (p - 1))
-  given_word p k word ek e = e ∙ ap (λ n. head_or_zero (row m.left.items n)) ek
-      ∙ ap (λ (rs : List (List ℕ)). head_or_zero (row rs (p - 1))) (sym h.same_left)
 
   -- a word given by a port
   pub given : (p k : ℕ) (left : Vec (List ℕ) Global) → k ≡ p - 1 → left.items ≡ with_row m.left.items k

@@ -1,7 +1,7 @@
 -- Lemmas on lists.
 use Rattle.std.proofs.Common.{suc, ◌≡◌, List, [], ◌∷◌, length, map, refl, ap, ℕ, zero, ◌<◌, Bool, get_or}
 use Rattle.std.proofs.Common.{arith, ◌++◌, ◌+◌, ◌-◌, ◌*◌, ◌≤◌, true, false, if◌then◌else◌, drop}
-use Rattle.std.proofs.Common.{slice_index_or, sym, ◌∙◌, append_assoc}
+use Rattle.std.proofs.Common.{slice_index_or, sym, ◌∙◌}
 use Rattle.std.specs.List.{AllByRecursion, filter}
 use Rattle.ws_words.specs.Digits.{value_from}
 use Rattle.std.proofs.lemmas.List.{append-nil}
@@ -54,11 +54,6 @@ drop_next xs i j x e lt h = at xs i x lt h ∙ ap (λ n. x ∷ drop n xs) (sym e
     at [] i x lt h = absurd (omega arith)
     at (y ∷ xs) zero x lt h = ap (λ z. z ∷ xs) (sym h)
     at (y ∷ xs) (suc i) x lt h = at xs i x (omega arith) h
-
--- one item more
-pub slide : {A : Type 0} (done rest after whole : List A) (y : A) → done ++ rest ≡ whole → rest ≡ y ∷ after
-    → (done ++ y ∷ []) ++ after ≡ whole
-slide done rest after whole y h e = append_assoc done (y ∷ []) after ∙ ap (λ zs. done ++ zs) (sym e) ∙ h
 
 -- no item stands past the end
 pub drop_all : {A : Type 0} (xs : List A) (n : ℕ) → length xs ≤ n → drop n xs ≡ []

@@ -31,12 +31,6 @@ IfEnded (Ended printed arrays took turns) P = P printed arrays took turns
 IfEnded (Fault array printed arrays took turns) P = Unit {0}
 IfEnded (Going printed) P = Unit {0}
 
--- a fact of an answer of a fault: of its array's number from 1, and of the same as above
-abbrev pub IfFaulted : Plain → (ℕ → List ℕ → List (List ℕ) → List (List ℕ) → ℕ → Type 0) → Type 0
-IfFaulted (Ended printed arrays took turns) P = Unit {0}
-IfFaulted (Fault array printed arrays took turns) P = P array printed arrays took turns
-IfFaulted (Going printed) P = Unit {0}
-
 -- a fact of an answer that is going: of what it printed
 abbrev pub IfGoing : Plain → (List ℕ → Type 0) → Type 0
 IfGoing (Ended printed arrays took turns) P = Unit {0}

@@ -5,20 +5,20 @@
 //! says which loads and stores are within their array.
 #![tactic(auto)]
 
-pub mod alu;
-pub mod bytes;
-pub mod cells;
-pub mod memory;
-pub mod no_memory;
-pub mod plain;
-pub mod tape;
-pub mod words;
+mod alu;
+mod bytes;
+mod cells;
+mod memory;
+mod no_memory;
+mod plain;
+mod tape;
+mod words;
 
 pub use alu::{Alu, apply};
 pub use bytes::Bytes;
 pub use cells::Cells;
-pub use memory::{Memory, PORTS};
+pub use memory::{Memory, PORTS, place_of};
 pub use no_memory::NoMemory;
 pub use plain::{Plain, World};
-pub use tape::Tape;
+pub use tape::{Tape, next_of, tapes};
 pub use words::Words;

@@ -14,7 +14,6 @@ use Rattle.wsc_top.specs.declared.assembly.AssemblyFault.TheVariants as fault
 use Rattle.wsc_top.specs.Sections.{program_of, input_of, input_place, IsInputFault, AnswersWords}
 use Rattle.src_ast.specs.declared.fault.TextFault.{TextFault}
 use Rattle.src_ast.specs.declared.fault.TextFault.TheVariants as text_fault
-use Rattle.wsc_top.specs.declared.assembly.AsmRefusal.{AsmRefusal}
 use Rattle.wsc_top.specs.Assembly.{fault_of_input, AnswersAssembly, IsSectionFault, IsAssemblyFault, assembly}
 use Rattle.wsc_top.specs.Assembly.{unsound, input}
 
@@ -48,8 +47,3 @@ no_words f e image ws is h = subst (λ x. AnswersAssembly (Err x) image ws) (sym
     go : (f : TextFault) → AnswersWords (Err f) ws → AnswersAssembly (Err (fault_of_input f)) image ws
     go text_fault.NoMemory h = tt
     go (text_fault.Refused r) h = absurd h
-
--- an assembly that is refused is no other
-pub no_assembly : (e : AssemblyFault) (why : AsmRefusal) (image : Image) (ws : List ℕ) → e ≡ fault.Refused why
-    → AnswersAssembly (Err e) image ws → ⊥
-no_assembly e why image ws is h = subst (λ x. AnswersAssembly (Err x) image ws) is h

@@ -33,9 +33,6 @@ pub record Same (a b x y : List ℕ) : Type 0 where
   pub run : a ≡ b
   pub rest : x ≡ y
 
-same_more : (p : ℕ) (a b x y : List ℕ) → Same a b x y → Same (p ∷ a) (p ∷ b) x y
-same_more p a b x y s = record { run = ap (λ v. p ∷ v) s.run; rest = s.rest }
-
 stops_at : (p : ℕ → Bool) (b : ℕ) (bytes x : List ℕ) → IsTrue (starts_without p x) → x ≡ b ∷ bytes
     → IsTrue (p b) → ⊥
 stops_at p b bytes x s e h = let k = subst (λ v. IsTrue (starts_without p v)) e s in let n : not true ≡ true =
@@ -127,9 +124,6 @@ no_fault_in_words at text ws p a b = no_fault at text ws b.words a.place p [] (b
 pub record Reading (at : Place) (text words : List ℕ) (place : Place) (rest : List ℕ) : Type 0 where
   pub leads : (more : List ℕ) (p : Place) (r : List ℕ) → InputItems place rest more p r
       → InputItems at text (words ++ more) p r
-
-pub reads_none : (at : Place) (text : List ℕ) → Reading at text [] at text
-reads_none at text = record { leads = λ more p r h. h }
 
 -- a run of blanks that is as long as possible
 pub blank_run : (text run rest : List ℕ) (n : ℕ) → n ≡ prefix_len is_blank text → run ≡ take n text

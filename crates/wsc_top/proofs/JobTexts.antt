@@ -57,10 +57,6 @@ behind_short text further = go (rest_of separator true text) further (rest_le se
     go [] more le = absurd (more refl)
     go (b ∷ rest) more le = let short = after_short b rest in omega (arith, short, le)
 
-pub behind_le : (text : List ℕ) → length (behind text) ≤ length text
-behind_le text = let one = after_le (rest_of separator true text) in let two = rest_le separator true text in
-    omega (arith, one, two)
-
 -- Each text is some jobs, and in one way.
 
 pub is_none : (xs : List ℕ) → (xs ≡ []) ⊎ (xs ≡ [] → ⊥)
@@ -184,16 +180,6 @@ pub record Reading (text : List ℕ) (images : List Image) (inputs : List (List 
   pub images_are : images_of done ≡ images
   pub inputs_are : inputs_of done ≡ inputs
   pub leads : (ps : List Piece) → JobsFrom at rest ps → Jobs text (pieces_of done ++ ps)
-
-pub reads_none : (text : List ℕ) → Reading text [] [] start text
-reads_none text = record {
-  done = [];
-  each = tt;
-  compiled = tt;
-  images_are = refl;
-  inputs_are = refl;
-  leads = λ ps js. js;
-}
 
 module _ (text : List ℕ) (images : List Image) (inputs : List (List ℕ)) (at : Place) (rest own : List ℕ)
     (r : Reading text images inputs at rest) (own_is : own ≡ first_job rest) where

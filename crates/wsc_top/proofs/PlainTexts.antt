@@ -60,7 +60,7 @@ after_procedure items rows i k (Array name n at) text whole lt is so none = absu
 after_procedure items rows i k (Proc name params vars body ending) text whole lt is so none =
     next items rows i k (Proc name params vars body ending) text whole lt is so
 
--- the name of the array at a place is the first, or one of the others
+-- the name of the array at a place is that of the array that is sought
 module _ (items : List Item) (i k : ℕ) (x : Item) (whole : List ℕ) (lt : i < length items)
     (is : x ≡ slice_index_or items i x)
     (so : name_at (names_of (view.parts (drop i items))) k ≡ whole) where
@@ -73,24 +73,6 @@ module _ (items : List Item) (i k : ℕ) (x : Item) (whole : List ℕ) (lt : i <
       ap (λ j. name_at (name.text ∷ names_of (view.parts (drop (i + 1) items))) j) (sym z)
       ∙ ap (λ y. name_at (names_of (view.part y ∷ view.parts (drop (i + 1) items))) k) (sym e)
       ∙ name_next
-
-  -- after an array that isn't
-  pub name_after_array : (name : Name) (n : ℕ) (at : Place) (left : ℕ) → x ≡ Array name n at → k ≡ suc left
-      → name_at (names_of (view.parts (drop (i + 1) items))) left ≡ whole
-  name_after_array name n at left e z =
-      ap (λ j. name_at (name.text ∷ names_of (view.parts (drop (i + 1) items))) j) (sym z)
-      ∙ ap (λ y. name_at (names_of (view.part y ∷ view.parts (drop (i + 1) items))) k) (sym e)
-      ∙ name_next
-
--- after a procedure
-pub name_after_procedure : (items : List Item) (i k : ℕ) (x : Item) (whole : List ℕ) → i < length items
-    → x ≡ slice_index_or items i x
-    → name_at (names_of (view.parts (drop i items))) k ≡ whole
-    → ((name : Name) (n : ℕ) (at : Place) → x ≡ Array name n at → ⊥)
-    → name_at (names_of (view.parts (drop (i + 1) items))) k ≡ whole
-name_after_procedure items i k (Array name n at) whole lt is so none = absurd (none name n at refl)
-name_after_procedure items i k (Proc name params vars body ending) whole lt is so none =
-    name_next items i k (Proc name params vars body ending) whole lt is so
 
 -- after the last item there is no name
 pub name_none : (items : List Item) (i k : ℕ) (whole : List ℕ) → length items ≤ i

@@ -43,17 +43,6 @@ pub rule_fault : (text : List ℕ) (ls : List Lexeme) (finish : Place) (parts : 
 rule_fault text ls finish parts fault.NoMemory l t h = tt
 rule_fault text ls finish parts (fault.Refused r) l t h = rules ls finish parts r l.lex l.kept t h
 
-pub reads : (text : List ℕ) (ls : List Lexeme) (finish : Place) (parts : List Part) → Lexed text ls finish
-    → Tree ls parts → IsAccepted parts finish → ReadsAs text parts
-reads text ls finish parts l t a = record {
-  ls = ls;
-  finish = finish;
-  lex = l.lex;
-  kept = l.kept;
-  tree = t;
-  accepted = a;
-}
-
 -- where lexemes are answered for a text that reads, they are its lexemes
 pub record SameLexemes (text : List ℕ) (ls : List Lexeme) (finish : Place) : Type 0 where
   pub same : (ks : List Lexeme) (p : Place) → Lex (program_of text) ks p → KeepLimits 0 0 ks

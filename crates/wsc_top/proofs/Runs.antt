@@ -6,10 +6,10 @@ use Rattle.ws_isa.specs.Image.{Array, Image, array_at}
 use Rattle.ws_isa.specs.Shown.{shown_cells}
 use Rattle.ws_isa.specs.Walk.{mem, walk, CostAtMost}
 use Rattle.port_set.specs.Ports.{Told}
-use Rattle.fire_crew.specs.declared.finish.CrewFinish.{CrewFinish}
-use Rattle.fire_crew.specs.declared.finish.CrewFinish.TheVariants as finish
+use Rattle.store_buf.specs.declared.finish.RunFinish.{RunFinish}
+use Rattle.store_buf.specs.declared.finish.RunFinish.TheVariants as finish
 use Rattle.store_buf.specs.Ended.{RunWhole, Spent, Tripped, PortFailed}
-use Rattle.fire_crew.specs.Answer.{CrewTells}
+use Rattle.store_buf.specs.Answer.{RunTells}
 use Rattle.wsc_top.specs.declared.status.Status.{Status}
 use Rattle.wsc_top.specs.declared.status.Status.TheVariants.{Done, Budget, Fault, PortFault}
 use Rattle.wsc_top.specs.declared.task.RunOptions.{RunOptions}
@@ -85,8 +85,8 @@ module _ (options : RunOptions) (image : Image) (world : World) (handed back : L
       r.printed_are)
       (failed r.time port r.inst r.fires r.port_is r.within r.rose r.ports)
 
-  pub run_executes : (finish : CrewFinish) (status : Status) (out : List ℕ)
-      → CrewTells image world handed options.budget finish back
+  pub run_executes : (finish : RunFinish) (status : Status) (out : List ℕ)
+      → RunTells image world handed options.budget finish back
       → ReportsSo options.report options.budget image.arrays finish status out
       → Executes options image world handed status out back
   run_executes (finish.Done printed rows fired) status out h r = rested_so printed rows fired h.0 h.1 status
@@ -98,7 +98,7 @@ module _ (options : RunOptions) (image : Image) (world : World) (handed back : L
   run_executes finish.NoMemory status out h r = absurd r
 
   -- however it ended, it had begun
-  pub run_begun : (budget : ℕ) (finish : CrewFinish) → CrewTells image world handed budget finish back
+  pub run_begun : (budget : ℕ) (finish : RunFinish) → RunTells image world handed budget finish back
       → HasBegun image world handed back
   run_begun budget (finish.Done printed rows fired) h = inr (
     h.1.time,
@@ -146,9 +146,9 @@ module _ (options : RunOptions) (image : Image) (world : World) (handed back : L
 
 -- the answer of a run that told this
 pub executed_so : {E : Type 0} (options : RunOptions) (image : Image) (world : World)
-    (handed back : List (Option Told)) (finish : CrewFinish) (arrays : List Array)
+    (handed back : List (Option Told)) (finish : RunFinish) (arrays : List Array)
     (answer : Result (Status × List ℕ) E)
-    → CrewTells image world handed options.budget finish back → arrays ≡ image.arrays
+    → RunTells image world handed options.budget finish back → arrays ≡ image.arrays
     → IfOk answer (λ y. ReportsSo options.report options.budget arrays finish y.0 y.1)
     → IfOk answer (λ y. Executes options image world handed y.0 y.1 back)
 executed_so options image world handed back finish arrays (Ok y) tells is h =

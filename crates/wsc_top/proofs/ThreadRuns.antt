@@ -1,15 +1,15 @@
 -- The run of several threads.
-use Rattle.std.specs.Prelude.{◌≡◌, ℕ, zero, suc, ◌≤◌, ◌<◌, List, [], ◌∷◌, length, take, slice_get, Option}
-use Rattle.std.specs.Prelude.{Some, None, refl, All, replicate, IsSome, IfSome, IfOk, OnErr, Result, Ok, Err}
+use Rattle.std.specs.Prelude.{◌≡◌, ℕ, zero, suc, ◌≤◌, List, [], ◌∷◌, length, slice_get, Option}
+use Rattle.std.specs.Prelude.{Some, None, refl, All, replicate, IfSome, IfOk, OnErr, Result, Ok, Err}
 use Rattle.std.proofs.Common.{sym, ap, ◌∙◌, subst, arith}
 use Rattle.std.proofs.lemmas.List.Elements.{All-cons, All-nil}
 use Rattle.ws_isa.specs.Image.{Image}
 use Rattle.port_set.specs.Ports.{Told}
 use Rattle.port_set.specs.declared.slots.Slots.{Slots}
-use Rattle.port_set.specs.Slots.{AllOpen, IsOpen, contents, slots, told_all}
+use Rattle.port_set.specs.Slots.{AllOpen, contents}
 use Rattle.store_buf.specs.Outdoors.{AllTell, TellsLeft, world_with}
-use Rattle.fire_crew.specs.declared.run.RunEnd.{RunEnd}
-use Rattle.multi_wave.specs.Parts.{Alone, PortsReady, EndSo, EndsAlone}
+use Rattle.store_buf.specs.declared.finish.RunEnd.{RunEnd}
+use Rattle.multi_wave.specs.Parts.{Alone, EndSo, EndsAlone}
 use Rattle.wsc_top.specs.declared.status.Status.{Status}
 use Rattle.wsc_top.specs.declared.status.Status.TheVariants.{Done, Usage, Refused, Budget, ReadFault}
 use Rattle.wsc_top.specs.declared.status.Status.TheVariants.{WriteFault, PortFault, NoMemory, Fault}
@@ -18,7 +18,7 @@ use Rattle.wsc_top.specs.Answers.{TellWords}
 use Rattle.wsc_top.specs.Jobs.{most_jobs}
 use Rattle.wsc_top.specs.Threads.{no_ports, ThreadsDo, none, more, status_of, Thread, images_of, inputs_of}
 use Rattle.wsc_top.specs.Threads.{ExecutesAlone, HaveBegun}
-use Rattle.wsc_top.specs.Running.{alone_with, alone_at, StatusText, ThreadTold, BeforeSo, RunEnds, AllTold}
+use Rattle.wsc_top.specs.Running.{alone_at, StatusText, ThreadTold, BeforeSo, RunEnds, AllTold}
 use Rattle.wsc_top.proofs.Runs.{run_executes, run_begun}
 
 -- Slots without ports.
@@ -30,47 +30,10 @@ no_ports_tell = go 7
     go zero = All-nil TellsLeft
     go (suc n) = All-cons TellsLeft None (replicate n None) tt (go n)
 
-pub no_ports_open : AllOpen no_ports
-no_ports_open = go 7
-  where
-    go : (n : ℕ) → All IsOpen (replicate n None)
-    go zero = All-nil IsOpen
-    go (suc n) = All-cons IsOpen None (replicate n None) tt (go n)
-
 pub no_ports_words : TellWords no_ports
 no_ports_words = (no_ports_tell, (tt, (tt, (tt, (tt, (tt, (tt, (tt, tt))))))))
 
-pub none_held : {P : Type 0} (tells : P → Told) (ports : Slots P) → slots ports ≡ replicate 7 None
-    → contents tells ports ≡ no_ports
-none_held tells ports e = ap (told_all tells) e
-
--- The parts.
-
-pub ready_with : (budget : ℕ) (handed : List (Option Told)) (image : Option Image) (input : Option (List ℕ))
-    → AllTell handed → AllOpen handed → PortsReady (alone_with budget handed image input)
-ready_with budget handed None input tell open' = tt
-ready_with budget handed (Some i) None tell open' = tt
-ready_with budget handed (Some i) (Some w) tell open' = (tell, open')
-
-pub none_with : (budget : ℕ) (handed : List (Option Told)) (image : Option Image)
-    → alone_with budget handed image None ≡ None
-none_with budget handed None = refl
-none_with budget handed (Some i) = refl
-
-get_taken : {A : Type 0} (xs : List A) (n k : ℕ) → k < n → slice_get (take n xs) k ≡ slice_get xs k
-get_taken [] zero k lt = absurd (omega (arith, lt))
-get_taken [] (suc n) k lt = refl
-get_taken (x ∷ xs) zero k lt = absurd (omega (arith, lt))
-get_taken (x ∷ xs) (suc n) zero lt = refl
-get_taken (x ∷ xs) (suc n) (suc k) lt = get_taken xs n k (omega (arith, lt))
-
-pub taken_at : (budget : ℕ) (handed : List (Option Told)) (images : List Image) (inputs : List (List ℕ))
-    (n k : ℕ) → k < n → alone_at budget handed images (take n inputs) k ≡ alone_at budget handed images inputs
-    k
-taken_at budget handed images inputs n k lt = ap (alone_with budget handed (slice_get images k))
-    (get_taken inputs n k lt)
-
--- What is told of them.
+-- What is told of the parts.
 
 single : (x : Status) → status_of (x ∷ []) ≡ x
 single Done = refl
@@ -93,17 +56,6 @@ told_status WriteFault ss = refl
 told_status (PortFault p) ss = refl
 told_status NoMemory ss = refl
 told_status Fault ss = refl
-
-pub undone_status : (s further : Status) → (s ≡ Done → ⊥) → s ≡ status_of (s ∷ further ∷ [])
-undone_status Done further h = absurd (h refl)
-undone_status Usage further h = refl
-undone_status Refused further h = refl
-undone_status Budget further h = refl
-undone_status ReadFault further h = refl
-undone_status WriteFault further h = refl
-undone_status (PortFault p) further h = refl
-undone_status NoMemory further h = refl
-undone_status Fault further h = refl
 
 module _ {P : Type 0} (tells : P → Told) (options : RunOptions) where
   abbrev Fits : ℕ → List Thread → List (Option Told) → StatusText → List (Option Told) → Type 0
@@ -251,19 +203,6 @@ first_part budget handed images [] some same = absurd (omega (arith, some))
 first_part budget handed [] (w ∷ inputs) some same = absurd (omega (arith, same))
 first_part budget handed (i ∷ images) (w ∷ inputs) some same = (_, refl)
 
-some_end : {P : Type 0} (tells : P → Told) (a : Alone) (end : Option (RunEnd P)) → EndSo tells (Some a) end
-    → IsSome end
-some_end tells a None h = absurd h
-some_end tells a (Some end) h = refl
-
-pub first_end : {P : Type 0} (tells : P → Told) (budget : ℕ) (handed : List (Option Told))
-    (images : List Image) (inputs : List (List ℕ)) (end : Option (RunEnd P)) → 1 ≤ length inputs
-    → length inputs ≡ length images
-    → EndSo tells (alone_at budget handed images inputs 0) end → IsSome end
-first_end tells budget handed images inputs end some same h =
-    let part = first_part budget handed images inputs some same in
-    some_end tells part.0 end (subst (λ (a : Option Alone). EndSo tells a end) part.1 h)
-
 -- no port of it is closed
 pub first_open : {P : Type 0} (tells : P → Told) (budget : ℕ) (handed : List (Option Told))
     (images : List Image) (inputs : List (List ℕ)) (end : Option (RunEnd P)) (ports : Slots P)
@@ -277,10 +216,6 @@ first_open tells budget handed images inputs (Some end) ports some same h is =
     let part = first_part budget handed images inputs some same in
     let ends : EndsAlone tells part.0 end = subst (λ (a : Option Alone). EndSo tells a (Some end)) part.1 h in
     subst (λ (s : Slots _). AllOpen (contents tells s)) (sym is) ends.1
-
-count_images : (xs : List Thread) → length (images_of xs) ≡ length xs
-count_images [] = refl
-count_images (x ∷ xs) = ap suc (count_images xs)
 
 count_inputs : (xs : List Thread) → length (inputs_of xs) ≡ length xs
 count_inputs [] = refl

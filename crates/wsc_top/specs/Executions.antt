@@ -1,5 +1,5 @@
 -- What comes of the run of an image: the status, the text that goes out with it, and the ports.
-use Rattle.std.specs.Prelude.{◌≡◌, ◌⊎◌, ℕ, ◌≤◌, false, Bool, List, length, Option, Some}
+use Rattle.std.specs.Prelude.{◌≡◌, ◌⊎◌, ℕ, ◌≤◌, false, Bool, List, length, Option, Some, Result, IfOk, OnErr}
 use Rattle.ws_words.specs.Outside.{Outside, World, printed_words}
 use Rattle.ws_isa.specs.Image.{Image, array_at, instr_at}
 use Rattle.ws_isa.specs.Shown.{shown_cells}
@@ -90,6 +90,14 @@ pub data Executes (options : RunOptions) (image : Image) (world : World) (handed
 abbrev pub HasBegun : Image → World → List (Option Told) → List (Option Told) → Type 0
 HasBegun image world handed back = (back ≡ handed)
     ⊎ ((t : ℕ) × FirstWithin image world t × PortsAre handed (mem image world t) back)
+
+-- What is answered of the run of an image, with the ports that were handed in and those that are handed
+-- back: what comes of it, and where memory ran out, that it has begun.
+pub record RunAnswered {E : Type 0} (options : RunOptions) (image : Image) (world : World)
+    (handed : List (Option Told)) (answer : Result (Status × List ℕ) E) (back : List (Option Told))
+    : Type 0 where
+  pub executes : IfOk answer (λ y. Executes options image world handed y.0 y.1 back)
+  pub begun : OnErr answer (HasBegun image world handed back)
 
 -- a run comes to its end within its budget
 abbrev pub Rests : Image → World → ℕ → Type 0

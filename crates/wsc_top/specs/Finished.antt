@@ -2,8 +2,8 @@
 use Rattle.std.specs.Prelude.{◌≡◌, ℕ, List}
 use Rattle.ws_isa.specs.Image.{Array}
 use Rattle.ws_isa.specs.Shown.{shown_cells}
-use Rattle.fire_crew.specs.declared.finish.CrewFinish.{CrewFinish}
-use Rattle.fire_crew.specs.declared.finish.CrewFinish.TheVariants as finish
+use Rattle.store_buf.specs.declared.finish.RunFinish.{RunFinish}
+use Rattle.store_buf.specs.declared.finish.RunFinish.TheVariants as finish
 use Rattle.wsc_top.specs.declared.status.Status.{Status}
 use Rattle.wsc_top.specs.declared.status.Status.TheVariants.{Done, Budget, Fault, PortFault}
 use Rattle.wsc_top.specs.declared.task.Report.{Report}
@@ -11,7 +11,7 @@ use Rattle.wsc_top.specs.Texts.{shown_names, called}
 use Rattle.wsc_top.specs.Executions.{end_report, fault_report, spent_report, failed_report}
 
 -- Want of memory alone has none.
-abbrev pub ReportsSo : Report → ℕ → List Array → CrewFinish → Status → List ℕ → Type 0
+abbrev pub ReportsSo : Report → ℕ → List Array → RunFinish → Status → List ℕ → Type 0
 ReportsSo report budget arrays (finish.Done printed rows fired) status out = (status ≡ Done)
     × (out ≡ end_report report (shown_names arrays) printed (shown_cells arrays rows) fired)
 ReportsSo report budget arrays (finish.Budget printed fired) status out =

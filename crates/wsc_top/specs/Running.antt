@@ -6,8 +6,8 @@ use Rattle.src_ast.specs.Syntax.{Part}
 use Rattle.ws_isa.specs.Image.{Image}
 use Rattle.port_set.specs.Ports.{Told}
 use Rattle.store_buf.specs.Outdoors.{world_with}
-use Rattle.fire_crew.specs.declared.run.RunEnd.{RunEnd}
-use Rattle.fire_crew.specs.declared.finish.CrewFinish.{CrewFinish}
+use Rattle.store_buf.specs.declared.finish.RunEnd.{RunEnd}
+use Rattle.store_buf.specs.declared.finish.RunFinish.{RunFinish}
 use Rattle.multi_wave.specs.declared.each.Each.{Each}
 use Rattle.multi_wave.specs.Parts.{Alone}
 use Rattle.wsc_top.specs.declared.status.Status.{Status}
@@ -56,7 +56,7 @@ StatusText = Status × List ℕ
 
 -- what is told of the thread of this number, which ended so, and those behind it, by what is told of
 -- those
-abbrev pub ThreadTold : RunOptions → ℕ → Image → CrewFinish → StatusText → StatusText → Type 0
+abbrev pub ThreadTold : RunOptions → ℕ → Image → RunFinish → StatusText → StatusText → Type 0
 ThreadTold options number image finish further told = (status : Status) × (out : List ℕ)
     × ReportsSo options.report options.budget image.arrays finish status out
     × (told.0 ≡ status_of (status ∷ further.0 ∷ []))

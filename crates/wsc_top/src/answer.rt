@@ -208,7 +208,7 @@ pub fn prepare<S: Source>(
 }
 
 /// The answer to these words of the command line and what the source gives, and these ports.
-pub fn to_words<S: Source, P: Port + Send, G: Gate, R: Threads + Wait + Sync>(
+pub fn answer_words<S: Source, P: Port + Send, G: Gate, R: Threads + Wait + Sync>(
     rt: &R,
     alloc: Global,
     words: &[String],

@@ -10,7 +10,7 @@ ghost use Rattle.wsc_top.specs.Running.{IsRead, IsPieceFault, AreRead};
 
 use crate::job;
 use crate::sections::{after_line, front_length};
-use crate::yields::image_of;
+use crate::yields::checked_image;
 use src_ast::{Place, Refusal, TextFault, read_is_written};
 use src_lex::place_after;
 use std::alloc::Global;
@@ -118,7 +118,7 @@ fn read_job(alloc: Global, at: Place, text: &[u8]) -> Result<(Checked, Words), J
 {
     read_is_written();
     match job::read(alloc, text) {
-        Ok((accepted, input)) => Ok((image_of(alloc, &accepted)?, input)),
+        Ok((accepted, input)) => Ok((checked_image(alloc, &accepted)?, input)),
         Err(TextFault::Refused(refusal)) => {
             Err(JobsFault::Refused(JobsRefusal::OfJob(at, refusal)))
         }

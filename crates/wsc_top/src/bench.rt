@@ -8,7 +8,7 @@ ghost use Rattle.work_gen.specs.Job.{words_of};
 
 use crate::job;
 use crate::laws::each_generated_job_is_a_job;
-use crate::yields::image_of;
+use crate::yields::checked_image;
 use src_ast::{TextFault, read_is_written};
 use std::alloc::Global;
 use work_gen::workload;
@@ -24,7 +24,7 @@ pub fn generated(alloc: Global, number: u32) -> Result<(Checked, Words), NoMemor
     read_is_written();
     let text = workload(alloc, number)?;
     match job::read(alloc, text.as_slice()) {
-        Ok((accepted, input)) => Ok((image_of(alloc, &accepted)?, input)),
+        Ok((accepted, input)) => Ok((checked_image(alloc, &accepted)?, input)),
         Err(TextFault::Refused(_)) => unreachable!(),
         Err(TextFault::NoMemory) => Err(NoMemory),
     }

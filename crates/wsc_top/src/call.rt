@@ -5,7 +5,7 @@ ghost use Rattle.port_set.specs.Slots.{AllOpen, contents};
 ghost use Rattle.wsc_top.specs.Answers.{TellWords};
 ghost use Rattle.wsc_top.specs.Calls.{CallEnds, reading, writing};
 
-use crate::answer::to_words;
+use crate::answer::answer_words;
 use crate::exec::CommandReply;
 use crate::laws::{each_answer_has_its_status, each_run_ends_as_its_walk};
 use crate::multi_laws::{each_answer_of_threads_has_its_status, threads_end_as_their_walks};
@@ -49,7 +49,7 @@ pub fn wsc<S: Source, K: Sink, P: Port + Send, G: Gate, R: Threads + Wait + Sync
         image,
         threads,
         ports,
-    } = to_words(rt, alloc, words, source, ports, gate);
+    } = answer_words(rt, alloc, words, source, ports, gate);
     match answer {
         Ok((status, text)) => match write_all(sink, text.as_slice()) {
             Ok(()) => Outcome {

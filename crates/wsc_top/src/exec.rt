@@ -1,26 +1,25 @@
 //! The run of an image.
 
-ghost use Rattle.std.specs.Prelude.{◌≡◌, ℕ, List, [], Option, Some, IfOk, OnErr};
+ghost use Rattle.std.specs.Prelude.{◌≡◌, List, [], Option, Some};
 ghost use Rattle.ws_words.specs.Outside.{World};
-ghost use Rattle.ws_isa.specs.Image.{Image};
 ghost use Rattle.port_set.specs.Ports.{Told};
 ghost use Rattle.port_set.specs.Slots.{AllOpen, contents};
 ghost use Rattle.store_buf.specs.Outdoors.{world_with};
-ghost use Rattle.fire_crew.specs.Answer.{CrewTells};
-ghost use Rattle.part_store.specs.Answer.{PartTells};
-ghost use Rattle.wsc_top.specs.Executions.{Executes, HasBegun};
+ghost use Rattle.store_buf.specs.Answer.{RunTells};
+ghost use Rattle.wsc_top.specs.Executions.{RunAnswered};
 ghost use Rattle.wsc_top.specs.Answers.{TellWords};
 
 use crate::run_texts::answer;
 use crate::status::Status;
 use crate::task::RunOptions;
 use crate::text::Text;
-use fire_crew::{CrewFinish, Gate, RunEnd, run_image};
-use part_store::{PartEnd, PartFinish, part_image};
+use fire_crew::{Crew, Gate};
+use part_store::part_image;
 use port_set::{Port, Slots};
 use std::alloc::Global;
 use std::sync::Wait;
 use std::thread::Threads;
+use store_buf::RunEnd;
 use ws_isa::Checked;
 use ws_words::{NoMemory, Words};
 
@@ -49,12 +48,8 @@ pub fn executed<P: Port + Send, G: Gate, R: Threads + Wait + Sync>(
 ) -> CommandReply<P>
     requires told { TellWords (contents P.tells ports) }
     requires open { AllOpen (contents P.tells ports) }
-    ensures executes { IfOk result.answer (λ y. Executes options image
-        (world_with input (contents P.tells ports)) (contents P.tells ports) y.0 y.1
-        (contents P.tells result.ports)) }
-    ensures begun { OnErr result.answer (HasBegun image
-        (world_with input (contents P.tells ports)) (contents P.tells ports)
-        (contents P.tells result.ports)) }
+    ensures answered { RunAnswered options image (world_with input (contents P.tells ports))
+        (contents P.tells ports) result.answer (contents P.tells result.ports) }
     ensures image { result.image ≡ Some image }
     ensures threads { result.threads.items ≡ [] }
     ensures open { AllOpen (contents P.tells result.ports) }
@@ -77,19 +72,22 @@ fn crewed<P: Port + Send, G: Gate, R: Threads + Wait + Sync>(
 ) -> CommandReply<P>
     requires told { TellWords (contents P.tells ports) }
     requires open { AllOpen (contents P.tells ports) }
-    ensures executes { IfOk result.answer (λ y. Executes options image
-        (world_with input (contents P.tells ports)) (contents P.tells ports) y.0 y.1
-        (contents P.tells result.ports)) }
-    ensures begun { OnErr result.answer (HasBegun image
-        (world_with input (contents P.tells ports)) (contents P.tells ports)
-        (contents P.tells result.ports)) }
+    ensures answered { RunAnswered options image (world_with input (contents P.tells ports))
+        (contents P.tells ports) result.answer (contents P.tells result.ports) }
     ensures image { result.image ≡ Some image }
     ensures threads { result.threads.items ≡ [] }
     ensures open { AllOpen (contents P.tells result.ports) }
 {
     let workers = options.workers.max(1).min(MOST_WORKERS);
     let budget = options.budget;
-    let end = run_image(rt, alloc, &image, input, ports, workers, budget, gate);
+    let crew = Crew {
+        rt,
+        alloc,
+        gate,
+        workers,
+        budget,
+    };
+    let end = crew.run_image(&image, input, ports);
     reply(alloc, options, image, end)
 }
 
@@ -104,19 +102,14 @@ pub fn decoupled<P: Port>(
 ) -> CommandReply<P>
     requires told { TellWords (contents P.tells ports) }
     requires open { AllOpen (contents P.tells ports) }
-    ensures executes { IfOk result.answer (λ y. Executes options image
-        (world_with input (contents P.tells ports)) (contents P.tells ports) y.0 y.1
-        (contents P.tells result.ports)) }
-    ensures begun { OnErr result.answer (HasBegun image
-        (world_with input (contents P.tells ports)) (contents P.tells ports)
-        (contents P.tells result.ports)) }
+    ensures answered { RunAnswered options image (world_with input (contents P.tells ports))
+        (contents P.tells ports) result.answer (contents P.tells result.ports) }
     ensures image { result.image ≡ Some image }
     ensures threads { result.threads.items ≡ [] }
     ensures open { AllOpen (contents P.tells result.ports) }
 {
-    let PartEnd { finish, ports } = part_image(alloc, &image, input, ports, options.budget);
-    let finish = as_of_a_crew(finish);
-    reply(alloc, options, image, RunEnd { finish, ports })
+    let end = part_image(alloc, &image, input, ports, options.budget);
+    reply(alloc, options, image, end)
 }
 
 // What is to be written of a run that has ended so, with its image and its ports.
@@ -127,13 +120,9 @@ fn reply<P: Port>(
     end: RunEnd<P>,
 ) -> CommandReply<P>
     requires open { AllOpen (contents P.tells end.ports) }
-    ensures executes { (world : World) (handed : List (Option Told)) → CrewTells image world handed
+    ensures answered { (world : World) (handed : List (Option Told)) → RunTells image world handed
         options.budget end.finish (contents P.tells end.ports) →
-        IfOk result.answer (λ y. Executes options image world handed y.0 y.1
-        (contents P.tells result.ports)) }
-    ensures begun { (world : World) (handed : List (Option Told)) → CrewTells image world handed
-        options.budget end.finish (contents P.tells end.ports) →
-        OnErr result.answer (HasBegun image world handed (contents P.tells result.ports)) }
+        RunAnswered options image world handed result.answer (contents P.tells result.ports) }
     ensures image { result.image ≡ Some image }
     ensures threads { result.threads.items ≡ [] }
     ensures open { AllOpen (contents P.tells result.ports) }
@@ -146,36 +135,5 @@ fn reply<P: Port>(
         image: Some(image),
         threads: Vec::new(alloc),
         ports,
-    }
-}
-
-// The end of a run, as one of a crew.
-fn as_of_a_crew(finish: PartFinish) -> CrewFinish
-    ensures { (image : Image) (world : World) (handed : List (Option Told)) (budget : ℕ)
-        (back : List (Option Told)) → PartTells image world handed budget finish back
-        → CrewTells image world handed budget result back }
-{
-    match finish {
-        PartFinish::Done {
-            printed,
-            arrays,
-            fired,
-        } => CrewFinish::Done {
-            printed,
-            arrays,
-            fired,
-        },
-        PartFinish::Budget { printed, fired } => CrewFinish::Budget { printed, fired },
-        PartFinish::Fault {
-            array,
-            printed,
-            arrays,
-        } => CrewFinish::Fault {
-            array,
-            printed,
-            arrays,
-        },
-        PartFinish::Port { port, printed } => CrewFinish::Port { port, printed },
-        PartFinish::NoMemory => CrewFinish::NoMemory,
     }
 }

@@ -17,12 +17,13 @@ use crate::run_texts::answer;
 use crate::status::Status;
 use crate::task::RunOptions;
 use crate::text::Text;
-use fire_crew::{CrewFinish, Gate};
-use multi_wave::{Each, Four, Part, ThreadEnd, ThreadGate, multi_run};
+use fire_crew::Gate;
+use multi_wave::{Each, Four, Part, ThreadGate, multi_run};
 use port_set::{Port, Slots};
 use std::alloc::Global;
 use std::sync::Wait;
 use std::thread::Threads;
+use store_buf::{RunEnd, RunFinish};
 use ws_io::put_decimal;
 use ws_isa::Checked;
 use ws_words::{Bytes, NoMemory, Words};
@@ -117,7 +118,7 @@ fn thread_told(
     options: RunOptions,
     number: u32,
     image: &Checked,
-    finish: &CrewFinish,
+    finish: &RunFinish,
     further: (Status, Text),
 ) -> Result<(Status, Text), NoMemory>
     ensures { IfOk result (λ y. ThreadTold options number image.now finish.now further y) }
@@ -138,7 +139,7 @@ fn before<P: Port>(
     options: RunOptions,
     number: u32,
     image: Option<&Checked>,
-    end: &Option<ThreadEnd<P>>,
+    end: &Option<RunEnd<P>>,
     further: (Status, Text),
 ) -> Result<(Status, Text), NoMemory>
     ensures { IfOk result (BeforeSo options number (option_copied image.entry) end.now further) }
@@ -167,7 +168,7 @@ fn told<P: Port>(
     alloc: Global,
     options: RunOptions,
     images: &[Checked],
-    ends: &Four<Option<ThreadEnd<P>>>,
+    ends: &Four<Option<RunEnd<P>>>,
 ) -> Result<(Status, Text), NoMemory>
     ensures { IfOk result (AllTold options images.now ends.now) }
 {
@@ -179,7 +180,7 @@ fn told<P: Port>(
 }
 
 // The ports of a thread that isn't absent.
-fn ports_of<P: Port>(end: Option<ThreadEnd<P>>) -> Slots<P>
+fn ports_of<P: Port>(end: Option<RunEnd<P>>) -> Slots<P>
     requires { IsSome end }
     ensures { IfSome end (λ e. result ≡ e.ports) }
 {

@@ -12,8 +12,8 @@ use crate::status::Status;
 use crate::task::Report;
 use crate::text::Text;
 use crate::texts::{BUDGET, done as ended, put_array_at, put_words, summary};
-use fire_crew::CrewFinish;
 use std::alloc::Global;
+use store_buf::RunFinish;
 use ws_io::put_decimal;
 use ws_isa::ArrayDecl;
 use ws_words::{Bytes, Cells, NoMemory, Words};
@@ -190,12 +190,12 @@ pub fn answer(
     report: Report,
     budget: u64,
     arrays: &[ArrayDecl],
-    finish: &CrewFinish,
+    finish: &RunFinish,
 ) -> Result<(Status, Text), NoMemory>
     ensures { IfOk result (λ y. ReportsSo report budget (map view.array arrays.now) finish.now y.0 y.1) }
 {
     match finish {
-        CrewFinish::Done {
+        RunFinish::Done {
             printed,
             arrays: rows,
             fired,
@@ -203,11 +203,11 @@ pub fn answer(
             Status::Done,
             Text::built(rested(alloc, report, arrays, printed, rows, *fired)?),
         )),
-        CrewFinish::Budget { printed, fired: _ } => {
+        RunFinish::Budget { printed, fired: _ } => {
             let text = spent(alloc, report, printed, budget)?;
             Ok((Status::Budget, Text::built(text)))
         }
-        CrewFinish::Fault {
+        RunFinish::Fault {
             array,
             printed,
             arrays: rows,
@@ -215,10 +215,10 @@ pub fn answer(
             Status::Fault,
             Text::built(stopped(alloc, report, arrays, *array, printed, rows)?),
         )),
-        CrewFinish::Port { port, printed } => Ok((
+        RunFinish::Port { port, printed } => Ok((
             Status::PortFault(*port),
             Text::built(failed(alloc, report, printed, *port)?),
         )),
-        CrewFinish::NoMemory => Err(NoMemory),
+        RunFinish::NoMemory => Err(NoMemory),
     }
 }

@@ -32,7 +32,7 @@ use ws_isa::Checked;
 use ws_words::{NoMemory, Plain, Words};
 
 /// The image of a program, which is formed and sound.
-pub fn image_of(alloc: Global, accepted: &Accepted) -> Result<Checked, NoMemory>
+pub fn checked_image(alloc: Global, accepted: &Accepted) -> Result<Checked, NoMemory>
     requires { IsWritten (view.parts accepted.now.program.items.items) }
     ensures { IfOk result (IsCompiled (view.parts accepted.now.program.items.items)) }
 {
@@ -50,7 +50,7 @@ fn compiled(alloc: Global, accepted: &Accepted) -> Result<(Checked, Text), Starv
     ensures begun { IfErr result (λ starved. IfSome starved.image
         (IsCompiled (view.parts accepted.now.program.items.items))) }
 {
-    let image = image_of(alloc, accepted)?;
+    let image = checked_image(alloc, accepted)?;
     match print_asm(alloc, image.image()) {
         Ok(text) => Ok((image, Text::built(text))),
         Err(NoMemory) => Err(StarvedCall { image: Some(image) }),
@@ -123,7 +123,7 @@ pub fn yielded(
 {
     printed_reads_the_same();
     match task {
-        JobTask::Run(options) => Ok(CallStep::Run(options, image_of(alloc, accepted)?, input)),
+        JobTask::Run(options) => Ok(CallStep::Run(options, checked_image(alloc, accepted)?, input)),
         JobTask::Format => {
             let text = print_program(alloc, &accepted.program)?;
             Ok(CallStep::Ready(Status::Done, Text::built(text), None))

@@ -8,8 +8,8 @@ pub returns : goal.returns
 returns g c =
     let image = g.J.Job.image in
     let world = g.J.Job.world in
-    let formed = c.program.ensures.formed in
-    let sound = c.program.ensures.sound in
+    let formed = c.facts-3.ensures.formed in
+    let sound = c.facts-3.ensures.sound in
     let t = part_of c.args.tables.now in
     let m = c.facts-2.ensures.stands.0 in
     let is = c.facts-2.ensures.stands.1 in

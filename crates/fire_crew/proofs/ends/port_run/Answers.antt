@@ -6,4 +6,4 @@ returns g c =
     let failed = c.facts.ensures.failed c.args.port c.requires.failed in
     let stands = c.facts.ensures.stands in
     port_run g.J.Job.image g.J.Job.world g.J.Job.began c.args.buffer.now stands.0 stands.1
-    c.program.ensures.formed c.program.ensures.sound c.args.port failed.0 failed.1
+    c.facts-2.ensures.formed c.facts-2.ensures.sound c.args.port failed.0 failed.1

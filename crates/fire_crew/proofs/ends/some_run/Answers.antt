@@ -8,15 +8,15 @@ pub returns : goal.returns
 returns g c =
     let image = g.J.Job.image in
     let world = g.J.Job.world in
-    let formed = c.program.ensures.formed in
-    let sound = c.program.ensures.sound in
+    let formed = c.facts-3.ensures.formed in
+    let sound = c.facts-3.ensures.sound in
     let t = part_of c.args.tables.now in
     let m = c.facts-2.ensures.stands.0 in
     let is = c.facts-2.ensures.stands.1 in
     let fit = c.shown_is_fit.ensures image world formed sound t (buffer_in image c.args.buffer.now m)
     c.facts.ensures.part is.ok in
     let s = shown image t (buffer_in image c.args.buffer.now m) in
-    let right = c.wave.ensures.right in
+    let right = c.facts-4.ensures.right in
     E.some_run image world formed sound g.J.Job.began t c.facts.ensures.part c.facts.ensures.once
     c.args.buffer.now m is fit
     (c.counts.ensures.fewer image world formed sound s fit

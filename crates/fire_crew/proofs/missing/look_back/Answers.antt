@@ -12,10 +12,10 @@ look_up-requires g c = (
   (
     c.loop-kept.invariant.0,
     (
-      memory_at g.J.Job.image g.J.Job.world c.program.ensures.formed c.program.ensures.sound c.args.buffer.now
+      memory_at g.J.Job.image g.J.Job.world c.facts-2.ensures.formed c.facts-2.ensures.sound c.args.buffer.now
           c.facts.ensures.stands.0 c.facts.ensures.stands.1.ok c.facts.ensures.once
           c.kept-kept-items.result.now c.kept-kept-items.ensures c.loop-kept.kept-index c.loop-kept-test.true,
-      answers_at g.J.Job.image g.J.Job.world c.program.ensures.formed c.program.ensures.sound
+      answers_at g.J.Job.image g.J.Job.world c.facts-2.ensures.formed c.facts-2.ensures.sound
           c.args.buffer.now c.facts.ensures.stands.0 c.facts.ensures.stands.1.ok c.facts.ensures.once
           c.kept-kept-items.result.now c.kept-kept-items.ensures c.loop-kept.kept-index c.loop-kept-test.true,
     ),

@@ -7,7 +7,7 @@ look_at-requires g c = (
   omega arith,
   (
     c.requires.missing,
-    sends_at g.J.Job.image g.J.Job.world c.program.ensures.formed c.program.ensures.sound c.args.table.now
+    sends_at g.J.Job.image g.J.Job.world c.facts-2.ensures.formed c.facts-2.ensures.sound c.args.table.now
         c.facts.ensures.part c.fired_at.result c.fired_at.ensures.operands c.args.place c.requires.place
         c.fired_at.ensures.at,
   ),

@@ -6,7 +6,7 @@ use Rattle.fire_crew.proofs.Paid.{next_table, known_all}
 use Rattle.fire_crew.proofs.unknown.unknown.Goals as goal
 
 pub loop-number-preserved : goal.loop-number-preserved
-loop-number-preserved g c = λ e. (let a = c.in_ok-ask_all.ensures e in
+loop-number-preserved g c = λ e. (let a = c.in_ok-note_all_unknown.ensures e in
     next_table (λ (x : TableContent). All (IsKnown c.args.buffer.now.kept) (of_memory g.J.Job.image x.fired))
     (contents c.args.tables.now) c.loop-number.number c.table_at.result.now c.table_at.ensures
     (c.loop-number.invariant a.0) a.1)

@@ -5,7 +5,8 @@ use Rattle.match_table.specs.Matching.{Accepted, Refused}
 use Rattle.match_table.specs.Tables.{held, part}
 use Rattle.part_store.specs.Runs.{IsWhole, Paid}
 use Rattle.part_store.proofs.Bringing.{both_ok}
-use Rattle.part_store.proofs.Paying.{not_fired, pay_held, taken_waits, taken_fires, taken_asks}
+use Rattle.store_buf.proofs.Paying.{not_fired}
+use Rattle.part_store.proofs.Paying.{pay_held, taken_waits, taken_fires, taken_asks}
 use Rattle.part_store.proofs.run.bring.Goals as goal
 use Rattle.df_core.proofs.Ports.{has_some}
 use Rattle.ws_words.proofs.Results.{on_ok}
@@ -18,8 +19,8 @@ returns-in-Some-clause-paid g c =
     let x = c.args.token in
     let answer : Accepted {J = g.row.J.Denot} image old x c.accept_into-took.new.self Waits =
     c.in-Waits.ensures.answer.0 in
-    let fresh = not_fired image world c.program.ensures.formed c.program.ensures.sound
-    (part old) c.facts.ensures.part x c.wave.ensures.right answer.0.free in
+    let fresh = not_fired image world c.facts-2.ensures.formed c.facts-2.ensures.sound
+    (part old) c.facts.ensures.part x c.facts-3.ensures.right answer.0.free in
     on_ok c.tell.result (λ tell. tell (part c.accept_into-took.new.self)
     (taken_waits image old x c.accept_into-took.new.self answer.0 fresh c.args.run.now.buffer
     c.args.run.now.way c.requires.paid answer.2)) c.tell.ensures.paid
@@ -32,8 +33,8 @@ returns-in-None-clause-paid g c = λ going.
     let x = c.args.token in
     let answer : Accepted {J = g.row.J.Denot} image old x c.accept_into-took.new.self Waits =
     c.in-Waits.ensures.answer.0 in
-    let fresh = not_fired image world c.program.ensures.formed c.program.ensures.sound
-    (part old) c.facts.ensures.part x c.wave.ensures.right answer.0.free in
+    let fresh = not_fired image world c.facts-2.ensures.formed c.facts-2.ensures.sound
+    (part old) c.facts.ensures.part x c.facts-3.ensures.right answer.0.free in
     taken_waits image old x c.accept_into-took.new.self answer.0 fresh c.args.run.now.buffer
     c.args.run.now.way c.requires.paid answer.2
 
@@ -45,8 +46,8 @@ returns-in-Fires-clause-paid g c =
     let x = c.args.token in
     let answer : Accepted {J = g.row.J.Denot} image old x c.accept_into-took.new.self
     (Fires c.accept_into-took.new.results.sent) = c.in-Fires.ensures.answer.0 in
-    let fresh = not_fired image world c.program.ensures.formed c.program.ensures.sound
-    (part old) c.facts.ensures.part x c.wave.ensures.right answer.0.free in
+    let fresh = not_fired image world c.facts-2.ensures.formed c.facts-2.ensures.sound
+    (part old) c.facts.ensures.part x c.facts-3.ensures.right answer.0.free in
     let full = answer.1 in
     both_ok c.send_all.result (λ keep sent going.
     taken_fires image old x c.accept_into-took.new.self answer.0 fresh c.args.run.now.buffer
@@ -67,8 +68,8 @@ returns-in-Some-request-clause-paid g c =
     let answer : Accepted {J = g.row.J.Denot} image old x c.accept_into-took.new.self
     (Asks c.in-Some-request.request) =
     subst (λ a. Accepted {J = g.row.J.Denot} image old x c.accept_into-took.new.self (Asks a)) same asks.3 in
-    let fresh = not_fired image world c.program.ensures.formed c.program.ensures.sound
-    (part old) c.facts.ensures.part x c.wave.ensures.right answer.0.free in
+    let fresh = not_fired image world c.facts-2.ensures.formed c.facts-2.ensures.sound
+    (part old) c.facts.ensures.part x c.facts-3.ensures.right answer.0.free in
     let full = answer.1 in
     both_ok c.ask.result (λ tell whole going.
     taken_asks image old x c.accept_into-took.new.self answer.0 fresh c.args.run.now.buffer

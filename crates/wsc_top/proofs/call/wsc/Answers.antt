@@ -6,7 +6,7 @@ use Rattle.wsc_top.proofs.call.wsc.Goals as goal
 pub returns-in-Ok-write_all-clause-ends : goal.returns-in-Ok-write_all-clause-ends
 returns-in-Ok-write_all-clause-ends g c =
     let r = reply_told _ _ _ _ _ _ _ _ _ _ c.in-Ok.status c.in-Ok.text (cc)
-    c.to_words-answer.ensures.answered in
+    c.answer_words-answer.ensures.answered in
     call_answered _ _ _ _ c.words_are_one_line.ensures
     (record {
       job = c.each_answer_has_its_status.ensures.job;
@@ -23,13 +23,13 @@ returns-in-Ok-write_all-clause-ends g c =
 pub returns-in-Ok-clause-ends : goal.returns-in-Ok-clause-ends
 returns-in-Ok-clause-ends g c =
     let r = reply_told _ _ _ _ _ _ _ _ _ _ c.in-Ok.status c.in-Ok.text (cc)
-    c.to_words-answer.ensures.answered in
+    c.answer_words-answer.ensures.answered in
     let front = c.in-Err-write_all.ensures.prefix in
     call_cut _ _ _ _ c.in-Ok.status c.in-Ok.text front.0 _ _ _ r _ c.as_slice.ensures front.1 front.2
     c.in-Err-write_all.ensures.unflushed c.in-Err-write_all.ensures.failed
 
 pub returns-clause-ends : goal.returns-clause-ends
 returns-clause-ends g c =
-    call_starved _ _ _ _ _ _ _ (starved_reply _ c.in-Err.field-0 (cc) c.to_words-answer.ensures.memory) refl
-    refl
-    (λ none. not_ok _ c.in-Err.field-0 (cc) (c.to_words-answer.ensures.unknown none))
+    call_starved _ _ _ _ _ _ _ (starved_reply _ c.in-Err.field-0 (cc) c.answer_words-answer.ensures.memory)
+    refl refl
+    (λ none. not_ok _ c.in-Err.field-0 (cc) (c.answer_words-answer.ensures.unknown none))

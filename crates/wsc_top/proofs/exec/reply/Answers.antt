@@ -4,12 +4,12 @@ use Rattle.wsc_top.proofs.Runs.{executed_so, run_begun}
 use Rattle.wsc_top.proofs.exec.reply.Goals as goal
 use Rattle.ws_words.proofs.Results.{on_err}
 
-pub returns-clause-executes : goal.returns-clause-executes
-returns-clause-executes g c = λ world handed tells.
+pub returns-clause-answered : goal.returns-clause-answered
+returns-clause-answered g c = λ world handed tells.
     let arrays : map view.array c.as_slice-arrays.result.now ≡ c.args.image.arrays =
     ap (map view.array) c.as_slice-arrays.ensures.value ∙ ap (λ i. i.arrays) c.image.ensures.image in
-    executed_so c.args.options c.args.image world handed _ _ _ _ tells arrays c.answer-answer.ensures
-
-pub returns-clause-begun : goal.returns-clause-begun
-returns-clause-begun g c = λ world handed tells.
-    on_err _ (run_begun c.args.options c.args.image world handed _ c.args.options.budget _ tells)
+    record {
+      executes =
+          executed_so c.args.options c.args.image world handed _ _ _ _ tells arrays c.answer-answer.ensures;
+      begun = on_err _ (run_begun c.args.options c.args.image world handed _ c.args.options.budget _ tells);
+    }

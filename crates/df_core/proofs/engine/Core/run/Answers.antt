@@ -35,7 +35,6 @@ returns-clause-spent c = λ image world s at.
     } in (
       r.0,
       record {
-        program = at.program;
         image_is = at.image_is;
         formed = at.formed;
         sound = at.sound;

@@ -1,6 +1,6 @@
 use Rattle.std.proofs.Common.{◌≡◌, ◌++◌, suc, map, drop}
 use Rattle.ws_isa.specs.View as view
-use Rattle.df_core.specs.Places.{place_in_code, places}
+use Rattle.df_core.specs.Listed.{place_in_code, places}
 use Rattle.df_core.proofs.program.Program.of.Given as goal
 
 abbrev pub invariant-loop-block : goal.invariant-loop-block

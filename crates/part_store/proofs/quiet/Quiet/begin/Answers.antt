@@ -12,4 +12,4 @@ returns-in-Ok-clause-stands g c =
     subst (λ (x : PartContent). IsBuffer image world g.J.Job.began (whole_of x) (opening_memory image world))
     (sym c.in-Ok.ensures.opening)
     (O.opening_is image world g.J.Job.began (λ state r. c.every_list_of_events.ensures.reach image world
-    c.program.ensures.formed c.program.ensures.sound state r) _ c.requires.ports)
+    c.facts.ensures.formed c.facts.ensures.sound state r) _ c.requires.ports)

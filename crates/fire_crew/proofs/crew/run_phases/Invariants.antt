@@ -1,6 +1,0 @@
-use Rattle.match_table.specs.Rows.{contents}
-use Rattle.fire_crew.proofs.Phases.{Steady}
-use Rattle.fire_crew.proofs.crew.run_phases.Given as goal
-
-abbrev pub invariant-loop-phases : goal.invariant-loop-phases
-invariant-loop-phases g l = Steady (contents l.initial.tables) (contents l.tables) l.budget l.phases

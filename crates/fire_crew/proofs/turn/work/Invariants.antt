@@ -1,5 +1,0 @@
-use Rattle.match_table.specs.Rows.{contents}
-use Rattle.fire_crew.proofs.turn.work.Given as goal
-
-abbrev pub ghosts-phase : goal.ghosts-phase
-ghosts-phase g a = record { most = a.limits.now; began = contents a.tables }

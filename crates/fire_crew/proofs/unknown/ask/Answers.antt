@@ -1,7 +1,0 @@
-use Rattle.fire_crew.proofs.Rights.{request_right}
-use Rattle.fire_crew.proofs.unknown.ask.Goals as goal
-
-pub right-requires : goal.right-requires
-right-requires g c = request_right g.J.Job.image g.J.Job.world c.program.ensures.formed
-    c.program.ensures.sound c.args.fired.wave c.args.fired.instr c.first-first.result c.second-second.result
-    c.args.fired.operands c.requires c.first-first.ensures c.second-second.ensures

@@ -1,0 +1,158 @@
+-- Tokens come to tables and requests to a buffer, and what is known of a run stays true.
+use Rattle.std.proofs.Common.{ℕ, ◌≡◌, ◌⊎◌, true, false, List, [], ◌∷◌, Some, None, length, sym, ap}
+use Rattle.std.proofs.Common.{◌∙◌, subst, inl, inr, arith}
+use Rattle.ws_words.specs.Outside.{World}
+use Rattle.ws_isa.specs.Image.{Image, Token, ports, is_memory, result_of, sends}
+use Rattle.ws_isa.specs.Formed.{Formed}
+use Rattle.ws_isa.specs.Sound.{Sound}
+use Rattle.ws_isa.specs.Walk.{Ports, start_tokens}
+use Rattle.df_core.specs.Core.{Key, HasFired, operands_in, with_at}
+use Rattle.df_core.specs.Rights.{IsRight}
+use Rattle.df_core.specs.Shown.{Tables, TablesOk}
+use Rattle.df_core.proofs.Facts.{WalkFacts}
+use Rattle.df_core.proofs.FromSound.{facts_of}
+use Rattle.df_core.proofs.Owing.{nothing}
+use Rattle.df_core.proofs.Ports.{with_at_cases}
+use Rattle.df_core.proofs.PortsThere.{ports_there}
+use Rattle.df_core.proofs.StandsMatch.{gather_agree}
+use Rattle.store_buf.specs.Runs.{AllReach, Covers, PaidOf}
+use Rattle.store_buf.proofs.Reaching as R
+use Rattle.ws_words.proofs.Places.{nth_short}
+
+-- an instance to which a token hasn't come hasn't fired
+pub not_fired : (image : Image) (world : World) (formed : Formed image) (sound : Sound image) (t : Tables) →
+    TablesOk image world t → (x : Token) → IsRight image world x → t.held x.wave x.instr x.port ≡ None →
+    HasFired t.fired x.wave x.instr → ⊥
+not_fired image world formed sound t tok x right missing h =
+    let facts : WalkFacts image world = facts_of image world (ports_there image formed) sound in
+    let f = tok.fired_full x.wave x.instr h in
+    let l = nth_short right.inst.operands x.port x.value right.operand in
+    let n : length right.inst.operands ≡ ports image x.instr =
+    facts.filled right.time right.inst right.at.fires ∙ ap (ports image) right.at.instr in
+    let g = f.1 x.port (omega (arith, l, n)) in
+    nothing g.0 (sym missing ∙ g.1)
+
+-- the buffer changes: what was known is known, and what it owes has been told
+pub pay_buffer : (image : Image) (t : Tables) (known later : ℕ → ℕ → Type 0)
+    (owes owing : List Token → Type 0) (way : List Token) → ((w i : ℕ) → known w i → later w i) →
+    ((ts : List Token) → owing ts → AllReach t.held way ts) → PaidOf image t known owes way →
+    PaidOf image t later owing way
+pay_buffer image t known later owes owing way stays told paid = record {
+  start = paid.start;
+  told = paid.told;
+  asked = λ w i h m. stays w i (paid.asked w i h m);
+  answered = told;
+}
+
+-- a run begins
+pub pay_start : (image : Image) (t : Tables) (known : ℕ → ℕ → Type 0) (owes : List Token → Type 0)
+    (way : List Token) → t.fired ≡ [] → ((ts : List Token) → owes ts → ⊥) → Covers (start_tokens image) way →
+    PaidOf image t known owes way
+pay_start image t known owes way none nothing pulse = record {
+  start = R.reach_all t.held (start_tokens image) way pulse;
+  told = λ w i h m. absurd (subst (λ (ks : List Key). HasFired ks w i) none h);
+  asked = λ w i h m. absurd (subst (λ (ks : List Key). HasFired ks w i) none h);
+  answered = λ ts o. absurd (nothing ts o);
+}
+
+module _ (image : Image) (known : ℕ → ℕ → Type 0) (owes : List Token → Type 0) where
+  abbrev Owed : Ports → List Key → List Token → Type 0
+  Owed f ks way = PaidOf image (record { held = f; fired = ks }) known owes way
+
+  pub pay_more : (t : Tables) (way more : List Token) → Covers way more → PaidOf image t known owes way →
+      PaidOf image t known owes more
+  pay_more t way more k paid = record {
+    start = up _ paid.start;
+    told = λ w i h m. up _ (paid.told w i h m);
+    asked = paid.asked;
+    answered = λ ts o. up ts (paid.answered ts o);
+  }
+    where
+      up : (ts : List Token) → AllReach t.held way ts → AllReach t.held more ts
+      up ts = R.reach_by t.held t.held way more ts (R.reach_more t.held way more k)
+
+  -- a token that has come is let go
+  pub pay_held : (t : Tables) (way : List Token) (x : Token) →
+      (v : ℕ) × (t.held x.wave x.instr x.port ≡ Some v) → PaidOf image t known owes (x ∷ way) →
+      PaidOf image t known owes way
+  pay_held t way x come paid = record {
+    start = up _ paid.start;
+    told = λ w i h m. up _ (paid.told w i h m);
+    asked = paid.asked;
+    answered = λ ts o. up ts (paid.answered ts o);
+  }
+    where
+      up : (ts : List Token) → AllReach t.held (x ∷ way) ts → AllReach t.held way ts
+      up ts = R.reach_by t.held t.held (x ∷ way) way ts (R.reach_held t.held way x come)
+
+  -- a token comes, and its instance hasn't fired
+  module _ (f g : Ports) (fired : List Key) (x : Token) (free : f x.wave x.instr x.port ≡ None)
+      (more : (w i p : ℕ) → g w i p ≡ with_at x.wave x.instr x.port (Some x.value) f w i p)
+      (fresh : HasFired fired x.wave x.instr → ⊥) where
+    same_at : (w i p : ℕ) → HasFired fired w i → f w i p ≡ g w i p
+    same_at w i p h = sym (more w i p ∙ elim
+        (with_at_cases x.wave x.instr x.port (Some x.value) f w i p) [
+          | inl e ↦ absurd (fresh (subst (λ (k : ℕ × ℕ). HasFired fired k.0 k.1)
+              (λ j. (sym e.0.wave j, sym e.0.instr j)) h))
+          | inr e ↦ e.1
+        ])
+
+    same_operands : (w i : ℕ) → HasFired fired w i → operands_in image f w i ≡ operands_in image g w i
+    same_operands w i h = gather_agree f g w i 0 (ports image i) (λ p. same_at w i p h)
+
+    pub pay_arrived : (way : List Token) → Owed f fired (x ∷ way) → Owed g fired way
+    pay_arrived way paid = record {
+      start = up _ paid.start;
+      told = λ w i h m. subst (λ (xs : List ℕ).
+          AllReach g way (sends image w i xs (result_of image i xs))) (same_operands w i h)
+          (up _ (paid.told w i h m));
+      asked = paid.asked;
+      answered = λ ts o. up ts (paid.answered ts o);
+    }
+      where
+        up : (ts : List Token) → AllReach f (x ∷ way) ts → AllReach g way ts
+        up ts = R.reach_by f g (x ∷ way) way ts (R.reach_arrived f g x free more way)
+
+  -- the list of those that fired changes
+  module _ (f : Ports) (fired now : List Key) (way : List Token) (paid : Owed f fired way) where
+    -- it has none more
+    pub pay_waits : ((a b : ℕ) → HasFired now a b → HasFired fired a b) → Owed f now way
+    pay_waits same = record {
+      start = paid.start;
+      told = λ a b h m. paid.told a b (same a b h) m;
+      asked = λ a b h m. paid.asked a b (same a b h) m;
+      answered = paid.answered;
+    }
+
+    -- it has one more
+    module _ (w i : ℕ) (one : (a b : ℕ) → HasFired now a b → HasFired fired a b ⊎ ((w ≡ a) × (i ≡ b))) where
+      pub pay_fires : is_memory image i ≡ false → AllReach f way (sends image w i (operands_in image f w i)
+          (result_of image i (operands_in image f w i))) → Owed f now way
+      pay_fires plain sent = record {
+        start = paid.start;
+        told = λ a b h m. elim (one a b h) [
+          | inl e ↦ paid.told a b e m
+          | inr e ↦ subst (λ (k : ℕ × ℕ). AllReach f way
+              (sends image k.0 k.1 (operands_in image f k.0 k.1)
+              (result_of image k.1 (operands_in image f k.0 k.1)))) (λ j. (e.0 j, e.1 j)) sent
+        ];
+        asked = λ a b h m. elim (one a b h) [
+          | inl e ↦ paid.asked a b e m
+          | inr e ↦ absurd (let n : true ≡ false = sym m ∙ ap (is_memory image) (sym e.1) ∙ plain in cc)
+        ];
+        answered = paid.answered;
+      }
+
+      pub pay_asks : is_memory image i ≡ true → known w i → Owed f now way
+      pay_asks memory here = record {
+        start = paid.start;
+        told = λ a b h m. elim (one a b h) [
+          | inl e ↦ paid.told a b e m
+          | inr e ↦ absurd (let n : true ≡ false = sym memory ∙ ap (is_memory image) e.1 ∙ m in cc)
+        ];
+        asked = λ a b h m. elim (one a b h) [
+          | inl e ↦ paid.asked a b e m
+          | inr e ↦ subst (λ (k : ℕ × ℕ). known k.0 k.1) (λ j. (e.0 j, e.1 j)) here
+        ];
+        answered = paid.answered;
+      }

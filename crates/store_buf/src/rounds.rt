@@ -1,0 +1,168 @@
+//! Tokens on the way, in rounds by wave, first in first out.
+
+ghost use Rattle.std.specs.Prelude.{◌≡◌, ◌∷◌, ◌++◌, ◌<◌, [], IfOk, MatchOption, OnOk};
+ghost use Rattle.std.specs.VecDeque.{deque_capacity, deque_len};
+ghost use Rattle.store_buf.specs.Contents.{with_tokens};
+ghost use Rattle.store_buf.specs.Runs.{Covers, IsOffered};
+
+use crate::answers::BufferAnswers;
+use crate::fault::BufFault;
+use df_core::{Job, Sent, Token, TokenList};
+use std::alloc::Global;
+use std::collections::VecDeque;
+use std::marker::Model;
+use std::mem::swap;
+use ws_words::NoMemory;
+
+/// Tokens on the way: those of this round, and those that wait for the next one. What comes of a token is
+/// put behind this round where it is of the same wave or an earlier one, and waits else. So a wave goes as
+/// far as it can before a later one begins: few waves are at work at a time, and what belongs together in
+/// a table lies near.
+#[derive(Drop)]
+pub struct Rounds<J: Job> {
+    round: VecDeque<Token<J>>,
+    next: VecDeque<Token<J>>,
+    // The wave number of the token that was taken last.
+    wave: u64,
+}
+
+impl<J: Job> Model for Rounds<J> {
+    ghost use Rattle.std.specs.Prelude.{◌++◌, List};
+    ghost use Rattle.ws_isa.specs.Image.{Token as Plain};
+
+    ghost Value = { List Plain };
+
+    ghost view = { λ w. w.round.items ++ w.next.items };
+}
+
+impl<J: Job> Rounds<J> {
+    /// Nothing is on the way.
+    pub fn none(alloc: Global) -> Rounds<J>
+        ensures { result ≡ [] }
+    {
+        Rounds {
+            round: VecDeque::new(alloc),
+            next: VecDeque::new(alloc),
+            wave: 0,
+        }
+    }
+
+    /// Takes the first token. Where none is left of a round, the next one begins.
+    #[inline(always)]
+    pub fn take(&mut self) -> Option<Token<J>>
+        ensures { MatchOption result (self.old ≡ []) (λ token. self.old ≡ token ∷ self.new) }
+    {
+        if self.round.is_empty() {
+            swap(&mut self.round, &mut self.next);
+        }
+        let token = self.round.pop_front()?;
+        self.wave = token.wave();
+        Some(token)
+    }
+
+    // Puts a token on the way.
+    #[inline(always)]
+    fn put(&mut self, token: Token<J>) -> Result<(), NoMemory>
+        ensures { OnOk result (Covers (token ∷ self.old) self.new) }
+    {
+        if token.wave() <= self.wave {
+            push(&mut self.round, token)
+        } else {
+            push(&mut self.next, token)
+        }
+    }
+
+    /// Puts what a buffer answered on the way. Where the buffer is stopped it tells so itself.
+    #[inline(always)]
+    pub fn offer(
+        &mut self,
+        answer: Result<(), BufFault>,
+        answers: &mut BufferAnswers<J>,
+    ) -> Result<(), NoMemory>
+        ensures { OnOk result (IsOffered (with_tokens answers.old answer) self.old self.new) }
+    {
+        match answer {
+            Ok(()) => self.take_all(answers),
+            Err(BufFault::NoMemory) => Err(NoMemory),
+            Err(_) => Ok(()),
+        }
+    }
+
+    /// Puts what an instance sent on the way.
+    #[inline(always)]
+    pub fn send_all(&mut self, sent: &mut Sent<'_, J>) -> Result<(), NoMemory>
+        ensures old { OnOk result (Covers self.old self.new) }
+        ensures taken { OnOk result (Covers sent.old self.new) }
+        ensures none { OnOk result (sent.new ≡ []) }
+    {
+        while let Some(token) = sent.next() {
+            self.put(token)?;
+        }
+        Ok(())
+    }
+
+    /// The token to bring next: the first of what an instance sent, if it is of this round, or else the first
+    /// on the way. The others that it sent are put on the way.
+    #[inline(always)]
+    pub fn follow(&mut self, sent: &mut Sent<'_, J>) -> Result<Option<Token<J>>, NoMemory>
+        ensures next { IfOk result (λ next. MatchOption next ((sent.old ≡ []) × (self.old ≡ []))
+            (λ token. Covers (sent.old ++ self.old) (token ∷ self.new))) }
+        ensures none { OnOk result (sent.new ≡ []) }
+    {
+        let Some(first) = sent.next() else {
+            return Ok(self.take());
+        };
+        if first.wave() > self.wave {
+            self.put(first)?;
+            self.send_all(sent)?;
+            return Ok(self.take());
+        }
+        self.send_all(sent)?;
+        Ok(Some(first))
+    }
+
+    /// Puts all answers of a buffer on the way.
+    #[inline(always)]
+    pub fn take_all(&mut self, answers: &mut BufferAnswers<J>) -> Result<(), NoMemory>
+        ensures old { OnOk result (Covers self.old self.new) }
+        ensures taken { OnOk result (Covers answers.old self.new) }
+    {
+        while let Some(token) = answers.pop() {
+            self.put(token)?;
+        }
+        Ok(())
+    }
+
+    /// Puts all tokens of a list on the way.
+    pub fn pour(&mut self, tokens: TokenList<J>) -> Result<(), NoMemory>
+        ensures { OnOk result (Covers tokens self.new) }
+    {
+        let mut rest = tokens;
+        while let Some(token) = rest.pop() {
+            self.put(token)?;
+        }
+        Ok(())
+    }
+}
+
+// Puts a token behind others.
+#[inline(always)]
+fn push<J: Job>(tokens: &mut VecDeque<Token<J>>, token: Token<J>) -> Result<(), NoMemory>
+    ensures { OnOk result (tokens.new.items ≡ tokens.old.items ++ token ∷ []) }
+{
+    if tokens.len() >= tokens.capacity() {
+        make_room(tokens)?;
+    }
+    tokens.push_back_reserved(token);
+    Ok(())
+}
+
+// Makes room for one token more.
+#[inline(never)]
+fn make_room<J: Job>(tokens: &mut VecDeque<Token<J>>) -> Result<(), NoMemory>
+    ensures same { tokens.new.items ≡ tokens.old.items }
+    ensures room { OnOk result (deque_len tokens.new < deque_capacity tokens.new) }
+{
+    tokens.reserve(1)?;
+    Ok(())
+}
