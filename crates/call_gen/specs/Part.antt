@@ -7,7 +7,6 @@ use Rattle.cfg_core.specs.Graph.{Exit, Goto, Branch, Call, Return, Send, Stop, B
 use Rattle.cfg_core.specs.Graph.{block_at, entry_of}
 use Rattle.cfg_core.specs.Rules.{Leads}
 use Rattle.cfg_core.specs.View as view
-use Rattle.cfg_core.specs.Shows.{TableIs}
 use Rattle.call_gen.specs.Reached.{Enters, Reached}
 use Rattle.call_gen.specs.declared.part.Part.{Part}
 use Rattle.ws_words.specs.Items.{In, flag_at}
@@ -105,7 +104,6 @@ pub record Finding (g : Graph) (flags : List Bool) (waits : List ℕ) : Type 0 w
 
 -- the numbers that the part is made from
 pub record PartIs (part : Part) : Type 0 where
-  pub table : TableIs part.table
   pub count : length part.flags.items ≡ length (spots (view.graph part.table.graph.now))
   pub places : (b : ℕ) → b < length part.flags.items
       → slice_index part.places.items b ≡ before (flag_at part.flags.items) b

@@ -4,7 +4,6 @@ use Rattle.std.specs.Prelude.{◌≡◌, ℕ, ◌+◌, ◌*◌, ◌<◌, ◌^◌
 use Rattle.std.specs.Prelude.{slice_index_or}
 use Rattle.cfg_core.specs.Graph.{Graph, spots, block_at}
 use Rattle.cfg_core.specs.View as view
-use Rattle.cfg_core.specs.Shows.{TableIs}
 use Rattle.call_gen.specs.Spelled.{callee_is, is_called, moved, address, first_cell, cells_in_all}
 use Rattle.call_gen.specs.declared.plan.CallPlan.{CallPlan}
 
@@ -23,7 +22,6 @@ abbrev pub CallPlaced : Graph → ℕ → ℕ → Type 0
 CallPlaced g b n = (f : ℕ) → f < length g.procs → callee_is (block_at g b).exit f ≡ true → n ≡ address g f b
 
 pub record PlanIs (plan : CallPlan) : Type 0 where
-  pub table : TableIs plan.table
   pub few : Few (view.graph plan.table.graph.now)
   pub homes : plan.homes.items ≡ map (λ s. s.home) (spots (view.graph plan.table.graph.now))
   pub count : length plan.places.items ≡ length (spots (view.graph plan.table.graph.now))

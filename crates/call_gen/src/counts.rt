@@ -4,7 +4,6 @@ ghost use Rattle.std.specs.Prelude.{◌≡◌, ◌+◌, ◌≤◌, ◌&&◌, ◌
 ghost use Rattle.cfg_core.specs.Graph.{spots, spot_at, block_at};
 ghost use Rattle.cfg_core.specs.Rules.{calls};
 ghost use Rattle.cfg_core.specs.View as view;
-ghost use Rattle.cfg_core.specs.Shows.{TableIs};
 ghost use Rattle.call_gen.specs.Spelled.{callee_is, callee, count_of, is_call, is_called, is_calling};
 ghost use Rattle.call_gen.specs.Spelled.{address};
 
@@ -31,7 +30,6 @@ fn calls_to(exit: &Leave, f: u32) -> bool
 
 /// Whether the block with this number calls.
 pub(crate) fn calls_at(table: &GraphTable<'_>, b: usize) -> bool
-    requires { TableIs table.now }
     ensures { result ≡ calls (block_at (view.graph table.now.graph.now) b).exit }
 {
     match table.spot(b) {
@@ -42,7 +40,6 @@ pub(crate) fn calls_at(table: &GraphTable<'_>, b: usize) -> bool
 
 /// Whether the block with this number calls this procedure.
 pub(crate) fn calls_to_at(table: &GraphTable<'_>, b: usize, f: u32) -> bool
-    requires { TableIs table.now }
     ensures { result ≡ callee_is (block_at (view.graph table.now.graph.now) b).exit f }
 {
     match table.spot(b) {
@@ -62,7 +59,6 @@ fn callee(exit: &Leave) -> Option<u32>
 
 /// The procedure that the block with this number calls.
 pub(crate) fn callee_at(table: &GraphTable<'_>, b: usize) -> Option<u32>
-    requires { TableIs table.now }
     ensures { result ≡ callee (block_at (view.graph table.now.graph.now) b).exit }
 {
     match table.spot(b) {
@@ -73,8 +69,7 @@ pub(crate) fn callee_at(table: &GraphTable<'_>, b: usize) -> Option<u32>
 
 /// How many of the first so many blocks call this procedure.
 pub(crate) fn calls_before(table: &GraphTable<'_>, count: usize, f: u32) -> usize
-    requires table { TableIs table.now }
-    requires there { count ≤ length (spots (view.graph table.now.graph.now)) }
+    requires { count ≤ length (spots (view.graph table.now.graph.now)) }
     ensures count { result ≡ address (view.graph table.now.graph.now) f count }
     ensures few { result ≤ count }
 {
@@ -87,16 +82,14 @@ pub(crate) fn calls_before(table: &GraphTable<'_>, count: usize, f: u32) -> usiz
 
 /// Whether some block calls this procedure.
 pub(crate) fn is_called(table: &GraphTable<'_>, f: u32) -> bool
-    requires { TableIs table.now }
     ensures { result ≡ is_called (view.graph table.now.graph.now) f }
 {
-    calls_before(table, table.spots.len(), f) > 0
+    calls_before(table, table.block_count(), f) > 0
 }
 
 /// Whether some block of this procedure calls.
 pub(crate) fn is_calling(table: &GraphTable<'_>, homes: &[u32], f: u32) -> bool
-    requires table { TableIs table.now }
-    requires homes { homes.now ≡ map (λ s. s.home) (spots (view.graph table.now.graph.now)) }
+    requires { homes.now ≡ map (λ s. s.home) (spots (view.graph table.now.graph.now)) }
     ensures { result ≡ is_calling (view.graph table.now.graph.now) f }
 {
     let mut found = false;
@@ -109,7 +102,6 @@ pub(crate) fn is_calling(table: &GraphTable<'_>, homes: &[u32], f: u32) -> bool
 // Whether the block with this number, which stands in procedure `home`, calls and is one of
 // procedure f.
 fn calls_in(table: &GraphTable<'_>, b: usize, home: u32, f: u32) -> bool
-    requires { TableIs table.now }
     ensures { result ≡ ((home == f) && calls (block_at (view.graph table.now.graph.now) b).exit) }
 {
     home == f && calls_at(table, b)

@@ -4,7 +4,6 @@ ghost use Rattle.std.specs.Prelude.{◌≡◌, ◌<◌, length, IfOk, OnOk};
 ghost use Rattle.cfg_core.specs.Graph.{block_at};
 ghost use Rattle.cfg_core.specs.Rules.{IsGraph};
 ghost use Rattle.cfg_core.specs.View as view;
-ghost use Rattle.cfg_core.specs.Shows.{TableIs};
 ghost use Rattle.call_gen.specs.Keeps.{NoSend, HasNoSend};
 ghost use Rattle.call_gen.specs.Part.{AreReached, FlagsMore, LeadsOrEnters};
 
@@ -35,8 +34,7 @@ impl Finder {
 
     // Flags the blocks that an exit leads to.
     fn leave(&mut self, table: &GraphTable<'_>, exit: &Leave) -> Result<(), NoMemory>
-        requires table { TableIs table.now }
-        requires no_send { NoSend (view.exit exit.now) }
+        requires { NoSend (view.exit exit.now) }
         ensures { OnOk result (FlagsMore (LeadsOrEnters (view.graph table.now.graph.now) (view.exit exit.now))
             self.old.flags.items self.new.flags.items
             self.old.waits.items self.new.waits.items) }
@@ -59,8 +57,7 @@ impl Finder {
 
     // Flags the blocks that block b leads to.
     fn look(&mut self, table: &GraphTable<'_>, b: usize) -> Result<(), NoMemory>
-        requires table { TableIs table.now }
-        requires no_send { HasNoSend (view.graph table.now.graph.now) }
+        requires { HasNoSend (view.graph table.now.graph.now) }
         ensures { let g = view.graph table.now.graph.now in
             OnOk result (FlagsMore (LeadsOrEnters g (block_at g b).exit)
             self.old.flags.items self.new.flags.items
@@ -75,16 +72,15 @@ impl Finder {
 
 /// Flags of the reached blocks.
 pub(crate) fn find(alloc: Global, table: &GraphTable<'_>) -> Result<Vec<bool>, NoMemory>
-    requires table { TableIs table.now }
     requires rules { IsGraph (view.graph table.now.graph.now) }
     requires no_send { HasNoSend (view.graph table.now.graph.now) }
     ensures { IfOk result (λ flags. AreReached (view.graph table.now.graph.now) flags.items) }
 {
     let mut finder = Finder {
-        flags: vec![in alloc; false; table.spots.len()]?,
+        flags: vec![in alloc; false; table.block_count()]?,
         waits: Vec::new(alloc),
     };
-    finder.mark(table.room(table.rooms.len().saturating_sub(1)).entry)?;
+    finder.mark(table.room(table.proc_count().saturating_sub(1)).entry)?;
     while let Some(b) = finder.waits.pop() {
         finder.look(table, b)?;
     }

@@ -4,7 +4,6 @@ ghost use Rattle.std.specs.Prelude.{◌≡◌, ◌+◌, ◌<◌, ◌≤◌, ◌^
 ghost use Rattle.std.specs.Prelude.{slice_set, replicate, ◌++◌, false, IfOk, OnOk};
 ghost use Rattle.cfg_core.specs.Graph.{spots};
 ghost use Rattle.cfg_core.specs.View as view;
-ghost use Rattle.cfg_core.specs.Shows.{TableIs};
 ghost use Rattle.call_gen.specs.Spelled.{is_called, moved, first_cell, own_cells, cells_in_all};
 ghost use Rattle.call_gen.specs.Plans.{CallPlaced, Few, Tallied};
 
@@ -40,7 +39,6 @@ pub(crate) fn places(
     table: &GraphTable<'_>,
     homes: &[u32],
 ) -> Result<Vec<u32>, NoMemory>
-    requires table { TableIs table.now }
     requires homes { homes.now ≡ map (λ s. s.home) (spots (view.graph table.now.graph.now)) }
     requires few { Few (view.graph table.now.graph.now) }
     ensures count { IfOk result (λ places. length places.items ≡
@@ -78,7 +76,6 @@ fn tally(counts: &mut Vec<u32>, f: u32) -> u32
 // The place of block b's call among those of its callee, where the counts are those of the blocks
 // before it; then they are those of the blocks before the next one.
 fn next_place(counts: &mut Vec<u32>, table: &GraphTable<'_>, b: usize) -> u32
-    requires table { TableIs table.now }
     requires few { Few (view.graph table.now.graph.now) }
     requires there { b < length (spots (view.graph table.now.graph.now)) }
     requires counts { Tallied (view.graph table.now.graph.now) counts.old.items b }
@@ -93,14 +90,13 @@ fn next_place(counts: &mut Vec<u32>, table: &GraphTable<'_>, b: usize) -> u32
 
 /// The place of each block's call among those of its callee.
 pub(crate) fn addresses(alloc: Global, table: &GraphTable<'_>) -> Result<Vec<u32>, NoMemory>
-    requires table { TableIs table.now }
-    requires few { Few (view.graph table.now.graph.now) }
+    requires { Few (view.graph table.now.graph.now) }
     ensures { IfOk result (λ list. (b : ℕ) → b < length (spots (view.graph table.now.graph.now)) →
         CallPlaced (view.graph table.now.graph.now) b (slice_index list.items b)) }
 {
-    let mut counts = vec![in alloc; 0; table.rooms.len()]?;
+    let mut counts = vec![in alloc; 0; table.proc_count()]?;
     let mut list = Vec::new(alloc);
-    for b in 0..table.spots.len() {
+    for b in 0..table.block_count() {
         list.push(next_place(&mut counts, table, b))?;
     }
     Ok(list)
@@ -108,13 +104,12 @@ pub(crate) fn addresses(alloc: Global, table: &GraphTable<'_>) -> Result<Vec<u32
 
 /// Whether each procedure is called.
 pub(crate) fn called(alloc: Global, table: &GraphTable<'_>) -> Result<Vec<bool>, NoMemory>
-    requires table { TableIs table.now }
-    requires few { Few (view.graph table.now.graph.now) }
+    requires { Few (view.graph table.now.graph.now) }
     ensures { IfOk result (λ flags. (f : ℕ) → f < length (view.graph table.now.graph.now).procs →
         slice_index_or flags.items f false ≡ is_called (view.graph table.now.graph.now) f) }
 {
     let mut flags = Vec::new(alloc);
-    for f in 0..table.rooms.len() as u32 {
+    for f in 0..table.proc_count() as u32 {
         flags.push(is_called(table, f))?;
     }
     Ok(flags)
@@ -126,7 +121,6 @@ pub(crate) fn cells(
     table: &GraphTable<'_>,
     homes: &[u32],
 ) -> Result<(Vec<u64>, u64), NoMemory>
-    requires table { TableIs table.now }
     requires homes { homes.now ≡ map (λ s. s.home) (spots (view.graph table.now.graph.now)) }
     requires few { Few (view.graph table.now.graph.now) }
     ensures cells { IfOk result (λ made.
@@ -137,7 +131,7 @@ pub(crate) fn cells(
 {
     let mut starts = Vec::new(alloc);
     let mut total: u64 = 0;
-    for f in 0..table.rooms.len() as u32 {
+    for f in 0..table.proc_count() as u32 {
         starts.push(total)?;
         total = sum(total, own(table, homes, f))?;
     }
@@ -145,8 +139,7 @@ pub(crate) fn cells(
 }
 
 fn own(table: &GraphTable<'_>, homes: &[u32], f: u32) -> u64
-    requires table { TableIs table.now }
-    requires homes { homes.now ≡ map (λ s. s.home) (spots (view.graph table.now.graph.now)) }
+    requires { homes.now ≡ map (λ s. s.home) (spots (view.graph table.now.graph.now)) }
     ensures cells { result ≡ own_cells (view.graph table.now.graph.now) f }
     ensures some { result ≤ 2 ^ 32 }
 {

@@ -2,7 +2,6 @@
 
 ghost use Rattle.std.specs.Prelude.{◌≡◌, ◌+◌, ◌<◌, ℕ, length, slice_index, IfOk};
 ghost use Rattle.cfg_core.specs.View as view;
-ghost use Rattle.cfg_core.specs.Shows.{TableIs};
 ghost use Rattle.call_gen.specs.Part.{before, number};
 ghost use Rattle.ws_words.specs.Items.{flag_at};
 
@@ -44,7 +43,6 @@ pub(crate) fn numbers(
     table: &GraphTable<'_>,
     flags: &[bool],
 ) -> Result<Vec<usize>, NoMemory>
-    requires { TableIs table.now }
     ensures { IfOk result (λ numbers. (f : ℕ) →
         f < length (view.graph table.now.graph.now).procs →
         slice_index numbers.items f ≡
@@ -52,7 +50,7 @@ pub(crate) fn numbers(
 {
     let mut numbers = Vec::new(alloc);
     let mut count = 0;
-    for f in 0..table.rooms.len() {
+    for f in 0..table.proc_count() {
         numbers.push(count)?;
         count += one_if(flag(flags, table.room(f).entry));
     }

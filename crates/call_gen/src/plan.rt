@@ -5,7 +5,6 @@ ghost use Rattle.std.specs.Prelude.{OnOk};
 ghost use Rattle.cfg_core.specs.Graph.{spots};
 ghost use Rattle.cfg_core.specs.Rules.{IsGraph};
 ghost use Rattle.cfg_core.specs.View as view;
-ghost use Rattle.cfg_core.specs.Shows.{TableIs};
 ghost use Rattle.call_gen.specs.Spelled.{is_called, moved, door, landings, address, first_cell, cell};
 ghost use Rattle.call_gen.specs.Spelled.{array_of, index_of};
 ghost use Rattle.call_gen.specs.Plans.{Few, PlanIs};
@@ -45,13 +44,12 @@ pub(crate) struct CellPlace {
 }
 
 fn is_few(table: &GraphTable<'_>) -> bool
-    requires { TableIs table.now }
     ensures { IsTrue result → Few (view.graph table.now.graph.now) }
 {
-    if table.spots.len() >= MOST {
+    if table.block_count() >= MOST {
         return false;
     }
-    if table.rooms.len() >= MOST {
+    if table.proc_count() >= MOST {
         return false;
     }
     table.graph.arrays.len() < MOST

@@ -4,18 +4,18 @@ use Rattle.std.proofs.Common.{◌++◌, zero, ◌≤◌, ◌+◌, Bool, true, fa
 use Rattle.std.proofs.lemmas.List.{length-map, length-set}
 use Rattle.cfg_core.specs.Graph.{spots, Term, Spot, no_spot, Block, spots_in, Graph, GraphProc, spot_at}
 use Rattle.cfg_core.specs.View as view
-use Rattle.cfg_core.specs.Shows.{TableIs, spot_in_code, spot_in_graph, rooms_from}
+use Rattle.cfg_core.specs.Listed.{spot_in_code, spot_in_graph, rooms_from}
 use Rattle.cfg_core.specs.declared.table.GraphTable.{GraphTable}
 use Rattle.cfg_core.specs.Walk.{landed, values}
 use Rattle.std.specs.List.{AllByRecursion, filter}
 use Rattle.ws_words.specs.Items.{nth, or_else, In}
 use Rattle.cfg_core.specs.Rules.{BlockNumbers, IsGraph}
 
-pub count_is : (table : GraphTable) → TableIs table → length table.spots.items
+pub count_is : (table : GraphTable) → length table.spots.items
     ≡ length (spots (view.graph table.graph.now))
-count_is table h =
+count_is table =
     let e : length (map spot_in_code table.spots.items) ≡ length
-    (map spot_in_graph (spots (view.graph table.graph.now))) = ap length h.spots in
+    (map spot_in_graph (spots (view.graph table.graph.now))) = ap length table.spots_listed in
     omega (
       arith,
       e,
@@ -85,9 +85,9 @@ rooms_count : (first : ℕ) (procs : List GraphProc) → length (rooms_from firs
 rooms_count first [] = refl
 rooms_count first (p ∷ procs) = ap suc (rooms_count (first + length p.blocks) procs)
 
-pub rooms_are : (table : GraphTable) → TableIs table → length table.rooms.items
+pub rooms_are : (table : GraphTable) → length table.rooms.items
     ≡ length (view.graph table.graph.now).procs
-rooms_are table h = ap length h.rooms ∙ rooms_count 0 (view.graph table.graph.now).procs
+rooms_are table = ap length table.rooms_listed ∙ rooms_count 0 (view.graph table.graph.now).procs
 
 -- what is kept of all items is kept of the one at a place, and of what stands for one that isn't there
 pub each_at : {A : Type 0} (P : A → Type 0) (xs : List A) (none : A) → AllByRecursion P xs → P none → (k : ℕ)

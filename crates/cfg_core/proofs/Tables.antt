@@ -5,7 +5,8 @@ use Rattle.std.proofs.lemmas.List.{length-map}
 use Rattle.cfg_core.specs.Graph as plain
 use Rattle.cfg_core.specs.Graph.{Block, no_spot, no_proc, spots_in, spots_from, entry_from}
 use Rattle.cfg_core.specs.View as view
-use Rattle.cfg_core.specs.Shows.{SpotIs, spot_in_code, spot_in_graph, rooms_from}
+use Rattle.cfg_core.specs.Listed.{spot_in_code, spot_in_graph, rooms_from}
+use Rattle.cfg_core.specs.Shows.{SpotIs}
 use Rattle.cfg_core.specs.declared.blocks.GraphBlock.{GraphBlock}
 use Rattle.cfg_core.specs.declared.blocks.GraphProc.{GraphProc}
 use Rattle.cfg_core.specs.declared.table.Spot.{Spot}

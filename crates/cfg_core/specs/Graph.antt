@@ -11,6 +11,7 @@ pub data Term : Type 0 where
   Not : (t : Term) → Term
   Neg : (t : Term) → Term
   Binary : (op : Alu) (a b : Term) → Term
+  deriving IsSet as Term-set
 
 pub data Op : Type 0 where
   Assign : (x : ℕ) (t : Term) → Op
@@ -22,6 +23,7 @@ pub data Op : Type 0 where
   Choose : (x : ℕ) (test a b : Term) → Op
   Tick : (n : ℕ) → Op
   TickBy : (test : Term) (n m : ℕ) → Op
+  deriving IsSet as Op-set
 
 pub data Exit : Type 0 where
   Goto : (b : ℕ) → Exit
@@ -30,6 +32,7 @@ pub data Exit : Type 0 where
   Return : (t : Term) → Exit
   Send : (address : Term) (values : List Term) (landings : List ℕ) → Exit
   Stop : Exit
+  deriving IsSet as Exit-set
 
 -- `named` are the variables that a Send into this block fills
 pub record Block : Type 0 where

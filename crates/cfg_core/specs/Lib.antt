@@ -4,6 +4,7 @@ pub mod Rules
 pub mod Edges
 pub mod Shown
 pub mod View
+pub mod Listed
 pub mod Shows
 pub mod Answer
 pub mod Samples

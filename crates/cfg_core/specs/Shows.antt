@@ -1,19 +1,16 @@
 -- What the code holds of a graph and of its walk.
-use Rattle.std.specs.Prelude.{◌≡◌, ℕ, ◌+◌, Bool, true, false, List, [], ◌∷◌, map, length, if◌then◌else◌}
+use Rattle.std.specs.Prelude.{◌≡◌, ℕ, Bool, true, false, List, [], ◌∷◌, if◌then◌else◌}
 use Rattle.std.specs.Prelude.{slice_get}
 use Rattle.std.specs.Option.{option_to_list}
 use Rattle.ws_words.specs.Outside.{ProcState}
 use Rattle.ws_words.specs.Memory.{OutIs}
 use Rattle.cfg_core.specs.Graph as plain
-use Rattle.cfg_core.specs.Graph.{Block, GraphProc, spots}
 use Rattle.cfg_core.specs.View as view
 use Rattle.cfg_core.specs.Shown.{has_name}
 use Rattle.cfg_core.specs.Walk as walks
 use Rattle.cfg_core.specs.Walk.{OpsOutcome, Done, Out, Config, At, Over, Going}
 use Rattle.cfg_core.specs.declared.blocks.Term.{Term}
 use Rattle.cfg_core.specs.declared.table.Spot.{Spot}
-use Rattle.cfg_core.specs.declared.table.Room.{Room}
-use Rattle.cfg_core.specs.declared.table.GraphTable.{GraphTable}
 use Rattle.cfg_core.specs.declared.walker.Frame.{Frame}
 use Rattle.cfg_core.specs.declared.walker.Walker.{Walker}
 use Rattle.cfg_core.specs.declared.walker.Pace.{Pace}
@@ -25,25 +22,6 @@ use Rattle.cfg_core.specs.declared.exits.Next.TheVariants as next
 pub record SpotIs (plain : plain.Spot) (spot : Spot) : Type 0 where
   pub vars : plain.vars ≡ spot.vars
   pub block : plain.block ≡ view.block spot.block.now
-
-abbrev pub spot_in_code : Spot → ℕ × Block
-spot_in_code s = (s.vars, view.block s.block.now)
-
-abbrev pub spot_in_graph : plain.Spot → ℕ × Block
-spot_in_graph s = (s.vars, s.block)
-
--- the entry, parameters and variables of procedures, the first of which begins at this block
-abbrev pub rooms_from : ℕ → List GraphProc → List Room
-rooms_from first [] = []
-rooms_from first (p ∷ procs) =
-    record { entry = first; params = p.params; vars = p.vars }
-    ∷ rooms_from (first + length p.blocks) procs
-
--- the table is that of its graph
-pub record TableIs (table : GraphTable) : Type 0 where
-  pub spots : map spot_in_code table.spots.items ≡
-      map spot_in_graph (spots (view.graph table.graph.now))
-  pub rooms : table.rooms.items ≡ rooms_from 0 (view.graph table.graph.now).procs
 
 -- the frames of the code, the last first, before others
 abbrev pub stacked : List Frame → List walks.Frame → List walks.Frame

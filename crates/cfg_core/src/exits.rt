@@ -5,7 +5,7 @@ ghost use Rattle.ws_words.specs.Outside.{zeros};
 ghost use Rattle.cfg_core.specs.Graph as plain;
 ghost use Rattle.cfg_core.specs.Walk as walks;
 ghost use Rattle.cfg_core.specs.View as view;
-ghost use Rattle.cfg_core.specs.Shows.{Moved, TableIs, comes_back, passes};
+ghost use Rattle.cfg_core.specs.Shows.{Moved, comes_back, passes};
 
 use crate::blocks::Leave;
 use crate::table::{GraphTable, Room};
@@ -31,7 +31,6 @@ impl<'a> Walker<'a> {
         table: &GraphTable<'_>,
         b: usize,
     ) -> Result<Next, NoMemory>
-        requires { TableIs table.now }
         ensures { let g = view.graph table.now.graph.now in
             IfOk result (λ next. Moved (passes g b) self.old next self.new) }
     {
@@ -53,7 +52,6 @@ impl<'a> Walker<'a> {
         table: &GraphTable<'_>,
         exit: &Leave,
     ) -> Result<Next, NoMemory>
-        requires { TableIs table.now }
         ensures { let way = walks.leave (view.graph table.now.graph.now) (view.exit exit.now) in
             IfOk result (λ next. Moved way self.old next self.new) }
     {
@@ -150,7 +148,6 @@ fn choose(address: u64, landings: &[u32]) -> u32
 
 // The variables at a landing: the words in those that it names, and 0 in all others.
 fn land(alloc: Global, table: &GraphTable<'_>, b: usize, words: &Words) -> Result<Words, NoMemory>
-    requires { TableIs table.now }
     ensures { let spot = plain.spot_at (view.graph table.now.graph.now) b in
         IfOk result (λ vars. vars ≡ walks.landed spot.block.named words.now (zeros spot.vars)) }
 {

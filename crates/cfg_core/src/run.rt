@@ -8,7 +8,7 @@ ghost use Rattle.cfg_core.specs.View as view;
 ghost use Rattle.cfg_core.specs.Rules.{IsGraph};
 ghost use Rattle.cfg_core.specs.Shown.{shown_cells};
 ghost use Rattle.cfg_core.specs.Answer.{EndsInTurns, GoesSo};
-ghost use Rattle.cfg_core.specs.Shows.{Shows, Held, TableIs, Walked, shown_at};
+ghost use Rattle.cfg_core.specs.Shows.{Shows, Held, Walked, shown_at};
 
 use crate::blocks::{Graph, GraphArray};
 use crate::exits::Next;
@@ -55,7 +55,6 @@ fn walk(
     walker: &mut Walker<'_>,
     start: usize,
 ) -> Result<bool, NoMemory>
-    requires table { TableIs table.now }
     requires rules { IsGraph (view.graph table.now.graph.now) }
     requires held { Held walker.old }
     ensures { let g = view.graph table.now.graph.now in

@@ -1,9 +1,9 @@
 //! The blocks and procedures of a graph by number.
 
-ghost use Rattle.std.specs.Prelude.{◌≡◌, ◌++◌, map, IfOk, OnOk, MatchOption};
-ghost use Rattle.cfg_core.specs.Graph.{no_spot, spot_at, proc_at, entry_of};
+ghost use Rattle.std.specs.Prelude.{◌≡◌, ◌<◌, ◌++◌, map, length, IfOk, OnOk, MatchOption};
+ghost use Rattle.cfg_core.specs.Graph.{no_spot, spots, spot_at, proc_at, entry_of};
 ghost use Rattle.cfg_core.specs.View as view;
-ghost use Rattle.cfg_core.specs.Shows.{TableIs, SpotIs, spot_in_code};
+ghost use Rattle.cfg_core.specs.Listed.{ListsSpots, ListsRooms, lists_spots-prop, spot_in_code};
 
 use crate::blocks::{Graph, GraphBlock, GraphProc};
 use std::alloc::Global;
@@ -28,15 +28,18 @@ pub struct Room {
 #[derive(Drop)]
 pub struct GraphTable<'a> {
     pub graph: &'a Graph,
-    pub spots: Vec<Spot<'a>>,
-    pub rooms: Vec<Room>,
+    spots: Vec<Spot<'a>>,
+    rooms: Vec<Room>,
+    ghost spots_listed: { ListsSpots graph.now spots.items } by { lists_spots-prop graph.now spots.items },
+    ghost rooms_listed: { ListsRooms graph.now rooms.items },
 }
 
 impl<'a> GraphTable<'a> {
+    ghost use Rattle.cfg_core.specs.Shows.{SpotIs};
+
     /// The table of a graph.
     pub fn of(alloc: Global, graph: &'a Graph) -> Result<GraphTable<'a>, NoMemory>
-        ensures graph { IfOk result (λ table. table.graph.now ≡ graph.now) }
-        ensures table { IfOk result (λ table. TableIs table) }
+        ensures { IfOk result (λ table. table.graph.now ≡ graph.now) }
     {
         let mut spots = Vec::new(alloc);
         let mut rooms = Vec::new(alloc);
@@ -55,9 +58,30 @@ impl<'a> GraphTable<'a> {
         })
     }
 
+    /// How many blocks there are.
+    pub fn block_count(&self) -> usize
+        ensures { result ≡ length (spots (view.graph self.now.graph.now)) }
+    {
+        self.spots.len()
+    }
+
+    /// How many procedures there are.
+    pub fn proc_count(&self) -> usize
+        ensures { result ≡ length (view.graph self.now.graph.now).procs }
+    {
+        self.rooms.len()
+    }
+
+    /// The block with this number, which is there.
+    pub fn spot_there(&self, b: usize) -> Spot<'a>
+        requires { b < length (spots (view.graph self.now.graph.now)) }
+        ensures { SpotIs (spot_at (view.graph self.now.graph.now) b) result }
+    {
+        self.spots[b]
+    }
+
     /// The block with this number.
     pub fn spot(&self, b: usize) -> Option<Spot<'a>>
-        requires { TableIs self.now }
         ensures { let spot = spot_at (view.graph self.now.graph.now) b in
             MatchOption result (spot ≡ no_spot) (SpotIs spot) }
     {
@@ -69,7 +93,6 @@ impl<'a> GraphTable<'a> {
 
     /// The procedure with this number; past the last one it has no blocks and no variables.
     pub fn room(&self, f: usize) -> Room
-        requires { TableIs self.now }
         ensures entry { result.entry ≡ entry_of (view.graph self.now.graph.now) f }
         ensures params { result.params ≡ (proc_at (view.graph self.now.graph.now) f).params }
         ensures vars { result.vars ≡ (proc_at (view.graph self.now.graph.now) f).vars }

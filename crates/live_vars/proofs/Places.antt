@@ -1,42 +1,25 @@
 -- Blocks by number, in the graph and in its table.
-use Rattle.std.proofs.Common.{ℕ, ◌+◌, ◌≡◌, ◌<◌, ◌≤◌, List, length, slice_index_or, sym, ap, subst, inl, inr}
+use Rattle.std.proofs.Common.{ℕ, ◌+◌, ◌≡◌, ◌<◌, ◌≤◌, List, length, sym, ap, subst, inl, inr}
 use Rattle.std.proofs.Common.{arith}
 use Rattle.std.proofs.lemmas.Bool.{cases_lt}
 use Rattle.cfg_core.specs.Graph.{Spot, no_spot, spots, spot_at, Graph, block_at}
-use Rattle.cfg_core.specs.View as view
-use Rattle.cfg_core.specs.Shows.{TableIs}
-use Rattle.cfg_core.specs.declared.table.GraphTable.{GraphTable}
-use Rattle.cfg_core.specs.declared.table.Spot as code
-use Rattle.cfg_core.proofs.Tables.{spot_in, spot_past}
 use Rattle.live_vars.specs.Live.{Live, reads, passes, ReadsFirst, Carries}
 use Rattle.live_vars.specs.Marks.{Marks}
 use Rattle.live_vars.specs.Found.{Writes, Carried}
 use Rattle.live_vars.proofs.Bits.{marks_none}
 use Rattle.cfg_core.proofs.Spots.{spot_beyond}
 
-pub vars_in : (table : GraphTable) (b : ℕ) (x : code.Spot) → TableIs table → b < length table.spots.items
-    → x ≡ slice_index_or table.spots.items b x → (spot_at (view.graph table.graph.now) b).vars ≡ x.vars
-unfolding spot_at
-vars_in table b x h lt e =
-    (spot_in table.spots.items (spots (view.graph table.graph.now)) b x h.spots lt e).vars
-
-pub vars_more : (table : GraphTable) (i m n : ℕ) (x : code.Spot) → TableIs table
-    → i < length table.spots.items → x ≡ slice_index_or table.spots.items i x
-    → ((b : ℕ) → b < i → (spot_at (view.graph table.graph.now) b).vars ≤ m) → m ≤ n → x.vars ≤ n → (b : ℕ)
-    → b < i + 1 → (spot_at (view.graph table.graph.now) b).vars ≤ n
-vars_more table i m n x h lt e all le fits b below = elim (cases_lt b i) [
+pub vars_more : (g : Graph) (i m n : ℕ) → ((b : ℕ) → b < i → (spot_at g b).vars ≤ m) → m ≤ n
+    → (spot_at g i).vars ≤ n → (b : ℕ) → b < i + 1 → (spot_at g b).vars ≤ n
+vars_more g i m n all le fits b below = elim (cases_lt b i) [
   | inl before ↦ omega (arith, all b before)
   | inr from ↦
-      let is : b ≡ i = omega arith in
-      subst (λ k. (spot_at (view.graph table.graph.now) k).vars ≤ n) (sym is)
-      (omega (arith, vars_in table i x h lt e))
+      let is : b ≡ i = omega arith in subst (λ k. (spot_at g k).vars ≤ n) (sym is) fits
 ]
 
-pub vars_beyond : (table : GraphTable) (b : ℕ) → TableIs table → length table.spots.items ≤ b
-    → (spot_at (view.graph table.graph.now) b).vars ≡ 0
-unfolding spot_at no_spot
-vars_beyond table b h le =
-    ap (λ (s : Spot). s.vars) (spot_past table.spots.items (spots (view.graph table.graph.now)) b h.spots le)
+pub vars_beyond : (g : Graph) (b : ℕ) → length (spots g) ≤ b → (spot_at g b).vars ≡ 0
+unfolding no_spot
+vars_beyond g b le = ap (λ (s : Spot). s.vars) (spot_beyond g b le)
 
 nothing_read : (s : Spot) (x : ℕ) → s ≡ no_spot → ReadsFirst s.block.ops s.block.exit x → ⊥
 unfolding no_spot

@@ -3,7 +3,6 @@
 ghost use Rattle.std.specs.Prelude.{◌≡◌, map};
 ghost use Rattle.cfg_core.specs.Graph.{block_at};
 ghost use Rattle.cfg_core.specs.View as view;
-ghost use Rattle.cfg_core.specs.Shows.{TableIs};
 ghost use Rattle.live_vars.specs.Live.{ReadsFirst};
 ghost use Rattle.live_vars.specs.Marks.{Marks};
 ghost use Rattle.live_vars.specs.Found.{Writes};
@@ -38,7 +37,6 @@ fn uses_of(block: &GraphBlock, low: u32) -> Uses
 
 /// The same of the block with this number.
 pub(crate) fn uses_at(table: &GraphTable<'_>, b: usize, low: u32) -> Uses
-    requires { TableIs table.now }
     ensures reads { let block = block_at (view.graph table.now.graph.now) b in
         Marks low result.reads (ReadsFirst block.ops block.exit) }
     ensures writes { let block = block_at (view.graph table.now.graph.now) b in

@@ -5,7 +5,6 @@ ghost use Rattle.std.specs.Prelude.{◌≡◌, ◌<◌, ℕ, IfOk, length};
 ghost use Rattle.std.specs.Bool.{MatchBool};
 ghost use Rattle.cfg_core.specs.Graph.{spots, block_at};
 ghost use Rattle.cfg_core.specs.View as view;
-ghost use Rattle.cfg_core.specs.Shows.{TableIs};
 ghost use Rattle.live_vars.specs.Marks.{Marks};
 ghost use Rattle.live_vars.specs.Found.{Flows, ClosedAt, ClosedFrom, IsPlane, Carried, room};
 
@@ -16,12 +15,11 @@ use ws_words::{NoMemory, Words};
 
 /// The words of all blocks.
 pub(crate) fn plane(alloc: Global, table: &GraphTable<'_>, low: u32) -> Result<Words, NoMemory>
-    requires { TableIs table.now }
     ensures { IfOk result (λ words. IsPlane (view.graph table.now.graph.now) low words) }
 {
     let mut live = Words::empty(alloc);
     let mut writes = Words::empty(alloc);
-    for b in 0..table.spots.len() {
+    for b in 0..table.block_count() {
         let uses = uses_at(table, b, low);
         live.push(uses.reads)?;
         writes.push(uses.writes)?;
@@ -32,8 +30,7 @@ pub(crate) fn plane(alloc: Global, table: &GraphTable<'_>, low: u32) -> Result<W
 
 // Passes over all blocks until nothing changes.
 fn settle(table: &GraphTable<'_>, low: u32, writes: &Words, live: &mut Words)
-    requires table { TableIs table.now }
-    requires flows { Flows (view.graph table.now.graph.now) low writes.now live.old }
+    requires { Flows (view.graph table.now.graph.now) low writes.now live.old }
     ensures flows { Flows (view.graph table.now.graph.now) low writes.now live.new }
     ensures closed { ClosedFrom (view.graph table.now.graph.now) low live.new 0 }
 {
@@ -46,8 +43,7 @@ fn settle(table: &GraphTable<'_>, low: u32, writes: &Words, live: &mut Words)
 
 // Visits each block, the last one first, and says whether a word changed.
 fn pass(table: &GraphTable<'_>, low: u32, writes: &Words, live: &mut Words) -> bool
-    requires table { TableIs table.now }
-    requires flows { Flows (view.graph table.now.graph.now) low writes.now live.old }
+    requires { Flows (view.graph table.now.graph.now) low writes.now live.old }
     ensures flows { Flows (view.graph table.now.graph.now) low writes.now live.new }
     ensures progress { MatchBool result (room live.new < room live.old)
         (ClosedFrom (view.graph table.now.graph.now) low live.new 0) }
@@ -65,7 +61,6 @@ fn pass(table: &GraphTable<'_>, low: u32, writes: &Words, live: &mut Words) -> b
 
 // What is live after a block and not written in it is live at its start. Says whether that is new.
 fn visit(table: &GraphTable<'_>, low: u32, writes: &Words, live: &mut Words, b: usize) -> bool
-    requires table { TableIs table.now }
     requires flows { Flows (view.graph table.now.graph.now) low writes.now live.old }
     requires there { b < length (spots (view.graph table.now.graph.now)) }
     ensures flows { Flows (view.graph table.now.graph.now) low writes.now live.new }
@@ -80,7 +75,6 @@ fn visit(table: &GraphTable<'_>, low: u32, writes: &Words, live: &mut Words, b: 
 
 // What is live after the block with this number.
 fn onward(table: &GraphTable<'_>, live: &Words, b: usize) -> u64
-    requires { TableIs table.now }
     ensures { (low : ℕ) →
         Marks low result (Carried (block_at (view.graph table.now.graph.now) b).exit low live.now) }
 {

@@ -4,7 +4,6 @@ ghost use Rattle.std.specs.Prelude.{◌≡◌, ◌+◌, ◌<◌, false, None, So
 ghost use Rattle.cfg_core.specs.Graph.{block_at};
 ghost use Rattle.cfg_core.specs.View as view;
 ghost use Rattle.cfg_core.specs.Weights.{term_nodes};
-ghost use Rattle.cfg_core.specs.Shows.{TableIs};
 ghost use Rattle.phi_conv.specs.Short as short;
 ghost use Rattle.phi_conv.specs.Found.{ArmIs, LoneArmIs, FoundIs};
 
@@ -140,7 +139,6 @@ fn is_arm(block: &GraphBlock, j: u32) -> bool
 
 // The operations of block b, if it is an arm that goes on to j.
 fn arm_to<'a>(table: &GraphTable<'a>, b: u32, j: u32) -> Option<&'a [GraphOp]>
-    requires { TableIs table.now }
     ensures { let block = block_at (view.graph table.now.graph.now) b in
         MatchOption result (short.is_arm block j ≡ false)
         (λ ops. ArmIs block j (map view.op ops.now)) }
@@ -159,7 +157,6 @@ fn arm_to<'a>(table: &GraphTable<'a>, b: u32, j: u32) -> Option<&'a [GraphOp]>
 
 // The same, if it is small enough beside no other arm.
 fn lone_arm<'a>(table: &GraphTable<'a>, b: u32, j: u32) -> Option<&'a [GraphOp]>
-    requires { TableIs table.now }
     ensures { let block = block_at (view.graph table.now.graph.now) b in
         MatchOption result (short.is_lone_arm block j ≡ false)
         (λ ops. LoneArmIs block j (map view.op ops.now)) }
@@ -172,7 +169,6 @@ fn lone_arm<'a>(table: &GraphTable<'a>, b: u32, j: u32) -> Option<&'a [GraphOp]>
 
 // The block that block b goes on to alone.
 fn goal(table: &GraphTable<'_>, b: u32) -> Option<u32>
-    requires { TableIs table.now }
     ensures { result ≡ short.goal (block_at (view.graph table.now.graph.now) b).exit }
 {
     match table.spot(b as usize) {
@@ -186,7 +182,6 @@ fn goal(table: &GraphTable<'_>, b: u32) -> Option<u32>
 
 // The branch whose arms are both blocks.
 fn two_arms<'a>(table: &GraphTable<'a>, test: &'a Term, c: u32, d: u32) -> Option<ShortBranch<'a>>
-    requires { TableIs table.now }
     ensures { let g = view.graph table.now.graph.now in
         let found = short.two_arms g (view.term test.now) c d (short.goal (block_at g c).exit) in
         FoundIs found result }
@@ -217,7 +212,6 @@ fn two_arms<'a>(table: &GraphTable<'a>, test: &'a Term, c: u32, d: u32) -> Optio
 
 // The branch to blocks c and d, if it is short.
 fn short_to<'a>(table: &GraphTable<'a>, test: &'a Term, c: u32, d: u32) -> Option<ShortBranch<'a>>
-    requires { TableIs table.now }
     ensures { let g = view.graph table.now.graph.now in
         FoundIs (short.short_to g (view.term test.now) c d) result }
 {
@@ -250,7 +244,6 @@ fn short_to<'a>(table: &GraphTable<'a>, test: &'a Term, c: u32, d: u32) -> Optio
 
 /// The short branch that an exit is, if it is one.
 pub(crate) fn short<'a>(table: &GraphTable<'a>, exit: &'a Leave) -> Option<ShortBranch<'a>>
-    requires { TableIs table.now }
     ensures { let g = view.graph table.now.graph.now in
         FoundIs (short.short g (view.exit exit.now)) result }
 {

@@ -6,7 +6,6 @@ ghost use Rattle.cfg_core.specs.Shape.{ArmsAlone};
 ghost use Rattle.cfg_core.specs.Shown.{SameWalks, SameArrays};
 ghost use Rattle.cfg_core.specs.View as view;
 ghost use Rattle.cfg_core.specs.Weights.{TwoBlocksATurn, TurnsPayWork};
-ghost use Rattle.cfg_core.specs.Shows.{TableIs};
 ghost use Rattle.live_vars.specs.Marks.{AreLive};
 ghost use Rattle.phi_conv.specs.Joined as joined;
 ghost use Rattle.phi_conv.specs.Keeps.{ExitsKept, NoCopyLive, PassesNoMore, ShortJoined, SizesKept};
@@ -30,8 +29,7 @@ fn joined_block(
     vars: u32,
     block: &GraphBlock,
 ) -> Result<GraphBlock, NoMemory>
-    requires table { TableIs table.now }
-    requires room { joined.more_vars vars < 2 ^ 32 }
+    requires { joined.more_vars vars < 2 ^ 32 }
     ensures { let g = view.graph table.now.graph.now in let block = view.block block.now in
         IfOk result (λ made. view.block made ≡ joined.joined_block g live.now vars block) }
 {
@@ -71,7 +69,6 @@ fn joined_proc(
     live: &LiveSets,
     proc: &GraphProc,
 ) -> Result<GraphProc, NoMemory>
-    requires { TableIs table.now }
     ensures { let g = view.graph table.now.graph.now in
         IfOk result (λ made. view.proc made ≡ joined.joined_proc g live.now (view.proc proc.now)) }
 {
@@ -92,7 +89,6 @@ fn joined_procs(
     table: &GraphTable<'_>,
     live: &LiveSets,
 ) -> Result<GraphProcs, NoMemory>
-    requires { TableIs table.now }
     ensures { let g = view.graph table.now.graph.now in let proc = joined.joined_proc g live.now in
         IfOk result (λ procs. map view.proc procs.items ≡ map proc g.procs) }
 {
@@ -104,7 +100,6 @@ fn joined_procs(
 }
 
 fn joined_graph(alloc: Global, table: &GraphTable<'_>, live: &LiveSets) -> Result<Graph, NoMemory>
-    requires { TableIs table.now }
     ensures { let g = view.graph table.now.graph.now in
         IfOk result (λ made. view.graph made ≡ joined.joined g live.now) }
 {

@@ -4,7 +4,6 @@
 ghost use Rattle.std.specs.Prelude.{◌≡◌, ◌≤◌, ◌<◌, ◌↔◌, ℕ, true, length, slice_set, IfOk};
 ghost use Rattle.cfg_core.specs.Graph.{spots, block_at};
 ghost use Rattle.cfg_core.specs.View as view;
-ghost use Rattle.cfg_core.specs.Shows.{TableIs};
 ghost use Rattle.wave_cut.specs.Cut.{BeginsWave};
 ghost use Rattle.wave_cut.specs.Cutting.{Set, Marked, Says};
 ghost use Rattle.ws_words.specs.Items.{In};
@@ -16,16 +15,15 @@ use ws_words::NoMemory;
 
 /// For each block whether a wave begins there whatever waves there are.
 pub(crate) fn begins(alloc: Global, table: &GraphTable<'_>) -> Result<Vec<bool>, NoMemory>
-    requires { TableIs table.now }
     ensures count { IfOk result (λ flags. length flags.items ≡
         length (spots (view.graph table.now.graph.now))) }
     ensures begins { IfOk result (λ flags.
         (b : ℕ) → b < length (spots (view.graph table.now.graph.now)) →
         Set flags.items b ↔ BeginsWave (view.graph table.now.graph.now) b) }
 {
-    let count = table.spots.len();
+    let count = table.block_count();
     let mut flags = vec![in alloc; false; count]?;
-    for f in 0..table.rooms.len() {
+    for f in 0..table.proc_count() {
         set_flag(&mut flags, table.room(f).entry);
     }
     for b in 0..count {
@@ -36,7 +34,6 @@ pub(crate) fn begins(alloc: Global, table: &GraphTable<'_>) -> Result<Vec<bool>,
 
 // The blocks of which the block with this number says that a wave begins there.
 fn mark_at(table: &GraphTable<'_>, flags: &mut Vec<bool>, b: usize)
-    requires { TableIs table.now }
     ensures { Marked (Says (block_at (view.graph table.now.graph.now) b).exit b) flags.old.items
         flags.new.items }
 {

@@ -3,7 +3,6 @@
 ghost use Rattle.std.specs.Prelude.{◌≡◌, ◌+◌, ◌++◌, ◌∷◌, [], ◌<◌, ◌^◌, IfOk, OnOk, true, length, slice_set};
 ghost use Rattle.cfg_core.specs.Graph.{spots, block_at};
 ghost use Rattle.cfg_core.specs.View as view;
-ghost use Rattle.cfg_core.specs.Shows.{TableIs};
 ghost use Rattle.wave_cut.specs.Cutting.{Cutting, number, heads_with, left_begins, left_from, entered_begins};
 ghost use Rattle.wave_cut.specs.Cutting.{entered_from};
 
@@ -23,7 +22,6 @@ pub(crate) struct Cutter {
 impl Cutter {
     /// The wave of one block more, and what its edges say of later ones.
     pub(crate) fn advance(&mut self, table: &GraphTable<'_>, b: u32) -> Result<(), NoMemory>
-        requires table { TableIs table.now }
         requires there { b < length (spots (view.graph table.now.graph.now)) }
         requires few { b + 1 < 2 ^ 32 }
         requires cutting { Cutting (view.graph table.now.graph.now) b self.old.begins.items
@@ -64,7 +62,6 @@ impl Cutter {
 
     // The edges of a block, which lies in this wave.
     fn pass(&mut self, table: &GraphTable<'_>, b: u32, wave: u32)
-        requires { TableIs table.now }
         ensures begins { self.new.begins.items ≡
             left_begins (block_at (view.graph table.now.graph.now) b).exit wave
             self.old.begins.items self.old.from.items }

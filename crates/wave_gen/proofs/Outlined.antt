@@ -3,10 +3,8 @@ use Rattle.std.proofs.Common.{ℕ, suc, ◌+◌, ◌-◌, ◌≡◌, ◌<◌, �
 use Rattle.std.proofs.Common.{◌∷◌, ◌++◌, length, map, get_or, refl, sym, ap, ◌∙◌, append_assoc, arith}
 use Rattle.cfg_core.specs.Graph.{Block, spots, spot_at, block_at}
 use Rattle.cfg_core.specs.View as view
-use Rattle.cfg_core.specs.Shows.{SpotIs, TableIs}
+use Rattle.cfg_core.specs.Shows.{SpotIs}
 use Rattle.cfg_core.specs.declared.table.Spot as code
-use Rattle.cfg_core.specs.declared.table.GraphTable.{GraphTable}
-use Rattle.cfg_core.proofs.Tables.{spot_in}
 use Rattle.live_vars.specs.Marks.{has}
 use Rattle.wave_cut.specs.Cut.{is_first}
 use Rattle.wave_gen.specs.Wire.{Item}
@@ -54,11 +52,6 @@ plan_is p q w f j e d i x t = λ k. record {
   exit = x k;
   test = t k;
 }
-
-pub spot_of : (t : GraphTable) → TableIs t → (b : ℕ) (x : code.Spot) → b < length t.spots.items
-    → x ≡ get_or t.spots.items b x → SpotIs (spot_at (view.graph t.graph.now) b) x
-unfolding spot_at
-spot_of t h b x l e = spot_in t.spots.items (spots (view.graph t.graph.now)) b x h.spots l e
 
 -- code is that of a block where the names of places and variables are the same
 abbrev ItemsOf : (ℕ → ℕ) → ℕ → Block → List Item

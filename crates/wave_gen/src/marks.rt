@@ -3,7 +3,6 @@
 ghost use Rattle.std.specs.Prelude.{◌≡◌, ◌<◌, ◌||◌, ℕ, eqb, length, IfOk};
 ghost use Rattle.cfg_core.specs.Graph.{spots, spot_at, block_at};
 ghost use Rattle.cfg_core.specs.View as view;
-ghost use Rattle.cfg_core.specs.Shows.{TableIs};
 ghost use Rattle.wave_gen.specs.Plans.{is_among};
 ghost use Rattle.wave_gen.specs.Listing.{landings_of, arms_of, in_some, width_of};
 ghost use Rattle.ws_words.specs.Items.{flag_at};
@@ -63,7 +62,6 @@ fn mark_arms(flags: &mut Vec<bool>, exit: &Leave)
 
 // Marks the blocks where the exit of a block lands.
 fn mark_landings_at(table: &GraphTable<'_>, flags: &mut Vec<bool>, i: usize)
-    requires { TableIs table.now }
     ensures count { length flags.new.items ≡ length flags.old.items }
     ensures marked { (c : ℕ) → c < length flags.old.items → flag_at flags.new.items c ≡
         (flag_at flags.old.items c ||
@@ -77,7 +75,6 @@ fn mark_landings_at(table: &GraphTable<'_>, flags: &mut Vec<bool>, i: usize)
 
 // Marks the arms of the exit of a block.
 fn mark_arms_at(table: &GraphTable<'_>, flags: &mut Vec<bool>, i: usize)
-    requires { TableIs table.now }
     ensures count { length flags.new.items ≡ length flags.old.items }
     ensures marked { (c : ℕ) → c < length flags.old.items → flag_at flags.new.items c ≡
         (flag_at flags.old.items c ||
@@ -91,13 +88,12 @@ fn mark_arms_at(table: &GraphTable<'_>, flags: &mut Vec<bool>, i: usize)
 
 /// For each block whether a Send lands there.
 pub(crate) fn landed(alloc: Global, table: &GraphTable<'_>) -> Result<Vec<bool>, NoMemory>
-    requires { TableIs table.now }
     ensures { let all = spots (view.graph table.now.graph.now) in
         IfOk result (λ flags. (b : ℕ) → b < length all →
         flag_at flags.items b ≡ in_some landings_of all b) }
 {
-    let mut flags = vec![in alloc; false; table.spots.len()]?;
-    for i in (0..table.spots.len()).rev() {
+    let mut flags = vec![in alloc; false; table.block_count()]?;
+    for i in (0..table.block_count()).rev() {
         mark_landings_at(table, &mut flags, i);
     }
     Ok(flags)
@@ -105,20 +101,18 @@ pub(crate) fn landed(alloc: Global, table: &GraphTable<'_>) -> Result<Vec<bool>,
 
 /// For each block whether it is an arm of a branch.
 pub(crate) fn arms(alloc: Global, table: &GraphTable<'_>) -> Result<Vec<bool>, NoMemory>
-    requires { TableIs table.now }
     ensures { let all = spots (view.graph table.now.graph.now) in
         IfOk result (λ flags. (b : ℕ) → b < length all →
         flag_at flags.items b ≡ in_some arms_of all b) }
 {
-    let mut flags = vec![in alloc; false; table.spots.len()]?;
-    for i in (0..table.spots.len()).rev() {
+    let mut flags = vec![in alloc; false; table.block_count()]?;
+    for i in (0..table.block_count()).rev() {
         mark_arms_at(table, &mut flags, i);
     }
     Ok(flags)
 }
 
 fn vars_at(table: &GraphTable<'_>, i: usize) -> u32
-    requires { TableIs table.now }
     ensures { result ≡ (spot_at (view.graph table.now.graph.now) i).vars }
 {
     match table.spot(i) {
@@ -129,11 +123,10 @@ fn vars_at(table: &GraphTable<'_>, i: usize) -> u32
 
 /// How many names there are for the pulse and the variables.
 pub(crate) fn width(table: &GraphTable<'_>) -> usize
-    requires { TableIs table.now }
     ensures { result ≡ width_of (view.graph table.now.graph.now) }
 {
     let mut most = 0;
-    for i in (0..table.spots.len()).rev() {
+    for i in (0..table.block_count()).rev() {
         let vars = vars_at(table, i);
         if most <= vars {
             most = vars;

@@ -69,7 +69,7 @@ impl<'a> PlanGround<'a> {
     {
         let table = GraphTable::of(alloc, graph)?;
         let start = small(table.room(graph.procs.len().saturating_sub(1)).entry)?;
-        let count = small(table.spots.len())?;
+        let count = small(table.block_count())?;
         let order = Order::of(alloc, &table, waves, start, count)?;
         let arms = arms(alloc, &table)?;
         let landed = landed(alloc, &table)?;
@@ -134,7 +134,7 @@ impl<'a> PlanGround<'a> {
             (listing.turned g self.now.waves.now) (is_first self.now.waves.now)
             (place_of g self.now.waves.now) (width_of g) b) }
     {
-        let spot = self.table.spots[b as usize];
+        let spot = self.table.spot_there(b as usize);
         let code = code_of(alloc, &self.order, self.width, spot.block)?;
         Ok(Plan {
             wave: turned(self.waves, self.start, b),

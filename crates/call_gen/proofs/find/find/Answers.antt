@@ -7,20 +7,19 @@ use Rattle.cfg_core.specs.View as view
 use Rattle.call_gen.specs.Part.{FlagsMore}
 use Rattle.call_gen.proofs.Marking.{found_main, found_more, found_all}
 use Rattle.call_gen.proofs.find.find.Goals as goal
-use Rattle.cfg_core.proofs.Spots.{count_is, rooms_are}
 
 pub loop-b-init : goal.loop-b-init
 loop-b-init c =
-    let t = c.args.table.now in let g = view.graph t.graph.now in let n = c.len.result in
+    let t = c.args.table.now in let g = view.graph t.graph.now in let n = c.block_count.result in
     let main = c.room.result.entry in
     let new = c.mark.new.self.flags.items in let waits = c.mark.new.self.waits.items in
     let items : c.in_ok-vec.field-0.items ≡ replicate n false = c.in_ok-vec.ensures.items_if_clones_equal
     (λ y e. e) in
     let empty : c.new.result.items ≡ [] = c.new.ensures.items in
     let last : c.saturating_sub.result ≡ length g.procs - 1 =
-    omega (arith, rooms_are t c.requires.table, t.rooms.ok.0) in
+    omega (arith, c.proc_count.ensures) in
     found_main g c.requires.rules c.requires.no_send n main new waits
-    (omega (arith, count_is t c.requires.table, t.spots.ok.0)) (length-replicate n false)
+    (omega (arith, c.block_count.ensures)) (length-replicate n false)
     (c.room.ensures.entry ∙ ap (entry_of g) last)
     (subst (λ (ws : List ℕ). FlagsMore (λ k. k ≡ main) (replicate n false) new ws waits) empty
     (subst (λ (fs : List Bool). FlagsMore (λ k. k ≡ main) fs new c.new.result.items waits) items

@@ -5,26 +5,21 @@ use Rattle.cfg_core.specs.View as view
 use Rattle.call_gen.specs.Plans.{CallPlaced}
 use Rattle.call_gen.proofs.Tallying.{tallied_none}
 use Rattle.call_gen.proofs.numbering.addresses.Goals as goal
-use Rattle.cfg_core.proofs.Spots.{count_is, rooms_are}
 
 pub loop-b-init : goal.loop-b-init
 loop-b-init c =
-    let t = c.args.table.now in let g = view.graph t.graph.now in let n = c.len.result in
+    let t = c.args.table.now in let g = view.graph t.graph.now in let n = c.proc_count.result in
     let items : c.in_ok-counts.counts.items ≡ replicate n 0 = c.in_ok-counts.ensures.items_if_clones_equal
     (λ y e. e) in
     record {
       count = ap length c.new-list.ensures.items;
-      tallied = tallied_none g n (omega (arith, rooms_are t c.requires.table, t.rooms.ok.0))
+      tallied = tallied_none g n (omega (arith, c.proc_count.ensures))
           c.in_ok-counts.counts.items items;
       list = λ k lt. absurd (omega (arith, lt));
     }
 
 pub next_place-requires-clause-there : goal.next_place-requires-clause-there
-next_place-requires-clause-there c = omega (
-  arith,
-  count_is c.args.table.now c.requires.table,
-  c.args.table.now.spots.ok.0,
-)
+next_place-requires-clause-there c = omega (arith, c.block_count-b-end.ensures)
 
 pub next_place-requires-clause-counts : goal.next_place-requires-clause-counts
 next_place-requires-clause-counts c = c.loop-b.invariant.tallied
@@ -41,9 +36,4 @@ loop-b-preserved c =
     })
 
 pub returns : goal.returns
-returns c = λ b lt. c.loop-b.invariant.list b (omega (
-  arith,
-  lt,
-  count_is c.args.table.now c.requires.table,
-  c.args.table.now.spots.ok.0,
-))
+returns c = λ b lt. c.loop-b.invariant.list b (omega (arith, lt, c.block_count-b-end.ensures))

@@ -2,21 +2,15 @@ use Rattle.std.proofs.Common.{arith}
 use Rattle.cfg_core.specs.View as view
 use Rattle.call_gen.proofs.Planning.{cells_all}
 use Rattle.call_gen.proofs.numbering.cells.Goals as goal
-use Rattle.cfg_core.proofs.Spots.{rooms_are}
 
 pub overflow_cast-f-end : goal.overflow_cast-f-end
-overflow_cast-f-end c = omega (
-  arith,
-  rooms_are c.args.table.now c.requires.table,
-  c.args.table.now.rooms.ok.0,
-  c.requires.few.blocks,
-)
+overflow_cast-f-end c = omega (arith, c.proc_count-f-end.ensures, c.requires.few.blocks)
 
 pub returns-clause-cells : goal.returns-clause-cells
 returns-clause-cells c = λ f lt. c.loop-f.invariant.starts f
-    (omega (arith, lt, rooms_are c.args.table.now c.requires.table, c.args.table.now.rooms.ok.0))
+    (omega (arith, lt, c.proc_count-f-end.ensures))
 
 pub returns-clause-total : goal.returns-clause-total
 returns-clause-total c = Rattle.std.proofs.Common.◌∙◌ c.loop-f.invariant.total
     (cells_all (view.graph c.args.table.now.graph.now) c.loop-f.f
-    (omega (arith, rooms_are c.args.table.now c.requires.table, c.args.table.now.rooms.ok.0)))
+    (omega (arith, c.proc_count-f-end.ensures)))

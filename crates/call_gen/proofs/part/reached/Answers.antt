@@ -11,9 +11,9 @@ returns c =
     let g = view.graph c.args.graph.now in
     let flags = c.in_ok-flags.flags.items in
     let same : view.graph c.in_ok-made.made ≡ part g (flag_at flags) = c.in_ok-made.ensures
-    ∙ ap (λ (x : Graph). part (view.graph x) (flag_at flags)) c.in_ok-table.ensures.graph in
+    ∙ ap (λ (x : Graph). part (view.graph x) (flag_at flags)) c.in_ok-table.ensures in
     let k = reached_kept g (view.graph c.in_ok-made.made) flags same c.requires.rules c.requires.no_send
-    (subst (λ (x : Graph). AreReached (view.graph x) flags) c.in_ok-table.ensures.graph
+    (subst (λ (x : Graph). AreReached (view.graph x) flags) c.in_ok-table.ensures
     c.in_ok-flags.ensures) in
     record {
       walks = k.walks;

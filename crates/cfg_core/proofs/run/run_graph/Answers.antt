@@ -15,7 +15,7 @@ overflow_sub-result c =
     omega (arith, c.args.graph.now.procs.ok.0) in
     let answer = opened c.in_ok-table.table.graph.now c.args.graph.now world c.args.turns
     c.saturating_sub.result c.room-main.result.entry c.room-main.result.vars c.in_ok-walk.field-0 w
-    c.in_ok-table.ensures.graph main c.room-main.ensures.entry c.room-main.ensures.vars
+    c.in_ok-table.ensures main c.room-main.ensures.entry c.room-main.ensures.vars
     (c.in_ok-walk.ensures _ _ _ c.in_ok-walker.ensures) in
     in_time g world c.args.turns w (ended_is g world c.args.turns w c.in_ok-walk.field-0 c.if-branch.true
     answer)
@@ -28,7 +28,7 @@ returns-then-branch-clause-ended c =
     omega (arith, c.args.graph.now.procs.ok.0) in
     let answer = opened c.in_ok-table.table.graph.now c.args.graph.now world c.args.turns
     c.saturating_sub.result c.room-main.result.entry c.room-main.result.vars c.in_ok-walk.field-0 w
-    c.in_ok-table.ensures.graph main c.room-main.ensures.entry c.room-main.ensures.vars
+    c.in_ok-table.ensures main c.room-main.ensures.entry c.room-main.ensures.vars
     (c.in_ok-walk.ensures _ _ _ c.in_ok-walker.ensures) in
     ends_so g world c.args.turns w c.in_ok-arrays.arrays (ended_is g world c.args.turns w c.in_ok-walk.field-0
     c.if-branch.true answer)
@@ -43,7 +43,7 @@ returns-clause-going c =
     omega (arith, c.args.graph.now.procs.ok.0) in
     let answer = opened c.in_ok-table.table.graph.now c.args.graph.now world c.args.turns
     c.saturating_sub.result c.room-main.result.entry c.room-main.result.vars c.in_ok-walk.field-0 w
-    c.in_ok-table.ensures.graph main c.room-main.ensures.entry c.room-main.ensures.vars
+    c.in_ok-table.ensures main c.room-main.ensures.entry c.room-main.ensures.vars
     (c.in_ok-walk.ensures _ _ _ c.in_ok-walker.ensures) in
     going_is g world c.args.turns w c.in_ok-walk.field-0 c.if-branch.false answer
 
@@ -55,7 +55,7 @@ returns-clause-ends_in_time c = λ n o le ends.
     omega (arith, c.args.graph.now.procs.ok.0) in
     let answer = opened c.in_ok-table.table.graph.now c.args.graph.now world c.args.turns
     c.saturating_sub.result c.room-main.result.entry c.room-main.result.vars c.in_ok-walk.field-0 w
-    c.in_ok-table.ensures.graph main c.room-main.ensures.entry c.room-main.ensures.vars
+    c.in_ok-table.ensures main c.room-main.ensures.entry c.room-main.ensures.vars
     (c.in_ok-walk.ensures _ _ _ c.in_ok-walker.ensures) in
     let going = going_is g world c.args.turns w c.in_ok-walk.field-0 c.if-branch.false answer in
     absurd (not_both g world n c.args.turns o going.outside le ends going.goes)

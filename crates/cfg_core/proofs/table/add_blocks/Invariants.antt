@@ -1,6 +1,6 @@
 use Rattle.std.proofs.Common.{◌≡◌, ◌++◌, drop, map}
 use Rattle.cfg_core.specs.View as view
-use Rattle.cfg_core.specs.Shows.{spot_in_code}
+use Rattle.cfg_core.specs.Listed.{spot_in_code}
 use Rattle.cfg_core.proofs.table.add_blocks.Given as goal
 
 abbrev pub invariant-loop-block : goal.invariant-loop-block

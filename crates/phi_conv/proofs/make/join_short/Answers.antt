@@ -23,7 +23,7 @@ returns c =
     let g : plain.Graph = view.graph c.args.graph.now in
     let live : List (List ℕ) = c.args.live.now in
     let same : view.graph c.in_ok-made.made ≡ joined g live =
-    c.in_ok-made.ensures ∙ ap (λ (x : Graph). joined (view.graph x) live) c.in_ok-table.ensures.graph in
+    c.in_ok-made.ensures ∙ ap (λ (x : Graph). joined (view.graph x) live) c.in_ok-table.ensures in
     record {
       joined = same;
       walks = subst (SameWalks g) (sym same) (walks_kept g live c.requires.rules c.requires.live);

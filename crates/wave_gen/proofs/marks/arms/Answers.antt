@@ -2,7 +2,6 @@ use Rattle.std.proofs.Common.{◌<◌, ◌∙◌, length, arith}
 use Rattle.cfg_core.specs.View as view
 use Rattle.wave_gen.specs.Listing.{arms_of}
 use Rattle.wave_gen.proofs.Marked.{some_next}
-use Rattle.cfg_core.proofs.Spots.{count_is as spots_there}
 use Rattle.wave_gen.proofs.marks.arms.Goals as goal
 use Rattle.ws_words.specs.Items.{flag_at}
 
@@ -14,6 +13,6 @@ loop-i-preserved c =
       marked = λ b l. (let m : b < length c.loop-i.flags.items = omega (arith, l, h.count) in
           some_next arms_of g c.loop-i.i b (flag_at c.loop-i.flags.items b)
           (flag_at c.mark_arms_at.new.flags.items b) (omega arith)
-          (omega (arith, spots_there t c.requires, t.spots.ok.0, c.len-i.ensures)) (h.marked b l)
+          (omega (arith, c.block_count-i.ensures)) (h.marked b l)
           (c.mark_arms_at.ensures.marked b m));
     }

@@ -7,7 +7,7 @@ use Rattle.ws_words.specs.Items.{flag_at}
 
 abbrev pub invariant-loop-i : goal.invariant-loop-i
 invariant-loop-i l = record {
-  count : length l.flags.items ≡ length l.table.spots.items;
-  marked : (b : ℕ) → b < length l.table.spots.items → flag_at l.flags.items b ≡ in_some landings_of
-      (drop l.i (spots (view.graph l.table.graph.now))) b;
+  count : length l.flags.items ≡ length (spots (view.graph l.table.graph.now));
+  marked : (b : ℕ) → b < length (spots (view.graph l.table.graph.now))
+      → flag_at l.flags.items b ≡ in_some landings_of (drop l.i (spots (view.graph l.table.graph.now))) b;
 }

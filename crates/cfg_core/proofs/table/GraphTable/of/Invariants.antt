@@ -1,7 +1,7 @@
 use Rattle.std.proofs.Common.{◌≡◌, ◌++◌, drop, map, length}
 use Rattle.cfg_core.specs.Graph.{spots_from}
 use Rattle.cfg_core.specs.View as view
-use Rattle.cfg_core.specs.Shows.{spot_in_code, spot_in_graph, rooms_from}
+use Rattle.cfg_core.specs.Listed.{spot_in_code, spot_in_graph, rooms_from}
 use Rattle.cfg_core.proofs.table.GraphTable.of.Given as goal
 
 abbrev pub invariant-loop-proc : goal.invariant-loop-proc

@@ -9,7 +9,7 @@ unfolding proc_at entry_of
 returns-in-Some c =
     let l = c.in-Some.ensures.lookup in
     let r = room_in 0 (view.graph c.args.self.now.graph.now).procs c.args.self.now.rooms.items c.args.f
-    c.in-Some.room.now c.requires.rooms (rw c.deref.ensures.value at (l.3).0)
+    c.in-Some.room.now c.args.self.now.rooms_listed (rw c.deref.ensures.value at (l.3).0)
     (rw c.deref.ensures.value at l.1) in
     record { entry = r.entry; params = r.params; vars = r.vars }
 
@@ -17,7 +17,7 @@ pub returns-in-None : goal.returns-in-None
 unfolding proc_at entry_of no_proc
 returns-in-None c =
     let r = entry_past 0 (view.graph c.args.self.now.graph.now).procs c.args.self.now.rooms.items c.args.f
-    c.requires.rooms (rw c.deref.ensures.value at c.in-None.ensures.lookup.3) in
+    c.args.self.now.rooms_listed (rw c.deref.ensures.value at c.in-None.ensures.lookup.3) in
     record {
       entry = r.0;
       params = ap (λ (p : GraphProc). p.params) r.1;

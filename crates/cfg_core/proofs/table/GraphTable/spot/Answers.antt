@@ -8,10 +8,10 @@ unfolding spot_at
 returns-in-Some c =
     let l = c.in-Some.ensures.lookup in
     spot_in c.args.self.now.spots.items (spots (view.graph c.args.self.now.graph.now)) c.args.b
-    c.in-Some.spot.now c.requires.spots (rw c.deref.ensures.value at (l.3).0)
+    c.in-Some.spot.now c.args.self.now.spots_listed (rw c.deref.ensures.value at (l.3).0)
     (rw c.deref.ensures.value at l.1)
 
 pub returns-in-None : goal.returns-in-None
 unfolding spot_at
 returns-in-None c = spot_past c.args.self.now.spots.items (spots (view.graph c.args.self.now.graph.now))
-    c.args.b c.requires.spots (rw c.deref.ensures.value at c.in-None.ensures.lookup.3)
+    c.args.b c.args.self.now.spots_listed (rw c.deref.ensures.value at c.in-None.ensures.lookup.3)

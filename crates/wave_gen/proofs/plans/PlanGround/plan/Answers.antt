@@ -1,17 +1,14 @@
 use Rattle.std.proofs.Common.{◌∙◌, ap, List, ℕ, arith, cond, map, suc, ◌∷◌, [], ◌||◌, eqb}
 use Rattle.wave_gen.specs.Plans.{pulse}
 use Rattle.wave_gen.specs.declared.plan.Plan.{Plan}
-use Rattle.cfg_core.proofs.Spots.{count_is as spots_there}
-use Rattle.wave_gen.proofs.Outlined.{spot_of, plan_made}
+use Rattle.wave_gen.proofs.Outlined.{plan_made}
 use Rattle.wave_gen.proofs.plans.PlanGround.plan.Goals as goal
 use Rattle.ws_words.specs.Items.{flag_at}
 
 pub returns : goal.returns
 returns c =
-    let o = c.args.self.now in let b = c.args.b in let x = c.index-spot.result.now in
-    let s = spot_of o.table c.requires.outline.table b x
-    (omega (arith, spots_there o.table c.requires.outline.table, c.requires.there))
-    c.index-spot.ensures in
+    let o = c.args.self.now in let b = c.args.b in let x = c.spot_there-spot.result in
+    let s = c.spot_there-spot.ensures in
     let p : Plan = record {
       wave = c.turned.result;
       first = c.first.result;
