@@ -50,7 +50,7 @@ given_in_range given ranges = (
 )
 
 task_in_range : (c : Command) (given : List Given) → AreIn c given → (t : AssemblyTask)
-    → task_by c (line_of c given) ≡ Some (Assembly t) → TaskInRange t
+    → task_by c (line_of c given) ≡ Assembly t → TaskInRange t
 task_in_range command.Run given ranges t e = absurd cc
 task_in_range command.Plain given ranges t e = absurd cc
 task_in_range command.Format given ranges t e = absurd cc

@@ -1,5 +1,5 @@
--- What the program does for a line of the command line, of what is built so far.
-use Rattle.std.specs.Prelude.{◌≡◌, ℕ, true, false, List, Option, Some}
+-- What the program does for a line of the command line.
+use Rattle.std.specs.Prelude.{◌≡◌, ℕ, true, false, List}
 use Rattle.wsc_words.specs.Lines as lines
 use Rattle.wsc_words.specs.declared.line.Invocation.{Invocation}
 use Rattle.wsc_words.specs.declared.command.Command.{Command}
@@ -41,36 +41,36 @@ grid_options line = record {
   stats = line.stats;
 }
 
-abbrev pub task_by : Command → Invocation → Option Task
-task_by command.Run line = Some (Job (Run (options_of line (Full line.memory line.stats))))
-task_by command.Plain line = Some (Job (Plain (record {
+abbrev pub task_by : Command → Invocation → Task
+task_by command.Run line = Job (Run (options_of line (Full line.memory line.stats)))
+task_by command.Plain line = Job (Plain (record {
   turns = line.turns;
   memory = line.memory;
   stats = line.stats;
-})))
-task_by command.Format line = Some (Job Format)
-task_by command.Compile line = Some (Job Compile)
-task_by command.Check line = Some (Assembly assembly.Check)
+}))
+task_by command.Format line = Job Format
+task_by command.Compile line = Job Compile
+task_by command.Check line = Assembly assembly.Check
 task_by command.Exec line =
-    Some (Assembly (assembly.Exec (options_of line (Full line.memory line.stats))))
-task_by command.List line = Some (Assembly assembly.List)
-task_by command.Trace line = Some (Assembly (assembly.Trace line.budget))
-task_by command.Replay line = Some (Assembly assembly.Replay)
-task_by command.Grid line = Some (Assembly (assembly.Grid (grid_options line)))
-task_by command.Gen line = Some (Generate line.number)
+    Assembly (assembly.Exec (options_of line (Full line.memory line.stats)))
+task_by command.List line = Assembly assembly.List
+task_by command.Trace line = Assembly (assembly.Trace line.budget)
+task_by command.Replay line = Assembly assembly.Replay
+task_by command.Grid line = Assembly (assembly.Grid (grid_options line))
+task_by command.Gen line = Generate line.number
 task_by command.Bench line =
-    Some (Bench (record { number = line.number; run = options_of line Brief }))
-task_by command.Multi line = Some (Multi (options_of line (Full line.memory line.stats)))
-task_by command.Decouple line = Some (Assembly (assembly.Exec (decoupled_options line)))
+    Bench (record { number = line.number; run = options_of line Brief })
+task_by command.Multi line = Multi (options_of line (Full line.memory line.stats))
+task_by command.Decouple line = Assembly (assembly.Exec (decoupled_options line))
 
--- what a line asks for, where that is built
-abbrev pub task_of : Invocation → Option Task
+-- what a line asks for
+abbrev pub task_of : Invocation → Task
 task_of line = task_by line.command line
 
 -- these words are a line that asks for this
 abbrev pub AsksFor : List (List ℕ) → Task → Type 0
-AsksFor words task = (line : Invocation) × lines.IsLine words line × (task_of line ≡ Some task)
+AsksFor words task = (line : Invocation) × lines.IsLine words line × (task_of line ≡ task)
 
--- these words are no line, or none that is built
+-- these words are no line
 abbrev pub IsNoLine : List (List ℕ) → Type 0
 IsNoLine words = (task : Task) → AsksFor words task → ⊥

@@ -102,7 +102,7 @@ pub struct BenchOptions {
     pub run: RunOptions,
 }
 
-/// What the program does, of what is built so far.
+/// What the program does.
 #[derive(Clone, Copy, Debug, PartialEq, Eq)]
 pub enum Task {
     /// It reads a job.
@@ -164,32 +164,32 @@ fn grid_options(line: &Invocation) -> GridOptions
     }
 }
 
-// What a line asks for, where that is built.
-fn task_of(line: &Invocation) -> Option<Task>
+// What a line asks for.
+fn task_of(line: &Invocation) -> Task
     ensures { result ≡ task_of line.now }
 {
     match line.command {
-        Command::Run => Some(Task::Job(JobTask::Run(options_of(line, full(line))))),
-        Command::Plain => Some(Task::Job(JobTask::Plain(PlainOptions {
+        Command::Run => Task::Job(JobTask::Run(options_of(line, full(line)))),
+        Command::Plain => Task::Job(JobTask::Plain(PlainOptions {
             turns: line.turns,
             memory: line.memory,
             stats: line.stats,
-        }))),
-        Command::Format => Some(Task::Job(JobTask::Format)),
-        Command::Compile => Some(Task::Job(JobTask::Compile)),
-        Command::Check => Some(Task::Assembly(AssemblyTask::Check)),
-        Command::List => Some(Task::Assembly(AssemblyTask::List)),
-        Command::Exec => Some(Task::Assembly(AssemblyTask::Exec(options_of(line, full(line))))),
-        Command::Trace => Some(Task::Assembly(AssemblyTask::Trace(line.budget))),
-        Command::Replay => Some(Task::Assembly(AssemblyTask::Replay)),
-        Command::Grid => Some(Task::Assembly(AssemblyTask::Grid(grid_options(line)))),
-        Command::Gen => Some(Task::Generate(line.number)),
-        Command::Bench => Some(Task::Bench(BenchOptions {
+        })),
+        Command::Format => Task::Job(JobTask::Format),
+        Command::Compile => Task::Job(JobTask::Compile),
+        Command::Check => Task::Assembly(AssemblyTask::Check),
+        Command::List => Task::Assembly(AssemblyTask::List),
+        Command::Exec => Task::Assembly(AssemblyTask::Exec(options_of(line, full(line)))),
+        Command::Trace => Task::Assembly(AssemblyTask::Trace(line.budget)),
+        Command::Replay => Task::Assembly(AssemblyTask::Replay),
+        Command::Grid => Task::Assembly(AssemblyTask::Grid(grid_options(line))),
+        Command::Gen => Task::Generate(line.number),
+        Command::Bench => Task::Bench(BenchOptions {
             number: line.number,
             run: options_of(line, Report::Brief),
-        })),
-        Command::Multi => Some(Task::Multi(options_of(line, full(line)))),
-        Command::Decouple => Some(Task::Assembly(AssemblyTask::Exec(decoupled_options(line)))),
+        }),
+        Command::Multi => Task::Multi(options_of(line, full(line))),
+        Command::Decouple => Task::Assembly(AssemblyTask::Exec(decoupled_options(line))),
     }
 }
 
@@ -202,7 +202,7 @@ pub fn read_task(alloc: Global, words: &[String]) -> Result<Option<Task>, NoMemo
 {
     words_are_one_line();
     match read_words(alloc, words) {
-        Ok(line) => Ok(task_of(&line)),
+        Ok(line) => Ok(Some(task_of(&line))),
         Err(WordsFault::Usage) => Ok(None),
         Err(WordsFault::NoMemory) => Err(NoMemory),
     }
