@@ -11,7 +11,7 @@ use Rattle.df_core.specs.Places.{destinations}
 use Rattle.ws_isa.specs.Formed.{Formed}
 use Rattle.ws_isa.specs.Sound.{Sound}
 use Rattle.ws_isa.specs.Walk.{gather}
-use Rattle.df_core.specs.Core.{IsSent, has, is_full, with_at, same_key, operands_in}
+use Rattle.df_core.specs.Core.{IsSent, Key, has, is_full, with_at, same_key, operands_in}
 use Rattle.df_core.specs.Fit.{RightToken, RightRequest}
 use Rattle.df_core.proofs.Facts.{WalkFacts}
 use Rattle.df_core.proofs.FromSound.{facts_of}
@@ -19,13 +19,14 @@ use Rattle.df_core.proofs.PortsThere.{ports_there}
 use Rattle.df_core.proofs.Arriving.{ports_is_op, memory_is_op, sends_are, result_is_op}
 use Rattle.df_core.specs.Rights.{IsRight, operands_of}
 use Rattle.match_table.specs.declared.entry.Arrived.{Arrived}
-use Rattle.match_table.specs.declared.entry.Entry.{Entry}
+use Rattle.match_table.specs.declared.entry.Page.{Page}
 use Rattle.match_table.specs.declared.meeting.Operands.{Operands}
 use Rattle.match_table.specs.declared.meeting.Operands.TheVariants.{One, Two, Three}
 use Rattle.match_table.specs.declared.meeting.Seen.TheVariants.{Waits, Fills}
-use Rattle.match_table.specs.Pages.{IsUnder, arrived_in}
+use Rattle.match_table.specs.Pages.{arrived_in}
 use Rattle.match_table.specs.Ports.{listed, is_taken, with_port, alone, SeenSo}
-use Rattle.match_table.specs.Tables.{TableOk, held, held_in, instances, TableContent}
+use Rattle.match_table.specs.declared.entry.Instance.{Instance}
+use Rattle.match_table.specs.Tables.{TableOk, held, held_in, instance_key, instances, TableContent}
 use Rattle.match_table.specs.declared.table.Accept.{Accept}
 use Rattle.match_table.specs.declared.table.Accept.TheVariants as accept
 use Rattle.match_table.specs.declared.table.Results.{Results}
@@ -33,8 +34,9 @@ use Rattle.match_table.specs.declared.table.Took.{Took}
 use Rattle.match_table.specs.declared.table.Took.TheVariants as took
 use Rattle.match_table.specs.Matching.{Arrives, Full, AcceptIs, HandedOn, Accepted, TookAs, will_fire}
 use Rattle.match_table.proofs.Kept.{port_below, full_with, full_operands, free_port, kept_ok, new_held}
-use Rattle.match_table.proofs.Kept.{new_full, new_operands, same_fired, now_fired, fired_ok}
+use Rattle.match_table.proofs.Kept.{new_full, new_operands, fired_ok}
 use Rattle.ws_isa.proofs.Delivered.{few_ports}
+use Rattle.std.proofs.lemmas.List.{map-append}
 
 -- the instruction that the code has looked up
 module _ (image im : Image) (k i : ℕ) (op : Op) (looked : op ≡ (instr_at im i).op) (same : im ≡ image)
@@ -68,8 +70,8 @@ module _ (image im : Image) (k i : ℕ) (op : Op) (looked : op ≡ (instr_at im 
 arrives_from : (old mid new : TableContent) (t : Token) → mid.entries ≡ old.entries → Arrives mid t new
     → Arrives old t new
 arrives_from old mid new t e a = record {
-  free = subst (λ (k : List (Option Entry)). held_in k t.wave t.instr t.port ≡ None) e a.free;
-  more = λ w i p. a.more w i p ∙ ap (λ (k : List (Option Entry)). with_at t.wave t.instr t.port (Some t.value)
+  free = subst (λ (k : List (Option Page)). held_in k t.wave t.instr t.port ≡ None) e a.free;
+  more = λ w i p. a.more w i p ∙ ap (λ (k : List (Option Page)). with_at t.wave t.instr t.port (Some t.value)
       (held_in k) w i p) e;
 }
 
@@ -138,7 +140,7 @@ request_operands (Two a b) n is le = rw is refl
 request_operands (Three a b c) n is le = absurd (omega (arith, is, le))
 
 -- what is true of a table, by its fields and by its value
-pub ok_now : (image : Image) (world : World) (entries : List (Option Entry)) (fired asked : List ℕ)
+pub ok_now : (image : Image) (world : World) (entries : List (Option Page)) (fired asked : List Key)
     → TableOk image world entries fired asked → (c : TableContent) → entries ≡ c.entries
     → TableOk image world c.entries fired asked
 ok_now image world entries fired asked ok c same = subst (λ l. TableOk image world l fired asked) same ok
@@ -147,7 +149,7 @@ module _ (image : Image) (world : World) (formed : Formed image) (sound : Sound 
   pub facts : WalkFacts image world
   facts = facts_of image world (ports_there image formed) sound
 
-  module _ (c : TableContent) (fired asked : List ℕ) (ok : TableOk image world c.entries fired asked)
+  module _ (c : TableContent) (fired asked : List Key) (ok : TableOk image world c.entries fired asked)
       (t : Token) (right : IsRight image world t) where
     pub below : t.port < ports image t.instr
     below = port_below image world facts c.entries fired asked ok t.wave t.instr t.port t.value right
@@ -211,8 +213,8 @@ module _ (image : Image) (world : World) (formed : Formed image) (sound : Sound 
     }
 
 -- a right token comes to a port that has had none, and an entry of its instance is put that has it
-pub record Puts (image : Image) (world : World) (entries : List (Option Entry)) (fired asked : List ℕ)
-    (t : Token) (next : Arrived) (new : List (Option Entry)) : Type 0 where
+pub record Puts (image : Image) (world : World) (entries : List (Option Page)) (fired asked : List Key)
+    (t : Token) (next : Arrived) (new : List (Option Page)) : Type 0 where
   pub facts : WalkFacts image world
   pub ok : TableOk image world entries fired asked
   pub right : IsRight image world t
@@ -220,107 +222,107 @@ pub record Puts (image : Image) (world : World) (entries : List (Option Entry)) 
   pub next_is : next ≡ with_port (arrived_in entries t.wave t.instr) t.port t.value
   pub arrived : (a b : ℕ) → arrived_in new a b ≡ cond (same_key t.wave t.instr a b) (Some next)
       (arrived_in entries a b)
-  pub stay : (k a b : ℕ) → IsUnder entries k a b → IsUnder new k a b
 
--- the instance is full, and the key of its entry is listed
-pub record Lists (image : Image) (fired asked : List ℕ) (t : Token) (next : Arrived)
-    (new : List (Option Entry)) (fired' asked' : List ℕ) : Type 0 where
+-- the instance is full, and is listed
+pub record Lists (image : Image) (fired asked : List Key) (t : Token) (next : Arrived)
+    (new : List (Option Page)) (fired' asked' : List Key) : Type 0 where
   pub full : is_full (alone next) 0 0 (ports image t.instr) ≡ true
-  pub key : ℕ
-  pub under : IsUnder new key t.wave t.instr
-  pub one_more : fired' ≡ fired ++ key ∷ []
-  pub asks_so : asked' ≡ cond (is_memory image t.instr) (asked ++ key ∷ []) asked
+  pub one_more : fired' ≡ fired ++ record { wave = t.wave; instr = t.instr } ∷ []
+  pub asks_so : asked' ≡ cond (is_memory image t.instr) (asked ++ record { wave = t.wave; instr = t.instr } ∷ [])
+      asked
 
 -- what a call of `put` leaves
-pub puts : {image : Image} {world : World} {entries : List (Option Entry)} {fired asked : List ℕ}
+pub puts : {image : Image} {world : World} {entries : List (Option Page)} {fired asked : List Key}
     → Formed image → Sound image → TableOk image world entries fired asked → (before : TableContent)
     → entries ≡ before.entries → (t : Token) → IsRight image world t →
     is_taken (arrived_in before.entries t.wave t.instr) t.port ≡ false
-    → (new : List (Option Entry)) (w i p v : ℕ) → w ≡ t.wave → i ≡ t.instr → p ≡ t.port → v ≡ t.value →
+    → (new : List (Option Page)) (w i p v : ℕ) → w ≡ t.wave → i ≡ t.instr → p ≡ t.port → v ≡ t.value →
     ((a b : ℕ) → arrived_in new a b ≡ cond (same_key w i a b) (Some (with_port (arrived_in entries w i) p v))
-    (arrived_in entries a b)) → ((k a b : ℕ) → IsUnder entries k a b → IsUnder new k a b) →
-    Puts image world entries fired asked t (with_port (arrived_in before.entries t.wave t.instr) t.port
+    (arrived_in entries a b)) → Puts image world entries fired asked t (with_port (arrived_in before.entries t.wave t.instr) t.port
     t.value) new
 puts {image} {world} {entries} formed sound ok before same t right free new w i p v wave instr port value
-    arrived stay = record {
+    arrived = record {
       facts = facts image world formed sound;
       ok = ok;
       right = right;
-      free = subst (λ (l : List (Option Entry)). is_taken (arrived_in l t.wave t.instr) t.port ≡ false)
+      free = subst (λ (l : List (Option Page)). is_taken (arrived_in l t.wave t.instr) t.port ≡ false)
           (sym same)
           free;
-      next_is = ap (λ (l : List (Option Entry)). with_port (arrived_in l t.wave t.instr) t.port t.value)
+      next_is = ap (λ (l : List (Option Page)). with_port (arrived_in l t.wave t.instr) t.port t.value)
           (sym same);
       arrived = λ a b. arrived a b ∙ ap (λ (k : ℕ × ℕ × Arrived). cond (same_key k.0 k.1 a b) (Some k.2)
           (arrived_in entries a b)) (λ j. (
             wave j,
             instr j,
-            (ap (λ (l : List (Option Entry) × ℕ × ℕ × ℕ × ℕ). with_port (arrived_in l.0 l.1 l.2) l.3 l.4)
+            (ap (λ (l : List (Option Page) × ℕ × ℕ × ℕ × ℕ). with_port (arrived_in l.0 l.1 l.2) l.3 l.4)
                 (λ h. (same h, wave h, instr h, port h, value h))) j,
           ));
-      stay = stay;
     }
 
 -- and what is listed then, if the instance is one of memory or not
-pub lists : {image : Image} {t : Token} {next : Arrived} {new : List (Option Entry)}
-    (fired asked fired' asked' : List ℕ) (key w i : ℕ) → w ≡ t.wave → i ≡ t.instr
-    → is_full (alone next) 0 0 (ports image t.instr) ≡ true → IsUnder new key w i →
-    fired' ≡ fired ++ key ∷ [] → (asks : Bool) → is_memory image t.instr ≡ asks
-    → asked' ≡ cond asks (asked ++ key ∷ []) asked → Lists image fired asked t next new fired' asked'
-lists {new = new} fired asked fired' asked' key w i wave instr full under one_more asks is are = record {
-  full = full;
-  key = key;
-  under = subst (λ (k : ℕ × ℕ). IsUnder new key k.0 k.1) (λ j. (wave j, instr j)) under;
-  one_more = one_more;
-  asks_so = are ∙ ap (λ b. cond b (asked ++ key ∷ []) asked) (sym is);
-}
+pub lists : {image : Image} {t : Token} {next : Arrived} {new : List (Option Page)}
+    (fired asked fired' asked' : List Instance) (own : Instance) → own.wave ≡ t.wave → own.instr ≡ t.instr
+    → is_full (alone next) 0 0 (ports image t.instr) ≡ true → fired' ≡ fired ++ own ∷ [] → (asks : Bool)
+    → is_memory image t.instr ≡ asks → asked' ≡ cond asks (asked ++ own ∷ []) asked
+    → Lists image (instances fired) (instances asked) t next new (instances fired') (instances asked')
+lists {image} {t} fired asked fired' asked' own wave instr full one_more asks is are =
+    let key : instance_key own ≡ record { wave = t.wave; instr = t.instr } =
+    ap (λ (k : ℕ × ℕ). record { wave = k.0; instr = k.1 }) (λ j. (wave j, instr j)) in
+    let appended : (l : List Instance) → instances (l ++ own ∷ []) ≡ instances l
+    ++ record { wave = t.wave; instr = t.instr } ∷ [] =
+    λ l. map-append instance_key l (own ∷ []) ∙ ap (λ k. instances l ++ k ∷ []) key in
+    let both : (b : Bool) → instances (cond b (asked ++ own ∷ []) asked)
+    ≡ cond b (instances asked ++ record { wave = t.wave; instr = t.instr } ∷ []) (instances asked) =
+    elim [
+      | true ↦ appended asked
+      | false ↦ refl
+    ] in
+    record {
+      full = full;
+      one_more = ap instances one_more ∙ appended fired;
+      asks_so = ap instances are ∙ both asks
+          ∙ ap (λ b. cond b (instances asked ++ record { wave = t.wave; instr = t.instr } ∷ []) (instances asked))
+          (sym is);
+    }
 
-module _ {image : Image} {world : World} {entries : List (Option Entry)} {fired asked : List ℕ} {t : Token}
-    {next : Arrived} {new : List (Option Entry)} (p : Puts image world entries fired asked t next new) where
+module _ {image : Image} {world : World} {entries : List (Option Page)} {fired asked : List Key} {t : Token}
+    {next : Arrived} {new : List (Option Page)} (p : Puts image world entries fired asked t next new) where
   pub puts_arrives : {before after : TableContent} → entries ≡ before.entries → new ≡ after.entries
       → Arrives before t after
   puts_arrives was is = record {
-    free = subst (λ (l : List (Option Entry)). held_in l t.wave t.instr t.port ≡ None) was
+    free = subst (λ (l : List (Option Page)). held_in l t.wave t.instr t.port ≡ None) was
         (free_port image world p.facts entries fired asked p.ok t.wave t.instr t.port t.value p.right p.free);
-    more = λ a b q. ap (λ (l : List (Option Entry)). held_in l a b q) (sym is)
+    more = λ a b q. ap (λ (l : List (Option Page)). held_in l a b q) (sym is)
         ∙ new_held image world p.facts entries fired asked p.ok t.wave t.instr t.port t.value p.right p.free
-        (few_ports image t.instr) next p.next_is new p.arrived p.stay a b q
-        ∙ ap (λ (l : List (Option Entry)). with_at t.wave t.instr t.port (Some t.value) (held_in l) a b q)
+        (few_ports image t.instr) next p.next_is new p.arrived a b q
+        ∙ ap (λ (l : List (Option Page)). with_at t.wave t.instr t.port (Some t.value) (held_in l) a b q)
         was;
   }
 
   puts_full : is_full (held_in new) t.wave t.instr (ports image t.instr) ≡ is_full (alone next) 0 0
       (ports image t.instr)
   puts_full = new_full image world p.facts entries fired asked p.ok t.wave t.instr t.port t.value p.right
-      p.free (few_ports image t.instr) next p.next_is new p.arrived p.stay
+      p.free (few_ports image t.instr) next p.next_is new p.arrived
 
   -- the instance isn't full
-  pub keeps_fired : instances new fired ≡ instances entries fired
-  keeps_fired = same_fired image world p.facts entries fired asked p.ok t.wave t.instr t.port t.value p.right
-      p.free (few_ports image t.instr) next p.next_is new p.arrived p.stay
-
   pub keeps_ok : is_full (alone next) 0 0 (ports image t.instr) ≡ false → TableOk image world new fired asked
   keeps_ok waits = kept_ok image world p.facts entries fired asked p.ok t.wave t.instr t.port t.value p.right
-      p.free (few_ports image t.instr) next p.next_is new p.arrived p.stay waits
+      p.free (few_ports image t.instr) next p.next_is new p.arrived waits
 
   -- the instance is full
-  module _ {fired' asked' : List ℕ} (l : Lists image fired asked t next new fired' asked') where
+  module _ {fired' asked' : List Key} (l : Lists image fired asked t next new fired' asked') where
     pub fires_ok : TableOk image world new fired' asked'
     fires_ok = fired_ok image world p.facts entries fired asked p.ok t.wave t.instr t.port t.value p.right
-        p.free (few_ports image t.instr) next p.next_is new p.arrived p.stay l.full l.key l.under fired'
-        asked' l.one_more l.asks_so
+        p.free (few_ports image t.instr) next p.next_is new p.arrived l.full fired' asked' l.one_more l.asks_so
 
-    pub fires_full : {before after : TableContent} → instances entries fired ≡ before.fired
-        → new ≡ after.entries → instances new fired' ≡ after.fired
+    pub fires_full : {before after : TableContent} → fired ≡ before.fired
+        → new ≡ after.entries → fired' ≡ after.fired
         → Full image before t after (gather (alone next) 0 0 0 (ports image t.instr))
     fires_full was is are = record {
-      full = ap (λ (l : List (Option Entry)). is_full (held_in l) t.wave t.instr (ports image t.instr))
+      full = ap (λ (l : List (Option Page)). is_full (held_in l) t.wave t.instr (ports image t.instr))
           (sym is) ∙ puts_full ∙ l.full;
       operands_are = new_operands image world p.facts entries fired asked p.ok t.wave t.instr t.port t.value
-          p.right p.free (few_ports image t.instr) next p.next_is new p.arrived p.stay
-          ∙ ap (λ (l : List (Option Entry)). operands_in image (held_in l) t.wave t.instr) is;
-      fired = sym are ∙ now_fired image world p.facts entries fired asked p.ok t.wave t.instr t.port t.value
-          p.right p.free (few_ports image t.instr) next p.next_is new p.arrived p.stay l.full l.key l.under
-          fired' asked' l.one_more l.asks_so
-          ∙ ap (λ l. l ++ record { wave = t.wave; instr = t.instr } ∷ []) was;
+          p.right p.free (few_ports image t.instr) next p.next_is new p.arrived
+          ∙ ap (λ (l : List (Option Page)). operands_in image (held_in l) t.wave t.instr) is;
+      fired = sym are ∙ l.one_more ∙ ap (λ l. l ++ record { wave = t.wave; instr = t.instr } ∷ []) was;
     }

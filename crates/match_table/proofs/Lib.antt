@@ -1,7 +1,5 @@
-pub mod Numbers
-pub mod Chains
+pub mod Names
 pub mod Arrivals
-pub mod Search
 pub mod Store
 pub mod Held
 pub mod Listed

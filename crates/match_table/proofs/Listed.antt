@@ -1,19 +1,22 @@
 -- The instances that have fired, as a list.
 use Rattle.std.proofs.Common.{◌≡◌, ◌<◌, ◌⊎◌, ⊎_elim, inl, inr, ℕ, zero, suc, Bool, true, cond, List, [], ◌∷◌}
-use Rattle.std.proofs.Common.{◌++◌, Option, Some, All, length, get_or, filter, sym, refl, ap, ◌∙◌, subst}
+use Rattle.std.proofs.Common.{◌++◌, Option, Some, None, length, get_or, filter, sym, refl, ap, ◌∙◌, subst}
 use Rattle.std.proofs.Common.{arith}
 use Rattle.std.proofs.lemmas.Bool.{cases_Bool}
 use Rattle.std.proofs.lemmas.List.{get_or-map, length-map}
-use Rattle.std.proofs.lemmas.List.Elements.{All-head, All-tail}
 use Rattle.ws_words.specs.Outside.{World}
 use Rattle.ws_isa.specs.Image.{Image, ports, is_memory}
 use Rattle.ws_isa.specs.Walk.{gather}
 use Rattle.df_core.specs.Core.{Key, HasFired, Once, is_full, operands_in}
+use Rattle.df_core.proofs.FromSound.{has_port}
+use Rattle.df_core.proofs.Ports.{full_all}
 use Rattle.match_table.specs.declared.entry.Arrived.{Arrived}
-use Rattle.match_table.specs.declared.entry.Entry.{Entry}
-use Rattle.match_table.specs.Pages.{IsUnder, arrived_in, instance_of, instance_under}
+use Rattle.match_table.specs.declared.entry.Instance.{Instance}
+use Rattle.match_table.specs.declared.entry.Page.{Page}
+use Rattle.match_table.specs.Pages.{arrived_in}
 use Rattle.match_table.specs.Ports.{held_at, alone}
-use Rattle.match_table.specs.Tables.{IsPlaced, TableOk, held, held_in, instances, of_memory, TableContent}
+use Rattle.match_table.specs.Tables.{TableOk, held_in, instance_key, instances, of_memory}
+use Rattle.match_table.proofs.Arrivals.{some_none}
 use Rattle.match_table.proofs.Held.{full_same, gather_same}
 
 -- the list of those that fired, with one more
@@ -61,96 +64,49 @@ has_filtered test (k ∷ ks) w i h = ⊎_elim
     h)))
     (cases_Bool (test k))
 
-abbrev key_at : ℕ × ℕ → Key
-key_at k = record { wave = k.0; instr = k.1 }
+-- what stands at a place of a list of instances
+pub listed_at : (fired : List Instance) (ks : List Key) (n : ℕ) (d : Key) (e : Instance) → instances fired ≡ ks
+    → n < length ks → get_or ks n d ≡ instance_key (get_or fired n e)
+listed_at fired ks n d e are lt = ap (λ l. get_or l n d) (sym are) ∙ get_or-map instance_key fired n e d
+    (subst (λ m. n < m) (ap length (sym are) ∙ length-map fired instance_key) lt)
 
--- the instance whose entry stands under a key
-pub under_is : (entries : List (Option Entry)) (k w i : ℕ) → IsUnder entries k w i
-    → instance_under entries k ≡ record { wave = w; instr = i }
-under_is entries k w i u = ap instance_of u.at ∙ ap key_at (λ j. (u.wave j, u.instr j))
+pub listed_has : (fired : List Instance) (ks : List Key) (n : ℕ) (e : Instance) → instances fired ≡ ks
+    → n < length ks → HasFired ks (get_or fired n e).wave (get_or fired n e).instr
+listed_has fired ks n e are lt = subst (λ (k : Key). HasFired ks k.wave k.instr)
+    (listed_at fired ks n (instance_key e) e are lt) (has_at ks n (instance_key e) lt)
 
--- entries stay under their keys
-module _ (entries new : List (Option Entry)) (stay : (k w i : ℕ) → IsUnder entries k w i
-    → IsUnder new k w i) where
-  pub placed_stays : (k : ℕ) → IsPlaced entries k → IsPlaced new k
-  placed_stays k p = (p.0, p.1, stay k p.0 p.1 p.2)
+-- and one of memory has fired too
+pub asked_has : (image : Image) (asked : List Instance) (ks : List Key) (n : ℕ) (e : Instance)
+    → instances asked ≡ of_memory image ks → n < length (of_memory image ks)
+    → HasFired ks (get_or asked n e).wave (get_or asked n e).instr
+asked_has image asked ks n e are lt = has_filtered (λ (k : Key). is_memory image k.instr) ks (get_or asked n e).wave
+    (get_or asked n e).instr (listed_has asked (of_memory image ks) n e are lt)
 
-  pub same_instances : (ks : List ℕ) → All (IsPlaced entries) ks → instances new ks ≡ instances entries ks
-  same_instances [] all = refl
-  same_instances (k ∷ ks) all =
-      let p = All-head (IsPlaced entries) k ks all in
-      let here = under_is new k p.0 p.1 (stay k p.0 p.1 p.2) ∙ sym (under_is entries k p.0 p.1 p.2) in
-      let rest = same_instances ks (All-tail (IsPlaced entries) k ks all) in
-      ap (λ (x : Key × List Key). x.0 ∷ x.1) (λ j. (here j, rest j))
+-- what has come to an instance that has fired
+pub record FiredAs (image : Image) (entries : List (Option Page)) (w i : ℕ) : Type 0 where
+  pub arrived : Arrived
+  pub is : arrived_in entries w i ≡ Some arrived
+  pub full : is_full (alone arrived) 0 0 (ports image i) ≡ true
+  pub operands : gather (alone arrived) 0 0 0 (ports image i) ≡ operands_in image (held_in entries) w i
 
--- the instance under a listed key is listed
-has_listed : (entries : List (Option Entry)) (ks : List ℕ) (n d : ℕ) → n < length ks
-    → HasFired (instances entries ks) (instance_under entries (get_or ks n d)).wave
-    (instance_under entries (get_or ks n d)).instr
-has_listed entries ks n d lt = subst (λ (k : Key). HasFired (instances entries ks) k.wave k.instr)
-    (get_or-map (instance_under entries) ks n d (instance_under entries d) lt)
-    (has_at (instances entries ks) n (instance_under entries d)
-    (subst (λ m. n < m) (sym (length-map ks (instance_under entries))) lt))
+pub fired_as : (image : Image) (entries : List (Option Page)) (w i : ℕ) → 0 < ports image i
+    → is_full (held_in entries) w i (ports image i) ≡ true → FiredAs image entries w i
+fired_as image entries w i some_port full = by_arrival (arrived_in entries w i) refl
+  where
+    by_arrival : (o : Option Arrived) → arrived_in entries w i ≡ o → FiredAs image entries w i
+    by_arrival None is = let u = full_all (held_in entries) w i (ports image i) full 0 some_port in
+        absurd (some_none u.0 (sym u.1 ∙ ap (λ o. held_at o 0) is))
+    by_arrival (Some a) is = record {
+      arrived = a;
+      is = is;
+      full = sym (full_same (held_in entries) (alone a) w i 0 0 (ports image i)
+          (λ q lt. ap (λ o. held_at o q) is)) ∙ full;
+      operands = sym (gather_same (held_in entries) (alone a) w i 0 0 0 (ports image i)
+          (λ q. ap (λ o. held_at o q) is));
+    }
 
--- a table, by its fields and by its value
-module _ (image : Image) (world : World) (entries : List (Option Entry)) (fired asked : List ℕ)
-    (ok : TableOk image world entries fired asked) (c : TableContent) (same : entries ≡ c.entries)
-    (are : instances entries fired ≡ c.fired) where
-  -- the keys that it lists are those of instances that have fired
-  module _ (n k d : ℕ) where
-    here : HasFired (instances entries fired) (instance_under entries k).wave (instance_under entries k).instr
-        → HasFired c.fired (instance_under c.entries k).wave (instance_under c.entries k).instr
-    here h = subst (λ (x : List (Option Entry) × List Key). HasFired x.1 (instance_under x.0 k).wave
-        (instance_under x.0 k).instr) (λ j. (same j, are j)) h
-
-    within_fired : n < length c.fired → n < length fired
-    within_fired lt = subst (λ m. n < m) (ap length (sym are) ∙ length-map fired (instance_under entries)) lt
-
-    pub fired_placed : k ≡ get_or fired n d → n < length c.fired → IsPlaced c.entries k
-    fired_placed is lt = subst (λ (x : List (Option Entry) × ℕ). IsPlaced x.0 x.1) (λ j. (same j, sym is j))
-        (ok.placed n d (within_fired lt))
-
-    pub fired_has : k ≡ get_or fired n d → n < length c.fired
-        → HasFired c.fired (instance_under c.entries k).wave (instance_under c.entries k).instr
-    fired_has is lt =
-        here (subst (λ x. HasFired (instances entries fired) (instance_under entries x).wave
-        (instance_under entries x).instr) (sym is) (has_listed entries fired n d (within_fired lt)))
-
-    within_asked : n < length (of_memory image c.fired) → n < length asked
-    within_asked lt = subst (λ m. n < m) (ap (λ ks. length (of_memory image ks)) (sym are)
-        ∙ ap length (sym ok.asked_are) ∙ length-map asked (instance_under entries)) lt
-
-    pub asked_placed : k ≡ get_or asked n d → n < length (of_memory image c.fired) → IsPlaced c.entries k
-    asked_placed is lt = subst (λ (x : List (Option Entry) × ℕ). IsPlaced x.0 x.1) (λ j. (same j, sym is j))
-        (ok.asked_placed n d (within_asked lt))
-
-    pub asked_has : k ≡ get_or asked n d → n < length (of_memory image c.fired)
-        → HasFired c.fired (instance_under c.entries k).wave (instance_under c.entries k).instr
-    asked_has is lt = here (has_filtered (λ (x : Key). is_memory image x.instr) (instances entries fired)
-        (instance_under entries k).wave (instance_under entries k).instr
-        (subst (λ (x : List Key × ℕ). HasFired x.0 (instance_under entries x.1).wave
-        (instance_under entries x.1).instr) (λ j. (ok.asked_are j, sym is j))
-        (has_listed entries asked n d (within_asked lt))))
-
-  -- the instance whose entry has the key of one that has fired
-  module _ (key w i n : ℕ) (a : Arrived) (ports_are : n ≡ ports image i)
-      (instance : instance_under entries key ≡ record { wave = w; instr = i })
-      (arrived : arrived_in entries w i ≡ Some a)
-      (fires : HasFired c.fired (instance_under c.entries key).wave
-      (instance_under c.entries key).instr) where
-    alone_at : (q : ℕ) → held_in entries w i q ≡ alone a 0 0 q
-    alone_at q = ap (λ o. held_at o q) arrived
-
-    has_fired : HasFired (instances entries fired) w i
-    has_fired = subst (λ (x : List Key × Key). HasFired x.0 x.1.wave x.1.instr)
-        (λ j. (sym are j, (ap (λ l. instance_under l key) (sym same) ∙ instance) j)) fires
-
-    pub listed_full : is_full (alone a) 0 0 n ≡ true
-    listed_full = ap (is_full (alone a) 0 0) ports_are
-        ∙ sym (full_same (held_in entries) (alone a) w i 0 0 (ports image i) (λ q lt. alone_at q))
-        ∙ ok.full w i has_fired
-
-    pub listed_operands : gather (alone a) 0 0 0 n ≡ operands_in image (held c) w i
-    listed_operands = ap (gather (alone a) 0 0 0) ports_are
-        ∙ sym (gather_same (held_in entries) (alone a) w i 0 0 0 (ports image i) alone_at)
-        ∙ ap (λ l. operands_in image (held_in l) w i) same
+-- what has come to one that a table lists
+pub table_fired : (image : Image) (world : World) (entries : List (Option Page)) (fired asked ks : List Key) (w i : ℕ)
+    → TableOk image world entries fired asked → fired ≡ ks → HasFired ks w i → FiredAs image entries w i
+table_fired image world entries fired asked ks w i ok same h = fired_as image entries w i (has_port image i)
+    (ok.full w i (subst (λ l. HasFired l w i) (sym same) h))

@@ -4,7 +4,7 @@ use Rattle.std.proofs.Common.{None, length, length-append, sym, ap, ◌∙◌, s
 use Rattle.ws_isa.specs.Image.{Image, Token}
 use Rattle.df_core.specs.Core.{with_at}
 use Rattle.df_core.proofs.Ports.{SamePlace, with_at_cases}
-use Rattle.match_table.specs.declared.entry.Entry.{Entry}
+use Rattle.match_table.specs.declared.entry.Page.{Page}
 use Rattle.match_table.specs.declared.table.Results.{Results}
 use Rattle.match_table.specs.declared.table.Took.{Took}
 use Rattle.match_table.specs.declared.table.Took.TheVariants as took
@@ -23,7 +23,7 @@ arrives_serves k old new t s serves a w i p v e = ⊎_elim
     (with_at_cases t.wave t.instr t.port (Some t.value) (held old) w i p)
 
 same_serves : (k : ℕ) (old new : TableContent) → Serves k old → new.entries ≡ old.entries → Serves k new
-same_serves k old new s e w i p v h = s w i p v (ap (λ (x : List (Option Entry)). held_in x w i p) (sym e)
+same_serves k old new s e w i p v h = s w i p v (ap (λ (x : List (Option Page)). held_in x w i p) (sym e)
     ∙ h)
 
 -- a table that holds nothing serves any instances

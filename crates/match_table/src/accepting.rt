@@ -16,7 +16,7 @@ ghost use Rattle.match_table.specs.Pages.{KeyIs, arrived_in};
 ghost use Rattle.match_table.specs.Ports.{listed, is_taken, with_port, alone, SeenSo};
 ghost use Rattle.match_table.specs.Tables.{IsPlacedAt, held};
 
-use crate::entry::Arrived;
+use crate::entry::{Arrived, Instance};
 use crate::meeting::{Operands, Seen, is_taken, meet};
 use crate::ops::{dests_of, number_of, op_of, result_of, selector};
 use crate::table::{Accept, AcceptFault, Results, Table, Took};
@@ -72,11 +72,12 @@ impl<J: Job> Table<J> {
         let instr = token.instr();
         let port = token.port();
         let value = token.value();
+        let instance = Instance { wave, instr };
         self.room -= 1;
-        let key = self.pages.put(key, wave, instr, port, value);
-        self.fired.push_reserved(key);
+        self.pages.put(key, wave, instr, port, value);
+        self.fired.push_reserved(instance);
         if asks {
-            self.asked.push_reserved(key);
+            self.asked.push_reserved(instance);
         }
     }
 
@@ -131,12 +132,8 @@ impl<J: Job> Table<J> {
             return self.accept_unplaced(code, token, results);
         };
         let placed = Some(placed);
-        match self.pages.find(token.wave(), instr) {
-            None => self.take(program, placed, token, None, None, results),
-            Some((key, arrived)) => {
-                self.take(program, placed, token, Some(key), Some(arrived), results)
-            }
-        }
+        let (key, arrived) = self.pages.find(token.wave(), instr);
+        self.take(program, placed, token, key, arrived, results)
     }
 
     // The same for a token that comes to no instruction of the code.
@@ -154,10 +151,7 @@ impl<J: Job> Table<J> {
         ensures spare { self.old.spare ≤ self.new.spare + 1 }
     {
         let program = code.program();
-        let (key, arrived) = match self.pages.find(token.wave(), token.instr()) {
-            None => (None, None),
-            Some((key, arrived)) => (Some(key), Some(arrived)),
-        };
+        let (key, arrived) = self.pages.find(token.wave(), token.instr());
         self.take(program, None, token, key, arrived, results)
     }
 

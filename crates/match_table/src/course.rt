@@ -1,67 +1,59 @@
-//! Where a page may stand in its list.
+//! Where a page may be.
 
-use crate::entry::PageKey;
-use crate::places::{PARTS, WAVE};
+use crate::entry::PageName;
 
-/// How the places of a table's pages rise with their wave numbers: about how many pages a wave has, and by
-/// how much the page that was found last was ahead of that. Whatever it says serves; where it is right a page
-/// is found at once.
+// How many keys a course knows.
+const KEYS: usize = 64;
+
+/// Where pages were found last: keys by a part of their names, and a place in the list. Whatever it says
+/// serves; where it is right a page is found at once.
 #[derive(Clone, Copy)]
 pub struct Course {
-    pace: u64,
-    ahead: u64,
+    keys: [usize; KEYS],
+    near: usize,
+}
+
+// The place of a name's key.
+#[inline(always)]
+fn place_for(name: PageName) -> usize {
+    (name.part.wrapping_add(name.part / 16) % KEYS as u64) as usize
 }
 
 impl Course {
     /// Where nothing is known of the pages.
     pub fn none() -> Course {
-        Course { pace: 1, ahead: 0 }
-    }
-
-    // That of these pages.
-    pub(crate) fn of(order: &[PageKey]) -> Course {
-        let (Some(first), Some(last)) = (order.first(), order.last()) else {
-            return Course::none();
-        };
-        let waves = last.number.saturating_sub(first.number) / WAVE;
         Course {
-            pace: ((order.len() as u64).saturating_add(waves / 2) / waves.max(1)).max(1),
-            ahead: 0,
+            keys: [0; KEYS],
+            near: 0,
         }
     }
 
-    // How far the places of pages have risen at an instance's page.
+    // The key that the page with a name may have.
     #[inline(always)]
-    fn risen(&self, wave: u64, instr: u32) -> u64 {
-        wave.wrapping_mul(self.pace)
-            .wrapping_add(u64::from(instr / 32))
+    pub(crate) fn key(&self, name: PageName) -> usize {
+        match self.keys.get(place_for(name)) {
+            Some(key) => *key,
+            None => 0,
+        }
     }
 
-    // The place at which an instance's page may stand.
+    // The place from which on the page with a name is looked for.
     #[inline(always)]
-    pub(crate) fn place(&self, wave: u64, instr: u32) -> usize {
-        self.risen(wave, instr).wrapping_add(self.ahead) as usize
+    pub(crate) fn near(&self) -> usize {
+        self.near
     }
 
-    // The place at which the page with a number may stand, where the page with another stands at this place.
+    // A name stands at this place, or would.
     #[inline(always)]
-    pub(crate) fn beside(&self, place: usize, number: u64, sought: u64) -> usize {
-        (place as u64)
-            .wrapping_add(self.steps(sought))
-            .wrapping_sub(self.steps(number)) as usize
+    pub(crate) fn at(&mut self, place: usize) {
+        self.near = place;
     }
 
-    // How far the places of pages have risen at the page with a number.
+    // The page with a name has this key.
     #[inline(always)]
-    fn steps(&self, number: u64) -> u64 {
-        (number / WAVE)
-            .wrapping_mul(self.pace)
-            .wrapping_add(number % WAVE / PARTS)
-    }
-
-    // An instance's page was found at this place.
-    #[inline(always)]
-    pub(crate) fn found(&mut self, wave: u64, instr: u32, place: usize) {
-        self.ahead = (place as u64).wrapping_sub(self.risen(wave, instr));
+    pub(crate) fn found(&mut self, name: PageName, key: usize) {
+        if let Some(at) = self.keys.get_mut(place_for(name)) {
+            *at = key;
+        }
     }
 }

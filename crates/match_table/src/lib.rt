@@ -33,7 +33,6 @@
 
 mod accepting;
 mod bringing;
-mod chain;
 mod course;
 mod entry;
 mod laws;

@@ -7,12 +7,12 @@ ghost use Rattle.ws_isa.specs.Sound.{Sound};
 ghost use Rattle.df_core.specs.Core.{Key, HasFired, has, operands_in};
 ghost use Rattle.match_table.specs.declared.meeting.Seen.TheVariants.{Waits, Fills};
 ghost use Rattle.match_table.specs.Matching.{IsOldSo, will_fire};
-ghost use Rattle.match_table.specs.Pages.{arrived_in, instance_under};
+ghost use Rattle.match_table.specs.Pages.{arrived_in};
 ghost use Rattle.match_table.specs.Ports.{listed, is_taken, SeenSo};
-ghost use Rattle.match_table.specs.Tables.{IsPlaced, held, key_of, of_memory};
+ghost use Rattle.match_table.specs.Tables.{held, key_of, of_memory};
 
 use crate::course::Course;
-use crate::entry::Arrived;
+use crate::entry::{Arrived, Instance};
 use crate::meeting::{Seen, is_taken, meet, operands_of};
 use crate::table::{Fired, Table};
 use df_core::{Code, Job, Token};
@@ -22,7 +22,7 @@ impl<J: Job> Table<J> {
     pub fn holds(&self, wave: u64, instr: u32, port: u8) -> bool
         ensures { result ≡ has (held self.now wave instr port) }
     {
-        is_taken(self.pages.look(self.pages.near(), wave, instr).1, port)
+        is_taken(self.pages.look(wave, instr), port)
     }
 
     /// The same. Its page is looked for first where the course says, which then knows where it stands.
@@ -30,36 +30,12 @@ impl<J: Job> Table<J> {
     pub fn holds_on(&self, course: &mut Course, wave: u64, instr: u32, port: u8) -> bool
         ensures { result ≡ has (held self.now wave instr port) }
     {
-        match self.pages.spot(course.place(wave, instr), wave, instr) {
-            Some(arrived) => is_taken(Some(arrived), port),
-            None => self.holds_around(course, wave, instr, port),
-        }
+        is_taken(self.pages.look_on(course, wave, instr), port)
     }
 
-    /// How the places of its pages rise.
+    /// Where its pages were found last.
     pub fn course(&self) -> Course {
         self.pages.course()
-    }
-
-    // The same where the page stands elsewhere, or the instance has no entry.
-    #[inline(never)]
-    pub(crate) fn holds_around(&self, course: &mut Course, wave: u64, instr: u32, port: u8) -> bool
-        ensures { result ≡ has (held self.now wave instr port) }
-    {
-        let near = self
-            .pages
-            .nearer(course, course.place(wave, instr), wave, instr);
-        match self.pages.spot(near, wave, instr) {
-            Some(arrived) => {
-                course.found(wave, instr, near);
-                is_taken(Some(arrived), port)
-            }
-            None => {
-                let (place, arrived) = self.pages.look(near, wave, instr);
-                course.found(wave, instr, place);
-                is_taken(arrived, port)
-            }
-        }
     }
 
     /// How many instances have fired here.
@@ -86,7 +62,8 @@ impl<J: Job> Table<J> {
         ensures { (d : Key) → slice_index_or self.now.fired place d
             ≡ record { wave = result.0; instr = result.1 } }
     {
-        self.pages.instance(self.fired[place])
+        let instance = self.fired[place];
+        (instance.wave, instance.instr)
     }
 
     /// The instance that fired here at this place, from 0, in the order of firing.
@@ -97,7 +74,7 @@ impl<J: Job> Table<J> {
         ensures operands { listed result.operands
             ≡ operands_in J.image (held self.now) result.wave result.instr }
     {
-        self.fired_under(code, self.fired[place])
+        self.fired_with(code, self.fired[place])
     }
 
     /// The instance of memory that fired here at this place, from 0, in the order of those.
@@ -109,23 +86,23 @@ impl<J: Job> Table<J> {
         ensures operands { listed result.operands
             ≡ operands_in J.image (held self.now) result.wave result.instr }
     {
-        self.fired_under(code, self.asked[place])
+        self.fired_with(code, self.asked[place])
     }
 
-    // The instance whose entry has this key, which has fired.
+    // An instance that has fired, with its operands.
     #[inline(always)]
-    pub(crate) fn fired_under(&self, code: &Code<'_, J>, key: usize) -> Fired
-        requires placed { IsPlaced self.now.entries key }
-        requires fired { HasFired self.now.fired (instance_under self.now.entries key).wave
-            (instance_under self.now.entries key).instr }
-        ensures at { instance_under self.now.entries key ≡ key_of result }
+    pub(crate) fn fired_with(&self, code: &Code<'_, J>, instance: Instance) -> Fired
+        requires { HasFired self.now.fired instance.wave instance.instr }
+        ensures key { key_of result ≡ record { wave = instance.wave; instr = instance.instr } }
         ensures operands { listed result.operands
             ≡ operands_in J.image (held self.now) result.wave result.instr }
     {
         let _ = &self.fired;
-        let instance = self.pages.at(key);
         let ports = code.program().op(instance.instr).ports();
-        match operands_of(instance.arrived, ports) {
+        let Some(arrived) = self.pages.look(instance.wave, instance.instr) else {
+            unreachable!();
+        };
+        match operands_of(arrived, ports) {
             Some(operands) => Fired {
                 wave: instance.wave,
                 instr: instance.instr,
@@ -159,7 +136,7 @@ impl<J: Job> Table<J> {
         let instr = token.instr();
         let program = code.program();
         let count = program.op(instr).ports();
-        let (_, arrived) = self.pages.look(self.pages.near(), wave, instr);
+        let arrived = self.pages.look(wave, instr);
         let seen = self.meet(token, count, arrived);
         match seen {
             Seen::Fills(_) => true,

@@ -1,121 +1,150 @@
-//! Places of pages in a list that rises in number.
+//! Places of pages in a list that rises in name.
 
-ghost use Rattle.std.specs.Prelude.{◌≡◌, ◌+◌, ◌<◌, ◌≤◌, ℕ, true, length, slice_index_or, vec_len};
-ghost use Rattle.std.specs.Prelude.{vec_capacity};
+ghost use Rattle.std.specs.Prelude.{◌≡◌, ◌+◌, ◌<◌, ◌≤◌, ◌%◌, ℕ, true, false, length, slice_index_or, vec_len};
+ghost use Rattle.std.specs.Prelude.{vec_capacity, IfSome};
 ghost use Rattle.std.specs.List.{insert};
-ghost use Rattle.match_table.specs.Pages.{IsFirstFrom, page_key, page_number, RisingPages};
+ghost use Rattle.match_table.specs.Pages.{IsFirstFrom, ListedAs, name_for, rank, RisingPages};
 
-use crate::entry::PageKey;
+use crate::entry::{PageKey, PageName};
 
-/// How many pages a wave has for 32 instruction numbers.
-pub(crate) const PARTS: u64 = 4;
-
-/// By how much the numbers of a wave's pages are above those of the wave before it.
-pub(crate) const WAVE: u64 = 1 << 29;
-
-// The number of an instance's page. Instructions that one table of sixteen serves have one remainder by 16,
-// so 32 of them in a row have one page there; a table that serves all has four pages for these.
+// The name of an instance's page.
 #[inline(always)]
-pub(crate) fn number_of(wave: u64, instr: u32) -> u64
-    ensures { result ≡ page_number wave instr }
+pub(crate) fn name_of(wave: u64, instr: u32) -> PageName
+    ensures { result ≡ name_for wave instr }
 {
-    wave.wrapping_mul(WAVE)
-        .wrapping_add(u64::from(instr / 32 * 4 + instr % 16 / 4))
+    PageName {
+        wave: wave / 4,
+        part: u64::from(instr) + wave % 4,
+    }
 }
 
-// How far from a place that is guessed a number is looked for first.
+// The place of an instance in its page.
+#[inline(always)]
+pub(crate) fn slot_of(wave: u64) -> usize
+    ensures place { result ≡ wave % 4 }
+    ensures below { result < 4 }
+{
+    (wave % 4) as usize
+}
+
+// Whether a name is another.
+#[inline(always)]
+pub(crate) fn is_same(one: PageName, other: PageName) -> bool
+    ensures same { result ≡ true → one ≡ other }
+    ensures apart { result ≡ false → rank one ≡ rank other → ⊥ }
+{
+    one.wave == other.wave && one.part == other.part
+}
+
+// Whether a name stands before another.
+#[inline(always)]
+fn is_below(one: PageName, other: PageName) -> bool
+    ensures yes { result ≡ true → rank one < rank other }
+    ensures no { result ≡ false → rank other ≤ rank one }
+{
+    if one.wave == other.wave {
+        one.part < other.part
+    } else {
+        one.wave < other.wave
+    }
+}
+
+// How far from a place that is guessed a name is looked for first.
 const REACH: usize = 4;
 
-// The place from this one on, a few places back at most, before which the number that stands next is below
+// How far from there it is looked for by halves before it is looked for in the whole list.
+const FURTHER: usize = 64;
+
+// The place from this one on, a few places back at most, before which the name that stands next is before
 // this one, if there is such a place. Any answer serves.
 #[inline(always)]
-fn back(order: &[PageKey], from: usize, number: u64) -> usize {
+fn back(order: &[PageKey], from: usize, name: PageName) -> usize {
     let mut at = from;
     for _ in 0..REACH {
         let Some(before) = at.checked_sub(1) else {
             return at;
         };
         match order.get(before) {
-            Some(page) if page.number >= number => at = before,
+            Some(page) if !is_below(page.name, name) => at = before,
             _ => return at,
         }
     }
     at
 }
 
-// The place from this one on, a few places further at most, at which the number isn't below this one, if
+// The place from this one on, a few places further at most, at which the name isn't before this one, if
 // there is such a place. Any answer serves.
 #[inline(always)]
-fn forth(order: &[PageKey], from: usize, number: u64) -> usize {
+fn forth(order: &[PageKey], from: usize, name: PageName) -> usize {
     let mut at = from;
     for _ in 0..REACH {
         match order.get(at) {
-            Some(page) if page.number < number => at = at.saturating_add(1),
+            Some(page) if is_below(page.name, name) => at = at.saturating_add(1),
             _ => return at,
         }
     }
     at
 }
 
-// Where a number would stand if those in the list rose evenly. Any answer serves; a near one saves steps.
-fn guess(order: &[PageKey], number: u64) -> usize {
-    let (Some(first), Some(last)) = (order.first(), order.last()) else {
-        return 0;
-    };
-    let reached = number.saturating_sub(first.number);
-    let step = last.number.saturating_sub(first.number) / order.len() as u64;
-    (reached / step.max(1)) as usize
+// Where a name would stand if the names from a place on rose as they do there. Any answer serves; a near one
+// saves steps.
+#[inline(always)]
+fn guess(order: &[PageKey], from: usize, name: PageName) -> usize {
+    let at = from.min(order.len().saturating_sub(1));
+    match (order.get(at), order.get(at.wrapping_add(1))) {
+        (Some(page), Some(next)) if next.name.wave == page.name.wave => {
+            let step = next.name.part.wrapping_sub(page.name.part).max(1);
+            if name.part >= page.name.part {
+                at.saturating_add(((name.part - page.name.part) / step) as usize)
+            } else {
+                at.saturating_sub(((page.name.part - name.part) / step) as usize)
+            }
+        }
+        _ => at,
+    }
 }
 
-// A place before which all numbers are below this one: the one behind the place that is given, where that
+// A place before which all names are before this one: the one behind the place that is given, where that
 // does, or else 0.
 #[inline(always)]
-fn floor(order: &[PageKey], before: usize, number: u64) -> usize
+fn floor(order: &[PageKey], before: usize, name: PageName) -> usize
     requires { RisingPages order.now }
     ensures bound { result ≤ length order.now }
-    ensures below { (i : ℕ) (d : _) → i < result → (slice_index_or order.now i d).number < number }
+    ensures below { (i : ℕ) (d : _) → i < result → rank (slice_index_or order.now i d).name < rank name }
 {
-    if before < order.len() && order[before].number < number {
+    if before < order.len() && is_below(order[before].name, name) {
         before + 1
     } else {
         0
     }
 }
 
-// A place from which on no number is below this one: the one that is given, where that is so, or else the
+// A place from which on no name is before this one: the one that is given, where that is so, or else the
 // end.
 #[inline(always)]
-fn ceiling(order: &[PageKey], at: usize, number: u64) -> usize
+fn ceiling(order: &[PageKey], at: usize, name: PageName) -> usize
     requires { RisingPages order.now }
     ensures bound { result ≤ length order.now }
     ensures above { (i : ℕ) (d : _) → result ≤ i → i < length order.now
-        → number ≤ (slice_index_or order.now i d).number }
+        → rank name ≤ rank (slice_index_or order.now i d).name }
 {
-    if at < order.len() && order[at].number >= number {
+    if at < order.len() && !is_below(order[at].name, name) {
         at
     } else {
         order.len()
     }
 }
 
-// The first place whose number isn't below this one.
-fn search(order: &[PageKey], number: u64) -> usize
+// The first place whose name isn't before this one, looked for around a place that may be any.
+fn search(order: &[PageKey], near: usize, name: PageName) -> usize
     requires { RisingPages order.now }
-    ensures bound { result ≤ length order.now }
-    ensures below { (i : ℕ) (d : _) → i < result → (slice_index_or order.now i d).number < number }
-    ensures above { (i : ℕ) (d : _) → result ≤ i → i < length order.now
-        → number ≤ (slice_index_or order.now i d).number }
+    ensures { IsFirstFrom order.now result name }
 {
-    let last = floor(order, order.len().saturating_sub(1), number);
-    if last == order.len() {
-        return last;
-    }
-    let near = guess(order, number);
-    let mut low = floor(order, near.saturating_sub(REACH), number);
-    let mut high = ceiling(order, near.saturating_add(REACH), number);
+    let mut low = floor(order, near.saturating_sub(FURTHER), name);
+    let mut high = ceiling(order, near.saturating_add(FURTHER), name);
     while low < high {
         let middle = low + (high - low) / 2;
-        if order[middle].number < number {
+        if is_below(order[middle].name, name) {
             low = middle + 1;
         } else {
             high = middle;
@@ -124,65 +153,46 @@ fn search(order: &[PageKey], number: u64) -> usize
     low
 }
 
-// Whether the number stands at this place.
+// The first place whose name isn't before this one, if it is one of a few around a place that may be any.
 #[inline(always)]
-pub(crate) fn is_at(order: &[PageKey], at: usize, number: u64) -> bool
-    ensures within { result ≡ true → at < length order.now }
-    ensures number { (d : _) → result ≡ true → (slice_index_or order.now at d).number ≡ number }
-{
-    at < order.len() && order[at].number == number
-}
-
-// The first place whose number isn't below this one, where this is the first for a number that was sought.
-#[inline(always)]
-pub(crate) fn place_from(order: &[PageKey], near: usize, sought: u64, number: u64) -> usize
-    requires rising { RisingPages order.now }
-    requires first { IsFirstFrom order.now near sought }
-    ensures { IsFirstFrom order.now result number }
-{
-    if sought == number {
-        near
-    } else {
-        place_of(order, near, number)
-    }
-}
-
-// The first place whose number isn't below this one, looked for from a place on that may be any.
-#[inline(always)]
-pub(crate) fn place_of(order: &[PageKey], near: usize, number: u64) -> usize
+fn place_around(order: &[PageKey], near: usize, name: PageName) -> Option<usize>
     requires { RisingPages order.now }
-    ensures { IsFirstFrom order.now result number }
+    ensures { IfSome result (λ place. IsFirstFrom order.now place name) }
 {
-    if is_at(order, near, number) {
-        return near;
+    let at = forth(order, back(order, near.min(order.len()), name), name);
+    let low = floor(order, at.wrapping_sub(1), name);
+    let high = ceiling(order, at, name);
+    if low == high { Some(low) } else { None }
+}
+
+// The first place whose name isn't before this one, looked for from a place on that may be any.
+#[inline(always)]
+pub(crate) fn place_of(order: &[PageKey], near: usize, name: PageName) -> usize
+    requires { RisingPages order.now }
+    ensures { IsFirstFrom order.now result name }
+{
+    if let Some(place) = place_around(order, near, name) {
+        return place;
     }
-    let next = floor(order, near, number);
-    let end = ceiling(order, next, number);
-    if next == end {
-        return next;
-    }
-    let at = forth(order, back(order, near.min(order.len()), number), number);
-    let low = floor(order, at.wrapping_sub(1), number);
-    let high = ceiling(order, at, number);
-    if low == high {
-        low
-    } else {
-        search(order, number)
+    let guessed = guess(order, near, name);
+    match place_around(order, guessed, name) {
+        Some(place) => place,
+        None => search(order, guessed, name),
     }
 }
 
-// The key of the page with this number, where the first place whose number isn't below is this one.
+// The key of the page with this name, where the first place whose name isn't before it is this one.
 #[inline(always)]
-pub(crate) fn key_at(order: &[PageKey], place: usize, number: u64) -> Option<usize>
+pub(crate) fn key_at(order: &[PageKey], place: usize, name: PageName) -> Option<usize>
     requires rising { RisingPages order.now }
-    requires first { IsFirstFrom order.now place number }
-    ensures { result ≡ page_key order.now number }
+    requires first { IsFirstFrom order.now place name }
+    ensures { ListedAs order.now result name }
 {
     if place >= order.len() {
         return None;
     }
     let page = order[place];
-    if page.number == number {
+    if is_same(page.name, name) {
         Some(page.key)
     } else {
         None

@@ -8,6 +8,7 @@ ghost use Rattle.match_table.specs.Matching.{NoResults};
 ghost use Rattle.match_table.specs.Ports.{listed};
 ghost use Rattle.match_table.specs.Tables.{held, part, TableContent};
 
+use crate::entry::Instance;
 use crate::meeting::Operands;
 use crate::pages::Pages;
 use df_core::{Job, Request, Sent, Token, TokenList};
@@ -111,13 +112,12 @@ pub enum AcceptFault<J: Job> {
 }
 
 /// The instances of which tokens have come, with their tokens. Those that have fired are listed in the
-/// order of firing by the keys of their entries, and those of memory among them once more. There is room for
-/// so many more tokens at least.
+/// order of firing, and those of memory among them once more. There is room for so many more tokens at least.
 #[derive(Drop)]
 pub struct Table<J: Job> {
     pub(crate) pages: Pages,
-    pub(crate) fired: Vec<usize>,
-    pub(crate) asked: Vec<usize>,
+    pub(crate) fired: Vec<Instance>,
+    pub(crate) asked: Vec<Instance>,
     pub(crate) room: usize,
     pub(crate) of: PhantomData<J>,
 }
@@ -130,11 +130,12 @@ impl<J: Job> Model for Table<J> {
 
     ghost view = { λ t. record {
       entries = t.pages.entries;
-      fired = instances t.pages.entries t.fired.items;
+      fired = instances t.fired.items;
       spare = t.room;
     } };
 
-    ghost invariant = { λ t. TableOk J.image J.world t.pages.entries t.fired.items t.asked.items
+    ghost invariant = { λ t. TableOk J.image J.world t.pages.entries (instances t.fired.items)
+        (instances t.asked.items)
         × (t.room ≤ t.pages.spare) × (vec_len t.fired + t.room ≤ vec_capacity t.fired)
         × (vec_len t.asked + t.room ≤ vec_capacity t.asked) };
 }

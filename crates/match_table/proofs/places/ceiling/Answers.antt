@@ -1,6 +1,6 @@
-use Rattle.match_table.proofs.Numbers.{above_more}
+use Rattle.match_table.proofs.Names.{above_more}
 use Rattle.match_table.proofs.places.ceiling.Goals as goal
 
-pub returns-then-order-at-clause-above : goal.returns-then-order-at-clause-above
-returns-then-order-at-clause-above c = above_more c.args.order.now c.args.at c.args.number _ c.requires
-    c.if-order-at.true
+pub returns-then-not-is_below-clause-above : goal.returns-then-not-is_below-clause-above
+returns-then-not-is_below-clause-above c = above_more c.args.order.now c.args.at c.args.name _ c.requires
+    (c.is_below.ensures.no c.if-not-is_below.true)

@@ -1,34 +1,41 @@
-use Rattle.std.proofs.Common.{ℕ, ◌≡◌, subst, cond, set, Some}
-use Rattle.match_table.specs.declared.entry.Entry.{Entry}
+use Rattle.std.proofs.Common.{ℕ, ◌≡◌, ◌%◌, ap, ◌∙◌, subst, cond, set, get_or, Some}
 use Rattle.df_core.specs.Core.{same_key}
-use Rattle.match_table.specs.Pages.{arrived_in, IsUnder, PageStore}
-use Rattle.match_table.specs.Ports.{with_port}
-use Rattle.match_table.proofs.Store.{was_set, port_arrived, set_stays}
+use Rattle.match_table.specs.declared.entry.Page.{Page}
+use Rattle.match_table.specs.Pages.{arrived_in, name_for, PageStore}
+use Rattle.match_table.specs.Ports.{none_arrived, set_port, with_port}
+use Rattle.match_table.proofs.Store.{named_is, port_arrived, set_ok, still_clean, still_four}
 use Rattle.match_table.proofs.pages.Pages.set_port.Goals as goal
 
+-- the page that is found under the key is the instance's
+own_name : (c : goal.After-self-1) → c.index_mut.result.now.name ≡ name_for c.args.wave c.args.instr
+own_name c = named_is c.self.inside.pages.slots c.args.self.now.entries c.args.key
+    (name_for c.args.wave c.args.instr) c.index_mut.result.now
+    (ap (λ (s : PageStore). s.entries) c.self.view_is) c.index_mut.ensures.value c.requires
+
+-- and has the value at the port
+own_entries : (c : goal.After-self-1) → c.put_at.new.page.entries ≡ set c.index_mut.result.now.entries
+    (c.args.wave % 4) (set_port (get_or c.index_mut.result.now.entries (c.args.wave % 4) none_arrived) c.args.port
+    c.args.value)
+own_entries c = let u : Page = c.index_mut.result.now in c.put_at.ensures.entries
+    ∙ ap (λ (k : ℕ). set u.entries k (set_port (get_or u.entries k none_arrived) c.args.port c.args.value))
+    c.slot_of.ensures.place
+
 pub invariant_of-self : goal.invariant_of-self
-invariant_of-self c = (
-  was_set c.self.inside.order.items c.self.inside.pages.slots c.self.inside.entries.slots c.args.key
-      c.index_mut.result.now _ c.self.invariant.0 c.index_mut.ensures.value c.put_value.ensures.wave
-      c.put_value.ensures.instr c.put_value.ensures.next,
-  c.self.invariant.1,
-)
+invariant_of-self c = let order = c.self.inside.order.items in let slots = c.self.inside.pages.slots in
+    let u : Page = c.index_mut.result.now in let v : Page = c.put_at.new.page in
+    let at = c.index_mut.ensures.value in let name = c.put_at.ensures.name in
+    set_ok order slots c.self.invariant c.args.key u v at name
+    (still_four order slots c.self.invariant c.args.key c.args.wave c.args.instr c.args.port c.args.value u v at
+    (own_name c) name (own_entries c))
+    (still_clean order slots c.self.invariant c.args.key c.args.wave c.args.instr c.args.port c.args.value u v at
+    (own_name c) name (own_entries c))
 
 pub returns-clause-arrived : goal.returns-clause-arrived
-returns-clause-arrived c =
-    let v : Entry = c.put_value.new.entry in
-    subst (λ (s : PageStore). (w i : ℕ) → IsUnder s.entries c.args.key w i → (a b : ℕ)
-    → arrived_in (set c.self.inside.entries.slots c.args.key (Some v)) a b ≡ cond (same_key w i a b)
-    (Some (with_port (arrived_in s.entries w i) c.args.port c.args.value)) (arrived_in s.entries a b))
-    c.self.view_is
-    (λ w i u. port_arrived c.self.inside.entries.slots c.args.key c.index_mut.result.now v w i c.args.port
-    c.args.value c.self.invariant.0.single c.index_mut.ensures.value c.put_value.ensures.wave
-    c.put_value.ensures.instr c.put_value.ensures.arrived u)
-
-pub returns-clause-stay : goal.returns-clause-stay
-returns-clause-stay c =
-    let v : Entry = c.put_value.new.entry in
-    subst (λ (s : PageStore). (k w i : ℕ) → IsUnder s.entries k w i
-    → IsUnder (set c.self.inside.entries.slots c.args.key (Some v)) k w i) c.self.view_is
-    (set_stays c.self.inside.entries.slots c.args.key c.index_mut.result.now v c.index_mut.ensures.value
-    c.put_value.ensures.wave c.put_value.ensures.instr c.put_value.ensures.next)
+returns-clause-arrived c = subst (λ (s : PageStore). (a b : ℕ)
+    → arrived_in (set c.self.inside.pages.slots c.args.key (Some c.put_at.new.page)) a b
+    ≡ cond (same_key c.args.wave c.args.instr a b)
+    (Some (with_port (arrived_in s.entries c.args.wave c.args.instr) c.args.port c.args.value))
+    (arrived_in s.entries a b)) c.self.view_is
+    (port_arrived c.self.inside.order.items c.self.inside.pages.slots c.self.invariant c.args.key c.args.wave
+    c.args.instr c.args.port c.args.value c.index_mut.result.now c.put_at.new.page c.index_mut.ensures.value
+    (own_name c) c.put_at.ensures.name (own_entries c))

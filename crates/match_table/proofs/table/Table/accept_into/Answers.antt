@@ -4,26 +4,13 @@ use Rattle.match_table.specs.Pages.{PageStore}
 use Rattle.match_table.specs.Tables.{TableContent, instances}
 use Rattle.match_table.proofs.table.Table.accept_into.Goals as goal
 
-pub returns-in-Some-find-clause-answer : goal.returns-in-Some-find-clause-answer
-returns-in-Some-find-clause-answer g c =
-    subst (λ (s : TableContent). TookAs g.J.Job.image s c.args.token.now c.take-in-Some-find.new.self
-    c.take-in-Some-find.new.results c.take-in-Some-find.result)
-    (ap (λ (s : PageStore). record {
-      entries = s.entries;
-      fired = instances s.entries
-          c.self.inside.fired.items;
-      spare = c.self.inside.room;
-    }) c.find.ensures.same ∙ c.self.view_is)
-    c.take-in-Some-find.ensures.answer
-
-pub returns-in-None-clause-answer : goal.returns-in-None-clause-answer
-returns-in-None-clause-answer g c =
+pub returns-clause-answer : goal.returns-clause-answer
+returns-clause-answer g c =
     subst (λ (s : TableContent). TookAs g.J.Job.image s c.args.token.now c.take.new.self c.take.new.results
     c.take.result)
     (ap (λ (s : PageStore). record {
       entries = s.entries;
-      fired = instances s.entries
-          c.self.inside.fired.items;
+      fired = instances c.self.inside.fired.items;
       spare = c.self.inside.room;
-    }) c.find.ensures.same ∙ c.self.view_is)
+    }) c.find-key.ensures.same ∙ c.self.view_is)
     c.take.ensures.answer

@@ -10,8 +10,7 @@ returns-clause-answer g c =
     c.take.result)
     (ap (λ (s : PageStore). record {
       entries = s.entries;
-      fired = instances s.entries
-          c.self.inside.fired.items;
+      fired = instances c.self.inside.fired.items;
       spare = c.self.inside.room;
-    }) c.find.ensures.same ∙ c.self.view_is)
+    }) c.find-key.ensures.same ∙ c.self.view_is)
     c.take.ensures.answer

@@ -1,16 +1,12 @@
-use Rattle.std.proofs.Common.{ap}
-use Rattle.match_table.proofs.Listed.{fired_placed, fired_has}
-use Rattle.match_table.proofs.table.Table.fired_at.Goals as goal
+use Rattle.std.proofs.Common.{sym, ap, subst}
+use Rattle.df_core.specs.Core.{HasFired}
+use Rattle.match_table.specs.declared.entry.Instance.{Instance}
 use Rattle.match_table.specs.Tables.{TableContent}
+use Rattle.match_table.proofs.Listed.{listed_has}
+use Rattle.match_table.proofs.table.Table.fired_at.Goals as goal
 
-pub fired_under-requires-clause-placed : goal.fired_under-requires-clause-placed
-fired_under-requires-clause-placed g c = fired_placed g.J.Job.image g.J.Job.world c.self.inside.pages.entries
-    c.self.inside.fired.items c.self.inside.asked.items c.self.invariant.0 c.args.self.now
-    (ap (λ (s : TableContent). s.entries) c.self.view_is) (ap (λ (s : TableContent). s.fired) c.self.view_is)
-    c.args.place c.index.result.now _ c.index.ensures c.requires
-
-pub fired_under-requires-clause-fired : goal.fired_under-requires-clause-fired
-fired_under-requires-clause-fired g c = fired_has g.J.Job.image g.J.Job.world c.self.inside.pages.entries
-    c.self.inside.fired.items c.self.inside.asked.items c.self.invariant.0 c.args.self.now
-    (ap (λ (s : TableContent). s.entries) c.self.view_is) (ap (λ (s : TableContent). s.fired) c.self.view_is)
-    c.args.place c.index.result.now _ c.index.ensures c.requires
+pub fired_with-requires : goal.fired_with-requires
+fired_with-requires g c = subst (λ (f : Instance). HasFired c.args.self.now.fired f.wave f.instr)
+    (sym c.index.ensures)
+    (listed_has c.self.inside.fired.items c.args.self.now.fired c.args.place _
+    (ap (λ (s : TableContent). s.fired) c.self.view_is) c.requires)

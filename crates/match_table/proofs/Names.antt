@@ -1,0 +1,211 @@
+-- Names of pages in a list that rises.
+use Rattle.std.proofs.Common.{◌≡◌, ◌≢◌, ◌+◌, ◌<◌, ◌≤◌, ◌⊎◌, ⊎_elim, inl, inr, ℕ, zero, suc, List, [], ◌∷◌}
+use Rattle.std.proofs.Common.{◌++◌, length, take, drop, take-append-drop, get_or, sym, refl, ap, ◌∙◌, subst}
+use Rattle.std.proofs.Common.{arith, add-one}
+use Rattle.std.proofs.lemmas.Bool.{cases_order}
+use Rattle.std.proofs.lemmas.List.{get_or_default}
+use Rattle.std.proofs.lemmas.List.Edits.{length-insert, get_or-insert_below, get_or-insert_at}
+use Rattle.std.proofs.lemmas.List.Edits.{get_or-insert_above}
+use Rattle.std.specs.List.{insert}
+use Rattle.match_table.specs.declared.entry.PageKey.{PageKey}
+use Rattle.match_table.specs.declared.entry.PageName.{PageName}
+use Rattle.match_table.specs.Pages.{IsFirstFrom, NoneNamed, RisingPages, rank}
+use Rattle.ws_words.specs.Items.{In}
+
+-- where a key's name stands
+abbrev pub at_rank : PageKey → ℕ
+at_rank k = rank k.name
+
+-- the order of two places
+rises : (order : List PageKey) (i j : ℕ) (d : PageKey) → RisingPages order → i ≤ j → j < length order
+    → at_rank (get_or order i d) ≤ at_rank (get_or order j d)
+rises order i j d rising le lt = ⊎_elim
+    (λ (same : i ≡ j). let e = ap (λ k. at_rank (get_or order k d)) same in omega (arith, e))
+    (λ (apart : (i < j) ⊎ (j < i)). ⊎_elim (λ (l : i < j). let r = rising i j d l lt in omega (arith, r))
+    (λ (g : j < i). absurd (omega (arith, g, le))) apart)
+    (cases_order i j)
+
+same_page : (order : List PageKey) (i : ℕ) (d e : PageKey) → i < length order
+    → at_rank (get_or order i d) ≡ at_rank (get_or order i e)
+same_page order i d e lt = ap at_rank (get_or_default order i d e lt)
+
+pub below_more : (order : List PageKey) (middle : ℕ) (name : PageName) (e : PageKey) → RisingPages order
+    → middle < length order → at_rank (get_or order middle e) < rank name → (i : ℕ) (d : PageKey)
+    → i < middle + 1 → at_rank (get_or order i d) < rank name
+below_more order middle name e rising within less i d lt = let r = rises order i middle d rising
+    (omega (arith, lt)) within in let s = same_page order middle d e within in omega (arith, r, s, less)
+
+pub above_more : (order : List PageKey) (middle : ℕ) (name : PageName) (e : PageKey) → RisingPages order
+    → rank name ≤ at_rank (get_or order middle e) → (i : ℕ) (d : PageKey) → middle ≤ i → i < length order
+    → rank name ≤ at_rank (get_or order i d)
+above_more order middle name e rising more i d le lt = let r = rises order middle i d rising le lt in
+    let s = same_page order middle d e (omega (arith, le, lt)) in omega (arith, r, s, more)
+
+-- a place before which all stand before isn't behind one from which on none does
+pub in_order : (order : List PageKey) (low high : ℕ) (name : PageName) → low ≤ length order
+    → ((i : ℕ) (d : PageKey) → i < low → at_rank (get_or order i d) < rank name)
+    → ((i : ℕ) (d : PageKey) → high ≤ i → i < length order → rank name ≤ at_rank (get_or order i d)) → low ≤ high
+in_order order low high name bound below above =
+    let d : PageKey = record { name = record { wave = 0; part = 0 }; key = 0 } in ⊎_elim
+    (λ (same : low ≡ high). omega (arith, same))
+    (λ (apart : (low < high) ⊎ (high < low)). ⊎_elim (λ (l : low < high). omega (arith, l))
+    (λ (g : high < low). let b = below high d g in let a = above high d (omega arith)
+    (omega (arith, g, bound)) in absurd (omega (arith, a, b))) apart)
+    (cases_order low high)
+
+-- where a place is from which on none stands before, and before which all do
+pub first_at : (order : List PageKey) (low high : ℕ) (name : PageName) → low ≡ high → low ≤ length order
+    → ((i : ℕ) (d : PageKey) → i < low → at_rank (get_or order i d) < rank name)
+    → ((i : ℕ) (d : PageKey) → high ≤ i → i < length order → rank name ≤ at_rank (get_or order i d))
+    → IsFirstFrom order low name
+first_at order low high name same bound below above = record {
+  bound = bound;
+  below = below;
+  above = λ i d le. above i d (subst (λ k. k ≤ i) same le);
+}
+
+-- a key in the list has a place, and what has a place is in it
+pub in_index : (order : List PageKey) (k : PageKey) → In k order → (i : ℕ) × (i < length order)
+    × ((d : PageKey) → get_or order i d ≡ k)
+in_index [] k m = absurd m
+in_index (x ∷ order) k (inl same) = (0, omega arith, λ d. sym same)
+in_index (x ∷ order) k (inr m) = let r = in_index order k m in let l = r.1 in (suc r.0, omega (arith, l), r.2)
+
+pub index_in : (order : List PageKey) (i : ℕ) (d : PageKey) → i < length order → In (get_or order i d) order
+index_in [] i d lt = absurd (omega arith)
+index_in (x ∷ order) zero d lt = inl refl
+index_in (x ∷ order) (suc i) d lt = inr (index_in order i d (omega (arith, lt)))
+
+-- the key that stands at a place has its name
+pub named_in : (order : List PageKey) (place : ℕ) (name : PageName) (d : PageKey) → place < length order
+    → (get_or order place d).name ≡ name
+    → In (record { name = name; key = (get_or order place d).key }) order
+named_in order place name d lt same = subst (λ (n : PageName).
+    In (record { name = n; key = (get_or order place d).key }) order) same (index_in order place d lt)
+
+in_front : (xs ys : List PageKey) (k : PageKey) → In k xs → In k (xs ++ ys)
+in_front [] ys k m = absurd m
+in_front (x ∷ xs) ys k (inl same) = inl same
+in_front (x ∷ xs) ys k (inr m) = inr (in_front xs ys k m)
+
+in_back : (xs ys : List PageKey) (k : PageKey) → In k ys → In k (xs ++ ys)
+in_back [] ys k m = m
+in_back (x ∷ xs) ys k m = inr (in_back xs ys k m)
+
+in_either : (xs ys : List PageKey) (k : PageKey) → In k (xs ++ ys) → In k xs ⊎ In k ys
+in_either [] ys k m = inr m
+in_either (x ∷ xs) ys k (inl same) = inl (inl same)
+in_either (x ∷ xs) ys k (inr m) = ⊎_elim (λ (f : In k xs). inl (inr f)) (λ (b : In k ys). inr b)
+    (in_either xs ys k m)
+
+pub inserted_new : (order : List PageKey) (place : ℕ) (s : PageKey) → In s (insert order place s)
+inserted_new order place s = in_back (take place order) (s ∷ drop place order) s (inl refl)
+
+pub inserted_old : (order : List PageKey) (place : ℕ) (s k : PageKey) → In k order
+    → In k (insert order place s)
+inserted_old order place s k m = ⊎_elim
+    (λ (f : In k (take place order)). in_front (take place order) (s ∷ drop place order) k f)
+    (λ (b : In k (drop place order)). in_back (take place order) (s ∷ drop place order) k (inr b))
+    (in_either (take place order) (drop place order) k
+    (subst (λ l. In k l) (sym (take-append-drop place order)) m))
+
+pub inserted_either : (order : List PageKey) (place : ℕ) (s k : PageKey) → In k (insert order place s)
+    → (k ≡ s) ⊎ In k order
+inserted_either order place s k m = ⊎_elim
+    (λ (f : In k (take place order)).
+    inr (subst (λ l. In k l) (take-append-drop place order) (in_front (take place order) (drop place order) k f)))
+    (λ (b : In k (s ∷ drop place order)). ⊎_elim (λ (same : k ≡ s). inl same)
+    (λ (r : In k (drop place order)).
+    inr (subst (λ l. In k l) (take-append-drop place order) (in_back (take place order) (drop place order) k r)))
+    b)
+    (in_either (take place order) (s ∷ drop place order) k m)
+
+-- each name stands once
+pub listed_once : (order : List PageKey) (a b : PageKey) → RisingPages order → In a order → In b order
+    → a.name ≡ b.name → a ≡ b
+listed_once order a b rising m n same = let x = in_index order a m in let y = in_index order b n in ⊎_elim
+    (λ (e : x.0 ≡ y.0). sym (x.2 a) ∙ ap (λ k. get_or order k a) e ∙ y.2 a)
+    (λ (apart : (x.0 < y.0) ⊎ (y.0 < x.0)). let p = ap at_rank (x.2 a) in let q = ap at_rank (y.2 a) in
+    let s = ap rank same in ⊎_elim
+    (λ (l : x.0 < y.0). let r = rising x.0 y.0 a l y.1 in absurd (omega (arith, p, q, r, s)))
+    (λ (g : y.0 < x.0). let r = rising y.0 x.0 a g x.1 in absurd (omega (arith, p, q, r, s))) apart)
+    (cases_order x.0 y.0)
+
+-- what is in the list isn't of a name that none in it has
+pub none_in : (order : List PageKey) (name : PageName) (k : PageKey) → NoneNamed order name → In k order
+    → k.name ≡ name → ⊥
+none_in order name k none m same = let x = in_index order k m in
+    none x.0 k x.1 (ap at_rank (x.2 k) ∙ ap rank same)
+
+-- all before are smaller, and none behind is
+pub none_named : (order : List PageKey) (place : ℕ) (name : PageName) → RisingPages order
+    → IsFirstFrom order place name
+    → ((d : PageKey) → place < length order → at_rank (get_or order place d) ≢ rank name) → NoneNamed order name
+none_named order place name rising first here i d lt e = ⊎_elim
+    (λ (same : i ≡ place). here d (subst (λ k. k < length order) same lt)
+    (subst (λ k. at_rank (get_or order k d) ≡ rank name) same e))
+    (λ (apart : (i < place) ⊎ (place < i)). ⊎_elim
+    (λ (l : i < place). let b = first.below i d l in absurd (omega (arith, e, b)))
+    (λ (g : place < i). let r = rising place i d g lt in let a = first.above place d (omega arith)
+    (omega (arith, g, lt)) in absurd (omega (arith, e, r, a))) apart)
+    (cases_order i place)
+
+pub other_default : (order : List PageKey) (place : ℕ) (name : PageName) (e : PageKey)
+    → (at_rank (get_or order place e) ≡ rank name → ⊥) → (d : PageKey) → place < length order
+    → at_rank (get_or order place d) ≢ rank name
+other_default order place name e apart d lt is = apart (sym (same_page order place d e lt) ∙ is)
+
+above_strict : (order : List PageKey) (place i : ℕ) (name : PageName) (d : PageKey) → NoneNamed order name
+    → IsFirstFrom order place name → place ≤ i → i < length order → rank name < at_rank (get_or order i d)
+above_strict order place i name d none first le lt = let apart = none i d lt in
+    let a = first.above i d le lt in ⊎_elim
+    (λ (same : rank name ≡ at_rank (get_or order i d)). absurd (apart (sym same)))
+    (λ (o : (rank name < at_rank (get_or order i d)) ⊎ (at_rank (get_or order i d) < rank name)).
+    ⊎_elim (λ (l : rank name < at_rank (get_or order i d)). l)
+    (λ (g : at_rank (get_or order i d) < rank name). absurd (omega (arith, a, g))) o)
+    (cases_order (rank name) (at_rank (get_or order i d)))
+
+-- where a place behind the new one stood
+back_of : (place j : ℕ) → place < j → (k : ℕ) × (j ≡ k + 1) × (place ≤ k)
+back_of place zero lt = absurd (omega arith)
+back_of place (suc j) lt = (j, sym (add-one j), omega arith)
+
+pub inserted_rises : (order : List PageKey) (place : ℕ) (s : PageKey) → RisingPages order
+    → NoneNamed order s.name → IsFirstFrom order place s.name → RisingPages (insert order place s)
+inserted_rises order place s rising none first i j d lt len =
+    let le : place ≤ length order = first.bound in
+    let n : length (insert order place s) ≡ length order + 1 = length-insert order place s le in
+    let low : (k : ℕ) → k < place → at_rank (get_or (insert order place s) k d) ≡ at_rank (get_or order k d) =
+    λ k l. ap at_rank (get_or-insert_below order place s d k l le) in
+    let mid : at_rank (get_or (insert order place s) place d) ≡ rank s.name =
+    ap at_rank (get_or-insert_at order place s d le) in
+    let high : (k : ℕ) → place ≤ k → at_rank (get_or (insert order place s) (k + 1) d) ≡ at_rank (get_or order k
+    d) = λ k l. ap at_rank (get_or-insert_above order place s d k l le) in
+    ⊎_elim
+    (λ (same : j ≡ place). let b = first.below i d (omega (arith, same, lt)) in
+    let u = low i (omega (arith, same, lt)) in let v =
+    subst (λ k. at_rank (get_or (insert order place s) k d) ≡ rank s.name) (sym same) mid in
+    omega (arith, b, u, v))
+    (λ (apart : (j < place) ⊎ (place < j)). ⊎_elim
+    (λ (l : j < place). let r = rising i j d lt (omega (arith, l, le)) in
+    let u = low i (omega (arith, l, lt)) in let v = low j l in omega (arith, r, u, v))
+    (λ (g : place < j). let b = back_of place j g in
+    let v : at_rank (get_or (insert order place s) j d) ≡ at_rank (get_or order b.0 d) =
+    subst (λ k. at_rank (get_or (insert order place s) k d) ≡ at_rank (get_or order b.0 d)) (sym b.1)
+    (high b.0 b.2) in
+    let within : b.0 < length order = (let e = b.1 in omega (arith, e, n, len)) in
+    ⊎_elim
+    (λ (same : i ≡ place). let u = subst (λ k. at_rank (get_or (insert order place s) k d) ≡ rank s.name)
+    (sym same) mid in let a = above_strict order place b.0 s.name d none first b.2 within in
+    omega (arith, u, v, a))
+    (λ (other : (i < place) ⊎ (place < i)). ⊎_elim
+    (λ (l : i < place). let u = low i l in let le' = b.2 in let r = rising i b.0 d (omega (arith, l, le'))
+    within in omega (arith, r, u, v))
+    (λ (h : place < i). let c = back_of place i h in
+    let u : at_rank (get_or (insert order place s) i d) ≡ at_rank (get_or order c.0 d) =
+    subst (λ k. at_rank (get_or (insert order place s) k d) ≡ at_rank (get_or order c.0 d)) (sym c.1)
+    (high c.0 c.2) in
+    let e = b.1 in let f = c.1 in let r = rising c.0 b.0 d (omega (arith, e, f, lt)) within in
+    omega (arith, r, u, v)) other)
+    (cases_order i place)) apart)
+    (cases_order j place)
