@@ -9,11 +9,11 @@
 //! there, and nothing else. `would_fire` says exactly when `accept` fires (`fires`). `holds` reads what it
 //! holds; `fired_count` and `fired_at` what it lists, each instance with the operands that it holds, and
 //! `asked_count` and `asked_at` those of memory among them. With room for a token (`reserve`, `spare`)
-//! `accept` isn't want of memory below the last wave number, and takes room for one at most. A table keeps a
-//! page for each wave number and eight instruction numbers, pages in one slab and entries in another, as
-//! facts of its type: a list of the pages' numbers rises and has the key of each page, under which the page
-//! with that number stands; a page has the key of its first entry, and each entry stands in its page's chain,
-//! once. What it holds is right, and an instance fires once, exactly when it is full (`facts`).
+//! `accept` isn't want of memory below the last wave number, and takes room for one at most. A table keeps
+//! pages in a slab, each with the entries of four instances, of four waves in a row: of each wave the
+//! instruction before that of the wave before it. As facts of its type a list of the pages' names rises and
+//! has the key of each page, under which the page with that name stands. What it holds is right, and an
+//! instance fires once, exactly when it is full (`facts`).
 //!
 //! `Limited` is a table that serves the instances whose wave number plus instruction is K modulo 16, lists no
 //! more that fired than its quota, and has grown from what it was when the phase began (`Grows`), as facts of

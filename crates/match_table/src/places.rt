@@ -86,21 +86,39 @@ fn forth(order: &[PageKey], from: usize, name: PageName) -> usize {
     at
 }
 
-// Where a name would stand if the names from a place on rose as they do there. Any answer serves; a near one
-// saves steps.
-#[inline(always)]
+// Where a name would stand if the names from a place on rose as they do there, or evenly by wave. Any answer
+// serves; a near one saves steps.
 fn guess(order: &[PageKey], from: usize, name: PageName) -> usize {
     let at = from.min(order.len().saturating_sub(1));
-    match (order.get(at), order.get(at.wrapping_add(1))) {
-        (Some(page), Some(next)) if next.name.wave == page.name.wave => {
-            let step = next.name.part.wrapping_sub(page.name.part).max(1);
-            if name.part >= page.name.part {
-                at.saturating_add(((name.part - page.name.part) / step) as usize)
-            } else {
-                at.saturating_sub(((page.name.part - name.part) / step) as usize)
-            }
-        }
-        _ => at,
+    let (Some(page), Some(first), Some(last)) = (order.get(at), order.first(), order.last()) else {
+        return 0;
+    };
+    if page.name.wave == name.wave {
+        let step = step_at(order, at);
+        return beside(at, page.name.part, name.part, 1, step);
+    }
+    let waves = last.name.wave.saturating_sub(first.name.wave).max(1);
+    let count = order.len() as u64;
+    beside(at, page.name.wave, name.wave, count, waves)
+}
+
+// By how much the name at a place is below the next one of its waves.
+#[inline(always)]
+fn step_at(order: &[PageKey], at: usize) -> u64 {
+    match (order.get(at), order.get(at.saturating_add(1))) {
+        (Some(page), Some(next)) => next.name.part.saturating_sub(page.name.part).max(1),
+        _ => 1,
+    }
+}
+
+// The place of a number where another stands at this one, and so many places have so many numbers.
+#[inline(always)]
+fn beside(at: usize, number: u64, sought: u64, places: u64, numbers: u64) -> usize {
+    let apart = sought.abs_diff(number).wrapping_mul(places) / numbers.max(1);
+    if sought < number {
+        at.saturating_sub(apart as usize)
+    } else {
+        at.saturating_add(apart as usize)
     }
 }
 
