@@ -3,7 +3,7 @@ use Rattle.std.proofs.Common.{ℕ, zero, suc, ◌≡◌, ◌<◌, ◌==◌, ◌&
 use Rattle.std.proofs.Common.{length, Option, Some, None, slice_index_or, slice_set, refl, sym, ap, ◌∙◌}
 use Rattle.std.proofs.Common.{subst, inl, inr, arith, eqb-true, eq-eqb}
 use Rattle.std.specs.Prelude.{is_some}
-use Rattle.std.proofs.lemmas.Bool.{both_ways, cases_eq, and_parts}
+use Rattle.std.proofs.lemmas.Bool.{both_ways, and_parts}
 use Rattle.df_core.specs.Core.{with_key}
 use Rattle.df_core.proofs.Ports.{with_key_cases}
 use Rattle.store_buf.proofs.Alike.{entry_set, once_of}
