@@ -3,7 +3,7 @@ use Rattle.std.proofs.Common.{ℕ, zero, suc, ◌≡◌, ◌<◌, ◌==◌, ◌&
 use Rattle.std.proofs.Common.{length, Option, Some, None, slice_index_or, slice_set, refl, sym, ap, ◌∙◌}
 use Rattle.std.proofs.Common.{subst, inl, inr, arith, eqb-true, eq-eqb}
 use Rattle.std.specs.Prelude.{is_some}
-use Rattle.std.proofs.lemmas.Bool.{both_ways, cases_eq, and_parts}
+use Rattle.std.proofs.lemmas.Bool.{both_ways, and_parts}
 use Rattle.df_core.specs.Core.{with_key}
 use Rattle.df_core.proofs.Ports.{with_key_cases}
 use Rattle.store_buf.proofs.Alike.{entry_set, once_of}
@@ -11,9 +11,10 @@ use Rattle.store_buf.specs.declared.kept.Kept.{Kept}
 use Rattle.store_buf.specs.declared.order.Order.{Order}
 use Rattle.store_buf.specs.Requests.{entry_of, unissued, one_if}
 use Rattle.store_buf.specs.Finding.{place_in}
-use Rattle.store_buf.specs.Ordering.{OrderOk, no_request, kept_at}
+use Rattle.store_buf.specs.Indexed.{Indexed}
+use Rattle.store_buf.specs.Ordering.{no_request, kept_at}
 use Rattle.store_buf.proofs.Found as F
-use Rattle.store_buf.proofs.Lists.{set_here, set_other, set_length}
+use Rattle.store_buf.proofs.Ordered as O
 use Rattle.part_store.specs.Parts.{issued_flag, kept_flag}
 
 some_of : (o : Option ℕ) → is_some o ≡ true → (a : ℕ) × (o ≡ Some a)
@@ -35,62 +36,20 @@ unissued_like [] p k d l e = absurd (omega (arith, l))
 unissued_like (x ∷ ks) zero k d l e = sym (ap (λ (o : Option ℕ). one_if o (unissued ks)) e)
 unissued_like (x ∷ ks) (suc p) k d l e = ap (one_if x.answer) (unissued_like ks p k d (omega (arith, l)) e)
 
-module _ (o n : Order) (ok : OrderOk o) (p : ℕ) (k : Kept) (l : p < length o.kept.items)
-    (as_many : unissued (slice_set o.kept.items p k) ≡ unissued o.kept.items)
-    (wave_is : k.wave ≡ (kept_at o p).wave) (instr_is : k.instr ≡ (kept_at o p).instr)
-    (kept : n.kept.items ≡ slice_set o.kept.items p k) (waiting : n.waiting ≡ o.waiting)
-    (index : n.index ≡ o.index) (chain : n.chain ≡ o.chain) where
-  size : length n.kept.items ≡ length o.kept.items
-  size = ap length kept ∙ set_length o.kept.items p k
+module _ (o : Order) (p : ℕ) (k : Kept) (l : p < length o.kept.items)
+    (wave_is : k.wave ≡ (kept_at o p).wave) (instr_is : k.instr ≡ (kept_at o p).instr) where
+  changed : unissued (slice_set o.kept.items p k) ≡ unissued o.kept.items
+      → Indexed (slice_set o.kept.items p k) o.index o.waiting o.chain.wave
+  changed = O.set_indexed o.kept.items (slice_set o.kept.items p k) o.index o.waiting o.chain.wave o.ok p k l
+      wave_is instr_is refl
 
-  within : (q : ℕ) → q < length n.kept.items → q < length o.kept.items
-  within q m = omega (arith, size, m)
+  pub answered : (a b : ℕ) → (kept_at o p).answer ≡ Some a → k.answer ≡ Some b
+      → Indexed (slice_set o.kept.items p k) o.index o.waiting o.chain.wave
+  answered a b had has = changed (unissued_same o.kept.items p a b k no_request l had has)
 
-  at_p : kept_at n p ≡ k
-  at_p = ap (λ (ks : List Kept). slice_index_or ks p no_request) kept ∙ set_here o.kept.items p k no_request l
-
-  at_q : (q : ℕ) → (p ≡ q → ⊥) → kept_at n q ≡ kept_at o q
-  at_q q m = ap (λ (ks : List Kept). slice_index_or ks q no_request) kept
-      ∙ set_other o.kept.items p q k no_request m
-
-  wave_same : (q : ℕ) → (kept_at n q).wave ≡ (kept_at o q).wave
-  wave_same q = elim (cases_eq p q) [
-    | inl e ↦ subst (λ (z : ℕ). (kept_at n z).wave ≡ (kept_at o z).wave) e
-        (ap (λ (x : Kept). x.wave) at_p ∙ wave_is)
-    | inr m ↦ ap (λ (x : Kept). x.wave) (at_q q m)
-  ]
-
-  instr_same : (q : ℕ) → (kept_at n q).instr ≡ (kept_at o q).instr
-  instr_same q = elim (cases_eq p q) [
-    | inl e ↦ subst (λ (z : ℕ). (kept_at n z).instr ≡ (kept_at o z).instr) e
-        (ap (λ (x : Kept). x.instr) at_p ∙ instr_is)
-    | inr m ↦ ap (λ (x : Kept). x.instr) (at_q q m)
-  ]
-
-  wave_chain : n.chain.wave ≡ o.chain.wave
-  wave_chain = ap (λ (c : _). c.wave) chain
-
-  pub changed : OrderOk n
-  changed = record {
-    index = λ q m. subst (λ (x : _). place_in x (kept_at n q).wave (kept_at n q).instr ≡ Some q) (sym index)
-        (subst (λ (z : ℕ). place_in o.index (kept_at n q).wave z ≡ Some q) (sym (instr_same q))
-        (subst (λ (z : ℕ). place_in o.index z (kept_at o q).instr ≡ Some q) (sym (wave_same q))
-        (ok.index q (within q m))));
-    count = waiting ∙ ok.count ∙ sym (ap unissued kept ∙ as_many);
-    waves = (let w = ok.waves in omega (arith, w, waiting, wave_chain, size));
-  }
-
-module _ (o n : Order) (ok : OrderOk o) (p : ℕ) (k : Kept) (l : p < length o.kept.items)
-    (wave_is : k.wave ≡ (kept_at o p).wave) (instr_is : k.instr ≡ (kept_at o p).instr)
-    (kept : n.kept.items ≡ slice_set o.kept.items p k) (waiting : n.waiting ≡ o.waiting)
-    (index : n.index ≡ o.index) (chain : n.chain ≡ o.chain) where
-  pub answered : (a b : ℕ) → (kept_at o p).answer ≡ Some a → k.answer ≡ Some b → OrderOk n
-  answered a b had has = changed o n ok p k l
-      (unissued_same o.kept.items p a b k no_request l had has) wave_is instr_is kept waiting index chain
-
-  pub refilled : k.answer ≡ (kept_at o p).answer → OrderOk n
-  refilled e = changed o n ok p k l
-      (unissued_like o.kept.items p k no_request l (sym e)) wave_is instr_is kept waiting index chain
+  pub refilled : k.answer ≡ (kept_at o p).answer
+      → Indexed (slice_set o.kept.items p k) o.index o.waiting o.chain.wave
+  refilled e = changed (unissued_like o.kept.items p k no_request l (sym e))
 
 -- a request that is kept stands where its place is kept
 pub record Standing (o : Order) (w i : ℕ) (k : Kept) : Type 0 where
@@ -101,15 +60,15 @@ pub record Standing (o : Order) (w i : ℕ) (k : Kept) : Type 0 where
   pub wave : k.wave ≡ w
   pub instr : k.instr ≡ i
 
-pub stands_at : (o : Order) → OrderOk o → (w i : ℕ) (k : Kept) → entry_of o.kept.items w i ≡ Some k →
+pub stands_at : (o : Order) → (w i : ℕ) (k : Kept) → entry_of o.kept.items w i ≡ Some k →
     Standing o w i k
-stands_at o ok w i k e = elim (F.entry_case o.kept.items w i) [
+stands_at o w i k e = elim (F.entry_case o.kept.items w i) [
   | inl n ↦ absurd (let g : None ≡ Some k = sym n ∙ e in cc)
   | inr s ↦ (let g : Some (slice_index_or o.kept.items s.place no_request) ≡ Some k = sym s.is ∙ e in
       let q : slice_index_or o.kept.items s.place no_request ≡ k = cc in
       record {
         place = s.place;
-        found = F.place_of o.kept.items (place_in o.index) ok.index w i s;
+        found = F.place_of o.kept.items (place_in o.index) o.ok.index w i s;
         inside = s.within;
         is = q;
         wave = ap (λ (x : Kept). x.wave) (sym q) ∙ s.wave;
@@ -160,23 +119,23 @@ pub still_in : (b x y : Bool) → y ≡ cond b false x → y ≡ true → x ≡ 
 still_in b x y e f = if_true b x (sym e ∙ f)
 
 -- a request at a place that is changed is found changed
-pub replaced : (o : Order) → OrderOk o → (p : ℕ) (k : Kept) → p < length o.kept.items →
+pub replaced : (o : Order) → (p : ℕ) (k : Kept) → p < length o.kept.items →
     k.wave ≡ (kept_at o p).wave → k.instr ≡ (kept_at o p).instr → (w i : ℕ) →
     entry_of (slice_set o.kept.items p k) w i ≡ with_key k.wave k.instr (Some k) (entry_of o.kept.items) w i
-replaced o ok p k l ew ei w i = entry_set o.kept.items p k l
-    (once_of o.kept.items (place_in o.index) ok.index) ew ei w i
+replaced o p k l ew ei w i = entry_set o.kept.items p k l
+    (once_of o.kept.items (place_in o.index) o.ok.index) ew ei w i
 
-pub kept_still : (o : Order) → OrderOk o → (p : ℕ) (k : Kept) → p < length o.kept.items →
+pub kept_still : (o : Order) → (p : ℕ) (k : Kept) → p < length o.kept.items →
     k.wave ≡ (kept_at o p).wave → k.instr ≡ (kept_at o p).instr → (w i : ℕ) →
     ((x : Kept) × (entry_of o.kept.items w i ≡ Some x)) →
     (x : Kept) × (entry_of (slice_set o.kept.items p k) w i ≡ Some x)
-kept_still o ok p k l ew ei w i e =
+kept_still o p k l ew ei w i e =
     elim (with_key_cases k.wave k.instr (Some k) (entry_of o.kept.items) w i) [
-      | inl h ↦ (k, replaced o ok p k l ew ei w i ∙ h.1)
-      | inr h ↦ (e.0, replaced o ok p k l ew ei w i ∙ h.1 ∙ e.1)
+      | inl h ↦ (k, replaced o p k l ew ei w i ∙ h.1)
+      | inr h ↦ (e.0, replaced o p k l ew ei w i ∙ h.1 ∙ e.1)
     ]
 
-pub found_at : (o : Order) → OrderOk o → (p : ℕ) → p < length o.kept.items →
+pub found_at : (o : Order) → (p : ℕ) → p < length o.kept.items →
     entry_of o.kept.items (kept_at o p).wave (kept_at o p).instr ≡ Some (kept_at o p)
-found_at o ok p l = sym (F.here o.kept.items (place_in o.index) ok.index (kept_at o p).wave
-    (kept_at o p).instr p (ok.index p l) l refl refl)
+found_at o p l = sym (F.here o.kept.items (place_in o.index) o.ok.index (kept_at o p).wave
+    (kept_at o p).instr p (o.ok.index p l) l refl refl)

@@ -16,7 +16,7 @@ use Rattle.df_core.specs.Began.{Began}
 use Rattle.store_buf.specs.Earlies.{early_ops}
 use Rattle.store_buf.specs.declared.kept.Kept.{Kept}
 use Rattle.store_buf.specs.Requests.{entry_of, issued_in, answer_if}
-use Rattle.store_buf.specs.Ordering.{OrderOk, kept_at}
+use Rattle.store_buf.specs.Ordering.{kept_at}
 use Rattle.part_store.specs.declared.entry.Queued.{Queued}
 use Rattle.part_store.specs.declared.parts.Parts.{Parts}
 use Rattle.part_store.specs.Bares.{is_in}
@@ -56,7 +56,7 @@ counts image world began c s e h =
     record { request = x.0; is_kept = x.1; answer = r.0; answered = x.2 }
 
 module _ {P : Type 0} (image : Image) (world : World) (formed : Formed image) (sound : Sound image)
-    (began : List (Option Began)) (s n : Parts P) (e : Queued) (p : ℕ) (ok : OrderOk s.order)
+    (began : List (Option Began)) (s n : Parts P) (e : Queued) (p : ℕ)
     (st : PartsStand image world began s) (going : s.fault ≡ None) (fol : FrontGoes (content_of s) e)
     (l : p < length s.order.kept.items) (flag : issued_flag s.order p e.wave e.instr ≡ true) (word : ℕ)
     (kept : n.order.kept.items ≡ slice_set s.order.kept.items p
@@ -81,7 +81,7 @@ module _ {P : Type 0} (image : Image) (world : World) (formed : Formed image) (s
   found : entry_of s.order.kept.items e.wave e.instr ≡ Some (kept_at s.order p)
   found = subst (λ (i : ℕ). entry_of s.order.kept.items e.wave i ≡ Some (kept_at s.order p)) at.instr
       (subst (λ (w : ℕ). entry_of s.order.kept.items w (kept_at s.order p).instr ≡ Some (kept_at s.order p))
-      at.wave (U.found image s.order ok p l))
+      at.wave (U.found image s.order p l))
 
   word_so : word ≡ word_of image (content_of s) e
   word_so = word_is
@@ -104,7 +104,7 @@ module _ {P : Type 0} (image : Image) (world : World) (formed : Formed image) (s
         second = (kept_at s.order p).second;
         answer = Some x.2;
       })) (entry_of s.order.kept.items) w i)
-      (λ j. (at.wave j, at.instr j, word_so j)) (U.answered image s.order ok p l word n.order.kept.items kept)
+      (λ j. (at.wave j, at.instr j, word_so j)) (U.answered image s.order p l word n.order.kept.items kept)
 
   followed : Followed image (content_of s) e
       (sends image e.wave e.instr (operands_at image (kept_at s.order p)) (word_of image (content_of s) e))

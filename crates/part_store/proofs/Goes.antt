@@ -83,11 +83,11 @@ module _ {P : Type 0} (image : Image) (world : World) (formed : Formed image) (s
   legal = K.legal image world formed sound began (content_of s) parting going
 
   waits_now : ((kept_at s.order p).answer ≡ None) × ((kept_at s.order p).wave ≡ s.order.chain.wave)
-  waits_now = U.waits image s.order ok.order p goes.may.within goes.may.ready
+  waits_now = U.waits image s.order p goes.may.within goes.may.ready
 
   waits : (b : Bool) → is_in s.bare k.wave k.instr ≡ b → Waits (content_of s) (kept_at s.order p) b
   waits b e = record {
-    kept = U.found image s.order ok.order p goes.may.within;
+    kept = U.found image s.order p goes.may.within;
     waits = waits_now.0;
     bare_is = e;
   }
@@ -95,7 +95,7 @@ module _ {P : Type 0} (image : Image) (world : World) (formed : Formed image) (s
   turn : IsNext (chain_of s.order.chain) (note_of image k.instr) ⊎
       ((is_load image k.instr ≡ true) × (is_past_at image k ≡ false) ×
       ((note_of image k.instr).ripple ≤ position_after s.order.chain.last))
-  turn = U.turn image s.order ok.order p goes.may.within goes.may.ready
+  turn = U.turn image s.order p goes.may.within goes.may.ready
 
   -- the operands of the walk, with which it may be issued
   record Ask : Type 0 where
@@ -105,7 +105,7 @@ module _ {P : Type 0} (image : Image) (world : World) (formed : Formed image) (s
     first : slice_index xs 0 ≡ k.first
 
   fresh : issued_in s.order.kept.items k.wave k.instr ≡ None
-  fresh = ap answer_if (U.found image s.order ok.order p goes.may.within) ∙ waits_now.0
+  fresh = ap answer_if (U.found image s.order p goes.may.within) ∙ waits_now.0
 
   may_whole : Issuable image (issued_in s.order.kept.items) (chain_of s.order.chain) false k.wave k.instr
       (operands_at image k)
@@ -123,7 +123,7 @@ module _ {P : Type 0} (image : Image) (world : World) (formed : Formed image) (s
   -- an address is that of a store, which is next
   address : is_in s.bare k.wave k.instr ≡ true → IsAddressed image world k.wave k.instr k.first
   address b = S.bare_kept image world (is_in s.bare k.wave k.instr) k b
-      (parting.partly.right k.wave k.instr k (U.found image s.order ok.order p goes.may.within))
+      (parting.partly.right k.wave k.instr k (U.found image s.order p goes.may.within))
 
   next_bare : is_in s.bare k.wave k.instr ≡ true → IsNext (chain_of s.order.chain) (note_of image k.instr)
   next_bare b = elim turn [
@@ -186,7 +186,7 @@ module _ {P : Type 0} (image : Image) (world : World) (formed : Formed image) (s
           second = k.second;
           answer = Some word;
         })) (entry_of s.order.kept.items) w i
-    entries = U.answered image s.order ok.order p goes.may.within word n.order.kept.items kept
+    entries = U.answered image s.order p goes.may.within word n.order.kept.items kept
 
     new_same : (w i : ℕ) → has (issued_with image parting.counts parting.memory k.wave k.instr a.xs w i) ≡ has
         (issued_in n.order.kept.items w i)

@@ -53,7 +53,7 @@ module _ {P : Type 0} (image : Image) (world : World) (formed : Formed image) (s
     waits : (b : Bool) → is_in s.bare (kept_at s.order q).wave (kept_at s.order q).instr ≡ b →
         Waits (content_of s) (kept_at s.order q) b
     waits b e = record {
-      kept = U.found image s.order ok.order q here.within;
+      kept = U.found image s.order q here.within;
       waits = here.waits;
       bare_is = e;
     }
@@ -62,7 +62,7 @@ module _ {P : Type 0} (image : Image) (world : World) (formed : Formed image) (s
     fresh = O.no_more (parting.counts (kept_at s.order q).wave (kept_at s.order q).instr)
         (issued_in s.order.kept.items (kept_at s.order q).wave (kept_at s.order q).instr)
         (parting.partly.same (kept_at s.order q).wave (kept_at s.order q).instr)
-        (ap answer_if (U.found image s.order ok.order q here.within) ∙ here.waits)
+        (ap answer_if (U.found image s.order q here.within) ∙ here.waits)
 
     ask : (b : Bool) → is_in s.bare (kept_at s.order q).wave (kept_at s.order q).instr ≡ b → Ask q
     ask false e = record {
@@ -75,7 +75,7 @@ module _ {P : Type 0} (image : Image) (world : World) (formed : Formed image) (s
         (kept_at s.order q).first = S.bare_kept image world
         (is_in s.bare (kept_at s.order q).wave (kept_at s.order q).instr) (kept_at s.order q) e
         (parting.partly.right (kept_at s.order q).wave (kept_at s.order q).instr (kept_at s.order q)
-        (U.found image s.order ok.order q here.within)) in
+        (U.found image s.order q here.within)) in
         record {
           xs = ad.inst.operands;
           req = record {
@@ -107,8 +107,8 @@ module _ {P : Type 0} (image : Image) (world : World) (formed : Formed image) (s
       let instr : (kept_at s.order p).instr ≡ (kept_at s.order q).instr =
       L.same_op image world formed sound (kept_at s.order p).wave (kept_at s.order p).instr x.xs
       (kept_at s.order q).wave (kept_at s.order q).instr y.xs x.req y.req wave (omega (arith, least, most)) in
-      let e : Some p ≡ Some q = sym (ok.order.index p here.within)
-      ∙ (λ j. place_in s.order.index (wave j) (instr j)) ∙ ok.order.index q there.within in
+      let e : Some p ≡ Some q = sym (s.order.ok.index p here.within)
+      ∙ (λ j. place_in s.order.index (wave j) (instr j)) ∙ s.order.ok.index q there.within in
       cc
 
   module _ (none : NoneSought image s) (p : ℕ) (l : p < length s.order.kept.items)
@@ -118,7 +118,7 @@ module _ {P : Type 0} (image : Image) (world : World) (formed : Formed image) (s
         (rule_flag image s (kept_at s.order p)) goes).0
 
     here : WaitsHere s.order p
-    here = let w = U.waits image s.order ok.order p l ready in
+    here = let w = U.waits image s.order p l ready in
         record { within = l; current = w.1; waits = w.0 }
 
     ripple_is : is_load image (kept_at s.order p).instr ≡ true → is_past_at image (kept_at s.order p) ≡ false
@@ -131,7 +131,7 @@ module _ {P : Type 0} (image : Image) (world : World) (formed : Formed image) (s
         (is_past_at image (kept_at s.order p))) load (ap not within))
 
     contrary : ⊥
-    contrary = elim (U.turn image s.order ok.order p l ready) [
+    contrary = elim (U.turn image s.order p l ready) [
       | inl next ↦ (let f = none.first p here in
           both_ways (go_flag image s (kept_at s.order f.0)) f.2
           (subst (λ (z : ℕ). go_flag image s (kept_at s.order z) ≡ true)

@@ -21,7 +21,7 @@ use Rattle.store_buf.specs.declared.kept.Kept.{Kept}
 use Rattle.store_buf.specs.declared.order.Order.{Order}
 use Rattle.store_buf.specs.Requests.{entry_of, issued_in}
 use Rattle.store_buf.specs.Finding.{place_in}
-use Rattle.store_buf.specs.Ordering.{kept_at, OrderOk, ready_flag}
+use Rattle.store_buf.specs.Ordering.{kept_at, ready_flag}
 use Rattle.store_buf.proofs.Found as F
 use Rattle.store_buf.proofs.Ordered.{ready_waits}
 use Rattle.store_buf.proofs.Going as G
@@ -33,13 +33,13 @@ use Rattle.ws_words.proofs.Bools.{or_comes as either, not_true as not_false}
 use Rattle.ws_words.specs.Items.{In}
 use Rattle.store_buf.specs.Orders.{OrderGoes}
 
-module _ (image : Image) (o : Order) (ok : OrderOk o) (p : ℕ) (l : p < length o.kept.items) where
+module _ (image : Image) (o : Order) (p : ℕ) (l : p < length o.kept.items) where
   abbrev k : Kept
   k = kept_at o p
 
   pub found : entry_of o.kept.items (kept_at o p).wave (kept_at o p).instr ≡ Some (kept_at o p)
-  found = sym (F.here o.kept.items (place_in o.index) ok.index (kept_at o p).wave (kept_at o p).instr p
-      (ok.index p l) l refl refl)
+  found = sym (F.here o.kept.items (place_in o.index) o.ok.index (kept_at o p).wave (kept_at o p).instr p
+      (o.ok.index p l) l refl refl)
 
   pub answered : (word : ℕ) (ks : List Kept) →
       ks ≡ slice_set o.kept.items p (record {
@@ -66,7 +66,7 @@ module _ (image : Image) (o : Order) (ok : OrderOk o) (p : ℕ) (l : p < length 
         second = (kept_at o p).second;
         answer = Some word;
       }) l
-      (once_of o.kept.items (place_in o.index) ok.index) refl refl w i
+      (once_of o.kept.items (place_in o.index) o.ok.index) refl refl w i
 
   module _ (ready : ready_flag image o (kept_at o p) ≡ true) where
     pub waits : ((kept_at o p).answer ≡ None) × ((kept_at o p).wave ≡ o.chain.wave)
@@ -176,7 +176,7 @@ module _ (image : Image) (world : World) (formed : Formed image) (sound : Sound 
       (new_same v j) is in goes.1.early_all cut v j r.0 t e r.1 x at me l
 
 -- what was kept is kept still
-pub still_kept : (image : Image) (o : Order) (ok : OrderOk o) (p : ℕ) (l : p < length o.kept.items) (word : ℕ)
+pub still_kept : (image : Image) (o : Order) (p : ℕ) (l : p < length o.kept.items) (word : ℕ)
     (ks : List Kept) → ks ≡ slice_set o.kept.items p
     (record {
       wave = (kept_at o p).wave;
@@ -186,7 +186,7 @@ pub still_kept : (image : Image) (o : Order) (ok : OrderOk o) (p : ℕ) (l : p <
       answer = Some word;
     }) →
     (w i : ℕ) → ((k : Kept) × (entry_of o.kept.items w i ≡ Some k)) → (k : Kept) × (entry_of ks w i ≡ Some k)
-still_kept image o ok p l word ks kept w i e =
+still_kept image o p l word ks kept w i e =
     elim (with_key_cases (kept_at o p).wave (kept_at o p).instr
     (Some (record {
       wave = (kept_at o p).wave;
@@ -204,8 +204,8 @@ still_kept image o ok p l word ks kept w i e =
           second = (kept_at o p).second;
           answer = Some word;
         },
-        answered image o ok p l
+        answered image o p l
             word ks kept w i ∙ h.1,
       )
-      | inr h ↦ (e.0, answered image o ok p l word ks kept w i ∙ h.1 ∙ e.1)
+      | inr h ↦ (e.0, answered image o p l word ks kept w i ∙ h.1 ∙ e.1)
     ]

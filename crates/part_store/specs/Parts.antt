@@ -17,7 +17,7 @@ use Rattle.df_core.specs.Chains.{chain_of}
 use Rattle.df_core.specs.Stands.{HasEarly, EarlyIssued}
 use Rattle.store_buf.specs.declared.kept.Kept.{Kept}
 use Rattle.store_buf.specs.Requests.{entry_of, issued_in}
-use Rattle.store_buf.specs.Ordering.{OrderOk, AllFiled, Room, IsForemost, NoneEarly, WaitsHere, kept_at}
+use Rattle.store_buf.specs.Ordering.{AllFiled, Room, IsForemost, NoneEarly, WaitsHere, kept_at}
 use Rattle.store_buf.specs.Ordering.{ready_flag, MayAt}
 use Rattle.store_buf.specs.declared.fault.BufFault.{BufFault}
 use Rattle.store_buf.specs.declared.fault.BufFault.TheVariants as fault
@@ -57,7 +57,6 @@ module _ {P : Type 0} where
 
   -- there is room for what all that waits leaves, and the queues are counted
   pub record PartsOk (s : Parts P) : Type 0 where
-    pub order : OrderOk s.order
     pub early : Room s.order
     pub printed : vec_len s.outer.printed + s.order.waiting ≤ vec_capacity s.outer.printed
     pub queues : deque_len s.queues.entries + s.order.waiting ≤ deque_capacity s.queues.entries

@@ -9,7 +9,7 @@ ghost use Rattle.ws_isa.specs.Image.{Image};
 ghost use Rattle.df_core.specs.Places.{image_of};
 ghost use Rattle.df_core.specs.Rights.{tokens_of};
 ghost use Rattle.store_buf.specs.Requests.{entry_of};
-ghost use Rattle.store_buf.specs.Ordering.{OrderOk, kept_at};
+ghost use Rattle.store_buf.specs.Ordering.{kept_at};
 ghost use Rattle.part_store.specs.declared.entry.Queued.{Queued};
 ghost use Rattle.store_buf.specs.declared.kept.Kept.{Kept};
 ghost use Rattle.part_store.specs.Queues.{front, without_first};
@@ -123,13 +123,12 @@ impl<P: Port> Parts<P> {
 
     // The place of the request of an instance that counts as issued.
     fn issued_place(&self, wave: u64, instr: u32) -> Option<usize>
-        requires { OrderOk self.now.order }
         ensures within { IfSome result (λ p. p < length self.now.order.kept.items) }
         ensures is { IfSome result (λ p. issued_flag self.now.order p wave instr ≡ true) }
         ensures none { IfNone result ((k : Kept) (a : ℕ) →
             entry_of self.now.order.kept.items wave instr ≡ Some k → k.answer ≡ Some a → ⊥) }
     {
-        match self.order.index.find(wave, instr) {
+        match self.order.place(wave, instr) {
             Some(place) => {
                 if self.is_issued_at(place, wave, instr) {
                     Some(place)

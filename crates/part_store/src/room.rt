@@ -8,7 +8,6 @@ ghost use Rattle.df_core.specs.Core.{same_key};
 ghost use Rattle.df_core.specs.Places.{image_of};
 ghost use Rattle.std.specs.HashSet.{spare};
 ghost use Rattle.store_buf.specs.Requests.{entry_of};
-ghost use Rattle.store_buf.specs.Ordering.{OrderOk};
 ghost use Rattle.store_buf.specs.declared.kept.Kept.{Kept};
 ghost use Rattle.part_store.specs.Bares.{is_in};
 ghost use Rattle.part_store.specs.Parted.{is_store_op};
@@ -139,13 +138,12 @@ impl<P: Port> Parts<P> {
 
     // The place of the request or address of an instance.
     fn kept_place(&self, wave: u64, instr: u32) -> Option<usize>
-        requires { OrderOk self.now.order }
         ensures within { IfSome result (λ p. p < length self.now.order.kept.items) }
         ensures is { IfSome result (λ p. kept_flag self.now.order p wave instr ≡ true) }
         ensures none { IfNone result ((k : Kept) →
             entry_of self.now.order.kept.items wave instr ≡ Some k → ⊥) }
     {
-        match self.order.index.find(wave, instr) {
+        match self.order.place(wave, instr) {
             Some(place) => {
                 if self.is_kept_at(place, wave, instr) {
                     Some(place)

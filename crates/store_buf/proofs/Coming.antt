@@ -25,7 +25,7 @@ use Rattle.store_buf.specs.declared.store.Store.{Store}
 use Rattle.store_buf.specs.Requests.{entry_of, kept_in, issued_in, issued_keys, key_if, answer_if}
 use Rattle.store_buf.specs.Requests.{operands_if}
 use Rattle.store_buf.specs.Finding.{place_in}
-use Rattle.store_buf.specs.Ordering.{no_request, OrderOk, Room}
+use Rattle.store_buf.specs.Ordering.{no_request, Room}
 use Rattle.store_buf.specs.Outdoors.{Holding, HoldsOut, RoseAt}
 use Rattle.store_buf.specs.Outers.{holding}
 use Rattle.store_buf.specs.Holds.{stays, waiting_in}
@@ -173,14 +173,14 @@ module _ (image : Image) (world : World) (began : List (Option Began)) {P : Type
         outside = is.outside;
       }
 
-  pub buffer_from : (s : Store P) → OrderOk s.order → FaultIs image world s.fault → (m : Outside)
+  pub buffer_from : (s : Store P) → FaultIs image world s.fault → (m : Outside)
       → StandsFor image world began s m → IsBuffer image world began (content_of s) m
-  buffer_from s ok fault m h = record {
+  buffer_from s fault m h = record {
     ok = record {
       right = h.right;
       issued_kept = λ w i a e. issued_kept image (entry_of s.order.kept.items w i) a e;
       listed = λ w i. (
-        listed_to s.order.kept.items (once_of s.order.kept.items (place_in s.order.index) ok.index) w i,
+        listed_to s.order.kept.items (once_of s.order.kept.items (place_in s.order.index) s.order.ok.index) w i,
         λ e. listed_from s.order.kept.items w i e.0 e.1,
       );
       legal = h.going.legal;
@@ -315,7 +315,7 @@ module _ (image : Image) (world : World) (began : List (Option Began)) {P : Type
 
       is_later : (m : Outside) → IsBuffer image world began (content_of old) m
           → IsBuffer image world began (content_of mid) m
-      is_later m is = buffer_from mid ok.order (subst (FaultIs image world) (sym (keeps.fault ∙ running)) tt)
+      is_later m is = buffer_from mid (subst (FaultIs image world) (sym (keeps.fault ∙ running)) tt)
           m (came m (stands_of old standing.early_issued standing.early_all m is))
 
       later_submitted : (m : Outside) → IsBuffer image world began (content_of old) m
@@ -366,7 +366,7 @@ module _ (image : Image) (world : World) (began : List (Option Began)) {P : Type
       is_now : (m : Outside) (is : IsBuffer image world began (content_of old) m)
           → IsBuffer image world began (content_of new) (turns m is).memory
       is_now m is = let t = turns m is in
-          buffer_from new ok.order (t.fault (subst (FaultIs image world) (sym (keeps.fault ∙ running)) tt))
+          buffer_from new (t.fault (subst (FaultIs image world) (sym (keeps.fault ∙ running)) tt))
           t.memory t.stands
 
       submitted : (m : Outside) → IsBuffer image world began (content_of old) m
@@ -457,5 +457,5 @@ with_job im image world began same formed sound old new k r tokens result asked 
     (subst (λ (i : Image). SubmitLeads i old k tokens result new) same leads world began formed sound
     (subst (IsAsked image world) (sym asked) right) standing)
 
-pub no_room : (o : Order) → OrderOk o → o.kept.items ≡ [] → (early_ops o.early) ≡ [] → Room o
-no_room o ok e f = let w = none_wait o ok e in let l = none_there o.early f in omega (arith, w, l)
+pub no_room : (o : Order) → o.kept.items ≡ [] → (early_ops o.early) ≡ [] → Room o
+no_room o e f = let w = none_wait o e in let l = none_there o.early f in omega (arith, w, l)

@@ -17,7 +17,7 @@ use Rattle.store_buf.specs.declared.order.Order.{Order}
 use Rattle.store_buf.specs.declared.store.Store.{Store}
 use Rattle.store_buf.specs.Requests.{entry_of, kept_in, issued_in, answer_if, operands_if}
 use Rattle.store_buf.specs.Finding.{place_in}
-use Rattle.store_buf.specs.Ordering.{kept_at, OrderOk, WaitsHere, NoneFound, NoneMay, ready_flag, number_of}
+use Rattle.store_buf.specs.Ordering.{kept_at, WaitsHere, NoneFound, NoneMay, ready_flag, number_of}
 use Rattle.store_buf.specs.Ordering.{ripple_of}
 use Rattle.store_buf.specs.Outdoors.{Holding}
 use Rattle.store_buf.specs.Outers.{holding}
@@ -30,14 +30,14 @@ use Rattle.store_buf.proofs.Resting.{may_be}
 
 module _ (image : Image) (world : World) (formed : Formed image) (sound : Sound image)
     (began : List (Option Began)) (o : Order) (h : Holding) (m : Outside)
-    (hold : Holds image world began o false h m) (ok : OrderOk o) where
+    (hold : Holds image world began o false h m) where
   abbrev xs : ℕ → List ℕ
   xs q = operands_of (ports image (kept_at o q).instr) (kept_at o q).first (kept_at o q).second
 
   module _ (q : ℕ) (here : WaitsHere o q) where
     found : entry_of o.kept.items (kept_at o q).wave (kept_at o q).instr ≡ Some (kept_at o q)
-    found = sym (F.here o.kept.items (place_in o.index) ok.index (kept_at o q).wave (kept_at o q).instr q
-        (ok.index q here.within) here.within refl refl)
+    found = sym (F.here o.kept.items (place_in o.index) o.ok.index (kept_at o q).wave (kept_at o q).instr q
+        (o.ok.index q here.within) here.within refl refl)
 
     kept_here : kept_in image o.kept.items (kept_at o q).wave (kept_at o q).instr ≡ Some (xs q)
     kept_here = ap (operands_if image) found
@@ -84,14 +84,14 @@ module _ (image : Image) (world : World) (formed : Formed image) (sound : Sound 
         load (ap not within))
 
     contrary : NoneFound image o → ⊥
-    contrary none = elim ((S.may image world formed sound began o h m hold ok p l ready).turn) [
+    contrary none = elim ((S.may image world formed sound began o h m hold p l ready).turn) [
       | inl next ↦ (let f = none.first p here in
           both_ways (ready_flag image o (kept_at o f.0)) f.2
           (same_next f.0 f.1.here p here (right p here) next (f.1.least p here)))
       | inr e ↦ none.early p (record {
         here = here;
         ripple = (note_of image (kept_at o p).instr).ripple;
-        is = ripple_is e.0 (sym (S.past_is image world formed sound began o h m hold ok p l ready) ∙ e.1);
+        is = ripple_is e.0 (sym (S.past_is image world formed sound began o h m hold p l ready) ∙ e.1);
         passed = e.2;
       })
     ]
@@ -107,9 +107,9 @@ has_not : (f : Option ℕ) → is_some f ≡ false → has f ≡ false
 has_not None e = refl
 has_not (Some a) e = e
 
-pub none_so : (image : Image) {P : Type 0} (s : Store P) → OrderOk s.order → is_some s.fault ≡ false
+pub none_so : (image : Image) {P : Type 0} (s : Store P) → is_some s.fault ≡ false
     → NoneFound image s.order → NoneMaySo image s
-none_so image s ok running none world began m formed sound stands =
+none_so image s running none world began m formed sound stands =
     none_may image world formed sound began s.order (holding s.outer) m
     (subst (λ (b : Bool). Holds image world began s.order b (holding s.outer) m) (has_not s.fault running)
-    stands) ok none
+    stands) none

@@ -1,6 +1,7 @@
 -- Tokens that have come or are on the way.
 use Rattle.std.proofs.Common.{ℕ, ◌≡◌, ◌⊎◌, List, [], ◌∷◌, ◌++◌, Option, Some, None, MatchOption, refl}
-use Rattle.std.proofs.Common.{sym, ◌∙◌, subst, inl, inr}
+use Rattle.std.proofs.Common.{sym, ap, ◌∙◌, subst, inl, inr}
+use Rattle.std.proofs.lemmas.List.{append_assoc}
 use Rattle.ws_isa.specs.Image.{Token}
 use Rattle.ws_isa.specs.Walk.{Ports}
 use Rattle.df_core.specs.Core.{IsSent, with_at}
@@ -70,34 +71,40 @@ module _ (f g : Ports) (x : Token) (free : f x.wave x.instr x.port ≡ None)
   reach_arrived way w i p (inl h) = inl (h.0, held_old w i p h.0 h.1)
   reach_arrived way w i p (inr h) = reach_held g way x (x.value, held_new) w i p (inr h)
 
--- a token is put on the way, behind this round or behind what waits for the next
-pub covers_round : (old round next more : List Token) (t : Token) → old ≡ round ++ next →
-    more ≡ round ++ t ∷ [] → Covers (t ∷ old) (more ++ next)
-covers_round old round next more t e f w i p v h =
-    subst (λ (ts : List Token). IsSent (ts ++ next) w i p v) (sym f) (elim h [
-      | inl g ↦ is_sent_append_left (round ++ t ∷ []) next w i p v
-          (is_sent_append_right round (t ∷ []) w i p v (inl g))
+-- tokens are put on the way, behind this round or behind what waits for the next
+pub covers_round : (old round next more sent : List Token) → old ≡ round ++ next → more ≡ round ++ sent →
+    Covers (sent ++ old) (more ++ next)
+covers_round old round next more sent e f w i p v h =
+    subst (λ (ts : List Token). IsSent (ts ++ next) w i p v) (sym f)
+    (elim (is_sent_append_cases sent old w i p v h) [
+      | inl g ↦ is_sent_append_left (round ++ sent) next w i p v (is_sent_append_right round sent w i p v g)
       | inr g ↦ elim (is_sent_append_cases round next w i p v
           (subst (λ (ts : List Token). IsSent ts w i p v) e g)) [
-            | inl k ↦ is_sent_append_left (round ++ t ∷ []) next w i p v
-                (is_sent_append_left round (t ∷ []) w i p v k)
-            | inr k ↦ is_sent_append_right (round ++ t ∷ []) next w i p v k
+            | inl k ↦ is_sent_append_left (round ++ sent) next w i p v
+                (is_sent_append_left round sent w i p v k)
+            | inr k ↦ is_sent_append_right (round ++ sent) next w i p v k
           ]
     ])
 
-pub covers_next : (old round next more : List Token) (t : Token) → old ≡ round ++ next →
-    more ≡ next ++ t ∷ [] → Covers (t ∷ old) (round ++ more)
-covers_next old round next more t e f w i p v h =
-    subst (λ (ts : List Token). IsSent (round ++ ts) w i p v) (sym f) (elim h [
-      | inl g ↦ is_sent_append_right round (next ++ t ∷ []) w i p v
-          (is_sent_append_right next (t ∷ []) w i p v (inl g))
+pub covers_next : (old round next more sent : List Token) → old ≡ round ++ next → more ≡ next ++ sent →
+    Covers (sent ++ old) (round ++ more)
+covers_next old round next more sent e f w i p v h =
+    subst (λ (ts : List Token). IsSent (round ++ ts) w i p v) (sym f)
+    (elim (is_sent_append_cases sent old w i p v h) [
+      | inl g ↦ is_sent_append_right round (next ++ sent) w i p v (is_sent_append_right next sent w i p v g)
       | inr g ↦ elim (is_sent_append_cases round next w i p v
           (subst (λ (ts : List Token). IsSent ts w i p v) e g)) [
-            | inl k ↦ is_sent_append_left round (next ++ t ∷ []) w i p v k
-            | inr k ↦ is_sent_append_right round (next ++ t ∷ []) w i p v
-                (is_sent_append_left next (t ∷ []) w i p v k)
+            | inl k ↦ is_sent_append_left round (next ++ sent) w i p v k
+            | inr k ↦ is_sent_append_right round (next ++ sent) w i p v
+                (is_sent_append_left next sent w i p v k)
           ]
     ])
+
+-- the first of them is pushed, and then the others
+pub pushed : (all rest before mid after : List Token) (t : Token) → all ≡ t ∷ rest → mid ≡ before ++ t ∷ []
+    → after ≡ mid ++ rest → after ≡ before ++ all
+pushed all rest before mid after t e f g = g ∙ ap (λ (ts : List Token). ts ++ rest) f
+    ∙ append_assoc before (t ∷ []) rest ∙ ap (λ (ts : List Token). before ++ ts) (sym e)
 
 -- a token is taken from a list and put on the way
 pub covers_put : (old way more : List Token) (t : Token) → Covers old way → Covers (t ∷ way) more →
@@ -117,39 +124,16 @@ taken_on all before after way more t c e put w i p v h = elim (c w i p v h) [
       ]
 ]
 
-pub taken_first : (all before after way more : List Token) (t : Token) →
-    ((w i p v : ℕ) → IsSent all w i p v → IsSent way w i p v ⊎ IsSent before w i p v) →
-    before ≡ t ∷ after → Covers (t ∷ way) more →
-    (w i p v : ℕ) → IsSent all w i p v → IsSent more w i p v ⊎ IsSent after w i p v
-taken_first all before after way more t c e put w i p v h = elim (c w i p v h) [
-  | inl g ↦ inl (put w i p v (inr g))
-  | inr g ↦ elim (subst (λ (ts : List Token). IsSent ts w i p v) e g) [
-    | inl k ↦ inl (put w i p v (inl k))
-    | inr k ↦ inr k
-  ]
-]
-
--- the others that an instance sent, and what was on the way, where the first is brought or put by
-pub covers_rest : (all rest old way : List Token) (t : Token) → all ≡ t ∷ rest → Covers old way →
-    Covers rest way → Covers (all ++ old) (t ∷ way)
-covers_rest all rest old way t e keep sent w i p v h = elim (is_sent_append_cases all old w i p v h) [
+-- the first that an instance sent is brought, and the others are put on the way
+pub covers_rest : (all rest old way : List Token) (t : Token) → all ≡ t ∷ rest → Covers (rest ++ old) way →
+    Covers (all ++ old) (t ∷ way)
+covers_rest all rest old way t e keep w i p v h = elim (is_sent_append_cases all old w i p v h) [
   | inl g ↦ elim (subst (λ (ts : List Token). IsSent ts w i p v) e g) [
     | inl k ↦ inl k
-    | inr k ↦ inr (sent w i p v k)
+    | inr k ↦ inr (keep w i p v (is_sent_append_left rest old w i p v k))
   ]
-  | inr g ↦ inr (keep w i p v g)
+  | inr g ↦ inr (keep w i p v (is_sent_append_right rest old w i p v g))
 ]
-
-pub covers_all : (all rest old mid way : List Token) (t : Token) → all ≡ t ∷ rest → Covers (t ∷ old) mid →
-    Covers mid way → Covers rest way → Covers (all ++ old) way
-covers_all all rest old mid way t e put keep sent w i p v h =
-    elim (is_sent_append_cases all old w i p v h) [
-      | inl g ↦ elim (subst (λ (ts : List Token). IsSent ts w i p v) e g) [
-        | inl k ↦ keep w i p v (put w i p v (inl k))
-        | inr k ↦ sent w i p v k
-      ]
-      | inr g ↦ keep w i p v (put w i p v (inr g))
-    ]
 
 -- the first on the way is taken, once all that an instance sent has been put there
 pub take_after : (o : Option Token) (all rest old way new : List Token) (t : Token) → all ≡ t ∷ rest →

@@ -11,7 +11,7 @@ use Rattle.df_core.specs.Chains.{chain_of, may_flag, next_flag}
 use Rattle.df_core.proofs.Nexts.{next_is}
 use Rattle.store_buf.specs.declared.order.Order.{Order}
 use Rattle.store_buf.specs.Finding.{place_in}
-use Rattle.store_buf.specs.Ordering.{OrderOk, kept_at, ready_flag}
+use Rattle.store_buf.specs.Ordering.{kept_at, ready_flag}
 use Rattle.store_buf.specs.Outdoors.{port_of}
 use Rattle.store_buf.specs.Contents.{PortWaits}
 use Rattle.store_buf.proofs.Found as F
@@ -24,10 +24,10 @@ no_load (Take q) p e l = both_ways false refl l
 no_load _ p e l = (let f : None ≡ Some p = e in cc)
 
 -- one on a port that may be issued is next, and its request waits
-pub port_waits : (image : Image) (o : Order) → OrderOk o → (q : ℕ) → q < length o.kept.items
+pub port_waits : (image : Image) (o : Order) → (q : ℕ) → q < length o.kept.items
     → ready_flag image o (kept_at o q) ≡ true → (p : ℕ) → port_of (instr_at image (kept_at o q).instr).op
     ≡ Some p → PortWaits image o.kept.items (chain_of o.chain) p
-port_waits image o ok q l ready p e =
+port_waits image o q l ready p e =
     let w = ready_waits image o (kept_at o q) ready in
     let a = and_parts (is_none (kept_at o q).answer) (may_flag image (chain_of o.chain) (kept_at o q).wave
     (kept_at o q).instr (kept_at o q).first) ready in
@@ -38,8 +38,8 @@ port_waits image o ok q l ready p e =
     (note_of image (kept_at o q).instr).ripple (position_after o.chain.last))) a.1 in
     record {
       request = kept_at o q;
-      is_kept = sym (F.here o.kept.items (place_in o.index) ok.index (kept_at o q).wave (kept_at o q).instr q
-          (ok.index q l) l refl refl);
+      is_kept = sym (F.here o.kept.items (place_in o.index) o.ok.index (kept_at o q).wave (kept_at o q).instr q
+          (o.ok.index q l) l refl refl);
       waits = w.0;
       current = w.1;
       next = elim (either (next_flag (chain_of o.chain) (note_of image (kept_at o q).instr))

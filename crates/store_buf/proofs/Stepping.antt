@@ -38,7 +38,7 @@ use Rattle.store_buf.specs.declared.kept.Kept.{Kept}
 use Rattle.store_buf.specs.declared.order.Order.{Order}
 use Rattle.store_buf.specs.Requests.{entry_of, kept_in, issued_in, answer_if, operands_if}
 use Rattle.store_buf.specs.Finding.{place_in}
-use Rattle.store_buf.specs.Ordering.{kept_at, OrderOk, ready_flag}
+use Rattle.store_buf.specs.Ordering.{kept_at, ready_flag}
 use Rattle.store_buf.specs.Outdoors.{Holding, HoldsOut, Performed, SlotIs}
 use Rattle.store_buf.specs.Contents.{FaultIs, RightTokens}
 use Rattle.store_buf.specs.Holds.{Holds, Issued, Stopped, part, waiting_in}
@@ -73,7 +73,7 @@ out_effect began o h is = record {
 
 module _ (image : Image) (world : World) (formed : Formed image) (sound : Sound image)
     (began : List (Option Began)) (o : Order) (h : Holding) (m : Outside)
-    (hold : Holds image world began o false h m) (ok : OrderOk o)
+    (hold : Holds image world began o false h m)
     (p : ℕ) (l : p < length o.kept.items) (ready : ready_flag image o (kept_at o p) ≡ true) where
   facts : WalkFacts image world
   facts = facts_of image world (ports_there image formed) sound
@@ -85,8 +85,8 @@ module _ (image : Image) (world : World) (formed : Formed image) (sound : Sound 
   xs = operands_of (ports image (kept_at o p).instr) (kept_at o p).first (kept_at o p).second
 
   found : entry_of o.kept.items (kept_at o p).wave (kept_at o p).instr ≡ Some (kept_at o p)
-  found = sym (F.here o.kept.items (place_in o.index) ok.index (kept_at o p).wave (kept_at o p).instr p
-      (ok.index p l) l refl refl)
+  found = sym (F.here o.kept.items (place_in o.index) o.ok.index (kept_at o p).wave (kept_at o p).instr p
+      (o.ok.index p l) l refl refl)
 
   waits_here : ((kept_at o p).answer ≡ None) × ((kept_at o p).wave ≡ o.chain.wave)
   waits_here = ready_waits image o (kept_at o p) ready
@@ -251,7 +251,7 @@ module _ (image : Image) (world : World) (formed : Formed image) (sound : Sound 
     entries : (w i : ℕ) → entry_of new.kept.items w i ≡ with_key (kept_at o p).wave (kept_at o p).instr
         (Some changed) (entry_of o.kept.items) w i
     entries w i = ap (λ (ks : List Kept). entry_of ks w i) kept ∙ entry_set o.kept.items p changed l
-        (once_of o.kept.items (place_in o.index) ok.index) refl refl w i
+        (once_of o.kept.items (place_in o.index) o.ok.index) refl refl w i
 
     kept_same : (w i : ℕ) → kept_in image new.kept.items w i ≡ kept_in image o.kept.items w i
     kept_same w i = ap (operands_if image) (entries w i)

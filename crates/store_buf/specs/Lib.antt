@@ -3,6 +3,7 @@ pub mod Requests
 pub mod Finding
 pub mod Trees
 pub mod Hooks
+pub mod Indexed
 pub mod Ranks
 pub mod Laters
 pub mod Earlies

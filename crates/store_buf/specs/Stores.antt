@@ -23,7 +23,7 @@ use Rattle.store_buf.specs.Outdoors.{RoseAt}
 use Rattle.store_buf.specs.Contents.{Content, FailedSo, FaultIs, IsBuffer, Idle, PortWaits, RightTokens}
 use Rattle.store_buf.specs.Contents.{SubmitSo, with_tokens}
 use Rattle.store_buf.specs.Holds.{Holds, Issued, Stopped, Issues, part}
-use Rattle.store_buf.specs.Ordering.{OrderOk, AllFiled, Room, NoneMay}
+use Rattle.store_buf.specs.Ordering.{AllFiled, Room, NoneMay}
 use Rattle.store_buf.specs.Outers.{holding}
 
 abbrev pub asked_of : Kept → Asked
@@ -49,7 +49,6 @@ module _ {P : Type 0} where
 
   -- there is room for what all that waits leaves
   pub record StoreOk (image : Image) (s : Store P) : Type 0 where
-    pub order : OrderOk s.order
     pub filed : AllFiled image s.order
     pub early : Room s.order
     pub printed : vec_len s.outer.printed + s.order.waiting ≤ vec_capacity s.outer.printed

@@ -16,7 +16,7 @@ use ws_words::NoMemory;
 /// smallest number.
 #[derive(Drop)]
 pub struct Early {
-    pub heap: BinaryHeap<Reverse<(u32, u32)>>,
+    heap: BinaryHeap<Reverse<(u32, u32)>>,
     ghost ordered: { IsHeap (λ x y. ordering_then (nat_cmp y.0.0 x.0.0) (nat_cmp y.0.1 x.0.1))
         (heap_items heap) } by { Prim.hlevel props },
 }

@@ -12,11 +12,11 @@ pub const NOWHERE: u32 = u32::MAX;
 /// once the bits before are taken off.
 #[derive(Clone, Copy)]
 pub struct Node {
-    pub wave: u64,
-    pub instr: u32,
-    pub place: usize,
-    pub even: u32,
-    pub odd: u32,
+    pub(crate) wave: u64,
+    pub(crate) instr: u32,
+    pub(crate) place: usize,
+    pub(crate) even: u32,
+    pub(crate) odd: u32,
 }
 
 impl Node {

@@ -8,10 +8,10 @@ ghost use Rattle.df_core.specs.Places.{image_of};
 ghost use Rattle.df_core.specs.Chains.{chain_of, PassedOn};
 ghost use Rattle.store_buf.specs.Requests.{entry_of};
 ghost use Rattle.store_buf.specs.Finding.{place_in};
+ghost use Rattle.store_buf.specs.Indexed.{Indexed};
 ghost use Rattle.store_buf.specs.Ranks.{IsFiled};
 ghost use Rattle.store_buf.specs.Laters.{IsFiledIn};
 ghost use Rattle.store_buf.specs.Earlies.{early_ops};
-ghost use Rattle.store_buf.specs.Ordering.{OrderOk, AllFiled, Room, MayAt, kept_at, number_of, ripple_of};
 
 use crate::early::Early;
 use crate::index::Index;
@@ -31,17 +31,19 @@ use ws_words::NoMemory;
 pub struct Order {
     pub kept: Vec<Kept>,
     pub waiting: usize,
-    pub index: Index,
-    pub near: WavePlaces,
-    pub later: Later,
-    pub early: Early,
+    pub(crate) index: Index,
+    pub(crate) near: WavePlaces,
+    pub(crate) later: Later,
+    pub(crate) early: Early,
     pub chain: Chain,
+    pub ghost ok: { Indexed kept.items index waiting chain.wave },
 }
 
 impl Order {
+    ghost use Rattle.store_buf.specs.Ordering.{AllFiled, Room, MayAt, kept_at, number_of, ripple_of};
+
     /// No requests; the chain is at its start.
     pub fn new(alloc: Global) -> Order
-        ensures ok { OrderOk result }
         ensures filed { (image : Image) → AllFiled image result }
         ensures kept { result.kept.items ≡ [] }
         ensures early { early_ops result.early ≡ [] }
@@ -64,7 +66,6 @@ impl Order {
 
     /// The request of an instance.
     pub fn find(&self, wave: u64, instr: u32) -> Option<Kept>
-        requires { OrderOk self.now }
         ensures { result ≡ entry_of self.now.kept.items wave instr }
     {
         match self.index.find(wave, instr) {
@@ -73,10 +74,17 @@ impl Order {
         }
     }
 
+    /// The place where the request of an instance is, or none.
+    #[inline(always)]
+    pub fn place(&self, wave: u64, instr: u32) -> Option<usize>
+        ensures { result ≡ place_in self.now.index wave instr }
+    {
+        self.index.find(wave, instr)
+    }
+
     // The request at a place, if it is of this instance.
     fn entry_at(&self, place: usize, wave: u64, instr: u32) -> Option<Kept>
-        requires ok { OrderOk self.now }
-        requires found { place_in self.now.index wave instr ≡ Some place }
+        requires { place_in self.now.index wave instr ≡ Some place }
         ensures { result ≡ entry_of self.now.kept.items wave instr }
     {
         if place >= self.kept.len() {
@@ -94,11 +102,9 @@ impl Order {
 
     /// Keeps a request of an instance that had none, and makes room for its answer.
     pub fn add(&mut self, program: &Program<'_>, kept: Kept) -> Result<(), NoMemory>
-        requires ok { OrderOk self.old }
         requires filed { AllFiled (image_of program.now) self.old }
         requires fresh { entry_of self.old.kept.items kept.wave kept.instr ≡ None }
         requires waits { kept.answer ≡ None }
-        ensures ok { OrderOk self.new }
         ensures filed { AllFiled (image_of program.now) self.new }
         ensures kept { OnOk result (self.new.kept.items ≡ self.old.kept.items ++ kept ∷ []) }
         ensures room { OnOk result (Room self.new) }
@@ -157,11 +163,9 @@ impl Order {
     /// The request at a place, which may be issued, has this answer. The chain passes what is next and
     /// issued.
     pub fn issue(&mut self, program: &Program<'_>, place: usize, word: u64)
-        requires ok { OrderOk self.old }
         requires filed { AllFiled (image_of program.now) self.old }
         requires may { MayAt (image_of program.now) self.old place }
         requires room { Room self.old }
-        ensures ok { OrderOk self.new }
         ensures filed { AllFiled (image_of program.now) self.new }
         ensures room { Room self.new }
         ensures kept { self.new.kept.items ≡ slice_set self.old.kept.items place

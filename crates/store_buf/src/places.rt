@@ -13,7 +13,7 @@ use ws_words::NoMemory;
 /// Places, each under a number. The top is one of the smallest number.
 #[derive(Drop)]
 pub struct Places {
-    pub heap: BinaryHeap<Reverse<(u32, usize)>>,
+    heap: BinaryHeap<Reverse<(u32, usize)>>,
     ghost ordered: { IsHeap (λ x y. ordering_then (nat_cmp y.0.0 x.0.0) (nat_cmp y.0.1 x.0.1))
         (heap_items heap) } by { Prim.hlevel props },
 }

@@ -1,6 +1,6 @@
 //! Tokens on the way, in rounds by wave, first in first out.
 
-ghost use Rattle.std.specs.Prelude.{◌≡◌, ◌∷◌, ◌++◌, ◌<◌, [], IfOk, MatchOption, OnOk};
+ghost use Rattle.std.specs.Prelude.{◌≡◌, ◌∷◌, ◌++◌, ◌+◌, ◌≤◌, [], IfOk, MatchOption, OnOk};
 ghost use Rattle.std.specs.VecDeque.{deque_capacity, deque_len};
 ghost use Rattle.store_buf.specs.Contents.{with_tokens};
 ghost use Rattle.store_buf.specs.Runs.{Covers, IsOffered};
@@ -95,10 +95,17 @@ impl<J: Job> Rounds<J> {
         ensures taken { OnOk result (Covers sent.old self.new) }
         ensures none { OnOk result (sent.new ≡ []) }
     {
-        while let Some(token) = sent.next() {
-            self.put(token)?;
+        let Some(first) = sent.next() else {
+            return Ok(());
+        };
+        // All that an instance sends is of one wave.
+        if first.wave() > self.wave {
+            push(&mut self.next, first)?;
+            push_all(&mut self.next, sent)
+        } else {
+            push(&mut self.round, first)?;
+            push_all(&mut self.round, sent)
         }
-        Ok(())
     }
 
     /// The token to bring next: the first of what an instance sent, if it is of this round, or else the first
@@ -113,11 +120,11 @@ impl<J: Job> Rounds<J> {
             return Ok(self.take());
         };
         if first.wave() > self.wave {
-            self.put(first)?;
-            self.send_all(sent)?;
+            push(&mut self.next, first)?;
+            push_all(&mut self.next, sent)?;
             return Ok(self.take());
         }
-        self.send_all(sent)?;
+        push_all(&mut self.round, sent)?;
         Ok(Some(first))
     }
 
@@ -151,18 +158,33 @@ fn push<J: Job>(tokens: &mut VecDeque<Token<J>>, token: Token<J>) -> Result<(), 
     ensures { OnOk result (tokens.new.items ≡ tokens.old.items ++ token ∷ []) }
 {
     if tokens.len() >= tokens.capacity() {
-        make_room(tokens)?;
+        make_room(tokens, 1)?;
     }
     tokens.push_back_reserved(token);
     Ok(())
 }
 
-// Makes room for one token more.
-#[inline(never)]
-fn make_room<J: Job>(tokens: &mut VecDeque<Token<J>>) -> Result<(), NoMemory>
-    ensures same { tokens.new.items ≡ tokens.old.items }
-    ensures room { OnOk result (deque_len tokens.new < deque_capacity tokens.new) }
+// Puts all tokens that an instance sent behind others.
+#[inline(always)]
+fn push_all<J: Job>(tokens: &mut VecDeque<Token<J>>, sent: &mut Sent<'_, J>) -> Result<(), NoMemory>
+    ensures items { OnOk result (tokens.new.items ≡ tokens.old.items ++ sent.old) }
+    ensures none { OnOk result (sent.new ≡ []) }
 {
-    tokens.reserve(1)?;
+    if tokens.capacity() - tokens.len() < sent.len() {
+        make_room(tokens, sent.len())?;
+    }
+    while let Some(token) = sent.next() {
+        tokens.push_back_reserved(token);
+    }
+    Ok(())
+}
+
+// Makes room for so many tokens more.
+#[inline(never)]
+fn make_room<J: Job>(tokens: &mut VecDeque<Token<J>>, count: usize) -> Result<(), NoMemory>
+    ensures same { tokens.new.items ≡ tokens.old.items }
+    ensures room { OnOk result (deque_len tokens.new + count ≤ deque_capacity tokens.new) }
+{
+    tokens.reserve(count)?;
     Ok(())
 }

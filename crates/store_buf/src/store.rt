@@ -32,11 +32,11 @@ const MOST_WAITING: usize = usize::MAX / 16;
 /// chain is stopped, `failed` a port that failed; `starved` is set where a port found no memory.
 #[derive(Drop)]
 pub struct Store<P: Port> {
-    pub order: Order,
-    pub outer: Outer<P>,
-    pub fault: Option<u32>,
-    pub failed: Option<u8>,
-    pub starved: bool,
+    pub(crate) order: Order,
+    pub(crate) outer: Outer<P>,
+    pub(crate) fault: Option<u32>,
+    pub(crate) failed: Option<u8>,
+    pub(crate) starved: bool,
 }
 
 impl<P: Port> Store<P> {

@@ -11,8 +11,8 @@ use ws_words::NoMemory;
 /// within their arrays by ripple. A place may also stand there whose request no longer waits.
 #[derive(Drop)]
 pub struct WavePlaces {
-    pub turns: Places,
-    pub loads: Places,
+    pub(crate) turns: Places,
+    pub(crate) loads: Places,
 }
 
 impl WavePlaces {

@@ -26,7 +26,7 @@ invariant_of-result g c =
     let order = c.new-3.result in
     let bare = c.new-4.result in
     let queues = c.new-5.result in
-    let w = none_wait order c.new-3.ensures.ok c.new-3.ensures.kept in
+    let w = none_wait order c.new-3.ensures.kept in
     let n : length queues.entries.items ≡ 0 = ap length c.new-5.ensures.none in
     let s : Parts g.row.P.Denot = record {
       order = order;
@@ -51,8 +51,7 @@ invariant_of-result g c =
     c.program.ensures.sound state r)
     c.new-2.result (subst (AllBegan g.J.Job.began world.left) (sym c.new-2.ensures) c.requires.ports) s
     (record {
-      order = c.new-3.ensures.ok;
-      early = no_room order c.new-3.ensures.ok c.new-3.ensures.kept c.new-3.ensures.early;
+      early = no_room order c.new-3.ensures.kept c.new-3.ensures.early;
       printed = omega (arith, w, c.new.ensures.len);
       queues = omega (arith, w, n, queues.entries.ok.0);
       lines = omega (arith, w);

@@ -23,4 +23,4 @@ returns-clause-once g c =
     subst (λ (x : PartContent). All (λ k. entry_of x.kept k.wave k.instr ≡ Some k) x.kept)
     c.self.view_is
     (own c.self.inside.parts.order.kept.items
-    (place_in c.self.inside.parts.order.index) c.self.invariant.ok.order.index)
+    (place_in c.self.inside.parts.order.index) c.self.inside.parts.order.ok.index)

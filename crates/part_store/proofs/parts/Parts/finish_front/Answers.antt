@@ -100,12 +100,12 @@ returns-clause-leads g c = (
         starved = b.starved;
       } in
       let told = ap (λ (ds : List Dest). tokens_to e.wave word ds) c.destinations.ensures
-      ∙ N.told_are image world formed sound began old new e p c.requires.ok.order st going fol
+      ∙ N.told_are image world formed sound began old new e p st going fol
       c.in-Some.ensures.within c.in-Some.ensures.is word c.answer_at.ensures.kept word_is cells input read
       printed ports queued beside in
       subst (λ (ts : List Token). Moves image (content_of old) ts (content_of new) ×
       PartsStand image world began new) (sym told)
-      (N.finishes image world formed sound began old new e p c.requires.ok.order st going fol
+      (N.finishes image world formed sound began old new e p st going fol
       c.in-Some.ensures.within c.in-Some.ensures.is word c.answer_at.ensures.kept word_is cells input read
       printed ports queued beside),
 )

@@ -13,7 +13,7 @@ use Rattle.store_buf.specs.declared.kept.Kept.{Kept}
 use Rattle.store_buf.specs.Outdoors.{PortIn, Performed, SilentAt, port_of}
 use Rattle.store_buf.specs.Contents.{PortWaits}
 use Rattle.store_buf.specs.Outers.{holding}
-use Rattle.store_buf.specs.Ordering.{OrderOk, kept_at, ready_flag}
+use Rattle.store_buf.specs.Ordering.{kept_at, ready_flag}
 use Rattle.store_buf.proofs.Within.{port_in}
 use Rattle.store_buf.proofs.Counted as C
 use Rattle.store_buf.proofs.Silence.{port_waits}
@@ -110,7 +110,7 @@ run-requires-clause-port g c = subst PortIn (sym c.op-op.ensures)
 
 pub run-requires-clause-room : goal.run-requires-clause-room
 run-requires-clause-room g c = let s = C.some_wait
-    (image_of c.args.program.now) c.args.self.now.order c.requires.ok.order c.args.place
+    (image_of c.args.program.now) c.args.self.now.order c.args.place
     c.requires.goes.may in
     omega (arith, s, c.requires.ok.printed)
 
@@ -129,19 +129,19 @@ returns-in_err-word-clause-stays g c = on_err c.from_residual.result (λ world b
     (λ b o h. c.in_err-word.ensures.kept b o h))
 
 silent_so : (image : Image) {P : Type 0} (old new : Parts P) (op : Op) (k : Kept) (why : Silent) →
-    OrderOk old.order → (q : ℕ) → q < length old.order.kept.items →
+    (q : ℕ) → q < length old.order.kept.items →
     ready_flag image old.order (kept_at old.order q) ≡ true → k ≡ kept_at old.order q →
     op ≡ (instr_at image k.instr).op →
     new.order ≡ old.order → SilentAt op old.outer.ports new.outer.ports why → PartsSilentSo image old new why
-silent_so image old new op k (Failed p) ok q l ready is at same s = (
+silent_so image old new op k (Failed p) q l ready is at same s = (
   subst (λ o. PortWaits image o.kept.items (chain_of o.chain) p) (sym same)
-      (port_waits image old.order ok q l ready p
+      (port_waits image old.order q l ready p
       (ap (λ x. port_of (instr_at image x.instr).op) (sym is) ∙ ap port_of (sym at) ∙ s.0)),
   s.1,
 )
-silent_so image old new op k (NoMemory p) ok q l ready is at same s =
+silent_so image old new op k (NoMemory p) q l ready is at same s =
     subst (λ o. PortWaits image o.kept.items (chain_of o.chain) p) (sym same)
-    (port_waits image old.order ok q l ready p
+    (port_waits image old.order q l ready p
     (ap (λ x. port_of (instr_at image x.instr).op) (sym is) ∙ ap port_of (sym at) ∙ s))
 
 pub returns-in_err-word-clause-silent : goal.returns-in_err-word-clause-silent
@@ -157,14 +157,14 @@ returns-in_err-word-clause-silent g c = let o = c.args.self.now.order in
     } in
     let e = err_from_is_err_and c.from_residual.result c.from_residual.ensures.1 in
     rw (e.1, e.2) (silent_so (image_of c.args.program.now) c.args.self.now new c.op-op.result
-    c.request-kept.result _ c.requires.ok.order
+    c.request-kept.result _
     c.args.place c.requires.goes.may.within
     c.requires.goes.may.ready c.request-kept.ensures c.op-op.ensures refl c.in_err-word.ensures.silent)
 
 pub tell-requires : goal.tell-requires
 tell-requires g c = let f = few_sent (image_of c.args.program.now) c.requires.formed c.destinations.result.now
     c.request-kept.result.instr c.destinations.ensures in
-    let s = C.some_wait (image_of c.args.program.now) c.args.self.now.order c.requires.ok.order c.args.place
+    let s = C.some_wait (image_of c.args.program.now) c.args.self.now.order c.args.place
     c.requires.goes.may in
     let r = c.requires.room in omega (arith, f, s, r)
 
@@ -177,7 +177,6 @@ returns-clause-room g c = let f = few_sent
 
 pub returns-clause-ok : goal.returns-clause-ok
 returns-clause-ok g c = let o = c.args.self.now.order in record {
-  order = c.issue.ensures.ok;
   early = c.issue.ensures.room;
   printed = omega (
     arith,
@@ -189,7 +188,7 @@ returns-clause-ok g c = let o = c.args.self.now.order in record {
   queues = omega (arith, c.issue.ensures.fewer, c.requires.ok.queues);
   lines = omega (arith, c.issue.ensures.fewer, c.requires.ok.lines);
   counted = c.requires.ok.counted;
-  bare = λ w i e. U.still_kept (image_of c.args.program.now) o c.requires.ok.order
+  bare = λ w i e. U.still_kept (image_of c.args.program.now) o
       c.args.place c.requires.goes.may.within
       c.in_ok-word.word c.issue.new.self.kept.items c.issue.ensures.kept w i (c.requires.ok.bare w i e);
 }

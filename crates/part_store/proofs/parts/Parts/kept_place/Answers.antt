@@ -7,8 +7,8 @@ use Rattle.part_store.proofs.parts.Parts.kept_place.Goals as goal
 pub returns-else-is_kept_at-clause-none : goal.returns-else-is_kept_at-clause-none
 returns-else-is_kept_at-clause-none g c = λ k e.
     let o = c.args.self.now.order in
-    let s = A.stands_at o c.requires c.args.wave c.args.instr k e in
-    let q : Some c.in-Some.place ≡ Some s.place = sym c.in-Some.is ∙ c.find.ensures ∙ s.found in
+    let s = A.stands_at o c.args.wave c.args.instr k e in
+    let q : Some c.in-Some.place ≡ Some s.place = sym c.in-Some.is ∙ c.place.ensures ∙ s.found in
     let r : c.in-Some.place ≡ s.place = cc in
     both_ways (kept_flag o s.place c.args.wave c.args.instr)
     (subst (λ (n : ℕ). kept_flag o n c.args.wave c.args.instr ≡ false) r
@@ -18,5 +18,5 @@ returns-else-is_kept_at-clause-none g c = λ k e.
 pub returns-in-None-clause-none : goal.returns-in-None-clause-none
 returns-in-None-clause-none g c = λ k e.
     let o = c.args.self.now.order in
-    let s = A.stands_at o c.requires c.args.wave c.args.instr k e in
-    let q : None ≡ Some s.place = sym c.in-None.is ∙ c.find.ensures ∙ s.found in cc
+    let s = A.stands_at o c.args.wave c.args.instr k e in
+    let q : None ≡ Some s.place = sym c.in-None.is ∙ c.place.ensures ∙ s.found in cc

@@ -12,6 +12,18 @@ use Rattle.part_store.proofs.Answering as A
 use Rattle.part_store.proofs.Sought as S
 use Rattle.part_store.proofs.parts.Parts.put_data.Goals as goal
 
+pub invariant_of-self : goal.invariant_of-self
+invariant_of-self g c =
+    let o = c.args.self.now.order in
+    let p = c.in-Some.place in
+    let l = c.in-Some.ensures.within in
+    let q : c.index-old.result.now ≡ kept_at o p = c.index-old.ensures
+    ∙ or_any o.kept.items p c.index-old.result.now no_request l in
+    record {
+      ok = A.refilled o p _ l (ap (λ (k : Kept). k.wave) q) (ap (λ (k : Kept). k.instr) q)
+          (ap (λ (k : Kept). k.answer) q);
+    }
+
 pub returns-clause-ok : goal.returns-clause-ok
 returns-clause-ok g c =
     let o = c.args.self.now.order in
@@ -20,14 +32,12 @@ returns-clause-ok g c =
     let q : c.index-old.result.now ≡ kept_at o p = c.index-old.ensures
     ∙ or_any o.kept.items p c.index-old.result.now no_request l in
     record {
-      order = A.refilled o _ c.requires.ok.order p _ l (ap (λ (k : Kept). k.wave) q)
-          (ap (λ (k : Kept). k.instr) q) refl refl refl refl (ap (λ (k : Kept). k.answer) q);
       early = c.requires.ok.early;
       printed = c.requires.ok.printed;
       queues = c.requires.ok.queues;
       lines = c.requires.ok.lines;
       counted = c.requires.ok.counted;
-      bare = λ w i e. A.kept_still o c.requires.ok.order p _ l (ap (λ (k : Kept). k.wave) q)
+      bare = λ w i e. A.kept_still o p _ l (ap (λ (k : Kept). k.wave) q)
           (ap (λ (k : Kept). k.instr) q) w i
           (c.requires.ok.bare w i (A.still_in (same_key c.args.kept.wave c.args.kept.instr w i)
           (is_in c.args.self.now.bare w i) _ (c.forget.ensures w i) e));
@@ -46,7 +56,7 @@ returns-clause-filled g c =
       fills = record {
         old = kept_at o p;
         was = subst (λ (x : ℕ × ℕ). entry_of o.kept.items x.0 x.1 ≡ Some (kept_at o p)) (λ j. (f.0 j, f.1 j))
-            (A.found_at o c.requires.ok.order p l);
+            (A.found_at o p l);
         bare = c.requires.bare;
         kept = subst (λ (x : ℕ × ℕ × Option ℕ). (w i : ℕ) →
             entry_of (slice_set o.kept.items p
@@ -65,7 +75,7 @@ returns-clause-filled g c =
               (ap (λ (y : Kept). y.instr) q ∙ f.1) j,
               (ap (λ (y : Kept). y.answer) q) j,
             ))
-            (A.replaced o c.requires.ok.order p
+            (A.replaced o p
             (record {
               wave = c.index-old.result.now.wave;
               instr = c.index-old.result.now.instr;

@@ -12,17 +12,16 @@ use Rattle.part_store.proofs.parts.Parts.wait_on.Goals as goal
 
 pub join-requires-clause-room : goal.join-requires-clause-room
 join-requires-clause-room g c = let s = C.some_wait
-    (image_of c.args.program.now) c.args.self.now.order c.requires.ok.order c.args.place c.requires.may in
+    (image_of c.args.program.now) c.args.self.now.order c.args.place c.requires.may in
     omega (arith, s, c.requires.ok.queues)
 
 pub join-requires-clause-lines : goal.join-requires-clause-lines
 join-requires-clause-lines g c = let s = C.some_wait
-    (image_of c.args.program.now) c.args.self.now.order c.requires.ok.order c.args.place c.requires.may in
+    (image_of c.args.program.now) c.args.self.now.order c.args.place c.requires.may in
     omega (arith, s, c.requires.ok.lines)
 
 pub returns-clause-ok : goal.returns-clause-ok
 returns-clause-ok g c = let o = c.args.self.now.order in record {
-  order = c.issue.ensures.ok;
   early = c.issue.ensures.room;
   printed = omega (arith, c.issue.ensures.fewer, c.requires.ok.printed);
   queues = omega (
@@ -34,7 +33,7 @@ returns-clause-ok g c = let o = c.args.self.now.order in record {
   );
   lines = omega (arith, c.issue.ensures.fewer, c.requires.ok.lines, c.join.ensures.lines);
   counted = c.join.ensures.ok;
-  bare = λ w i e. U.still_kept (image_of c.args.program.now) o c.requires.ok.order
+  bare = λ w i e. U.still_kept (image_of c.args.program.now) o
       c.args.place c.requires.may.within 0
       c.issue.new.self.kept.items c.issue.ensures.kept w i (c.requires.ok.bare w i e);
 }

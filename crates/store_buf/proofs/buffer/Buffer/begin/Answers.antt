@@ -15,7 +15,7 @@ pub invariant_of-result : goal.invariant_of-result
 invariant_of-result g c =
     let image = g.J.Job.image in
     let world = g.J.Job.world in
-    let w = none_wait c.new-3.result c.new-3.ensures.ok c.new-3.ensures.kept in
+    let w = none_wait c.new-3.result c.new-3.ensures.kept in
     let s : Store g.row.P.Denot =
     record {
       order = c.new-3.result;
@@ -38,9 +38,8 @@ invariant_of-result g c =
     c.program.ensures.formed c.program.ensures.sound state r)
     c.new-2.result (subst (AllBegan g.J.Job.began world.left) (sym c.new-2.ensures) c.requires.ports) s
     (record {
-      order = c.new-3.ensures.ok;
       filed = c.new-3.ensures.filed image;
-      early = no_room c.new-3.result c.new-3.ensures.ok c.new-3.ensures.kept c.new-3.ensures.early;
+      early = no_room c.new-3.result c.new-3.ensures.kept c.new-3.ensures.early;
       printed = omega (arith, w, c.new.ensures.len);
     })
     c.new-3.ensures.early

@@ -1,7 +1,8 @@
-use Rattle.std.proofs.Common.{refl, ap, arith}
+use Rattle.std.proofs.Common.{◌∙◌, refl, ap, arith}
 use Rattle.df_core.specs.Places.{image_of}
 use Rattle.store_buf.specs.declared.order.Order.{Order}
 use Rattle.store_buf.proofs.Filing as F
+use Rattle.store_buf.proofs.Ordered as O
 use Rattle.store_buf.proofs.order.Order.early.Goals as goal
 
 pub loop-ripple-preserved : goal.loop-ripple-preserved
@@ -10,8 +11,10 @@ loop-ripple-preserved c = record {
       c.loop-ripple.invariant.filed c.loop-ripple.invariant.filed.early refl refl refl refl
       (λ n p h. c.drop_top.ensures.others _ _ n p c.in-Some.ensures.top h)
       (λ h e. c.has_ripple.ensures.no c.if-has_ripple.false h e);
-  same = ap (λ (o : Order). record o { near = record o.near { loads = c.drop_top.new.self } })
-      c.loop-ripple.invariant.same;
+  same = O.same_but c.loop-ripple.self _ _ ∙ ap (λ (o : Order). record o {
+    near = record o.near
+        { loads = c.drop_top.new.self };
+  }) c.loop-ripple.invariant.same;
 }
 
 pub returns-then-ripple-position-clause-early : goal.returns-then-ripple-position-clause-early

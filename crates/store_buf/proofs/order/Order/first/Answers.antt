@@ -1,7 +1,8 @@
-use Rattle.std.proofs.Common.{refl, ap, arith}
+use Rattle.std.proofs.Common.{◌∙◌, refl, ap, arith}
 use Rattle.df_core.specs.Places.{image_of}
 use Rattle.store_buf.specs.declared.order.Order.{Order}
 use Rattle.store_buf.proofs.Filing as F
+use Rattle.store_buf.proofs.Ordered as O
 use Rattle.store_buf.proofs.order.Order.first.Goals as goal
 
 pub returns-then-has_number-clause-first : goal.returns-then-has_number-clause-first
@@ -17,8 +18,10 @@ loop-number-preserved c = record {
       c.loop-number.invariant.filed c.loop-number.invariant.filed.early refl refl refl refl
       (λ n p h. c.drop_top.ensures.others _ _ n p c.in-Some.ensures.top h)
       (λ h e. c.has_number.ensures.no c.if-has_number.false h e);
-  same = ap (λ (o : Order). record o { near = record o.near { turns = c.drop_top.new.self } })
-      c.loop-number.invariant.same;
+  same = O.same_but c.loop-number.self _ _ ∙ ap (λ (o : Order). record o {
+    near = record o.near
+        { turns = c.drop_top.new.self };
+  }) c.loop-number.invariant.same;
 }
 
 pub returns-clause-first : goal.returns-clause-first

@@ -1,4 +1,5 @@
-use Rattle.store_buf.proofs.Reaching.{covers_all, covers_rest, take_after}
+use Rattle.std.proofs.Common.{sym}
+use Rattle.store_buf.proofs.Reaching.{covers_next, covers_rest, covers_round, pushed, take_after}
 use Rattle.store_buf.proofs.rounds.Rounds.follow.Goals as goal
 
 pub returns-then-wave-self-clause-next : goal.returns-then-wave-self-clause-next
@@ -6,12 +7,16 @@ returns-then-wave-self-clause-next g c =
     let all = c.args.sent.now in
     let rest = c.next.new.self in
     let old = c.args.self.now in
-    let way = c.send_all.new.self in
+    let round = c.self.inside.round.items in
+    let next = c.self.inside.next.items in
+    let more = c.push_all.new.tokens.items in
     let t = c.in-Some.first in
-    take_after c.take-then-wave-self.result all rest old way c.take-then-wave-self.new.self t
-    c.in-Some.ensures (covers_all all rest old c.put.new.self way t c.in-Some.ensures c.in_ok-put.ensures
-    c.in_ok-send_all.ensures.old c.in_ok-send_all.ensures.taken) c.take-then-wave-self.ensures
+    take_after c.take-then-wave-self.result all rest old _ c.take-then-wave-self.new.self t c.in-Some.ensures
+    (covers_next old round next more all (sym c.self.view_is) (pushed all rest next c.push.new.tokens.items
+    more t c.in-Some.ensures c.in_ok-push.ensures c.in_ok-push_all.ensures.items))
+    c.take-then-wave-self.ensures
 
 pub returns-clause-next : goal.returns-clause-next
-returns-clause-next g c = covers_rest c.args.sent.now c.next.new.self c.args.self.now c.send_all-2.new.self
-    c.in-Some.first c.in-Some.ensures c.in_ok-send_all-2.ensures.old c.in_ok-send_all-2.ensures.taken
+returns-clause-next g c = covers_rest c.args.sent.now c.next.new.self c.args.self.now _ c.in-Some.first
+    c.in-Some.ensures (covers_round c.args.self.now c.self.inside.round.items c.self.inside.next.items
+    c.push_all-2.new.tokens.items c.next.new.self (sym c.self.view_is) c.in_ok-push_all-2.ensures.items)

@@ -1,11 +1,32 @@
-use Rattle.store_buf.proofs.Reaching.{covers_put, taken_first}
+use Rattle.std.proofs.Common.{sym}
+use Rattle.store_buf.proofs.Reaching.{covers_left, covers_next, covers_right, covers_round, pushed}
 use Rattle.store_buf.proofs.rounds.Rounds.send_all.Goals as goal
+use Rattle.ws_words.proofs.Results.{on_ok}
 
-pub loop-token-preserved : goal.loop-token-preserved
-loop-token-preserved g c =
-    let t = c.in-Some.token in (
-      covers_put c.args.self.now c.loop-token.self c.put.new.self t c.loop-token.invariant.0
-          c.in_ok-put.ensures,
-      taken_first c.args.sent.now c.loop-token.sent c.next.new.self c.loop-token.self c.put.new.self t
-          c.loop-token.invariant.1 c.in-Some.ensures c.in_ok-put.ensures,
-    )
+pub returns-in_ok-push-clause-old : goal.returns-in_ok-push-clause-old
+returns-in_ok-push-clause-old g c = on_ok c.push_all.result (λ is. covers_right c.args.sent.now
+    c.args.self.now _ (covers_next c.args.self.now c.self.inside.round.items c.self.inside.next.items
+    c.push_all.new.tokens.items c.args.sent.now (sym c.self.view_is) (pushed c.args.sent.now c.next.new.self
+    c.self.inside.next.items c.push.new.tokens.items c.push_all.new.tokens.items c.in-Some.first
+    c.in-Some.ensures c.in_ok-push.ensures is))) c.push_all.ensures.items
+
+pub returns-in_ok-push-clause-taken : goal.returns-in_ok-push-clause-taken
+returns-in_ok-push-clause-taken g c = on_ok c.push_all.result (λ is. covers_left c.args.sent.now
+    c.args.self.now _ (covers_next c.args.self.now c.self.inside.round.items c.self.inside.next.items
+    c.push_all.new.tokens.items c.args.sent.now (sym c.self.view_is) (pushed c.args.sent.now c.next.new.self
+    c.self.inside.next.items c.push.new.tokens.items c.push_all.new.tokens.items c.in-Some.first
+    c.in-Some.ensures c.in_ok-push.ensures is))) c.push_all.ensures.items
+
+pub returns-in_ok-push-2-clause-old : goal.returns-in_ok-push-2-clause-old
+returns-in_ok-push-2-clause-old g c = on_ok c.push_all-else-wave-self.result (λ is. covers_right c.args.sent.now
+    c.args.self.now _ (covers_round c.args.self.now c.self.inside.round.items c.self.inside.next.items
+    c.push_all-else-wave-self.new.tokens.items c.args.sent.now (sym c.self.view_is) (pushed c.args.sent.now
+    c.next.new.self c.self.inside.round.items c.push-else-wave-self.new.tokens.items c.push_all-else-wave-self.new.tokens.items
+    c.in-Some.first c.in-Some.ensures c.in_ok-push-2.ensures is))) c.push_all-else-wave-self.ensures.items
+
+pub returns-in_ok-push-2-clause-taken : goal.returns-in_ok-push-2-clause-taken
+returns-in_ok-push-2-clause-taken g c = on_ok c.push_all-else-wave-self.result (λ is. covers_left c.args.sent.now
+    c.args.self.now _ (covers_round c.args.self.now c.self.inside.round.items c.self.inside.next.items
+    c.push_all-else-wave-self.new.tokens.items c.args.sent.now (sym c.self.view_is) (pushed c.args.sent.now
+    c.next.new.self c.self.inside.round.items c.push-else-wave-self.new.tokens.items c.push_all-else-wave-self.new.tokens.items
+    c.in-Some.first c.in-Some.ensures c.in_ok-push-2.ensures is))) c.push_all-else-wave-self.ensures.items

@@ -19,7 +19,7 @@ use Rattle.store_buf.specs.Contents.{FaultIs, RightTokens, PortWaits}
 use Rattle.store_buf.specs.Stores.{SilentSo}
 use Rattle.store_buf.specs.Outers.{holding}
 use Rattle.store_buf.specs.Holds.{Holds, Issued, part}
-use Rattle.store_buf.specs.Ordering.{OrderOk, kept_at, ready_flag}
+use Rattle.store_buf.specs.Ordering.{kept_at, ready_flag}
 use Rattle.store_buf.proofs.Within.{port_in}
 use Rattle.store_buf.proofs.Counted as C
 use Rattle.store_buf.proofs.Silence.{port_waits}
@@ -33,12 +33,10 @@ run-requires-clause-port g c = subst PortIn (sym c.op-op.ensures)
     (port_in (image_of c.args.program.now) c.request-kept.result.instr c.requires.formed)
 
 pub run-requires-clause-room : goal.run-requires-clause-room
-run-requires-clause-room g c = let s = C.some_wait (image_of c.args.program.now) c.args.self.now.order
-    c.requires.ok.order c.args.place c.requires.may in omega (arith, s, c.requires.ok.printed)
+run-requires-clause-room g c = let s = C.some_wait (image_of c.args.program.now) c.args.self.now.order c.args.place c.requires.may in omega (arith, s, c.requires.ok.printed)
 
 pub returns-in_err-word-clause-ok : goal.returns-in_err-word-clause-ok
 returns-in_err-word-clause-ok g c = record {
-  order = c.requires.ok.order;
   filed = c.requires.ok.filed;
   early = c.requires.ok.early;
   printed = subst (λ v. vec_len v + c.args.self.now.order.waiting ≤ vec_capacity v)
@@ -65,8 +63,7 @@ returns-then-is_past-clause-leads g c = (
       let hold : Holds image world began o false (holding c.args.self.now.outer) m =
       subst (λ f. Holds image world began o (has f) (holding c.args.self.now.outer) m) c.requires.going
       stands in
-      let r = S.stops image world formed sound began o (holding c.args.self.now.outer) m hold
-      c.requires.ok.order p c.requires.may.within c.requires.may.ready past in
+      let r = S.stops image world formed sound began o (holding c.args.self.now.outer) m hold p c.requires.may.within c.requires.may.ready past in
       record {
         wave = (kept_at o c.args.place).wave;
         instr = (kept_at o c.args.place).instr;
@@ -74,8 +71,7 @@ returns-then-is_past-clause-leads g c = (
         event = inr (rw c.requires.going r.0, refl);
         right = λ w i p v e. absurd e;
         fault = subst (λ a. FaultIs image world (Some a)) (sym array_is)
-            (S.fault_is image world formed sound began o (holding c.args.self.now.outer) m hold
-            c.requires.ok.order p c.requires.may.within c.requires.may.ready past);
+            (S.fault_is image world formed sound began o (holding c.args.self.now.outer) m hold p c.requires.may.within c.requires.may.ready past);
         stands = r.1;
       },
 )
@@ -112,8 +108,7 @@ returns-clause-leads g c = (
       let hold : Holds image world began o false (holding c.args.self.now.outer) m =
       subst (λ f. Holds image world began o (has f) (holding c.args.self.now.outer) m) c.requires.going
       stands in
-      let r = S.issues image world formed sound began o (holding c.args.self.now.outer) m hold
-      c.requires.ok.order p c.requires.may.within c.requires.may.ready within c.in_ok-word.word
+      let r = S.issues image world formed sound began o (holding c.args.self.now.outer) m hold p c.requires.may.within c.requires.may.ready within c.in_ok-word.word
       c.issue.new.self (holding c.run.new.self) answers c.issue.ensures.kept c.issue.ensures.passed in
       let xs = operands_of (ports image (kept_at o c.args.place).instr) (kept_at o c.args.place).first
       (kept_at o c.args.place).second in
@@ -123,8 +118,7 @@ returns-clause-leads g c = (
       (answer image (kept_at o c.args.place).instr xs m) =
       ap (tokens_to c.request-kept.result.wave word) c.destinations.ensures
       ∙ ap (λ x. tokens_to x.wave word (destinations image x.instr 0)) k
-      ∙ S.tokens_are image world formed sound began o (holding c.args.self.now.outer) m hold
-      c.requires.ok.order p c.requires.may.within c.requires.may.ready within word c.issue.new.self
+      ∙ S.tokens_are image world formed sound began o (holding c.args.self.now.outer) m hold p c.requires.may.within c.requires.may.ready within word c.issue.new.self
       (holding c.run.new.self) answers c.issue.ensures.kept c.issue.ensures.passed in
       let e : false ≡ has c.args.self.now.fault = ap has (sym c.requires.going) in
       record {
@@ -144,7 +138,7 @@ returns-clause-leads g c = (
             (part image c.issue.new.self.kept.items (chain_of c.issue.new.self.chain) f
             (effect_after image (kept_at o c.args.place).instr xs m))) e r.0));
         right = subst (RightTokens image world) (sym told) (S.sent_right image world formed sound began o
-            (holding c.args.self.now.outer) m hold c.requires.ok.order p c.requires.may.within
+            (holding c.args.self.now.outer) m hold p c.requires.may.within
             c.requires.may.ready);
         fault = subst (FaultIs image world) (sym c.requires.going) tt;
         stands = subst (λ f. Holds image world began c.issue.new.self f (holding c.run.new.self)
@@ -155,7 +149,7 @@ returns-clause-leads g c = (
 pub tell-requires : goal.tell-requires
 tell-requires g c = let f = few_sent (image_of c.args.program.now) c.requires.formed c.destinations.result.now
     c.request-kept.result.instr c.destinations.ensures in
-    let s = C.some_wait (image_of c.args.program.now) c.args.self.now.order c.requires.ok.order c.args.place
+    let s = C.some_wait (image_of c.args.program.now) c.args.self.now.order c.args.place
     c.requires.may in
     let r = c.requires.room in omega (arith, f, s, r)
 
@@ -166,19 +160,19 @@ returns-clause-room g c = let f = few_sent (image_of c.args.program.now) c.requi
     let r = c.requires.room in omega (arith, f, l, n, q, r)
 
 silent_so : (image : Image) {P : Type 0} (old new : Store P) (op : Op) (k : Kept) (why : Silent)
-    → OrderOk old.order → (q : ℕ) → q < length old.order.kept.items
+    → (q : ℕ) → q < length old.order.kept.items
     → ready_flag image old.order (kept_at old.order q) ≡ true → k ≡ kept_at old.order q
     → op ≡ (instr_at image k.instr).op →
     new.order ≡ old.order → SilentAt op old.outer.ports new.outer.ports why → SilentSo image old new why
-silent_so image old new op k (Failed p) ok q l ready is at same s = (
+silent_so image old new op k (Failed p) q l ready is at same s = (
   subst (λ o. PortWaits image o.kept.items (chain_of o.chain) p) (sym same)
-      (port_waits image old.order ok q l ready p (ap (λ x. port_of (instr_at image x.instr).op) (sym is)
+      (port_waits image old.order q l ready p (ap (λ x. port_of (instr_at image x.instr).op) (sym is)
       ∙ ap port_of (sym at) ∙ s.0)),
   s.1,
 )
-silent_so image old new op k (NoMemory p) ok q l ready is at same s =
+silent_so image old new op k (NoMemory p) q l ready is at same s =
     subst (λ o. PortWaits image o.kept.items (chain_of o.chain) p) (sym same)
-    (port_waits image old.order ok q l ready p (ap (λ x. port_of (instr_at image x.instr).op) (sym is)
+    (port_waits image old.order q l ready p (ap (λ x. port_of (instr_at image x.instr).op) (sym is)
     ∙ ap port_of (sym at) ∙ s))
 
 less : (a b n : ℕ) → a < b → a + n < b + n
@@ -204,5 +198,5 @@ returns-in_err-word-clause-silent g c = let o = c.args.self.now.order in
     } in
     let e = err_from_is_err_and c.from_residual.result c.from_residual.ensures.1 in
     rw (e.1, e.2) (silent_so (image_of c.args.program.now) c.args.self.now new c.op-op.result
-    c.request-kept.result _ c.requires.ok.order c.args.place c.requires.may.within c.requires.may.ready
+    c.request-kept.result _ c.args.place c.requires.may.within c.requires.may.ready
     c.request-kept.ensures c.op-op.ensures refl c.in_err-word.ensures.silent)

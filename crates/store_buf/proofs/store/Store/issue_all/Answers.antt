@@ -2,7 +2,6 @@ use Rattle.std.proofs.Common.{◌∙◌, sym, ap, subst, refl, inr, arith}
 use Rattle.df_core.specs.Places.{image_of}
 use Rattle.df_core.specs.Rights.{tokens_of}
 use Rattle.store_buf.specs.declared.order.Order.{Order}
-use Rattle.store_buf.specs.Ordering.{OrderOk}
 use Rattle.store_buf.specs.Stores.{AllLead}
 use Rattle.store_buf.proofs.Foremost as M
 use Rattle.store_buf.proofs.Turns as T
@@ -70,9 +69,6 @@ returns-in-None-clause-lead g c =
 
 pub returns-in-None-clause-none : goal.returns-in-None-clause-none
 returns-in-None-clause-none g c =
-    let o = c.loop-next.invariant.ok.order in
-    let ok : OrderOk c.this_or_issuable.new.self = subst OrderOk (sym c.this_or_issuable.ensures.same)
-    (record { index = o.index; count = o.count; waves = o.waves }) in
     inr (M.none_so (image_of c.args.program.now)
-    (record c.loop-next.self { order = c.this_or_issuable.new.self }) ok c.loop-next-test.ensures
+    (record c.loop-next.self { order = c.this_or_issuable.new.self }) c.loop-next-test.ensures
     c.in-None.ensures.may)
