@@ -228,7 +228,8 @@ pub record Lists (image : Image) (fired asked : List Key) (t : Token) (next : Ar
     (new : List (Option Page)) (fired' asked' : List Key) : Type 0 where
   pub full : is_full (alone next) 0 0 (ports image t.instr) ≡ true
   pub one_more : fired' ≡ fired ++ record { wave = t.wave; instr = t.instr } ∷ []
-  pub asks_so : asked' ≡ cond (is_memory image t.instr) (asked ++ record { wave = t.wave; instr = t.instr } ∷ [])
+  pub asks_so : asked' ≡ cond (is_memory image t.instr) (asked ++ record { wave = t.wave; instr = t.instr } ∷
+      [])
       asked
 
 -- what a call of `put` leaves
@@ -238,7 +239,8 @@ pub puts : {image : Image} {world : World} {entries : List (Option Page)} {fired
     is_taken (arrived_in before.entries t.wave t.instr) t.port ≡ false
     → (new : List (Option Page)) (w i p v : ℕ) → w ≡ t.wave → i ≡ t.instr → p ≡ t.port → v ≡ t.value →
     ((a b : ℕ) → arrived_in new a b ≡ cond (same_key w i a b) (Some (with_port (arrived_in entries w i) p v))
-    (arrived_in entries a b)) → Puts image world entries fired asked t (with_port (arrived_in before.entries t.wave t.instr) t.port
+    (arrived_in entries a b)) → Puts image world entries fired asked t
+    (with_port (arrived_in before.entries t.wave t.instr) t.port
     t.value) new
 puts {image} {world} {entries} formed sound ok before same t right free new w i p v wave instr port value
     arrived = record {
@@ -281,7 +283,8 @@ lists {image} {t} fired asked fired' asked' own wave instr full one_more asks is
       full = full;
       one_more = ap instances one_more ∙ appended fired;
       asks_so = ap instances are ∙ both asks
-          ∙ ap (λ b. cond b (instances asked ++ record { wave = t.wave; instr = t.instr } ∷ []) (instances asked))
+          ∙ ap (λ b. cond b (instances asked ++ record { wave = t.wave; instr = t.instr } ∷ [])
+          (instances asked))
           (sym is);
     }
 
@@ -313,7 +316,8 @@ module _ {image : Image} {world : World} {entries : List (Option Page)} {fired a
   module _ {fired' asked' : List Key} (l : Lists image fired asked t next new fired' asked') where
     pub fires_ok : TableOk image world new fired' asked'
     fires_ok = fired_ok image world p.facts entries fired asked p.ok t.wave t.instr t.port t.value p.right
-        p.free (few_ports image t.instr) next p.next_is new p.arrived l.full fired' asked' l.one_more l.asks_so
+        p.free (few_ports image t.instr) next p.next_is new p.arrived l.full fired' asked' l.one_more
+        l.asks_so
 
     pub fires_full : {before after : TableContent} → fired ≡ before.fired
         → new ≡ after.entries → fired' ≡ after.fired

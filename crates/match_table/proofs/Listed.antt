@@ -65,7 +65,8 @@ has_filtered test (k ∷ ks) w i h = ⊎_elim
     (cases_Bool (test k))
 
 -- what stands at a place of a list of instances
-pub listed_at : (fired : List Instance) (ks : List Key) (n : ℕ) (d : Key) (e : Instance) → instances fired ≡ ks
+pub listed_at : (fired : List Instance) (ks : List Key) (n : ℕ) (d : Key) (e : Instance) → instances fired ≡
+    ks
     → n < length ks → get_or ks n d ≡ instance_key (get_or fired n e)
 listed_at fired ks n d e are lt = ap (λ l. get_or l n d) (sym are) ∙ get_or-map instance_key fired n e d
     (subst (λ m. n < m) (ap length (sym are) ∙ length-map fired instance_key) lt)
@@ -79,7 +80,8 @@ listed_has fired ks n e are lt = subst (λ (k : Key). HasFired ks k.wave k.instr
 pub asked_has : (image : Image) (asked : List Instance) (ks : List Key) (n : ℕ) (e : Instance)
     → instances asked ≡ of_memory image ks → n < length (of_memory image ks)
     → HasFired ks (get_or asked n e).wave (get_or asked n e).instr
-asked_has image asked ks n e are lt = has_filtered (λ (k : Key). is_memory image k.instr) ks (get_or asked n e).wave
+asked_has image asked ks n e are lt = has_filtered (λ (k : Key). is_memory image k.instr) ks
+    (get_or asked n e).wave
     (get_or asked n e).instr (listed_has asked (of_memory image ks) n e are lt)
 
 -- what has come to an instance that has fired
@@ -106,7 +108,8 @@ fired_as image entries w i some_port full = by_arrival (arrived_in entries w i) 
     }
 
 -- what has come to one that a table lists
-pub table_fired : (image : Image) (world : World) (entries : List (Option Page)) (fired asked ks : List Key) (w i : ℕ)
+pub table_fired : (image : Image) (world : World) (entries : List (Option Page)) (fired asked ks : List Key)
+    (w i : ℕ)
     → TableOk image world entries fired asked → fired ≡ ks → HasFired ks w i → FiredAs image entries w i
 table_fired image world entries fired asked ks w i ok same h = fired_as image entries w i (has_port image i)
     (ok.full w i (subst (λ l. HasFired l w i) (sym same) h))

@@ -44,7 +44,8 @@ above_more order middle name e rising more i d le lt = let r = rises order middl
 -- a place before which all stand before isn't behind one from which on none does
 pub in_order : (order : List PageKey) (low high : ℕ) (name : PageName) → low ≤ length order
     → ((i : ℕ) (d : PageKey) → i < low → at_rank (get_or order i d) < rank name)
-    → ((i : ℕ) (d : PageKey) → high ≤ i → i < length order → rank name ≤ at_rank (get_or order i d)) → low ≤ high
+    → ((i : ℕ) (d : PageKey) → high ≤ i → i < length order → rank name ≤ at_rank (get_or order i d)) → low ≤
+    high
 in_order order low high name bound below above =
     let d : PageKey = record { name = record { wave = 0; part = 0 }; key = 0 } in ⊎_elim
     (λ (same : low ≡ high). omega (arith, same))
@@ -113,10 +114,12 @@ pub inserted_either : (order : List PageKey) (place : ℕ) (s k : PageKey) → I
     → (k ≡ s) ⊎ In k order
 inserted_either order place s k m = ⊎_elim
     (λ (f : In k (take place order)).
-    inr (subst (λ l. In k l) (take-append-drop place order) (in_front (take place order) (drop place order) k f)))
+    inr (subst (λ l. In k l) (take-append-drop place order) (in_front (take place order) (drop place order) k
+    f)))
     (λ (b : In k (s ∷ drop place order)). ⊎_elim (λ (same : k ≡ s). inl same)
     (λ (r : In k (drop place order)).
-    inr (subst (λ l. In k l) (take-append-drop place order) (in_back (take place order) (drop place order) k r)))
+    inr (subst (λ l. In k l) (take-append-drop place order) (in_back (take place order) (drop place order) k
+    r)))
     b)
     (in_either (take place order) (s ∷ drop place order) k m)
 
@@ -140,7 +143,8 @@ none_in order name k none m same = let x = in_index order k m in
 -- all before are smaller, and none behind is
 pub none_named : (order : List PageKey) (place : ℕ) (name : PageName) → RisingPages order
     → IsFirstFrom order place name
-    → ((d : PageKey) → place < length order → at_rank (get_or order place d) ≢ rank name) → NoneNamed order name
+    → ((d : PageKey) → place < length order → at_rank (get_or order place d) ≢ rank name) → NoneNamed order
+    name
 none_named order place name rising first here i d lt e = ⊎_elim
     (λ (same : i ≡ place). here d (subst (λ k. k < length order) same lt)
     (subst (λ k. at_rank (get_or order k d) ≡ rank name) same e))
@@ -179,7 +183,8 @@ inserted_rises order place s rising none first i j d lt len =
     λ k l. ap at_rank (get_or-insert_below order place s d k l le) in
     let mid : at_rank (get_or (insert order place s) place d) ≡ rank s.name =
     ap at_rank (get_or-insert_at order place s d le) in
-    let high : (k : ℕ) → place ≤ k → at_rank (get_or (insert order place s) (k + 1) d) ≡ at_rank (get_or order k
+    let high : (k : ℕ) → place ≤ k → at_rank (get_or (insert order place s) (k + 1) d) ≡ at_rank
+    (get_or order k
     d) = λ k l. ap at_rank (get_or-insert_above order place s d k l le) in
     ⊎_elim
     (λ (same : j ≡ place). let b = first.below i d (omega (arith, same, lt)) in

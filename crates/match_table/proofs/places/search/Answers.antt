@@ -34,5 +34,6 @@ loop-low-init c = record {
 pub returns : goal.returns
 returns c = let inv = c.loop-low.invariant in let t = c.loop-low-test.false in let o = inv.order in
     let b = inv.bound in
-    first_at c.args.order.now c.loop-low.low c.loop-low.high c.args.name (omega (arith, t, o)) (omega (arith, b, o))
+    first_at c.args.order.now c.loop-low.low c.loop-low.high c.args.name (omega (arith, t, o))
+    (omega (arith, b, o))
     inv.below inv.above

@@ -10,5 +10,6 @@ returns-in_default c = absent_is c.self.inside.pages.slots c.args.self.now.entri
 pub returns : goal.returns
 returns c = found_is c.self.inside.order.items c.self.inside.pages.slots c.self.invariant
     c.args.self.now.entries c.in-Some.key c.args.wave c.args.instr c.slot_of.result c.name_of.result
-    c.index.result.now c.arrived_at.result (ap (λ (s : PageStore). s.entries) c.self.view_is) c.name_of.ensures
+    c.index.result.now c.arrived_at.result (ap (λ (s : PageStore). s.entries) c.self.view_is)
+    c.name_of.ensures
     c.in-Some.ensures c.index.ensures c.slot_of.ensures.place c.arrived_at.ensures

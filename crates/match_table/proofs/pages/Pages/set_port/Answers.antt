@@ -14,7 +14,8 @@ own_name c = named_is c.self.inside.pages.slots c.args.self.now.entries c.args.k
 
 -- and has the value at the port
 own_entries : (c : goal.After-self-1) → c.put_at.new.page.entries ≡ set c.index_mut.result.now.entries
-    (c.args.wave % 4) (set_port (get_or c.index_mut.result.now.entries (c.args.wave % 4) none_arrived) c.args.port
+    (c.args.wave % 4) (set_port (get_or c.index_mut.result.now.entries (c.args.wave % 4) none_arrived)
+    c.args.port
     c.args.value)
 own_entries c = let u : Page = c.index_mut.result.now in c.put_at.ensures.entries
     ∙ ap (λ (k : ℕ). set u.entries k (set_port (get_or u.entries k none_arrived) c.args.port c.args.value))
@@ -25,9 +26,11 @@ invariant_of-self c = let order = c.self.inside.order.items in let slots = c.sel
     let u : Page = c.index_mut.result.now in let v : Page = c.put_at.new.page in
     let at = c.index_mut.ensures.value in let name = c.put_at.ensures.name in
     set_ok order slots c.self.invariant c.args.key u v at name
-    (still_four order slots c.self.invariant c.args.key c.args.wave c.args.instr c.args.port c.args.value u v at
+    (still_four order slots c.self.invariant c.args.key c.args.wave c.args.instr c.args.port c.args.value u v
+    at
     (own_name c) name (own_entries c))
-    (still_clean order slots c.self.invariant c.args.key c.args.wave c.args.instr c.args.port c.args.value u v at
+    (still_clean order slots c.self.invariant c.args.key c.args.wave c.args.instr c.args.port c.args.value u
+    v at
     (own_name c) name (own_entries c))
 
 pub returns-clause-arrived : goal.returns-clause-arrived

@@ -14,7 +14,8 @@ use Rattle.match_table.specs.Tables.{instances, TableContent}
 
 pub right-request-requires : goal.right-request-requires
 right-request-requires g c =
-    let ok = ok_now g.J.Job.image g.J.Job.world c.self.inside.pages.entries (instances c.self.inside.fired.items)
+    let ok = ok_now g.J.Job.image g.J.Job.world c.self.inside.pages.entries
+    (instances c.self.inside.fired.items)
     (instances c.self.inside.asked.items) c.self.invariant.0 c.args.self.now
     (ap (λ (s : TableContent). s.entries) c.self.view_is) in
     subst (λ (k : ℕ × ℕ × ℕ × ℕ). RightRequest g.J.Job.image g.J.Job.world k.0 k.1
@@ -37,7 +38,8 @@ right-request-requires g c =
 
 pub returns-then-is_memory-clause-outcome : goal.returns-then-is_memory-clause-outcome
 returns-then-is_memory-clause-outcome g c =
-    let ok = ok_now g.J.Job.image g.J.Job.world c.self.inside.pages.entries (instances c.self.inside.fired.items)
+    let ok = ok_now g.J.Job.image g.J.Job.world c.self.inside.pages.entries
+    (instances c.self.inside.fired.items)
     (instances c.self.inside.asked.items) c.self.invariant.0 c.args.self.now
     (ap (λ (s : TableContent). s.entries) c.self.view_is) in (
       c.right-request.result,
@@ -78,7 +80,8 @@ right-requires-clause-few g c = subst (λ ds. length ds ≤ 8) (sym c.dests_of-d
 
 pub right-requires-clause-right : goal.right-requires-clause-right
 right-requires-clause-right g c =
-    let ok = ok_now g.J.Job.image g.J.Job.world c.self.inside.pages.entries (instances c.self.inside.fired.items)
+    let ok = ok_now g.J.Job.image g.J.Job.world c.self.inside.pages.entries
+    (instances c.self.inside.fired.items)
     (instances c.self.inside.asked.items) c.self.invariant.0 c.args.self.now
     (ap (λ (s : TableContent). s.entries) c.self.view_is) in
     λ w i p v s. sends_right g.J.Job.image g.J.Job.world c.requires.formed c.requires.sound c.args.self.now _

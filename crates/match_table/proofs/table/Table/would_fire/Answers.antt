@@ -14,7 +14,8 @@ meet-seen-requires-clause-ports g c = count_is g.J.Job.image (image_of c.program
 
 pub returns-in-Fills : goal.returns-in-Fills
 returns-in-Fills g c =
-    let ok = ok_now g.J.Job.image g.J.Job.world c.self.inside.pages.entries (instances c.self.inside.fired.items)
+    let ok = ok_now g.J.Job.image g.J.Job.world c.self.inside.pages.entries
+    (instances c.self.inside.fired.items)
     (instances c.self.inside.asked.items) c.self.invariant.0 c.args.self.now
     (ap (λ (s : TableContent). s.entries) c.self.view_is) in
     let count = count_is g.J.Job.image (image_of c.program-program.result.now) c.args.token.now.instr
@@ -28,7 +29,8 @@ returns-in-Fills g c =
 
 pub returns-in-Waits : goal.returns-in-Waits
 returns-in-Waits g c =
-    let ok = ok_now g.J.Job.image g.J.Job.world c.self.inside.pages.entries (instances c.self.inside.fired.items)
+    let ok = ok_now g.J.Job.image g.J.Job.world c.self.inside.pages.entries
+    (instances c.self.inside.fired.items)
     (instances c.self.inside.asked.items) c.self.invariant.0 c.args.self.now
     (ap (λ (s : TableContent). s.entries) c.self.view_is) in
     let count = count_is g.J.Job.image (image_of c.program-program.result.now) c.args.token.now.instr
