@@ -1,4 +1,4 @@
--- What is true of each order: of its requests, their index, how many of them wait, and the chain's wave number.
+-- What is true of each order's requests, their index, how many of them wait, and the chain's wave number.
 use Rattle.std.specs.Prelude.{ℕ, suc, ◌+◌, ◌≡◌, ◌<◌, ◌≤◌, List, length, Some, None, slice_index_or}
 use Rattle.store_buf.specs.declared.kept.Kept.{Kept}
 use Rattle.store_buf.specs.declared.index.Index.{Index}

@@ -1,8 +1,8 @@
 pub mod Orders
 pub mod Requests
-pub mod Finding
 pub mod Trees
 pub mod Hooks
+pub mod Finding
 pub mod Indexed
 pub mod Ranks
 pub mod Laters

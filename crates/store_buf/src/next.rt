@@ -137,6 +137,7 @@ impl Order {
     }
 
     /// Whether the chain lets a request issue: it is next, or a load before its turn.
+    #[inline(always)]
     pub fn lets(&self, program: &Program<'_>, kept: Kept) -> bool
         ensures { result ≡ may_flag (image_of program.now) (chain_of self.now.chain)
             kept.wave kept.instr kept.first }

@@ -7,14 +7,14 @@ ghost use Rattle.ws_isa.specs.Image.{Image};
 ghost use Rattle.df_core.specs.Places.{image_of};
 ghost use Rattle.df_core.specs.Chains.{chain_of, PassedOn};
 ghost use Rattle.store_buf.specs.Requests.{entry_of};
-ghost use Rattle.store_buf.specs.Finding.{place_in};
+ghost use Rattle.store_buf.specs.Finding.{HookIn, place_in};
 ghost use Rattle.store_buf.specs.Indexed.{Indexed};
 ghost use Rattle.store_buf.specs.Ranks.{IsFiled};
 ghost use Rattle.store_buf.specs.Laters.{IsFiledIn};
 ghost use Rattle.store_buf.specs.Earlies.{early_ops};
 
 use crate::early::Early;
-use crate::index::Index;
+use crate::index::{Hook, Index};
 use crate::kept::Kept;
 use crate::later::Later;
 use crate::next::ripple_of;
@@ -64,11 +64,28 @@ impl Order {
         }
     }
 
+    /// Where the index has an instance, or would have it.
+    #[inline(always)]
+    pub(crate) fn hook(&self, wave: u64, instr: u32) -> Hook
+        ensures { HookIn self.now.index wave instr result }
+    {
+        self.index.hook(wave, instr)
+    }
+
     /// The request of an instance.
     pub fn find(&self, wave: u64, instr: u32) -> Option<Kept>
         ensures { result ≡ entry_of self.now.kept.items wave instr }
     {
-        match self.index.find(wave, instr) {
+        self.find_at(wave, instr, self.hook(wave, instr))
+    }
+
+    /// The request of an instance that the index has or would have there.
+    #[inline(always)]
+    pub(crate) fn find_at(&self, wave: u64, instr: u32, hook: Hook) -> Option<Kept>
+        requires { HookIn self.now.index wave instr hook }
+        ensures { result ≡ entry_of self.now.kept.items wave instr }
+    {
+        match self.index.place_at(wave, instr, hook) {
             None => None,
             Some(place) => self.entry_at(place, wave, instr),
         }
@@ -115,6 +132,32 @@ impl Order {
         ensures still { OnErr result (self.new.waiting ≡ self.old.waiting) }
         ensures grown { heap_capacity self.old.early.heap ≤ heap_capacity self.new.early.heap }
     {
+        let hook = self.hook(kept.wave, kept.instr);
+        self.add_at(program, kept, hook)
+    }
+
+    /// The same for an instance that the index would have there.
+    #[inline(always)]
+    pub(crate) fn add_at(
+        &mut self,
+        program: &Program<'_>,
+        kept: Kept,
+        hook: Hook,
+    ) -> Result<(), NoMemory>
+        requires filed { AllFiled (image_of program.now) self.old }
+        requires fresh { entry_of self.old.kept.items kept.wave kept.instr ≡ None }
+        requires waits { kept.answer ≡ None }
+        requires hook { HookIn self.old.index kept.wave kept.instr hook }
+        ensures filed { AllFiled (image_of program.now) self.new }
+        ensures kept { OnOk result (self.new.kept.items ≡ self.old.kept.items ++ kept ∷ []) }
+        ensures room { OnOk result (Room self.new) }
+        ensures unchanged { OnErr result (self.new.kept.items ≡ self.old.kept.items) }
+        ensures early { early_ops self.new.early ≡ early_ops self.old.early }
+        ensures chain { self.new.chain ≡ self.old.chain }
+        ensures waiting { OnOk result (self.new.waiting ≡ self.old.waiting + 1) }
+        ensures still { OnErr result (self.new.waiting ≡ self.old.waiting) }
+        ensures grown { heap_capacity self.old.early.heap ≤ heap_capacity self.new.early.heap }
+    {
         if self.waiting >= usize::MAX - 1 {
             return Err(NoMemory);
         }
@@ -122,7 +165,7 @@ impl Order {
         let place = self.kept.len();
         self.kept.reserve(1)?;
         self.early.reserve(more)?;
-        self.index.put(kept.wave, kept.instr, place)?;
+        self.index.put_at(kept.wave, kept.instr, place, hook)?;
         self.file(program, kept, place)?;
         self.kept.push_reserved(kept);
         self.waiting = more;
@@ -130,6 +173,7 @@ impl Order {
     }
 
     // Puts the place of a request among those of its wave.
+    #[inline(always)]
     fn file(&mut self, program: &Program<'_>, kept: Kept, place: usize) -> Result<(), NoMemory>
         ensures here { OnOk result (kept.wave ≤ self.old.chain.wave
             → IsFiled self.new.near (number_of (image_of program.now) kept)
@@ -153,6 +197,7 @@ impl Order {
     }
 
     /// The request at a place.
+    #[inline(always)]
     pub fn request(&self, place: usize) -> Kept
         requires { place < length self.now.kept.items }
         ensures { result ≡ kept_at self.now place }
@@ -162,6 +207,7 @@ impl Order {
 
     /// The request at a place, which may be issued, has this answer. The chain passes what is next and
     /// issued.
+    #[inline(always)]
     pub fn issue(&mut self, program: &Program<'_>, place: usize, word: u64)
         requires filed { AllFiled (image_of program.now) self.old }
         requires may { MayAt (image_of program.now) self.old place }

@@ -37,6 +37,7 @@ pub struct Outer<P: Port> {
 impl<P: Port> Outer<P> {
     /// Does a memory operation on its operands, and gives its answer; 0 where it has none. Where a
     /// port doesn't answer nothing changes but its count of faults.
+    #[inline(always)]
     pub fn run(&mut self, op: Op, first: u64, second: u64) -> Result<u64, Silent>
         requires port { PortIn op }
         requires room { vec_len self.old.printed < vec_capacity self.old.printed }

@@ -10,12 +10,14 @@ ghost use Rattle.df_core.specs.Chains.{chain_of, may_flag};
 ghost use Rattle.df_core.specs.Places.{image_of};
 ghost use Rattle.df_core.specs.Rights.{tokens_of};
 ghost use Rattle.store_buf.specs.Requests.{entry_of};
+ghost use Rattle.store_buf.specs.Finding.{HookIn};
 ghost use Rattle.store_buf.specs.Ordering.{MayAt};
 ghost use Rattle.store_buf.specs.Outdoors.{FaultsGrow};
 ghost use Rattle.store_buf.specs.Stores.{StoreOk, IssueLeads, StaysSo, AllLead, SilentSo, SettledSo};
 ghost use Rattle.store_buf.specs.Stores.{SubmitLeads, content_of, left_over, StoreKeeps, NoneMaySo};
 
 use crate::fault::{BufFault, Silent};
+use crate::index::Hook;
 use crate::kept::Kept;
 use crate::order::Order;
 use crate::outer::Outer;
@@ -61,22 +63,24 @@ impl<P: Port> Store<P> {
         if let Some(port) = self.failed {
             return Err(BufFault::Stopped { port });
         }
-        match self.order.find(kept.wave, kept.instr) {
+        let hook = self.order.hook(kept.wave, kept.instr);
+        match self.order.find_at(kept.wave, kept.instr, hook) {
             Some(_) => Err(BufFault::Old),
             None => {
                 let lets = self.order.lets(program, kept);
                 if self.starved || lets {
-                    self.take_in(program, kept, lets, told)
+                    self.take_in(program, kept, hook, lets, told)
                 } else {
-                    self.put_by(program, kept)
+                    self.put_by(program, kept, hook)
                 }
             }
         }
     }
 
     // StoreKeeps a request that the chain doesn't let issue, so that nothing may be issued then.
-    fn put_by(&mut self, program: &Program<'_>, kept: Kept) -> Result<(), BufFault>
+    fn put_by(&mut self, program: &Program<'_>, kept: Kept, hook: Hook) -> Result<(), BufFault>
         requires ok { StoreOk (image_of program.now) self.old }
+        requires hook { HookIn self.old.order.index kept.wave kept.instr hook }
         requires fresh { entry_of self.old.order.kept.items kept.wave kept.instr ≡ None }
         requires waits { kept.answer ≡ None }
         requires running { self.old.fault ≡ None }
@@ -86,7 +90,7 @@ impl<P: Port> Store<P> {
             kept.wave kept.instr kept.first ≡ false }
         ensures leads { SubmitLeads (image_of program.now) self.old kept [] result self.new }
     {
-        match self.keep(program, kept) {
+        match self.keep(program, kept, hook) {
             Ok(()) => Ok(()),
             Err(_) => Err(BufFault::NoMemory),
         }
@@ -97,6 +101,7 @@ impl<P: Port> Store<P> {
         &mut self,
         program: &Program<'_>,
         kept: Kept,
+        hook: Hook,
         lets: bool,
         told: &mut PlainTokens,
     ) -> Result<(), BufFault>
@@ -104,6 +109,7 @@ impl<P: Port> Store<P> {
         requires ok { StoreOk (image_of program.now) self.old }
         requires lets { lets ≡ may_flag (image_of program.now) (chain_of self.old.order.chain)
             kept.wave kept.instr kept.first }
+        requires hook { HookIn self.old.order.index kept.wave kept.instr hook }
         requires fresh { entry_of self.old.order.kept.items kept.wave kept.instr ≡ None }
         requires waits { kept.answer ≡ None }
         requires running { self.old.fault ≡ None }
@@ -117,7 +123,7 @@ impl<P: Port> Store<P> {
             return Err(BufFault::NoMemory);
         }
         let place = self.order.kept.len();
-        match self.keep(program, kept) {
+        match self.keep(program, kept, hook) {
             Ok(()) => {
                 let first = if lets { Some(place) } else { None };
                 self.settle(program, first, told)
@@ -141,8 +147,10 @@ impl<P: Port> Store<P> {
     }
 
     // StoreKeeps a request of an instance that had none, and makes room for the word that it may print.
-    fn keep(&mut self, program: &Program<'_>, kept: Kept) -> Result<(), NoMemory>
+    #[inline(always)]
+    fn keep(&mut self, program: &Program<'_>, kept: Kept, hook: Hook) -> Result<(), NoMemory>
         requires ok { StoreOk (image_of program.now) self.old }
+        requires hook { HookIn self.old.order.index kept.wave kept.instr hook }
         requires fresh { entry_of self.old.order.kept.items kept.wave kept.instr ≡ None }
         requires waits { kept.answer ≡ None }
         ensures ok { StoreOk (image_of program.now) self.new }
@@ -158,7 +166,7 @@ impl<P: Port> Store<P> {
             return Err(NoMemory);
         }
         self.outer.printed.reserve(waiting + 1)?;
-        self.order.add(program, kept)
+        self.order.add_at(program, kept, hook)
     }
 
     // Issues what may be issued, first this one, and keeps in mind how that ends.

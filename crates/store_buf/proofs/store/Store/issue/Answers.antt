@@ -33,7 +33,8 @@ run-requires-clause-port g c = subst PortIn (sym c.op-op.ensures)
     (port_in (image_of c.args.program.now) c.request-kept.result.instr c.requires.formed)
 
 pub run-requires-clause-room : goal.run-requires-clause-room
-run-requires-clause-room g c = let s = C.some_wait (image_of c.args.program.now) c.args.self.now.order c.args.place c.requires.may in omega (arith, s, c.requires.ok.printed)
+run-requires-clause-room g c = let s = C.some_wait (image_of c.args.program.now) c.args.self.now.order
+    c.args.place c.requires.may in omega (arith, s, c.requires.ok.printed)
 
 pub returns-in_err-word-clause-ok : goal.returns-in_err-word-clause-ok
 returns-in_err-word-clause-ok g c = record {
@@ -63,7 +64,8 @@ returns-then-is_past-clause-leads g c = (
       let hold : Holds image world began o false (holding c.args.self.now.outer) m =
       subst (λ f. Holds image world began o (has f) (holding c.args.self.now.outer) m) c.requires.going
       stands in
-      let r = S.stops image world formed sound began o (holding c.args.self.now.outer) m hold p c.requires.may.within c.requires.may.ready past in
+      let r = S.stops image world formed sound began o (holding c.args.self.now.outer) m hold p
+      c.requires.may.within c.requires.may.ready past in
       record {
         wave = (kept_at o c.args.place).wave;
         instr = (kept_at o c.args.place).instr;
@@ -71,7 +73,8 @@ returns-then-is_past-clause-leads g c = (
         event = inr (rw c.requires.going r.0, refl);
         right = λ w i p v e. absurd e;
         fault = subst (λ a. FaultIs image world (Some a)) (sym array_is)
-            (S.fault_is image world formed sound began o (holding c.args.self.now.outer) m hold p c.requires.may.within c.requires.may.ready past);
+            (S.fault_is image world formed sound began o (holding c.args.self.now.outer) m hold p
+            c.requires.may.within c.requires.may.ready past);
         stands = r.1;
       },
 )
@@ -108,7 +111,8 @@ returns-clause-leads g c = (
       let hold : Holds image world began o false (holding c.args.self.now.outer) m =
       subst (λ f. Holds image world began o (has f) (holding c.args.self.now.outer) m) c.requires.going
       stands in
-      let r = S.issues image world formed sound began o (holding c.args.self.now.outer) m hold p c.requires.may.within c.requires.may.ready within c.in_ok-word.word
+      let r = S.issues image world formed sound began o (holding c.args.self.now.outer) m hold p
+      c.requires.may.within c.requires.may.ready within c.in_ok-word.word
       c.issue.new.self (holding c.run.new.self) answers c.issue.ensures.kept c.issue.ensures.passed in
       let xs = operands_of (ports image (kept_at o c.args.place).instr) (kept_at o c.args.place).first
       (kept_at o c.args.place).second in
@@ -118,7 +122,8 @@ returns-clause-leads g c = (
       (answer image (kept_at o c.args.place).instr xs m) =
       ap (tokens_to c.request-kept.result.wave word) c.destinations.ensures
       ∙ ap (λ x. tokens_to x.wave word (destinations image x.instr 0)) k
-      ∙ S.tokens_are image world formed sound began o (holding c.args.self.now.outer) m hold p c.requires.may.within c.requires.may.ready within word c.issue.new.self
+      ∙ S.tokens_are image world formed sound began o (holding c.args.self.now.outer) m hold p
+      c.requires.may.within c.requires.may.ready within word c.issue.new.self
       (holding c.run.new.self) answers c.issue.ensures.kept c.issue.ensures.passed in
       let e : false ≡ has c.args.self.now.fault = ap has (sym c.requires.going) in
       record {
