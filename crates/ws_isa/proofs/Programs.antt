@@ -17,13 +17,13 @@ use Rattle.ws_isa.specs.Open.{Walkable}
 use Rattle.ws_isa.specs.declared.program.BlockTable.{BlockTable}
 use Rattle.ws_isa.specs.declared.walker.Walker.{Walker}
 use Rattle.ws_isa.specs.declared.walker.Edge.{Edge}
-use Rattle.ws_isa.specs.Shows.{image_of, block_in, crossed, EdgeIs, At, AtStart, AtEnd, Final, BlockTableIs}
+use Rattle.ws_isa.specs.Shows.{image_of, block_in, crossed, EdgeIs, At, AtStart, AtEnd, Final}
 use Rattle.ws_isa.proofs.Blocks.{first_in, number_within, number_next, block_is, instr_is}
 use Rattle.ws_isa.proofs.Leaving.{left_at}
 use Rattle.ws_isa.proofs.Opening.{dead_final}
 use Rattle.ws_words.specs.Items.{nth, or_else}
 
-module _ (p : BlockTable) (is : BlockTableIs p) where
+module _ (p : BlockTable) where
   pub blocks_long : length (image_of p).blocks ≡ length p.blocks.now
   blocks_long = length-map p.blocks.now view.block
 
@@ -35,8 +35,8 @@ module _ (p : BlockTable) (is : BlockTableIs p) where
   pub first_found : (n x : ℕ) → n < length p.blocks.now → x ≡ slice_index_or p.firsts.items n x
       → x ≡ first_number (image_of p) (suc n)
   first_found n x l e =
-      let long : length p.firsts.items ≡ suc (length p.blocks.now) = is.firsts_length in
-      e ∙ get_or_default_zero p.firsts.items n x (omega arith) ∙ is.firsts n (omega arith)
+      let long : length p.firsts.items ≡ suc (length p.blocks.now) = p.listed.firsts_length in
+      e ∙ get_or_default_zero p.firsts.items n x (omega arith) ∙ p.listed.firsts_are n (omega arith)
       ∙ first_in (image_of p) n
 
   -- a block's instructions are within the table
@@ -45,7 +45,7 @@ module _ (p : BlockTable) (is : BlockTableIs p) where
   first_within n x l e =
       let w : first_number (image_of p) (suc n) + length (or_else (nth (image_of p).blocks n) no_block).instrs
       ≤ suc (length (flat (image_of p).blocks)) = number_within (image_of p) n (inside n l) in
-      let t : p.total ≡ suc (length (flat (image_of p).blocks)) = is.total in
+      let t : p.total ≡ suc (length (flat (image_of p).blocks)) = p.listed.total_is in
       omega arith
 
   -- a block by its place is a block

@@ -9,7 +9,7 @@ use Rattle.ws_isa.specs.Image.{Instr, Goto, Block, Pad, Image, no_block, instr_a
 use Rattle.ws_isa.specs.Image.{IsBlock, IsIn}
 use Rattle.ws_isa.specs.Open.{Walkable}
 use Rattle.ws_isa.specs.declared.program.BlockTable.{BlockTable}
-use Rattle.ws_isa.specs.Shows.{edge_by, edge_list, delivered, crossed, image_of, block_in, BlockTableIs}
+use Rattle.ws_isa.specs.Shows.{edge_by, edge_list, delivered, crossed, image_of, block_in}
 use Rattle.ws_isa.proofs.Blocks.{block_is, number_next}
 use Rattle.ws_isa.proofs.Leaving.{row_of}
 use Rattle.ws_isa.proofs.Programs.{inside}
@@ -80,12 +80,12 @@ goto_quiet image ok n l c goes i x e = (
         (omega arith, omega arith)
 
 -- the edge of a `Goto` brings nothing
-pub goto_crossed : (p : BlockTable) → BlockTableIs p → Walkable (image_of p) → (n : ℕ)
+pub goto_crossed : (p : BlockTable) → Walkable (image_of p) → (n : ℕ)
     → n < length p.blocks.now → (c : ℕ) → (block_in p n).exit ≡ Goto c →
     (pads : List Pad) (r k : ℕ) (results operands : List ℕ) → operands ≡ crossed pads r (block_in p n).instrs
     k results operands
-goto_crossed p is ok n l c goes pads r k results operands =
+goto_crossed p ok n l c goes pads r k results operands =
     let e : block_at (image_of p) (suc n) ≡ block_in p n = block_is (image_of p) n in
     let quiet : Quiet (block_in p n).instrs = subst (λ (b : Block). Quiet b.instrs) e
-    (goto_quiet (image_of p) ok n (inside p is n l) c (ap (λ (b : Block). b.exit) e ∙ goes)) in
+    (goto_quiet (image_of p) ok n (inside p n l) c (ap (λ (b : Block). b.exit) e ∙ goes)) in
     sym (crossed_quiet pads r (block_in p n).instrs k results operands quiet)

@@ -1,5 +1,5 @@
 -- What a reader has to believe: Walk, Operations, Sound, Open, Answer.
--- Standing and Shows serve the proof of the code alone: what it holds while it walks.
+-- Standing, Listed and Shows serve the proof of the code alone: what it holds while it walks.
 pub mod Image
 pub mod Formed
 pub mod Shown
@@ -11,5 +11,6 @@ pub mod Sound
 pub mod Open
 pub mod Checking
 pub mod Standing
+pub mod Listed
 pub mod Shows
 pub mod Answer

@@ -1,14 +1,14 @@
 -- Serves the proof of the code alone; nobody has to believe it.
 -- What the code holds of an image and of its walk.
-use Rattle.std.specs.Prelude.{◌≡◌, ℕ, suc, ◌+◌, ◌-◌, ◌*◌, ◌^◌, ◌<◌, ◌≤◌, Bool, true, false, cond, eqb, List}
-use Rattle.std.specs.Prelude.{[], ◌∷◌, map, length, Option, Some, None, slice_index, slice_set}
+use Rattle.std.specs.Prelude.{◌≡◌, ℕ, suc, ◌+◌, ◌-◌, ◌*◌, ◌<◌, Bool, true, false, cond, eqb, List}
+use Rattle.std.specs.Prelude.{[], ◌∷◌, length, Option, Some, None, slice_index, slice_set}
 use Rattle.ws_words.specs.Outside.{Outside, World}
 use Rattle.ws_words.specs.Memory.{OutIs}
 use Rattle.ws_words.specs.declared.memory.Memory.{Memory}
 use Rattle.ws_isa.specs.declared.instr.Op.{Op}
 use Rattle.ws_isa.specs.declared.instr.Op.TheVariants.{Steer, Send}
 use Rattle.ws_isa.specs.declared.instr.Dest.{Dest}
-use Rattle.ws_isa.specs.Image.{Instr, Exit, Pad, Block, Array, Image, no_block, flat, first_of, first_number}
+use Rattle.ws_isa.specs.Image.{Instr, Exit, Pad, Block, Array, Image, no_block, flat, first_number}
 use Rattle.ws_isa.specs.Image.{pad_of, is_stop, leave_to, is_memory_op, result_of_op, answer_op, after_op}
 use Rattle.ws_isa.specs.Image.{is_past_op, array_of_op}
 use Rattle.ws_isa.specs.View as view
@@ -62,16 +62,9 @@ pub record EdgeIs (exit : Exit) (results : List ℕ) (e : Edge) : Type 0 where
   pub choice : e.choice ≡ choice_of exit (λ j. slice_index results j)
   pub next : e.next ≡ leave_to exit e.choice - 1
 
--- the image of a program, and the numbers of its blocks' first instructions
+-- the image of a program
 abbrev pub image_of : BlockTable → Image
 image_of p = view.parts p.arrays.now p.blocks.now
-
-pub record BlockTableIs (p : BlockTable) : Type 0 where
-  pub firsts_length : length p.firsts.items ≡ suc (length p.blocks.now)
-  pub firsts : (b : ℕ) → b ≤ length p.blocks.now →
-      slice_index p.firsts.items b ≡ first_of (map view.block p.blocks.now) b
-  pub total : p.total ≡ suc (length (flat (map view.block p.blocks.now)))
-  pub small : 4 * p.total < 2 ^ 64
 
 -- the block at a place
 abbrev pub block_in : BlockTable → ℕ → Block

@@ -3,7 +3,7 @@
 ghost use Rattle.std.specs.Prelude.{◌≡◌, ◌==◌, ◌<◌, ◌≤◌, ◌+◌, ◌&&◌, suc, length, map, IfOk};
 ghost use Rattle.ws_isa.specs.Image.{first_number, is_first, array_length};
 ghost use Rattle.ws_isa.specs.View as view;
-ghost use Rattle.ws_isa.specs.Shows.{image_of, block_in, BlockTableIs};
+ghost use Rattle.ws_isa.specs.Listed.{ListsFirsts};
 
 use crate::{ArrayDecl, Block, first_numbers};
 use std::alloc::Global;
@@ -15,11 +15,14 @@ use ws_words::NoMemory;
 pub struct BlockTable<'a> {
     pub arrays: &'a [ArrayDecl],
     pub blocks: &'a [Block],
-    pub firsts: Vec<usize>,
+    firsts: Vec<usize>,
     pub total: usize,
+    ghost listed: { ListsFirsts blocks.now firsts.items total },
 }
 
 impl<'a> BlockTable<'a> {
+    ghost use Rattle.ws_isa.specs.Shows.{image_of, block_in};
+
     /// The image with these arrays and blocks.
     pub fn of(
         alloc: Global,
@@ -28,7 +31,6 @@ impl<'a> BlockTable<'a> {
     ) -> Result<BlockTable<'a>, NoMemory>
         ensures arrays { IfOk result (λ program. program.arrays.now ≡ arrays.now) }
         ensures blocks { IfOk result (λ program. program.blocks.now ≡ blocks.now) }
-        ensures program { IfOk result (λ program. BlockTableIs program) }
     {
         let firsts = first_numbers(alloc, blocks)?;
         let total = firsts[blocks.len()];
@@ -53,8 +55,7 @@ impl<'a> BlockTable<'a> {
 
     /// The number of the first instruction of the block at this place.
     pub fn first(&self, place: usize) -> usize
-        requires program { BlockTableIs self.now }
-        requires place { place < length self.now.blocks.now }
+        requires { place < length self.now.blocks.now }
         ensures number { result ≡ first_number (image_of self.now) (suc place) }
         ensures within { result + length (block_in self.now place).instrs ≤ self.now.total }
     {

@@ -5,7 +5,7 @@ ghost use Rattle.ws_words.specs.Outside.{World as Given};
 ghost use Rattle.ws_words.specs.Plain.{world_of};
 ghost use Rattle.ws_isa.specs.View as view;
 ghost use Rattle.ws_isa.specs.Open.{Walkable};
-ghost use Rattle.ws_isa.specs.Shows.{image_of, AtStart, Final, BlockTableIs};
+ghost use Rattle.ws_isa.specs.Shows.{image_of, AtStart, Final};
 ghost use Rattle.ws_isa.specs.Answer.{WalkedSo};
 
 use crate::checked::Checked;
@@ -87,7 +87,6 @@ fn walk_blocks<'a>(
 
 // Walks on from the first block, and says whether this was the whole walk.
 fn walk(program: &BlockTable<'_>, walker: &mut Walker<'_>, firings: u64) -> Result<bool, NoMemory>
-    requires program { BlockTableIs program.now }
     requires walks { Walkable (image_of program.now) }
     requires left { walker.old.fired ≤ firings }
     ensures within { IfOk result (λ whole. walker.new.fired ≤ firings) }
@@ -121,8 +120,7 @@ fn open<'a>(
     program: &BlockTable<'_>,
     world: &'a World,
 ) -> Result<Walker<'a>, NoMemory>
-    requires program { BlockTableIs program.now }
-    requires walks { Walkable (image_of program.now) }
+    requires { Walkable (image_of program.now) }
     ensures start { IfOk result (AtStart (image_of program.now) (world_of world.now) 0 1) }
     ensures fired { IfOk result (λ walker. walker.fired ≡ zero) }
 {

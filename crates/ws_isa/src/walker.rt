@@ -9,7 +9,6 @@ ghost use Rattle.ws_isa.specs.View as view;
 ghost use Rattle.ws_isa.specs.Open.{Walkable};
 ghost use Rattle.ws_isa.specs.Shows.{Resulted, looked, delivered, crossed, EdgeIs, image_of, block_in, At};
 ghost use Rattle.ws_isa.specs.Shows.{AtStart, AtEnd, Ran, Left};
-ghost use Rattle.ws_isa.specs.Shows.{BlockTableIs};
 
 use crate::operations::perform;
 use crate::program::BlockTable;
@@ -43,7 +42,6 @@ impl<'a> Walker<'a> {
         place: usize,
         firings: u64,
     ) -> Result<bool, NoMemory>
-        requires program { BlockTableIs program.now }
         requires walks { Walkable (image_of program.now) }
         requires place { place < length program.now.blocks.now }
         requires left { self.old.fired ≤ firings }
@@ -66,7 +64,6 @@ impl<'a> Walker<'a> {
 
     // Fires the instruction with this number.
     fn fire(&mut self, program: &BlockTable<'_>, instr: &Instr, k: usize) -> Result<(), NoMemory>
-        requires program { BlockTableIs program.now }
         requires walks { Walkable (image_of program.now) }
         requires number { k < program.now.total }
         requires left { self.old.fired + 1 < 2 ^ 64 }
@@ -148,7 +145,6 @@ impl<'a> Walker<'a> {
 
     /// Leaves the block at this place: the place of the next one, if there is one.
     pub fn leave(&mut self, program: &BlockTable<'_>, place: usize) -> Option<usize>
-        requires program { BlockTableIs program.now }
         requires walks { Walkable (image_of program.now) }
         requires place { place < length program.now.blocks.now }
         ensures fired { self.new.fired ≡ self.old.fired }
@@ -195,7 +191,6 @@ impl<'a> Walker<'a> {
     // What the block at this place sends along the edge to another comes there. No steer and no
     // send stands in a block that ends by a `Goto`.
     fn cross(&mut self, program: &BlockTable<'_>, place: usize, choice: u64, next: usize)
-        requires program { BlockTableIs program.now }
         requires walks { Walkable (image_of program.now) }
         requires place { place < length program.now.blocks.now }
         requires next { next < length program.now.blocks.now }

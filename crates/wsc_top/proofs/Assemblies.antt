@@ -1,6 +1,6 @@
 -- Why the text of an assembly is refused.
 use Rattle.std.specs.Prelude.{◌≡◌, ℕ, List, Ok, Err}
-use Rattle.std.proofs.Common.{subst, sym}
+use Rattle.std.proofs.Common.{subst, sym, ap, ◌∙◌}
 use Rattle.ws_isa.specs.Image.{Image}
 use Rattle.ws_isa.specs.Sound.{Sound}
 use Rattle.asm_text.specs.Reading.{read}
@@ -22,11 +22,12 @@ pub bad_of : (image : Image) (f : CheckFault) (bad : Bad) → f ≡ check.Refuse
 bad_of image f bad e h = subst (λ x. Breach image x) e h
 
 -- what is wrong with the assembly section is wrong with the text
-pub section_fault : (text : List ℕ) (e : AssemblyFault) → IsSectionFault text e → IsAssemblyFault text e
-section_fault text fault.NoMemory h = tt
-section_fault text (fault.Refused (Text kind line)) h = assembly kind line h
-section_fault text (fault.Refused (Unsound bad)) h = unsound h.0 bad h.1 h.2
-section_fault text (fault.Refused (Input place)) h = absurd h
+pub section_fault : (text section : List ℕ) (e : AssemblyFault) → section ≡ program_of text
+    → IsSectionFault section e → IsAssemblyFault text e
+section_fault text section fault.NoMemory s h = tt
+section_fault text section (fault.Refused (Text kind line)) s h = assembly kind line (ap read (sym s) ∙ h)
+section_fault text section (fault.Refused (Unsound bad)) s h = unsound h.0 bad (ap read (sym s) ∙ h.1) h.2
+section_fault text section (fault.Refused (Input place)) s h = absurd h
 
 -- so is what is wrong with its input section
 pub input_refused : (text : List ℕ) (image : Image) (f : TextFault) (e : AssemblyFault) → e ≡ fault_of_input f

@@ -11,8 +11,8 @@ use Rattle.ws_words.specs.Digits.{is_number, value_of}
 use Rattle.src_ast.specs.declared.lexeme.Place.{Place}
 use Rattle.src_ast.specs.Lexemes.{start, after, is_blank}
 use Rattle.src_ast.specs.Once.{ExactlyOne}
-use Rattle.wsc_top.specs.Sections.{program_of, input_place, IsItem, IsWordText, InputItems, stop, next}
-use Rattle.wsc_top.specs.Sections.{InputWords, InputFault, IsInputAnswer}
+use Rattle.wsc_top.specs.Sections.{program_of, input_of, place_below, input_place, IsItem, IsWordText}
+use Rattle.wsc_top.specs.Sections.{InputItems, stop, next, InputWords, InputFault, IsInputAnswer}
 use Rattle.ws_words.specs.Letters.{starts_without}
 use Rattle.ws_words.proofs.Runs.{prefix_all, prefix_stops}
 use Rattle.ws_words.proofs.Numbers.{one_more}
@@ -356,7 +356,12 @@ one_answer at text = go (found_in (length text) at text (omega arith))
     go (inl f) = record { answer = Ok f.0; holds = f.1; only = only_words f.0 f.1 }
     go (inr f) = record { answer = Err f.0; holds = f.1; only = only_fault f.0 f.1 }
 
--- where an input section begins
-pub section_at : (text section : List ℕ) (p : Place) → section ≡ program_of text → p ≡ after start section
-    → record { line = p.line + 1; column = 1 } ≡ input_place text
-section_at text section p s e = ap (λ q. record { line = q.line + 1; column = 1 }) (e ∙ ap (after start) s)
+-- what holds of the sections of a text holds of the text, and back
+module _ (P : Place → List ℕ → Type 0) (text section input : List ℕ) (s : section ≡ program_of text)
+    (i : input ≡ input_of text) where
+  pub of_text : P (place_below section) input → P (input_place text) (input_of text)
+  of_text h = subst (P (input_place text)) i (subst (λ (q : List ℕ). P (place_below q) input) s h)
+
+  pub of_sections : P (input_place text) (input_of text) → P (place_below section) input
+  of_sections h = subst (λ (q : List ℕ). P (place_below q) input) (sym s)
+      (subst (P (input_place text)) (sym i) h)

@@ -13,39 +13,46 @@ use Rattle.src_ast.specs.Rules.{IsAccepted}
 use Rattle.src_ast.specs.Written.{IsWritten}
 use Rattle.wsc_top.specs.declared.task.JobTask.{JobTask}
 use Rattle.wsc_top.specs.declared.status.Status.TheVariants.{Refused}
-use Rattle.wsc_top.specs.Sections.{program_of, input_of, input_place, InputWords, IsInputFault, AnswersWords}
+use Rattle.wsc_top.specs.Sections.{program_of, input_of, place_below, InputWords, InputFault, IsInputFault}
+use Rattle.wsc_top.specs.Sections.{AnswersWords}
 use Rattle.wsc_top.specs.Texts.{refusal_text}
-use Rattle.wsc_top.specs.Job.{ReadsAs, IsJob, Refuses, program, input, IsRefused, IsProgramFault}
-use Rattle.wsc_top.specs.Job.{AnswersParts}
+use Rattle.wsc_top.specs.Job.{ReadsAs, ProgramFault, IsJob, Refuses, program, input, IsRefused}
+use Rattle.wsc_top.specs.Job.{IsProgramFault, AnswersParts}
 use Rattle.wsc_top.specs.declared.step.CallStep.{CallStep}
 use Rattle.wsc_top.specs.declared.step.CallStep.TheVariants.{Ready, Run as Due, Threads as Many}
 use Rattle.wsc_top.specs.Answers.{Answered, refused, done}
 use Rattle.wsc_top.specs.Steps.{YieldStep, JobStep}
+use Rattle.wsc_top.proofs.Inputs.{of_text, of_sections}
 
 -- a program that is refused is no job
-pub program_only : (text : List ℕ) (e : TextFault) → ((parts : List Part) → ReadsAs text parts
-    → AnswersParts (Err e) parts)
+pub program_only : (text section : List ℕ) (e : TextFault) → section ≡ program_of text
+    → ((parts : List Part) → ReadsAs section parts → AnswersParts (Err e) parts)
     → (parts : List Part) (ws : List ℕ) → IsJob text parts ws → e ≡ fault.NoMemory
-program_only text fault.NoMemory h parts ws j = refl
-program_only text (fault.Refused r) h parts ws j = absurd (h parts j.reads)
+program_only text section fault.NoMemory s h parts ws j = refl
+program_only text section (fault.Refused r) s h parts ws j =
+    absurd (h parts (subst (λ p. ReadsAs p parts) (sym s) j.reads))
 
-pub program_refused : (text : List ℕ) (e : TextFault) → IsProgramFault text e → IsRefused text e
-program_refused text fault.NoMemory h = tt
-program_refused text (fault.Refused r) h = program r h
+pub program_refused : (text section : List ℕ) (e : TextFault) → section ≡ program_of text
+    → IsProgramFault section e → IsRefused text e
+program_refused text section fault.NoMemory s h = tt
+program_refused text section (fault.Refused r) s h = program r (subst (λ p. ProgramFault p r) s h)
 
-pub words_only : (text : List ℕ) (e : TextFault)
-    → ((ws : List ℕ) → InputWords (input_place text) (input_of text) ws → AnswersWords (Err e) ws)
+pub words_only : (text section rest : List ℕ) (e : TextFault) → section ≡ program_of text
+    → rest ≡ input_of text
+    → ((ws : List ℕ) → InputWords (place_below section) rest ws → AnswersWords (Err e) ws)
     → (parts : List Part) (ws : List ℕ) → IsJob text parts ws → e ≡ fault.NoMemory
-words_only text fault.NoMemory h parts ws j = refl
-words_only text (fault.Refused r) h parts ws j = absurd (h ws j.words)
+words_only text section rest fault.NoMemory s i h parts ws j = refl
+words_only text section rest (fault.Refused r) s i h parts ws j =
+    absurd (h ws (of_sections (λ at t. InputWords at t ws) text section rest s i j.words))
 
-pub words_refused : (text : List ℕ) (found : List Part) (e : TextFault)
-    → ReadsAs text found → IsInputFault (input_place text) (input_of text) e
-    → IsRefused text e
-words_refused text found fault.NoMemory r h = tt
-words_refused text found (fault.Refused x) r h =
+pub words_refused : (text section rest : List ℕ) (found : List Part) (e : TextFault)
+    → section ≡ program_of text → rest ≡ input_of text → ReadsAs section found
+    → IsInputFault (place_below section) rest e → IsRefused text e
+words_refused text section rest found fault.NoMemory s i r h = tt
+words_refused text section rest found (fault.Refused x) s i r h =
     subst (λ kind. Refuses text (record { kind = kind; place = x.place })) (sym h.0)
-    (input found x.place r h.1)
+    (input found x.place (subst (λ p. ReadsAs p found) s r)
+    (of_text (λ at t. InputFault at t x.place) text section rest s i h.1))
 
 pub job_written : (text : List ℕ) (parts : List Part) (ws : List ℕ)
     → ((bytes : List ℕ) (ls : List Lexeme) (finish : Place) (all : List Part) → Lex bytes ls finish

@@ -51,13 +51,13 @@ abbrev pub IsAssemblyFault : List ℕ → AssemblyFault → Type 0
 IsAssemblyFault text NoMemory = Unit {0}
 IsAssemblyFault text (Refused r) = RefusesAssembly text r
 
--- the same for its assembly section alone
+-- the same for an assembly section alone
 abbrev pub IsSectionFault : List ℕ → AssemblyFault → Type 0
-IsSectionFault text NoMemory = Unit {0}
-IsSectionFault text (Refused (Text kind line)) = read (program_of text) ≡ Err (kind, line)
-IsSectionFault text (Refused (Unsound bad)) =
-    (image : Image) × (read (program_of text) ≡ Ok image) × BadBreach image bad
-IsSectionFault text (Refused (Input place)) = ⊥
+IsSectionFault section NoMemory = Unit {0}
+IsSectionFault section (Refused (Text kind line)) = read section ≡ Err (kind, line)
+IsSectionFault section (Refused (Unsound bad)) =
+    (image : Image) × (read section ≡ Ok image) × BadBreach image bad
+IsSectionFault section (Refused (Input place)) = ⊥
 
 -- this image and these words are answered, unless memory runs out
 abbrev pub AnswersAssembly : Result (Image × List ℕ) AssemblyFault → Image → List ℕ → Type 0

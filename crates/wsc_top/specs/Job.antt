@@ -22,34 +22,34 @@ abbrev pub job_limit : ℕ
 job_limit = 1048576
 
 -- the program section has lexemes within the limits, they have this tree, and it keeps the rules
-pub record ReadsAs (text : List ℕ) (parts : List Part) : Type 0 where
+pub record ReadsAs (section : List ℕ) (parts : List Part) : Type 0 where
   pub ls : List Lexeme
   pub finish : Place
-  pub lex : Lex (program_of text) ls finish
+  pub lex : Lex section ls finish
   pub kept : KeepLimits 0 0 ls
   pub tree : Tree ls parts
   pub accepted : IsAccepted parts finish
 
 -- the program section is refused so: by its first fault of lexemes, else of syntax, else of the
 -- rules
-pub data ProgramFault (text : List ℕ) : Refusal → Type 0 where
-  lexemes : (r : Refusal) → LexFault (program_of text) r → ProgramFault text r
-  syntax : (ls : List Lexeme) (finish place : Place) → Lex (program_of text) ls finish
+pub data ProgramFault (section : List ℕ) : Refusal → Type 0 where
+  lexemes : (r : Refusal) → LexFault section r → ProgramFault section r
+  syntax : (ls : List Lexeme) (finish place : Place) → Lex section ls finish
       → KeepLimits 0 0 ls → SyntaxAt ls finish place
-      → ProgramFault text (record { kind = Syntax; place = place })
+      → ProgramFault section (record { kind = Syntax; place = place })
   rules : (ls : List Lexeme) (finish : Place) (parts : List Part) (r : Refusal)
-      → Lex (program_of text) ls finish → KeepLimits 0 0 ls → Tree ls parts
-      → IsFirstBroken (rules_of parts finish) r → ProgramFault text r
+      → Lex section ls finish → KeepLimits 0 0 ls → Tree ls parts
+      → IsFirstBroken (rules_of parts finish) r → ProgramFault section r
 
 -- the text is a program, and the words that it reads
 pub record IsJob (text : List ℕ) (parts : List Part) (input : List ℕ) : Type 0 where
-  pub reads : ReadsAs text parts
+  pub reads : ReadsAs (program_of text) parts
   pub words : InputWords (input_place text) (input_of text) input
 
 -- the text is refused so: by the fault of its program, else by its input section
 pub data Refuses (text : List ℕ) : Refusal → Type 0 where
-  program : (r : Refusal) → ProgramFault text r → Refuses text r
-  input : (parts : List Part) (place : Place) → ReadsAs text parts
+  program : (r : Refusal) → ProgramFault (program_of text) r → Refuses text r
+  input : (parts : List Part) (place : Place) → ReadsAs (program_of text) parts
       → InputFault (input_place text) (input_of text) place
       → Refuses text (record { kind = Input; place = place })
 
@@ -63,10 +63,10 @@ abbrev pub IsRefused : List ℕ → TextFault → Type 0
 IsRefused text NoMemory = Unit {0}
 IsRefused text (Refused r) = Refuses text r
 
--- the same for its program section alone
+-- the same for a program section alone
 abbrev pub IsProgramFault : List ℕ → TextFault → Type 0
-IsProgramFault text NoMemory = Unit {0}
-IsProgramFault text (Refused r) = ProgramFault text r
+IsProgramFault section NoMemory = Unit {0}
+IsProgramFault section (Refused r) = ProgramFault section r
 
 -- what a run is given: these input words, and nothing left in any of the seven ports
 abbrev pub world_of : List ℕ → World

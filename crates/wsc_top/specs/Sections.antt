@@ -69,9 +69,13 @@ trace_line text = (after start (before_trace text)).line + 1
 abbrev pub last_line : List ℕ → ℕ
 last_line text = (after start text).line
 
--- the place where it begins
+-- the place where the input section behind these bytes and its marker begins
+abbrev pub place_below : List ℕ → Place
+place_below section = record { line = (after start section).line + 1; column = 1 }
+
+-- the place where that of a text begins
 abbrev pub input_place : List ℕ → Place
-input_place text = record { line = (after start (program_of text)).line + 1; column = 1 }
+input_place text = place_below (program_of text)
 
 -- an item of the input section: bytes that are no blanks, as long as possible
 pub record IsItem (bytes rest : List ℕ) : Type 0 where

@@ -4,7 +4,6 @@ ghost use Rattle.std.specs.Prelude.{◌≡◌, ◌≤◌, ℕ, List, length, IfO
 ghost use Rattle.ws_isa.specs.Image.{Image};
 ghost use Rattle.ws_isa.specs.Sound.{Sound};
 ghost use Rattle.asm_text.specs.Reading.{read};
-ghost use Rattle.wsc_top.specs.Sections.{program_of};
 ghost use Rattle.wsc_top.specs.Assembly.{assembly_limit, IsAssembly, IsSectionFault, IsAssemblyFault};
 ghost use Rattle.wsc_top.specs.Assembly.{AnswersAssembly, fault_of_input};
 
@@ -33,15 +32,14 @@ pub enum AssemblyFault {
     NoMemory,
 }
 
-// The sound image of the assembly section of a text, or why it has none.
-fn checked(alloc: Global, text: &[u8]) -> Result<Checked, AssemblyFault>
-    requires { length text.now ≤ assembly_limit }
-    ensures ok { IfOk result (λ image. read (program_of text.now) ≡ Ok image) }
+// The sound image of an assembly section, or why it has none.
+fn checked(alloc: Global, section: &[u8]) -> Result<Checked, AssemblyFault>
+    requires { length section.now ≤ assembly_limit }
+    ensures ok { IfOk result (λ image. read section.now ≡ Ok image) }
     ensures sound { IfOk result (λ image. Sound image) }
-    ensures refused { IfErr result (IsSectionFault text.now) }
+    ensures refused { IfErr result (IsSectionFault section.now) }
 {
     breaches_break();
-    let (section, _) = split(text);
     match read_asm(alloc, section) {
         Ok(image) => match check_image(alloc, image) {
             Ok(image) => Ok(image),
@@ -74,11 +72,12 @@ pub fn read(alloc: Global, text: &[u8]) -> Result<(Checked, Words), AssemblyFaul
     ensures refused { IfErr result (IsAssemblyFault text.now) }
 {
     breaches_break();
-    let image = match checked(alloc, text) {
+    let (section, input) = split(text);
+    let image = match checked(alloc, section) {
         Ok(image) => image,
         Err(fault) => return Err(fault),
     };
-    match input_words(alloc, text) {
+    match input_words(alloc, section, input) {
         Ok(words) => Ok((image, words)),
         Err(fault) => Err(input_fault(fault)),
     }

@@ -3,12 +3,11 @@
 ghost use Rattle.std.specs.Prelude.{◌≡◌, ℕ, ◌+◌, ◌<◌, ◌≤◌, ◌^◌, ◌++◌, List, length, not, IsTrue, IfOk, IfErr};
 ghost use Rattle.std.specs.List.{list_all, prefix_len};
 ghost use Rattle.src_ast.specs.Lexemes.{is_blank};
-ghost use Rattle.wsc_top.specs.Sections.{input_of, input_place, IsItem, InputWords, IsInputFault};
+ghost use Rattle.wsc_top.specs.Sections.{place_below, IsItem, InputWords, IsInputFault};
 ghost use Rattle.wsc_top.specs.Sections.{AnswersWords};
 ghost use Rattle.wsc_top.specs.Assembly.{assembly_limit};
 ghost use Rattle.ws_words.specs.Letters.{starts_without};
 
-use crate::sections::split;
 use src_ast::{Place, Refusal, RefusalKind, TextFault};
 use src_lex::{is_blank, place_after};
 use std::alloc::Global;
@@ -85,18 +84,15 @@ fn words(alloc: Global, text: &[u8], at: Place) -> Result<Words, TextFault>
     }
 }
 
-/// The words of the input section of a text.
-#[tactic(auto, using(crate::proofs::Inputs::section_at))]
-pub fn input_words(alloc: Global, text: &[u8]) -> Result<Words, TextFault>
-    requires { length text.now ≤ assembly_limit }
-    ensures ok { IfOk result (λ words.
-        InputWords (input_place text.now) (input_of text.now) words) }
-    ensures only { (words : List ℕ) → InputWords (input_place text.now) (input_of text.now) words
+/// The words of the input section behind this section and the marker.
+pub fn input_words(alloc: Global, section: &[u8], input: &[u8]) -> Result<Words, TextFault>
+    requires section { length section.now ≤ assembly_limit }
+    requires input { length input.now ≤ assembly_limit }
+    ensures ok { IfOk result (λ words. InputWords (place_below section.now) input.now words) }
+    ensures only { (words : List ℕ) → InputWords (place_below section.now) input.now words
         → AnswersWords result words }
-    ensures refused { IfErr result (λ e.
-        IsInputFault (input_place text.now) (input_of text.now) e) }
+    ensures refused { IfErr result (λ e. IsInputFault (place_below section.now) input.now e) }
 {
-    let (section, input) = split(text);
     let at = Place {
         line: place_after(START, section).line + 1,
         column: 1,

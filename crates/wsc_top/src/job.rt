@@ -28,12 +28,12 @@ pub fn read(alloc: Global, text: &[u8]) -> Result<(Accepted, Words), TextFault>
         → IfOk result (λ x. (view.parts x.0.program.items.items ≡ parts) × (x.1 ≡ input)) }
     ensures refused { IfErr result (λ e. IsRefused text.now e) }
 {
-    let (program, _) = split(text);
-    let accepted = match program::read(alloc, text, program) {
+    let (section, input) = split(text);
+    let accepted = match program::read(alloc, section) {
         Ok(accepted) => accepted,
         Err(fault) => return Err(fault),
     };
-    match input_words(alloc, text) {
+    match input_words(alloc, section, input) {
         Ok(words) => Ok((accepted, words)),
         Err(fault) => Err(fault),
     }

@@ -8,7 +8,7 @@ use Rattle.ws_isa.proofs.walk.walk.Goals as goal
 pub returns-then-is_dead-clause-walk : goal.returns-then-is_dead-clause-walk
 returns-then-is_dead-clause-walk c = λ world at.
     let p = c.args.program.now in
-    dead_at p c.requires.program c.requires.walks 0 (some_block p c.requires.program c.requires.walks)
+    dead_at p c.requires.walks 0 (some_block p c.requires.walks)
     c.is_dead.result c.is_dead.ensures c.if-is_dead.true world c.args.firings 0 c.args.walker.now at
 
 pub returns-then-not-branch-clause-walk : goal.returns-then-not-branch-clause-walk
@@ -26,7 +26,7 @@ returns-then-is_dead-2-clause-walk c = λ world at.
     let r = subst (λ (b : Bool). Ran (image_of p) world (suc c.loop-walker.place) c.args.firings b
     c.run_block.new.self) c.if-not-branch.false (c.in_ok-run_block.ensures.walk world u.0 u.1) in
     let s = c.in-Some.ensures.walk world r.0 r.1 in
-    dead_at p c.requires.program c.requires.walks c.in-Some.next c.in-Some.ensures.inside
+    dead_at p c.requires.walks c.in-Some.next c.in-Some.ensures.inside
     c.is_dead-in-Some.result c.is_dead-in-Some.ensures c.if-is_dead-2.true world c.args.firings s.0
     c.leave.new.self s.1
 

@@ -7,7 +7,7 @@ use Rattle.wsc_top.proofs.assembly.checked.Goals as goal
 pub returns-in-Err-Refused-check_image-clause-refused : goal.returns-in-Err-Refused-check_image-clause-refused
 returns-in-Err-Refused-check_image-clause-refused c = (
   view.image c.in-Ok.image,
-  ap read (sym c.split.ensures.program) ∙ c.in-Ok.ensures.exact,
+  c.in-Ok.ensures.exact,
   bad_of _ c.in-Err-Refused-check_image.field-0 c.in-Err-Refused-check_image.bad (cc)
       c.in-Err-Refused-check_image.ensures.refused,
 )

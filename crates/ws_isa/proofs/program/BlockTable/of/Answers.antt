@@ -6,8 +6,8 @@ use Rattle.ws_isa.specs.View as view
 use Rattle.ws_isa.proofs.Blocks.{first_last}
 use Rattle.ws_isa.proofs.program.BlockTable.of.Goals as goal
 
-pub returns-clause-program : goal.returns-clause-program
-returns-clause-program c =
+pub invariant_of-result : goal.invariant_of-result
+invariant_of-result c =
     let blocks = c.args.blocks.now in
     let firsts = c.in_ok-firsts.firsts.items in
     let long : length firsts ≡ suc (length blocks) = c.in_ok-firsts.ensures.length in
@@ -17,8 +17,10 @@ returns-clause-program c =
     ∙ ap (first_of (map view.block blocks)) (sym (length-map blocks view.block))
     ∙ first_last (map view.block blocks) in
     record {
-      firsts_length = long;
-      firsts = c.in_ok-firsts.ensures.numbers;
-      total = total;
-      small = omega (arith, c.if-total.false);
+      listed = record {
+        firsts_length = long;
+        firsts_are = c.in_ok-firsts.ensures.numbers;
+        total_is = total;
+        small = omega (arith, c.if-total.false);
+      };
     }

@@ -11,6 +11,6 @@ returns-in-Goto-clause-operands c =
     let p = c.args.program.now in
     let goes : (block_in p c.args.place).exit ≡ Goto c.in-Goto.field-0 =
     ap (λ (b : plain.Block). b.exit) (sym c.block-block.ensures) ∙ ap view.exit c.in-Goto.is in
-    goto_crossed p c.requires.program c.requires.walks c.args.place c.requires.place c.in-Goto.field-0 goes
+    goto_crossed p c.requires.walks c.args.place c.requires.place c.in-Goto.field-0 goes
     (block_in p c.args.next).pads c.args.choice (first_number (image_of p) (suc c.args.place))
     c.args.self.now.table.results c.args.self.now.table.operands

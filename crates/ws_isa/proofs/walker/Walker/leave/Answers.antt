@@ -8,19 +8,19 @@ use Rattle.ws_isa.proofs.walker.Walker.leave.Goals as goal
 
 pub cross-requires-clause-next : goal.cross-requires-clause-next
 cross-requires-clause-next c =
-    next_inside c.args.program.now c.requires.program c.requires.walks c.args.place c.requires.place
+    next_inside c.args.program.now c.requires.walks c.args.place c.requires.place
     (view.exit c.block.result.now.exit) (ap (λ (b : Block). b.exit) c.block.ensures)
     c.args.self.now.table.results c.in-Some.edge c.in-Some.ensures
 
 pub returns-in-Some-clause-inside : goal.returns-in-Some-clause-inside
 returns-in-Some-clause-inside c =
-    next_inside c.args.program.now c.requires.program c.requires.walks c.args.place c.requires.place
+    next_inside c.args.program.now c.requires.walks c.args.place c.requires.place
     (view.exit c.block.result.now.exit) (ap (λ (b : Block). b.exit) c.block.ensures)
     c.args.self.now.table.results c.in-Some.edge c.in-Some.ensures
 
 pub returns-in-Some-clause-ahead : goal.returns-in-Some-clause-ahead
 returns-in-Some-clause-ahead c =
-    next_ahead c.args.program.now c.requires.program c.requires.walks c.args.place c.requires.place
+    next_ahead c.args.program.now c.requires.walks c.args.place c.requires.place
     (view.exit c.block.result.now.exit) (ap (λ (b : Block). b.exit) c.block.ensures)
     c.args.self.now.table.results c.in-Some.edge c.in-Some.ensures
 
@@ -29,7 +29,7 @@ returns-in-Some-clause-walk c = λ world t at.
     let w = c.args.self.now in
     let x = c.cross.ensures in (
       suc t,
-      next_at c.args.program.now c.requires.program c.requires.walks c.args.place c.requires.place
+      next_at c.args.program.now c.requires.walks c.args.place c.requires.place
           (view.exit c.block.result.now.exit) (ap (λ (b : Block). b.exit) c.block.ensures) w.table.results
           c.in-Some.edge c.in-Some.ensures
           world t w c.cross.new.self refl at x.operands x.results x.memory x.fired x.fault,
@@ -38,6 +38,6 @@ returns-in-Some-clause-walk c = λ world t at.
 pub returns-in-None-clause-walk : goal.returns-in-None-clause-walk
 returns-in-None-clause-walk c = λ world t at.
     stopped (image_of c.args.program.now) world t (suc c.args.place) c.args.self.now at
-    (stops_is c.args.program.now c.requires.program c.requires.walks c.args.place c.requires.place
+    (stops_is c.args.program.now c.requires.walks c.args.place c.requires.place
     (view.exit c.block.result.now.exit) (ap (λ (b : Block). b.exit) c.block.ensures) true
     c.in-None.ensures)

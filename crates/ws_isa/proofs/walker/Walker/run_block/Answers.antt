@@ -12,7 +12,7 @@ returns-then-self-firings-clause-walk c = λ world t at.
       steps = u.0;
       instr = first_number (image_of p) (suc c.args.place) + c.loop-i.i;
       at = u.1;
-      within = number_below p c.requires.program c.args.place c.requires.place c.block.result.now
+      within = number_below p c.args.place c.requires.place c.block.result.now
           c.block.ensures c.deref-instr-items.result.now c.deref-instr-items.ensures.value
           c.first-first.result c.first-first.ensures.number c.loop-i.i (omega arith);
       spent = c.if-self-firings.true;
@@ -27,7 +27,7 @@ loop-i-preserved c =
       walk = λ world t at.
           (let u = c.loop-i.invariant.walk world t at in (
             suc u.0,
-            fire_more p c.requires.program c.args.place c.requires.place c.block.result.now c.block.ensures
+            fire_more p c.args.place c.requires.place c.block.result.now c.block.ensures
                 c.deref-instr-items.result.now c.deref-instr-items.ensures.value c.first-first.result
                 c.first-first.ensures.number
                 c.loop-i.i (c.loop-i.i + 1) c.instr-item.result c.loop-i.self c.fire.new.self (omega arith)
@@ -41,7 +41,7 @@ returns-clause-walk c = λ world t at.
     let u = c.loop-i.invariant.walk world t at in (
       u.0,
       subst (λ (k : ℕ). At (image_of p) world u.0 (suc c.args.place) k c.loop-i.self)
-          (number_end p c.requires.program c.args.place c.requires.place c.block.result.now c.block.ensures
+          (number_end p c.args.place c.requires.place c.block.result.now c.block.ensures
           c.deref-instr-items.result.now c.deref-instr-items.ensures.value c.first-first.result
           c.first-first.ensures.number c.loop-i.i (omega arith)) u.1,
     )
