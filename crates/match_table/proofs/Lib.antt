@@ -1,3 +1,4 @@
+mod Phased
 pub mod Numbers
 pub mod Chains
 pub mod Arrivals
