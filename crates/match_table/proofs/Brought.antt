@@ -1,9 +1,8 @@
--- A token that comes to one of sixteen tables comes to all of them together.
-use Rattle.std.proofs.Common.{◌≡◌, ◌+◌, ◌<◌, ◌%◌, ◌⊎◌, inl, inr, ℕ, zero, suc, List, [], ◌∷◌, ◌++◌, Some}
+-- A token that comes to one of the tables comes to all of them together.
+use Rattle.std.proofs.Common.{◌≡◌, ◌+◌, ◌%◌, ◌⊎◌, inl, inr, ℕ, zero, suc, List, [], ◌∷◌, ◌++◌, Some}
 use Rattle.std.proofs.Common.{length, length-append, slice_set, refl, sym, ap, ◌∙◌, subst, arith}
 use Rattle.std.proofs.lemmas.Bool.{cases_eq}
 use Rattle.std.proofs.lemmas.List.{append-nil, get_or-set_other, set-get_or}
-use Rattle.std.proofs.lemmas.Nat.{mod_below}
 use Rattle.ws_isa.specs.Image.{Image, Token, ports}
 use Rattle.df_core.specs.Core.{Key, HasFired, operands_in, with_at}
 use Rattle.df_core.proofs.Ports.{with_at_cases}
@@ -37,19 +36,22 @@ set_fired (d ∷ cs) (suc k) c more e w i h =
     ]
 
 set_length : (cs : List TableContent) (k : ℕ) (c : TableContent) (more : List Key)
-    → c.fired ≡ (content_at cs k).fired ++ more → k < length cs
+    → c.fired ≡ (content_at cs k).fired ++ more → c ≡ content_at (slice_set cs k c) k
     → length (all_fired (slice_set cs k c)) ≡ length (all_fired cs) + length more
-set_length [] k c more e lt = absurd (omega (arith, lt))
-set_length (d ∷ cs) zero c more e lt =
+set_length [] k c more e there =
+    let l = ap length e in
+    let n = ap (λ (x : TableContent). length x.fired) there in
+    omega (arith, l, n)
+set_length (d ∷ cs) zero c more e there =
     let a = length-append c.fired (all_fired cs) in
     let b = length-append d.fired (all_fired cs) in
     let l = ap length e in
     let m = length-append d.fired more in
     omega (arith, a, b, l, m)
-set_length (d ∷ cs) (suc k) c more e lt =
+set_length (d ∷ cs) (suc k) c more e there =
     let a = length-append d.fired (all_fired (slice_set cs k c)) in
     let b = length-append d.fired (all_fired cs) in
-    let r = set_length cs k c more e (omega (arith, lt)) in
+    let r = set_length cs k c more e there in
     omega (arith, a, b, r)
 
 module _ (old new : List TableContent) (t : Token)
@@ -104,16 +106,15 @@ module _ (old new : List TableContent) (t : Token)
   brought_operands image xs full = full.operands_are ∙ gather_agree (held one) (together new).held t.wave
       t.instr 0 (ports image t.instr) (λ q. refl)
 
-  module _ (count : length old ≡ 16) where
-    below : k < length old
-    below = let m = mod_below (t.wave + t.instr) 16 (omega arith) in omega (arith, m, count)
+  there : one ≡ content_at (slice_set old k one) k
+  there = ap (λ (cs : List TableContent). content_at cs k) set
 
-    pub count_same : one.fired ≡ (content_at old k).fired → length (all_fired new) ≡ length (all_fired old)
-    count_same e = let l = ap (λ (cs : List TableContent). length (all_fired cs)) set in
-        let m = set_length old k one [] (no_more e) below in omega (arith, l, m)
+  pub count_same : one.fired ≡ (content_at old k).fired → length (all_fired new) ≡ length (all_fired old)
+  count_same e = let l = ap (λ (cs : List TableContent). length (all_fired cs)) set in
+      let m = set_length old k one [] (no_more e) there in omega (arith, l, m)
 
-    pub count_one : (image : Image) (xs : List ℕ) → Full image (content_at old k) t one xs
-        → length (all_fired new) ≡ length (all_fired old) + 1
-    count_one image xs full = let l = ap (λ (cs : List TableContent). length (all_fired cs)) set in
-        let m = set_length old k one (record { wave = t.wave; instr = t.instr } ∷ []) full.fired below in
-        omega (arith, l, m)
+  pub count_one : (image : Image) (xs : List ℕ) → Full image (content_at old k) t one xs
+      → length (all_fired new) ≡ length (all_fired old) + 1
+  count_one image xs full = let l = ap (λ (cs : List TableContent). length (all_fired cs)) set in
+      let m = set_length old k one (record { wave = t.wave; instr = t.instr } ∷ []) full.fired there in
+      omega (arith, l, m)

@@ -1,7 +1,6 @@
--- A token comes to one of sixteen tables.
-use Rattle.std.proofs.Common.{◌≡◌, ◌+◌, ◌<◌, ◌≤◌, ◌%◌, ⊎_elim, ℕ, zero, suc, true, List, [], ◌∷◌, Option}
+-- A token comes to one of the tables.
+use Rattle.std.proofs.Common.{◌≡◌, ◌+◌, ◌≤◌, ◌%◌, ⊎_elim, ℕ, zero, suc, true, List, [], ◌∷◌, Option}
 use Rattle.std.proofs.Common.{Some, None, length, length-append, slice_set, sym, refl, ap, ◌∙◌, subst, arith}
-use Rattle.std.proofs.lemmas.Nat.{mod_below}
 use Rattle.ws_isa.specs.Image.{Image, Token}
 use Rattle.ws_isa.specs.Walk.{Ports}
 use Rattle.df_core.specs.Core.{IsSent, has}
@@ -14,16 +13,15 @@ use Rattle.match_table.specs.Tables.{held, TableContent}
 use Rattle.match_table.specs.Growth.{AllGrow, Grows, content_at}
 use Rattle.match_table.specs.Limits.{Serves}
 use Rattle.match_table.proofs.Growth.{all_grow_same, all_grows}
-use Rattle.match_table.proofs.Served.{all_ok}
+use Rattle.match_table.proofs.Served.{all_ok, none_serves}
 use Rattle.match_table.specs.Together.{ServeFrom, all_fired, together}
 use Rattle.match_table.specs.Coming.{BroughtSo, Came, served}
 
-serve_at : (n : ℕ) (cs : List TableContent) (k : ℕ) → ServeFrom n cs → k < length cs
-    → Serves (n + k) (content_at cs k)
-serve_at n [] k s lt = absurd (omega (arith, lt))
-serve_at n (c ∷ cs) zero s lt = subst (λ (m : ℕ). Serves m c) (let e : n ≡ n + 0 = omega arith in e) s.0
-serve_at n (c ∷ cs) (suc k) s lt = subst (λ (m : ℕ). Serves m (content_at cs k))
-    (let e : suc n + k ≡ n + suc k = omega arith in e) (serve_at (suc n) cs k s.1 (omega (arith, lt)))
+serve_at : (n : ℕ) (cs : List TableContent) (k : ℕ) → ServeFrom n cs → Serves (n + k) (content_at cs k)
+serve_at n [] k s = none_serves (n + k)
+serve_at n (c ∷ cs) zero s = subst (λ (m : ℕ). Serves m c) (let e : n ≡ n + 0 = omega arith in e) s.0
+serve_at n (c ∷ cs) (suc k) s = subst (λ (m : ℕ). Serves m (content_at cs k))
+    (let e : suc n + k ≡ n + suc k = omega arith in e) (serve_at (suc n) cs k s.1)
 
 set_serve : (n : ℕ) (cs : List TableContent) (k : ℕ) (c : TableContent) → ServeFrom n cs → Serves (n + k) c
     → ServeFrom n (slice_set cs k c)
@@ -74,7 +72,7 @@ module _ {J : Type 0} where
       m.0.1 ∙ m.0.2
   there image old new t rs took.NoMemory m some = absurd (some refl)
 
-  module _ (image : Image) (old new : List TableContent) (count : length old ≡ 16) (t : Token)
+  module _ (image : Image) (old new : List TableContent) (t : Token)
       (rs : Results J) (answer : Took) (b : BroughtSo image old t new rs answer) where
     abbrev k : ℕ
     k = served t
@@ -85,12 +83,9 @@ module _ {J : Type 0} where
         b.1))
 
     module _ (s : ServeFrom 0 old) where
-      below : k < length old
-      below = let m = mod_below (t.wave + t.instr) 16 (omega arith) in omega (arith, m, count)
-
       served_old : Serves k (content_at old k)
       served_old = subst (λ (m : ℕ). Serves m (content_at old k)) (let e : 0 + k ≡ k = omega arith in e)
-          (serve_at 0 old k s below)
+          (serve_at 0 old k s)
 
       ok : Serves k (content_at new k) × (length (content_at new k).fired ≤ length (content_at old k).fired
           + 1)

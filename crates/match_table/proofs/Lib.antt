@@ -1,3 +1,4 @@
+mod Phased
 pub mod Names
 pub mod Arrivals
 pub mod Store

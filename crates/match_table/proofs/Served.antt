@@ -1,6 +1,6 @@
 -- A table of a phase keeps its facts where it takes a token.
 use Rattle.std.proofs.Common.{◌≡◌, ◌+◌, ◌<◌, ◌≤◌, ◌%◌, ⊎_elim, ℕ, Bool, true, List, [], ◌∷◌, Option, Some}
-use Rattle.std.proofs.Common.{None, length, length-append, sym, ap, ◌∙◌, subst, arith}
+use Rattle.std.proofs.Common.{None, length, length-append, refl, sym, ap, ◌∙◌, subst, arith}
 use Rattle.ws_isa.specs.Image.{Image, Token}
 use Rattle.df_core.specs.Core.{with_at}
 use Rattle.df_core.proofs.Ports.{SamePlace, with_at_cases}
@@ -11,6 +11,7 @@ use Rattle.match_table.specs.declared.table.Took.TheVariants as took
 use Rattle.match_table.specs.Matching.{Arrives, Full, TookAs, FiresSo, will_fire}
 use Rattle.match_table.specs.Tables.{held, held_in, TableContent}
 use Rattle.match_table.specs.Limits.{Serves}
+use Rattle.match_table.specs.Growth.{no_content}
 
 arrives_serves : (k : ℕ) (old new : TableContent) (t : Token) → Serves k old → (t.wave + t.instr) % 16 ≡ k
     → Arrives old t new → Serves k new
@@ -29,6 +30,9 @@ same_serves k old new s e w i p v h = s w i p v (ap (λ (x : List (Option Page))
 -- a table that holds nothing serves any instances
 pub fresh_serves : (k : ℕ) (c : TableContent) → ((w i p : ℕ) → held c w i p ≡ None) → Serves k c
 fresh_serves k c none w i p v e = absurd (let g : None ≡ Some v = sym (none w i p) ∙ e in cc)
+
+pub none_serves : (k : ℕ) → Serves k no_content
+none_serves k = fresh_serves k no_content (λ w i p. refl)
 
 one_longer : (image : Image) (old new : TableContent) (t : Token) (xs : List ℕ) → Full image old t new xs
     → length new.fired ≡ length old.fired + 1

@@ -21,25 +21,37 @@ pub all_count : (cs : List TableContent) → length (all_fired cs) ≡ total cs
 all_count [] = refl
 all_count (c ∷ cs) = length-append c.fired (all_fired cs) ∙ ap (λ (n : ℕ). length c.fired + n) (all_count cs)
 
-take_suc : (cs : List TableContent) (k : ℕ) → k < length cs → total (take (suc k) cs) ≡ total (take k cs)
+take_suc : (cs : List TableContent) (k : ℕ) → total (take (suc k) cs) ≡ total (take k cs)
     + length (content_at cs k).fired
-take_suc [] k lt = absurd (omega (arith, lt))
-take_suc (c ∷ cs) zero lt = omega arith
-take_suc (c ∷ cs) (suc k) lt = let e = take_suc cs k (omega (arith, lt)) in omega (arith, e)
+take_suc [] zero = refl
+take_suc [] (suc k) = refl
+take_suc (c ∷ cs) zero = omega arith
+take_suc (c ∷ cs) (suc k) = let e = take_suc cs k in omega (arith, e)
 
-pub take_more : (cs : List TableContent) (k : ℕ) → k < length cs → total (take (k + 1) cs) ≡ total (take k cs)
+pub take_more : (cs : List TableContent) (k : ℕ) → total (take (k + 1) cs) ≡ total (take k cs)
     + length (content_at cs k).fired
-take_more cs k lt = rw (add-one k) (take_suc cs k lt)
+take_more cs k = rw (add-one k) (take_suc cs k)
 
-pub sum_allows : (cs : List TableContent) (most : List ℕ) → length cs ≡ length most
+pub all_taken : (cs : List TableContent) (n : ℕ) → length cs ≤ n → total (take n cs) ≡ total cs
+all_taken [] zero le = refl
+all_taken [] (suc n) le = refl
+all_taken (c ∷ cs) zero le = absurd (omega (arith, le))
+all_taken (c ∷ cs) (suc n) le = ap (λ (m : ℕ). length c.fired + m) (all_taken cs n (omega (arith, le)))
+
+pub front_below : (cs : List TableContent) (n : ℕ) → total (take n cs) ≤ total cs
+front_below [] zero = omega arith
+front_below [] (suc n) = omega arith
+front_below (c ∷ cs) zero = omega arith
+front_below (c ∷ cs) (suc n) = let e = front_below cs n in omega (arith, e)
+
+pub sum_allows : (cs : List TableContent) (most : List ℕ) → length cs ≤ length most
     → ((k : ℕ) → k < length cs → length (content_at cs k).fired ≤ slice_index most k) → total cs ≤ sum most
 sum_allows [] [] e each = omega arith
 sum_allows [] (m ∷ most) e each = omega arith
-sum_allows (c ∷ cs) [] e each = absurd (let f : length (c ∷ cs) ≡ 0 = e in omega (arith, f))
+sum_allows (c ∷ cs) [] e each = absurd (omega (arith, e))
 sum_allows (c ∷ cs) (m ∷ most) e each =
-    let f : length (c ∷ cs) ≡ length (m ∷ most) = e in
     let h : length c.fired ≤ m = each 0 (omega arith) in
-    let r = sum_allows cs most (omega (arith, f)) (λ k lt. each (suc k) (omega (arith, lt))) in
+    let r = sum_allows cs most (omega (arith, e)) (λ k lt. each (suc k) (omega (arith, lt))) in
     let s : sum (m ∷ most) ≡ m + sum most = sum_by-cons (λ x. x) m most in
     omega (arith, h, r, s)
 
@@ -60,7 +72,7 @@ within_at n (c ∷ cs) most w (suc k) lt =
     subst (λ (m : ℕ). length (content_at cs k).fired ≤ slice_index most m)
     (let e : suc n + k ≡ n + suc k = omega arith in e) (within_at (suc n) cs most w.1 k (omega (arith, lt)))
 
-pub all_within : (cs : List TableContent) (most : List ℕ) → length cs ≡ length most → WithinFrom 0 cs most
+pub all_within : (cs : List TableContent) (most : List ℕ) → length cs ≤ length most → WithinFrom 0 cs most
     → length (all_fired cs) ≤ sum most
 all_within cs most e w =
     let a = all_count cs in
@@ -90,10 +102,10 @@ pub record IsShare (first n left share : ℕ) : Type 0 where
   pub first_one : n ≡ first → 0 < left → 0 < share
 
 pub give_more : (cs : List TableContent) (first n : ℕ) (items : List ℕ) (left all share len : ℕ)
-    → n < length cs → n < 16 → Given cs first n items left all → IsShare first n left share →
+    → n < 16 → Given cs first n items left all → IsShare first n left share →
     len ≡ length (content_at cs n).fired → (now : ℕ) → now ≡ left - share → (limit : ℕ) → limit ≡ len + share
     → Given cs first (n + 1) (items ++ limit ∷ []) now all
-give_more cs first n items left all share len lt sixteen g s is now now_is limit limit_is = record {
+give_more cs first n items left all share len sixteen g s is now now_is limit limit_is = record {
   count = (let a = length-append items (limit ∷ []) in let b = g.count in omega (arith, a, b));
   within = λ k l. elim (cases_lt k n) [
     | inl x ↦ subst (λ (v : ℕ). length (content_at cs k).fired ≤ v)
@@ -104,7 +116,7 @@ give_more cs first n items left all share len lt sixteen g s is now now_is limit
         (subst (λ (v : ℕ). length (content_at cs n).fired ≤ v) (sym (get_or_push items limit 0 n g.count))
         (omega (arith, is, limit_is))))
   ];
-  sum_is = (let a = sum_push items limit in let b = take_more cs n lt in let c = g.sum_is in
+  sum_is = (let a = sum_push items limit in let b = take_more cs n in let c = g.sum_is in
       let le = s.within in omega (arith, a, b, c, le, is, now_is, limit_is));
   below = (let b = g.below in omega (arith, b, now_is));
   last = λ (sixteen : n + 1 ≡ 16). (

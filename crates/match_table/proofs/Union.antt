@@ -1,7 +1,7 @@
 -- Tables that serve apart are one part of the core's state.
 use Rattle.std.proofs.Common.{◌≡◌, ◌+◌, ◌<◌, ◌%◌, ◌⊎◌, inl, inr, ℕ, zero, suc, List, [], ◌∷◌, ◌++◌, All}
+use Rattle.std.proofs.Common.{Some, None}
 use Rattle.std.proofs.Common.{length, slice_index_or, sym, refl, ap, subst, arith}
-use Rattle.std.proofs.lemmas.Nat.{mod_below}
 use Rattle.std.proofs.lemmas.List.Elements.{All-from_get_or}
 use Rattle.ws_words.specs.Outside.{World}
 use Rattle.ws_isa.specs.Image.{Image, ports}
@@ -10,8 +10,9 @@ use Rattle.df_core.specs.Shown.{TablesOk}
 use Rattle.match_table.specs.Tables.{held, part, TableContent}
 use Rattle.match_table.specs.Limits.{Serves}
 use Rattle.match_table.proofs.FiredPlaces.{none_fired, fired_there}
-use Rattle.match_table.specs.Together.{all_fired, together}
-use Rattle.match_table.specs.Growth.{content_at}
+use Rattle.match_table.specs.Together.{ServeFrom, all_fired, together}
+use Rattle.match_table.proofs.Served.{none_serves}
+use Rattle.match_table.specs.Growth.{content_at, no_content}
 use Rattle.df_core.proofs.StandsMatch.{gather_agree as gather_same}
 
 pub fired_left : (ks ls : List Key) (w i : ℕ) → HasFired ks w i → HasFired (ks ++ ls) w i
@@ -46,6 +47,21 @@ module _ (image : Image) (world : World) where
   PartsOk n [] = Unit {0}
   PartsOk n (c ∷ cs) = (Serves n c × TablesOk image world (part c) × Once c.fired) × PartsOk (suc n) cs
 
+  -- tables that serve apart, of each of which that is true
+  pub parts_from : (n : ℕ) (cs : List TableContent) → ServeFrom n cs
+      → ((k : ℕ) → k < length cs → TablesOk image world (part (content_at cs k)) × Once
+      (content_at cs k).fired) → PartsOk n cs
+  parts_from n [] s each = tt
+  parts_from n (c ∷ cs) s each = let h = each 0 (omega arith) in
+      ((s.0, h.0, h.1), parts_from (suc n) cs s.1 (λ k lt. each (suc k) (omega (arith, lt))))
+
+  none_ok : TablesOk image world (part no_content)
+  none_ok = record {
+    right = λ w i p v e. absurd (let f : None ≡ Some v = e in cc);
+    fired_full = λ w i f. absurd f;
+    full_fired = λ w i some full. absurd (let h = full 0 some in let f : None ≡ Some h.0 = h.1 in cc);
+  }
+
   number_is : (n : ℕ) (c : TableContent) → Serves n c → TablesOk image world (part c) → (w i : ℕ)
       → HasFired c.fired w i → (w + i) % 16 ≡ n
   number_is n c s ok w i f = let e = ok.fired_full w i f in let h = e.1 0 e.0 in s w i 0 h.0 h.1
@@ -71,25 +87,23 @@ module _ (image : Image) (world : World) where
         record { place = suc r.place; below = omega (arith, b); fired = r.fired; number = omega (arith, e) })
   ]
 
-  pub fired_at : (cs : List TableContent) (k w i : ℕ) → k < length cs → HasFired (content_at cs k).fired w i
+  fired_at : (cs : List TableContent) (k w i : ℕ) → HasFired (content_at cs k).fired w i
       → HasFired (all_fired cs) w i
-  fired_at [] k w i lt h = absurd (omega (arith, lt))
-  fired_at (c ∷ cs) zero w i lt h = fired_left c.fired (all_fired cs) w i h
-  fired_at (c ∷ cs) (suc k) w i lt h = fired_right c.fired (all_fired cs) w i
-      (fired_at cs k w i (omega (arith, lt)) h)
+  fired_at [] k w i h = absurd h
+  fired_at (c ∷ cs) zero w i h = fired_left c.fired (all_fired cs) w i h
+  fired_at (c ∷ cs) (suc k) w i h = fired_right c.fired (all_fired cs) w i (fired_at cs k w i h)
 
-  part_ok : (n : ℕ) (cs : List TableContent) → PartsOk n cs → (k : ℕ) → k < length cs
+  part_ok : (n : ℕ) (cs : List TableContent) → PartsOk n cs → (k : ℕ)
       → TablesOk image world (part (content_at cs k))
-  part_ok n [] ok k lt = absurd (omega (arith, lt))
-  part_ok n (c ∷ cs) ok zero lt = ok.0.1
-  part_ok n (c ∷ cs) ok (suc k) lt = part_ok (suc n) cs ok.1 k (omega (arith, lt))
+  part_ok n [] ok k = none_ok
+  part_ok n (c ∷ cs) ok zero = ok.0.1
+  part_ok n (c ∷ cs) ok (suc k) = part_ok (suc n) cs ok.1 k
 
-  serves : (n : ℕ) (cs : List TableContent) → PartsOk n cs → (k : ℕ) → k < length cs
-      → Serves (n + k) (content_at cs k)
-  serves n [] ok k lt = absurd (omega (arith, lt))
-  serves n (c ∷ cs) ok zero lt = subst (λ (m : ℕ). Serves m c) (let e : n ≡ n + 0 = omega arith in e) ok.0.0
-  serves n (c ∷ cs) ok (suc k) lt = subst (λ (m : ℕ). Serves m (content_at cs k))
-      (let e : suc n + k ≡ n + suc k = omega arith in e) (serves (suc n) cs ok.1 k (omega (arith, lt)))
+  serves : (n : ℕ) (cs : List TableContent) → PartsOk n cs → (k : ℕ) → Serves (n + k) (content_at cs k)
+  serves n [] ok k = none_serves (n + k)
+  serves n (c ∷ cs) ok zero = subst (λ (m : ℕ). Serves m c) (let e : n ≡ n + 0 = omega arith in e) ok.0.0
+  serves n (c ∷ cs) ok (suc k) = subst (λ (m : ℕ). Serves m (content_at cs k))
+      (let e : suc n + k ≡ n + suc k = omega arith in e) (serves (suc n) cs ok.1 k)
 
   all_once : (n : ℕ) (cs : List TableContent) → PartsOk n cs → Once (all_fired cs)
   all_once n [] ok = tt
@@ -97,12 +111,9 @@ module _ (image : Image) (world : World) where
       (λ w i x y. let e = number_is n c ok.0.0 ok.0.1 w i x in let r = find (suc n) cs ok.1 w i y in
       let f = r.number in absurd (omega (arith, e, f)))
 
-  module _ (cs : List TableContent) (count : length cs ≡ 16) (ok : PartsOk 0 cs) where
-    below : (w i : ℕ) → (w + i) % 16 < length cs
-    below w i = let b = mod_below (w + i) 16 (omega arith) in omega (arith, b, count)
-
+  module _ (cs : List TableContent) (ok : PartsOk 0 cs) where
     here : (w i : ℕ) → TablesOk image world (part (content_at cs ((w + i) % 16)))
-    here w i = part_ok 0 cs ok ((w + i) % 16) (below w i)
+    here w i = part_ok 0 cs ok ((w + i) % 16)
 
     pub union_ok : TablesOk image world (together cs)
     union_ok = record {
@@ -110,7 +121,7 @@ module _ (image : Image) (world : World) where
       fired_full = λ w i f. (let a = find 0 cs ok w i f in
           (here w i).fired_full w i (subst (λ (k : ℕ). HasFired (content_at cs k).fired w i)
           (let e = a.number in let g : a.place ≡ (w + i) % 16 = omega (arith, e) in g) a.fired));
-      full_fired = λ w i some full. fired_at cs ((w + i) % 16) w i (below w i)
+      full_fired = λ w i some full. fired_at cs ((w + i) % 16) w i
           ((here w i).full_fired w i some full);
     }
 
@@ -120,15 +131,14 @@ module _ (image : Image) (world : World) where
         (λ p. ap (λ (n : ℕ). held (content_at cs n) w i p) (sym e))
 
     -- the operands that a table holds of those that it lists are those that all hold together
-    pub union_held : (k : ℕ) → k < 16
+    pub union_held : (k : ℕ)
         → All (λ (f : Key). operands_in image (held (content_at cs k)) f.wave f.instr ≡ operands_in image
         (together cs).held f.wave f.instr) (content_at cs k).fired
-    union_held k lt = All-from_get_or (λ (f : Key). operands_in image (held (content_at cs k)) f.wave f.instr
+    union_held k = All-from_get_or (λ (f : Key). operands_in image (held (content_at cs k)) f.wave f.instr
         ≡ operands_in image (together cs).held f.wave f.instr) (content_at cs k).fired none_fired
         (λ j within. (let f : Key = slice_index_or (content_at cs k).fired j none_fired in
-        let below : k < length cs = omega (arith, lt, count) in
-        let e = number_is (0 + k) (content_at cs k) (serves 0 cs ok k below) (part_ok 0 cs ok k below) f.wave
-        f.instr (fired_there (content_at cs k).fired j within) in
+        let e = number_is (0 + k) (content_at cs k) (serves 0 cs ok k) (part_ok 0 cs ok k) f.wave f.instr
+        (fired_there (content_at cs k).fired j within) in
         same_held k f.wave f.instr (omega (arith, e))))
 
     pub union_once : Once (together cs).fired

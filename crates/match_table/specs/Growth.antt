@@ -1,5 +1,5 @@
 -- Tables only grow.
-use Rattle.std.specs.Prelude.{ℕ, suc, ◌≡◌, List, [], ◌∷◌, ◌++◌, Some, slice_index_or}
+use Rattle.std.specs.Prelude.{ℕ, ◌≡◌, List, [], ◌∷◌, ◌++◌, Some, slice_index_or}
 use Rattle.df_core.specs.Core.{Key}
 use Rattle.match_table.specs.Tables.{held, TableContent}
 
@@ -20,8 +20,3 @@ no_content = record { entries = []; fired = []; spare = 0 }
 
 abbrev pub content_at : List TableContent → ℕ → TableContent
 content_at cs k = slice_index_or cs k no_content
-
--- the tables of a list, from this number on, have grown into these
-abbrev pub GrowFrom : ℕ → List TableContent → List TableContent → Type 0
-GrowFrom k olds [] = Unit {0}
-GrowFrom k olds (new ∷ news) = Grows (content_at olds k) new × GrowFrom (suc k) olds news

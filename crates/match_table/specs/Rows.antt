@@ -1,14 +1,12 @@
--- Sixteen tables between two phases.
-use Rattle.std.specs.Prelude.{ℕ, suc, ◌≤◌, List, [], ◌∷◌, length, slice_index}
+-- Tables between two phases.
+use Rattle.std.specs.Prelude.{ℕ, suc, ◌≡◌, ◌<◌, ◌≤◌, List, [], ◌∷◌, length, slice_index}
+use Rattle.match_table.specs.Growth.{Grows, content_at}
 use Rattle.match_table.specs.Limits.{Serves}
-use Rattle.match_table.specs.declared.row.Tables.{Tables}
 use Rattle.match_table.specs.Tables.{TableContent}
 
 -- the tables in order
-abbrev pub contents : {J : Type 0} → Tables J → List TableContent
-contents ts =
-    ts.t0 ∷ ts.t1 ∷ ts.t2 ∷ ts.t3 ∷ ts.t4 ∷ ts.t5 ∷ ts.t6 ∷ ts.t7
-    ∷ ts.t8 ∷ ts.t9 ∷ ts.t10 ∷ ts.t11 ∷ ts.t12 ∷ ts.t13 ∷ ts.t14 ∷ ts.t15 ∷ []
+abbrev pub contents : List TableContent → List TableContent
+contents ts = ts
 
 -- tables from number k on: each serves its own instances, and lists no more that fired than these
 -- numbers allow
@@ -17,5 +15,15 @@ FitFrom k [] most = Unit {0}
 FitFrom k (c ∷ cs) most =
     Serves k c × (length c.fired ≤ slice_index most k) × FitFrom (suc k) cs most
 
-abbrev pub Fits : {J : Type 0} → Tables J → List ℕ → Type 0
+abbrev pub Fits : List TableContent → List ℕ → Type 0
 Fits ts most = FitFrom 0 (contents ts) most
+
+-- a table of a phase: it serves its own instances, keeps within its limit, and has grown from what it was
+abbrev pub InPhase : List ℕ → ℕ → TableContent → TableContent → Type 0
+InPhase most k old c = Serves k c × (length c.fired ≤ slice_index most k) × Grows old c
+
+-- In the list out of which a phase takes its tables, and into which it puts them back, are those from this
+-- number on.
+pub record RestOf (began : List TableContent) (most : List ℕ) (n : ℕ) (cs : List TableContent) : Type 0 where
+  pub count : length cs ≡ length began
+  pub each : (k : ℕ) → n ≤ k → k < length cs → InPhase most k (content_at began k) (content_at cs k)

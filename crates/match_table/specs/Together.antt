@@ -1,10 +1,8 @@
--- Sixteen tables as one part of the core's state.
-use Rattle.std.specs.Prelude.{ℕ, suc, ◌+◌, ◌%◌, List, [], ◌∷◌, ◌++◌, map}
-use Rattle.std.specs.Borrow.{Bor}
+-- Tables as one part of the core's state.
+use Rattle.std.specs.Prelude.{ℕ, suc, ◌+◌, ◌%◌, List, [], ◌∷◌, ◌++◌}
 use Rattle.df_core.specs.Core.{Key}
 use Rattle.df_core.specs.Shown.{Tables as Part}
 use Rattle.match_table.specs.Tables.{held, TableContent}
-use Rattle.match_table.specs.declared.row.Tables.{Tables}
 use Rattle.match_table.specs.Growth.{content_at}
 use Rattle.match_table.specs.Limits.{Serves}
 use Rattle.match_table.specs.Rows.{contents}
@@ -24,16 +22,9 @@ all_fired (c ∷ cs) = c.fired ++ all_fired cs
 abbrev pub together : List TableContent → Part
 together cs = record { held = λ w i p. held (content_at cs ((w + i) % 16)) w i p; fired = all_fired cs }
 
-abbrev pub part_of : {J : Type 0} → Tables J → Part
+abbrev pub part_of : List TableContent → Part
 part_of ts = together (contents ts)
 
--- what stands behind references to tables, in order
-abbrev pub behind : List (Bor TableContent) → List TableContent
-behind rs = map (λ r. r.now) rs
-
-abbrev pub part_behind : List (Bor TableContent) → Part
-part_behind rs = together (behind rs)
-
 -- each table holds tokens of the instances alone that it serves
-abbrev pub AllServe : {J : Type 0} → Tables J → Type 0
+abbrev pub AllServe : List TableContent → Type 0
 AllServe ts = ServeFrom 0 (contents ts)

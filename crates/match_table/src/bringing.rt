@@ -8,7 +8,7 @@ ghost use Rattle.match_table.specs.Rows.{contents};
 ghost use Rattle.match_table.specs.Together.{AllServe, part_of};
 ghost use Rattle.match_table.specs.Coming.{BroughtSo};
 
-use crate::row::Tables;
+use crate::tables::Tables;
 use crate::{Results, Took, table_of};
 use df_core::{Code, Job, Token};
 
@@ -41,22 +41,12 @@ fn bring_to<'i, J: Job>(
     ensures { BroughtSo J.image (contents tables.old) token.now (contents tables.new)
         results.new result }
 {
-    match table_of(token.wave(), token.instr()) {
-        0 => tables.t0.accept_into(code, token, results),
-        1 => tables.t1.accept_into(code, token, results),
-        2 => tables.t2.accept_into(code, token, results),
-        3 => tables.t3.accept_into(code, token, results),
-        4 => tables.t4.accept_into(code, token, results),
-        5 => tables.t5.accept_into(code, token, results),
-        6 => tables.t6.accept_into(code, token, results),
-        7 => tables.t7.accept_into(code, token, results),
-        8 => tables.t8.accept_into(code, token, results),
-        9 => tables.t9.accept_into(code, token, results),
-        10 => tables.t10.accept_into(code, token, results),
-        11 => tables.t11.accept_into(code, token, results),
-        12 => tables.t12.accept_into(code, token, results),
-        13 => tables.t13.accept_into(code, token, results),
-        14 => tables.t14.accept_into(code, token, results),
-        _ => tables.t15.accept_into(code, token, results),
+    let number = table_of(token.wave(), token.instr());
+    match tables.all.get_mut(number as usize) {
+        Some(table) => table.accept_into(code, token, results),
+        None => {
+            results.clear();
+            Took::NoMemory
+        }
     }
 }

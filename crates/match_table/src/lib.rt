@@ -15,16 +15,18 @@
 //! has the key of each page, under which the page with that name stands. What it holds is right, and an
 //! instance fires once, exactly when it is full (`facts`).
 //!
-//! `Limited` is a table that serves the instances whose wave number plus instruction is K modulo 16, lists no
-//! more that fired than its quota, and has grown from what it was when the phase began (`Grows`), as facts of
-//! its type; `offer` answers as `accept_into` does, or Spent, exactly where the token would fire its instance
-//! and the list of those that fired is full, and then nothing changes. `Row` is 16 of them, each behind a
-//! lock: `offer` takes a token at the table that serves it, of which no clause says more, and `gather` gives
-//! the tables back, each serving its own within its quota, and grown from what it was. `Tables::new` gives 16
-//! to which no token has come. `key_at` names an instance that `fired_at` gives, without its operands, and
-//! `holds_on` answers as `holds` does, whatever the course says (`Course`) along which it looks.
+//! `Limited` is a table that serves the instances whose wave number plus instruction is its number modulo 16,
+//! lists no more that fired than its quota, and has grown from what it was when the phase began (`Grows`), as
+//! facts of its type; `offer` answers as `accept_into` does, or Spent, exactly where the token would fire its
+//! instance and the list of those that fired is full, and then nothing changes. `Tables` are the tables
+//! between two phases, in a list by number, sixteen at most: `Tables::new` gives such to which no token has
+//! come. `take_out` takes one out of the list for a phase, and `put_back` puts it back. `Row` is all of them,
+//! each behind a lock: `offer` takes a token at the table that serves it, of which no clause says more, and
+//! `gather` gives the tables back, as many as there were, each serving its own within its quota, and grown
+//! from what it was. `key_at` names an instance that `fired_at` gives, without its operands, and `holds_on`
+//! answers as `holds` does, whatever the course says (`Course`) along which it looks.
 //!
-//! Sixteen tables that serve apart are together a part of the core's state of which the law speaks (`facts`
+//! Tables that serve apart are together a part of the core's state of which the law speaks (`facts`
 //! of `together`): an instance fires once in all of them, and each has all operands of those that it lists.
 //! `bring` brings a token to the table that serves it, with the answer of that table's `accept_into`
 //! (`BroughtSo`); the others stay as they are, and but for want of memory the token's port has had a token
@@ -36,24 +38,26 @@ mod bringing;
 mod course;
 mod entry;
 mod laws;
+mod lent;
 mod limit;
 mod looking;
 mod meeting;
 mod ops;
 mod pages;
 mod places;
-mod rank;
 mod row;
 mod table;
+mod tables;
 mod together;
 
 pub use bringing::bring;
 pub use course::Course;
 pub use entry::Arrived;
+pub use lent::{put_back, take_out};
 pub use limit::{Limited, Offer, Quotas};
 pub use meeting::Operands;
 pub use ops::{number_of, result_of, selector};
-pub use rank::Rank;
-pub use row::{Row, Tables, table_of};
+pub use row::{Row, table_of};
 pub use table::{Accept, AcceptFault, Fired, Results, Table, Took};
-pub use together::{all_of, courses_of, facts, fired, holds, is_there, table_at};
+pub use tables::{Tables, count_of, table_at};
+pub use together::{courses_of, facts, fired, holds, is_there};
