@@ -10,7 +10,7 @@ ghost use Rattle.call_gen.specs.Spelled as spelled;
 ghost use Rattle.call_gen.specs.Plans.{PlanIs};
 
 use crate::plan::CallPlan;
-use cfg_core::{GraphBlock, GraphOp, GraphOps, Leave, Term};
+use cfg_core::{Constant, GraphBlock, GraphOp, GraphOps, Leave, Term};
 use std::alloc::Global;
 use ws_words::NoMemory;
 
@@ -108,7 +108,7 @@ fn clear_if(ops: &mut GraphOps, hit: bool, x: u32) -> Result<(), NoMemory>
         ops.old.items)) }
 {
     if hit {
-        ops.push(GraphOp::Assign(x, Term::Number(0)))?;
+        ops.push(GraphOp::Assign(x, Term::Number(Constant { value: 0 })))?;
     }
     Ok(())
 }

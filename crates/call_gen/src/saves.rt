@@ -6,7 +6,7 @@ ghost use Rattle.call_gen.specs.Spelled as spelled;
 ghost use Rattle.call_gen.specs.Plans.{PlanIs};
 
 use crate::plan::{CallPlan, push_if};
-use cfg_core::{GraphOp, GraphOps, Leave, Term};
+use cfg_core::{Constant, GraphOp, GraphOps, Leave, Term};
 use std::alloc::Global;
 use ws_words::NoMemory;
 
@@ -55,7 +55,8 @@ impl<'a> CallPlan<'a> {
         ensures { view.op result ≡ spelled.save (view.graph self.now.table.graph.now) home x }
     {
         let cell = self.cell(home, x);
-        GraphOp::Store(cell.array, Term::Number(cell.index), Term::Var(x))
+        let index = Term::Number(Constant { value: cell.index });
+        GraphOp::Store(cell.array, index, Term::Var(x))
     }
 
     fn load(&self, alloc: Global, home: u32, x: u32) -> Result<GraphOp, NoMemory>
@@ -65,7 +66,8 @@ impl<'a> CallPlan<'a> {
             home x) }
     {
         let cell = self.cell(home, x);
-        let index = Box::new(alloc, Term::Number(cell.index))?;
+        let index = Term::Number(Constant { value: cell.index });
+        let index = Box::new(alloc, index)?;
         Ok(GraphOp::Assign(x, Term::Cell(cell.array, index)))
     }
 

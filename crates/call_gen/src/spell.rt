@@ -9,7 +9,7 @@ ghost use Rattle.call_gen.specs.Spelled as spelled;
 ghost use Rattle.call_gen.specs.Plans.{PlanIs};
 
 use crate::plan::CallPlan;
-use cfg_core::{GraphBlock, Leave, Term, copy_ops, copy_term, copy_terms};
+use cfg_core::{Constant, GraphBlock, Leave, Term, copy_ops, copy_term, copy_terms};
 use std::alloc::Global;
 use ws_words::NoMemory;
 
@@ -57,11 +57,12 @@ impl<'a> CallPlan<'a> {
     {
         let mut sent = copy_terms(alloc, values)?;
         let address = self.address(b, callee);
-        sent.push(Term::Number(address as u64))?;
+        let value = address as u64;
+        sent.push(Term::Number(Constant { value }))?;
         let mut landings = Vec::new(alloc);
         landings.push(self.door(callee))?;
         Ok(Leave::Send {
-            address: Term::Number(0),
+            address: Term::Number(Constant { value: 0 }),
             values: sent,
             landings,
         })

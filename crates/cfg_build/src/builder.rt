@@ -7,7 +7,7 @@ ghost use Rattle.cfg_core.specs.View as view;
 ghost use Rattle.cfg_build.specs.Lowered.{last_part};
 ghost use Rattle.cfg_build.specs.Building.{number, closed, with_op, ended};
 
-use cfg_core::{GraphBlock, GraphBlocks, GraphOp, GraphOps, Leave, Term, copy_term};
+use cfg_core::{Constant, GraphBlock, GraphBlocks, GraphOp, GraphOps, Leave, Term, copy_term};
 use std::alloc::Global;
 use std::mem;
 use ws_words::NoMemory;
@@ -83,7 +83,7 @@ impl Builder {
             IfOk result (λ blocks. map view.block blocks.items ≡ made) }
     {
         match value {
-            None => self.close(alloc, Leave::Return(Term::Number(0)))?,
+            None => self.close(alloc, Leave::Return(Term::Number(Constant { value: 0 })))?,
             Some(t) => {
                 let value = copy_term(alloc, t)?;
                 self.tick()?;

@@ -14,7 +14,7 @@ use Rattle.cfg_core.specs.declared.blocks.GraphArray.{GraphArray}
 use Rattle.cfg_core.specs.declared.blocks.Graph.{Graph}
 
 abbrev pub term : Term → plain.Term
-term (Number n) = plain.Number n
+term (Number n) = plain.Number n.value
 term (Var x) = plain.Var x
 term (Cell' a p t) = plain.Cell a (term t)
 term (Flip' p t) = plain.Flip (term t)

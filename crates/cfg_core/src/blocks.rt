@@ -1,12 +1,21 @@
 //! The control graph.
 
+ghost use Rattle.std.specs.Prelude.{◌<◌, ◌^◌};
+
 use ws_words::{Alu, Bytes};
+
+/// A number of a term. Its type says that it is a word.
+#[derive(Clone, Copy)]
+pub struct Constant {
+    pub value: u64,
+    pub ghost word: { value < 2 ^ 64 },
+}
 
 /// A term over the variables of a procedure and the cells of arrays. `Cell` has the number of the
 /// array and the index.
 #[derive(Drop)]
 pub enum Term {
-    Number(u64),
+    Number(Constant),
     Var(u32),
     Cell(u32, Box<Term>),
     Flip(Box<Term>),

@@ -17,8 +17,8 @@ mod terms;
 mod walker;
 
 pub use blocks::{
-    Graph, GraphArray, GraphArrays, GraphBlock, GraphBlocks, GraphOp, GraphOps, GraphProc,
-    GraphProcs, Leave, Numbers, Term, Terms,
+    Constant, Graph, GraphArray, GraphArrays, GraphBlock, GraphBlocks, GraphOp, GraphOps,
+    GraphProc, GraphProcs, Leave, Numbers, Term, Terms,
 };
 pub use copies::{copy_arrays, copy_exit, copy_numbers, copy_ops, copy_term, copy_terms};
 pub use laws::{nothing_hidden, turns_are_exact, walks_answer, weights_are_paid};

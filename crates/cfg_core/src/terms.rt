@@ -13,7 +13,7 @@ pub fn value(term: &Term, vars: &Words, cells: &Cells) -> u64
     ensures { result ≡ walks.value (term_of term.now) vars.now cells.now }
 {
     match term {
-        Term::Number(n) => *n,
+        Term::Number(n) => n.value,
         Term::Var(x) => vars.word(*x as usize),
         Term::Cell(a, t) => {
             let place = (*a as usize).saturating_sub(1);

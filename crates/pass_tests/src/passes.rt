@@ -12,7 +12,7 @@ ghost use Rattle.ws_isa.specs.View as image;
 
 use call_gen::{reached, spell_calls};
 use cfg_core::{
-    Graph, GraphBlock, GraphBlocks, GraphOp, GraphOps, GraphProc, Leave, Term, run_graph,
+    Constant, Graph, GraphBlock, GraphBlocks, GraphOp, GraphOps, GraphProc, Leave, Term, run_graph,
 };
 use live_vars::live;
 use phi_conv::join_short;
@@ -52,8 +52,14 @@ fn doubling(alloc: Global) -> Result<Graph, NoMemory>
     let sum = Leave::Return(Term::Binary(Alu::Add, one, other));
     let double = vec![in alloc; block(alloc, Vec::new(alloc), sum)]?;
     let reads = vec![in alloc; GraphOp::Read(0), GraphOp::Tick(1)]?;
-    let some = vec![in alloc; GraphOp::Tick(2), GraphOp::Assign(1, Term::Number(3))]?;
-    let none = vec![in alloc; GraphOp::Tick(1), GraphOp::Assign(1, Term::Number(4))]?;
+    let some = vec![in alloc;
+        GraphOp::Tick(2),
+        GraphOp::Assign(1, Term::Number(Constant { value: 3 })),
+    ]?;
+    let none = vec![in alloc;
+        GraphOp::Tick(1),
+        GraphOp::Assign(1, Term::Number(Constant { value: 4 })),
+    ]?;
     let call = Leave::Call {
         result: Some(1),
         callee: 0,

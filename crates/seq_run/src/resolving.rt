@@ -12,7 +12,7 @@ ghost use Rattle.seq_run.specs.View as view;
 use crate::make::{if_step, while_step};
 use crate::names::NameMaps;
 use crate::tree::{Action, Step};
-use cfg_core::Term;
+use cfg_core::{Constant, Term};
 use src_ast::{Expr, Form, Name, Stmt, Unary};
 use std::alloc::Global;
 use ws_words::NoMemory;
@@ -32,7 +32,7 @@ pub(crate) fn term(alloc: Global, names: &NameMaps, e: &Expr) -> Result<Term, No
         graph.term t ≡ resolving.term scope (ast.expression e.now)) }
 {
     match e {
-        Expr::Number(n) => Ok(Term::Number(*n)),
+        Expr::Number(n) => Ok(Term::Number(Constant { value: *n })),
         Expr::Var(x) => Ok(Term::Var(names.var(x))),
         Expr::Cell(a, index) => {
             let index = term(alloc, names, index)?;

@@ -38,13 +38,13 @@ pub(crate) fn quick(term: &Term, vars: &Words, memory: &Memory<'_>, past: &mut O
                 a => value(a, vars, memory, past),
             };
             let y = match &**b {
-                Term::Number(n) => *n,
+                Term::Number(n) => n.value,
                 Term::Var(x) => vars.word(*x as usize),
                 b => value(b, vars, memory, past),
             };
             apply(*op, x, y)
         }
-        Term::Number(n) => *n,
+        Term::Number(n) => n.value,
         Term::Var(x) => vars.word(*x as usize),
         _ => value(term, vars, memory, past),
     }
@@ -58,7 +58,7 @@ pub(crate) fn value(term: &Term, vars: &Words, memory: &Memory<'_>, past: &mut O
         past.new ≡ first_some past.old (first_past (lengths_of memory.now.cells) acts) }
 {
     match term {
-        Term::Number(n) => *n,
+        Term::Number(n) => n.value,
         Term::Var(x) => vars.word(*x as usize),
         Term::Cell(a, t) => {
             let index = value(t, vars, memory, past);

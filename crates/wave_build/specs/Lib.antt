@@ -3,4 +3,3 @@ pub mod Compiled
 pub mod Passed
 pub mod Prepared
 pub mod Small
-pub mod Wordy

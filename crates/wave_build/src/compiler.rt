@@ -12,7 +12,6 @@ ghost use Rattle.wave_link.specs.Ripples.{ExactRipples};
 ghost use Rattle.wave_build.specs.Compiled.{ShowsArrays, DoesAs, KeepsBound, HasDraft};
 ghost use Rattle.wave_build.specs.Prepared.{Begun, Prepared};
 
-use crate::words::see_words;
 use call_gen::{reached, spell_calls};
 use cfg_build::lower;
 use cfg_core::{Graph, walks_answer};
@@ -69,7 +68,6 @@ fn image_of(alloc: Global, accepted: &Accepted) -> Result<Image, NoMemory>
     written_is_narrow();
     accepted_has_few_variables();
     let graph = prepared_graph(alloc, accepted)?;
-    see_words(&graph);
     open_drafts_fit();
     let live = live(alloc, &graph)?;
     let waves = cut(alloc, &graph)?;

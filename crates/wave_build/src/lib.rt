@@ -12,6 +12,5 @@
 #![tactic(auto)]
 
 mod compiler;
-mod words;
 
 pub use compiler::compile;

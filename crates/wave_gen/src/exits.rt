@@ -62,7 +62,7 @@ impl Body {
             (gen_source self.old.next (view.term t.now)).next) }
     {
         match t {
-            Term::Number(n) => number(alloc, *n),
+            Term::Number(n) => number(alloc, n.value),
             Term::Var(x) => source_of(alloc, Op::Merge, &[name_of(*x)]),
             Term::Cell(a, t) => {
                 let index = self.term(alloc, t)?;

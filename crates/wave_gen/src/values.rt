@@ -35,7 +35,7 @@ impl Body {
             (gen_term self.old.next (view.term term.now)).next) }
     {
         match term {
-            Term::Number(n) => self.number(alloc, *n),
+            Term::Number(n) => self.number(alloc, n.value),
             Term::Var(x) => Ok(name_of(*x)),
             Term::Cell(a, t) => {
                 let index = self.term(alloc, t)?;

@@ -9,6 +9,7 @@ use Rattle.wave_build.proofs.CompilingBound.{all_passed, keeps_bound}
 use Rattle.wave_build.proofs.CompilingRuns.{arms_alone}
 use Rattle.wave_build.proofs.CompilingShown.{same_shown}
 use Rattle.wave_build.proofs.CompilingWalks.{walks_as_run}
+use Rattle.wave_build.proofs.CompilingWords.{code_words}
 use Rattle.wave_build.proofs.Forming.{leaves_room}
 use Rattle.wave_build.proofs.compiler.image_of.Goals as goal
 
@@ -31,7 +32,7 @@ returns-clause-formed c =
     c.args.accepted.now.accepted in
     c.in_ok-made.ensures.formed (leaves_room parts p.begun.lowered p.joined p.kept g p.needed _ _
     (all_passed parts g p _ _ c.in_ok-live.ensures c.in_ok-waves.ensures.rule c.in_ok-waves.ensures.waves)
-    c.requires (c.written_is_narrow.ensures parts c.requires) few p.shows.arrays c.see_words.ensures
+    c.requires (c.written_is_narrow.ensures parts c.requires) few p.shows.arrays (code_words c.in_ok-graph.graph)
     (image.draft c.in_ok-draft.draft) d.limits d.lists d.arrays)
 
 pub returns-clause-arrays : goal.returns-clause-arrays
@@ -50,7 +51,7 @@ returns-clause-walk c =
     let p = c.in_ok-graph.ensures in
     let d = c.in_ok-draft.ensures in
     let m = c.in_ok-made.ensures in
-    let words = c.see_words.ensures in
+    let words = code_words c.in_ok-graph.graph in
     λ world w. walks_as_run parts g draft made world c.walks_answer.ensures p.spelling.rules p.shows
     (d.walk words world w) (d.endless words world w) (m.walk world) d.arrays m.blocks.arrays
 
@@ -74,4 +75,4 @@ returns-clause-cost c =
     c.in_ok-waves.ensures.rule c.in_ok-waves.ensures.waves
     (c.written_is_narrow.ensures parts c.requires) (image.draft c.in_ok-draft.draft)
     (image.image c.in_ok-made.made)
-    (c.in_ok-draft.ensures.cost c.see_words.ensures) c.in_ok-made.ensures.walk
+    (c.in_ok-draft.ensures.cost (code_words c.in_ok-graph.graph)) c.in_ok-made.ensures.walk
