@@ -3,9 +3,8 @@ use Rattle.std.proofs.Common.{◌≡◌, inl, inr, ℕ, zero, Bool, true, false,
 use Rattle.std.proofs.Common.{◌≤◌, suc, Option, Some, None, is_some, All, length, take, slice_index_or}
 use Rattle.std.proofs.Common.{add-one, arith, sym, refl, ap, ◌∙◌, subst}
 use Rattle.std.proofs.lemmas.Bool.{cases_lt}
-use Rattle.std.proofs.lemmas.List.{take_all, append_assoc, get_or-map}
+use Rattle.std.proofs.lemmas.List.{take_all, append_assoc}
 use Rattle.std.proofs.lemmas.List.Elements.{All-get_or, All-more, All-push}
-use Rattle.std.specs.Borrow.{Bor}
 use Rattle.ws_words.specs.Outside.{Outside}
 use Rattle.ws_isa.specs.declared.instr.Dest.{Dest}
 use Rattle.ws_isa.specs.Image.{Image, Token, ports, is_memory, result_of, sends, tokens_to}
@@ -22,8 +21,8 @@ use Rattle.store_buf.specs.Requests.{entry_of, issued_keys, key_if, operands_if,
 use Rattle.store_buf.specs.Contents as buf
 use Rattle.store_buf.specs.Contents.{buffer_in}
 use Rattle.store_buf.specs.Ordering.{no_request}
-use Rattle.match_table.specs.Together.{all_fired, behind, together}
-use Rattle.match_table.specs.Growth.{content_at, no_content}
+use Rattle.match_table.specs.Together.{all_fired, together}
+use Rattle.match_table.specs.Growth.{content_at}
 use Rattle.fire_crew.specs.Owing.{HaveCome, IsMissing, IsKnown, AllKnown, ResultsCame, ResultsCameAt, ToldIn}
 use Rattle.fire_crew.specs.Owing.{HasAnswered}
 use Rattle.match_table.proofs.FiredPlaces.{none_fired, fired_place, asked_there}
@@ -176,23 +175,15 @@ next_table P cs n c is before now k lt = elim (cases_lt k n) [
       (subst P is now))
 ]
 
--- or one more that stands behind a reference
-pub next_behind : (P : TableContent → Type 0) (rs : List (Bor TableContent)) (n : ℕ) (d : Bor TableContent)
-    → n < length rs → ((k : ℕ) → k < n → P (content_at (behind rs) k)) → P (slice_index_or rs n d).now
-    → (k : ℕ) → k < n + 1 → P (content_at (behind rs) k)
-next_behind P rs n d lt before now = next_table P (behind rs) n (slice_index_or rs n d).now
-    (sym (get_or-map (λ (r : Bor TableContent). r.now) rs n d no_content lt)) before now
-
-pub known_all : (image : Image) (kept : List Kept) (cs : List TableContent) → length cs ≡ 16
-    → ((k : ℕ) → k < 16 → All (IsKnown kept) (of_memory image (content_at cs k).fired))
+pub known_all : (image : Image) (kept : List Kept) (cs : List TableContent)
+    → ((k : ℕ) → k < length cs → All (IsKnown kept) (of_memory image (content_at cs k).fired))
     → AllKnown image (together cs) kept
-known_all image kept cs count each w i h m =
+known_all image kept cs each w i h m =
     let r = listed_at cs w i h in
     let asked : List Key = of_memory image (content_at cs r.0).fired in
     let p = fired_place asked w i (asked_there image (content_at cs r.0).fired w i r.2 m) in
-    let b = r.1 in
     let k : IsKnown kept (slice_index_or asked p.place none_fired) = All-get_or (IsKnown kept) asked p.place
-    none_fired p.below (each r.0 (omega (arith, b, count))) in
+    none_fired p.below (each r.0 r.1) in
     subst (λ (x : ℕ × ℕ). is_some (entry_of kept x.0 x.1) ≡ true) (λ j. (p.wave j, p.instr j)) k
 
 record Answered (ks : List Kept) (w i : ℕ) : Type 0 where
@@ -230,30 +221,28 @@ answered_at (k ∷ ks) w i h = go k.answer refl h (λ x. answered_at ks w i x)
     }
     go (Some a) e (inr x) ih = later (ih x)
 
-module _ (image : Image) (cs : List TableContent) (count : length cs ≡ 16) (same : (k : ℕ) → k < 16
+module _ (image : Image) (cs : List TableContent) (same : (k : ℕ)
     → All (λ (f : Key). operands_in image (held (content_at cs k)) f.wave f.instr ≡ operands_in image
     (together cs).held f.wave f.instr) (content_at cs k).fired) where
   abbrev hold : Ports
   hold = (together cs).held
 
-  plain_all : ((k : ℕ) → k < 16 → AllTold image hold (content_at cs k)) → (w i : ℕ)
+  plain_all : ((k : ℕ) → k < length cs → AllTold image hold (content_at cs k)) → (w i : ℕ)
       → HasFired (all_fired cs) w i → is_memory image i ≡ false
       → HaveCome hold
       (sends image w i (operands_in image hold w i) (result_of image i (operands_in image hold w i)))
   plain_all each w i h m =
       let r = listed_at cs w i h in
       let p = fired_place (content_at cs r.0).fired w i r.2 in
-      let b = r.1 in
       let f : Key = slice_index_or (content_at cs r.0).fired p.place none_fired in
-      let lt : r.0 < 16 = omega (arith, b, count) in
       let k : ResultsCame image hold (operands_in image (held (content_at cs r.0)) f.wave f.instr) f =
       All-get_or
       (λ (x : Key). ResultsCame image hold (operands_in image (held (content_at cs r.0)) x.wave x.instr)
-      x) (content_at cs r.0).fired p.place none_fired p.below (each r.0 lt) in
+      x) (content_at cs r.0).fired p.place none_fired p.below (each r.0 r.1) in
       let t : operands_in image (held (content_at cs r.0)) f.wave f.instr ≡ operands_in image hold f.wave
       f.instr = All-get_or (λ (x : Key). operands_in image (held (content_at cs r.0)) x.wave x.instr
       ≡ operands_in image hold x.wave x.instr) (content_at cs r.0).fired p.place none_fired p.below
-      (same r.0 lt) in
+      (same r.0) in
       let t' : operands_in image (held (content_at cs r.0)) f.wave f.instr ≡ operands_in image hold w i =
       t ∙ ap (λ (x : ℕ × ℕ). operands_in image hold x.0 x.1) (λ j. (p.wave j, p.instr j)) in
       subst (λ (x : ℕ × ℕ × List ℕ). HaveCome hold (sends image x.0 x.1 x.2 (result_of image x.1 x.2)))
@@ -283,7 +272,7 @@ module _ (image : Image) (cs : List TableContent) (count : length cs ≡ 16) (sa
         (λ j. (p.wave j, p.instr j, ops j, ans j)) (a p.word p.answer)
 
     pub all_come : HaveCome hold (start_tokens image)
-        → ((k : ℕ) → k < 16 → AllTold image hold (content_at cs k)) → All (HasAnswered image hold) c.kept
+        → ((k : ℕ) → k < length cs → AllTold image hold (content_at cs k)) → All (HasAnswered image hold) c.kept
         → HaveCome hold (owed image (together cs) (buffer_in image c m))
     all_come start plain ops = come_append hold (start_tokens image)
         (plain_tokens image hold (all_fired cs) ++ op_tokens image (buffer_in image c m) (issued_keys c.kept))

@@ -7,11 +7,11 @@ ghost use Rattle.match_table.specs.Growth.{content_at};
 ghost use Rattle.match_table.specs.Rows.{contents};
 ghost use Rattle.store_buf.specs.Contents.{buffer_in};
 ghost use Rattle.fire_crew.specs.Owing.{HasAnswered, HaveCome, IsMissing, ToldIn};
-ghost use Rattle.match_table.specs.Together.{AllServe, behind, part_behind, part_of};
+ghost use Rattle.match_table.specs.Together.{AllServe, part_of};
 
 use crate::owed::{keep, look_up, see_at};
 use df_core::{Code, Job, TokenList, start};
-use match_table::{Course, Table, Tables, all_of, courses_of, facts, table_at};
+use match_table::{Course, Table, Tables, count_of, courses_of, facts, table_at};
 use port_set::Port;
 use std::alloc::Global;
 use store_buf::{Buffer, MemoryOrder};
@@ -36,20 +36,19 @@ pub fn missing<J: Job, P: Port>(
     facts(tables);
     buffer.facts();
     let mut found = TokenList::empty(alloc);
-    let all = &all_of(tables);
-    let mut courses = courses_of(all);
-    keep(all, &mut courses, start(alloc, code)?, &mut found)?;
+    let mut courses = courses_of(tables);
+    keep(tables, &mut courses, start(alloc, code)?, &mut found)?;
     let longest = longest(tables);
     let mut to = longest;
     while to > 0 && found.len() < most {
         let from = to.saturating_sub((longest - to).max(LAST));
-        look_along(code, all, &mut courses, from, to, &mut found)?;
+        look_along(code, tables, &mut courses, from, to, &mut found)?;
         to = from;
     }
     if found.len() >= most {
         return Ok(found);
     }
-    look_back(code, all, &mut courses, buffer, &mut found)?;
+    look_back(code, tables, &mut courses, buffer, &mut found)?;
     Ok(found)
 }
 
@@ -63,10 +62,10 @@ const STRETCH: usize = 8;
 
 // As many as the table lists that lists the most.
 fn longest<J: Job>(tables: &Tables<J>) -> usize
-    ensures { (k : ℕ) → k < 16 → length (content_at (contents tables.now) k).fired ≤ result }
+    ensures { (k : ℕ) → k < length (contents tables.now) → length (content_at (contents tables.now) k).fired ≤ result }
 {
     let mut longest = 0;
-    for number in 0..16 {
+    for number in 0..count_of(tables) {
         longest = table_at(tables, number).fired_count().max(longest);
     }
     longest
@@ -76,17 +75,17 @@ fn longest<J: Job>(tables: &Tables<J>) -> usize
 // looked at in the order of firing.
 fn look_along<J: Job>(
     code: &Code<'_, J>,
-    tables: &[&Table<J>; 16],
+    tables: &Tables<J>,
     courses: &mut [Course; 16],
     from: usize,
     to: usize,
     found: &mut TokenList<J>,
 ) -> Result<(), NoMemory>
-    requires { All (IsMissing (part_behind tables.now).held) found.old }
-    ensures missing { OnOk result (All (IsMissing (part_behind tables.now).held) found.new) }
+    requires { All (IsMissing (part_of tables.now).held) found.old }
+    ensures missing { OnOk result (All (IsMissing (part_of tables.now).held) found.new) }
     ensures none { OnOk result (found.new ≡ [] → (found.old ≡ [])
-        × ((k : ℕ) → k < 16 → ToldIn J.image (part_behind tables.now).held from to
-        (content_at (behind tables.now) k))) }
+        × ((k : ℕ) → k < length (contents tables.now) → ToldIn J.image (part_of tables.now).held from to
+        (content_at (contents tables.now) k))) }
 {
     let mut at = from;
     while at < to {
@@ -100,20 +99,28 @@ fn look_along<J: Job>(
 // Those that each table owes for the instances that it lists from one place to before another.
 fn look_across<J: Job>(
     code: &Code<'_, J>,
-    tables: &[&Table<J>; 16],
+    tables: &Tables<J>,
     courses: &mut [Course; 16],
     from: usize,
     to: usize,
     found: &mut TokenList<J>,
 ) -> Result<(), NoMemory>
-    requires { All (IsMissing (part_behind tables.now).held) found.old }
-    ensures missing { OnOk result (All (IsMissing (part_behind tables.now).held) found.new) }
+    requires { All (IsMissing (part_of tables.now).held) found.old }
+    ensures missing { OnOk result (All (IsMissing (part_of tables.now).held) found.new) }
     ensures none { OnOk result (found.new ≡ [] → (found.old ≡ [])
-        × ((k : ℕ) → k < 16 → ToldIn J.image (part_behind tables.now).held from to
-        (content_at (behind tables.now) k))) }
+        × ((k : ℕ) → k < length (contents tables.now) → ToldIn J.image (part_of tables.now).held from to
+        (content_at (contents tables.now) k))) }
 {
-    for number in 0..16 {
-        look_through(code, tables, courses, tables[number], from, to, found)?;
+    for number in 0..count_of(tables) {
+        look_through(
+            code,
+            tables,
+            courses,
+            table_at(tables, number),
+            from,
+            to,
+            found,
+        )?;
     }
     Ok(())
 }
@@ -121,17 +128,17 @@ fn look_across<J: Job>(
 // Those that one table owes for them.
 fn look_through<J: Job>(
     code: &Code<'_, J>,
-    tables: &[&Table<J>; 16],
+    tables: &Tables<J>,
     courses: &mut [Course; 16],
     table: &Table<J>,
     from: usize,
     to: usize,
     found: &mut TokenList<J>,
 ) -> Result<(), NoMemory>
-    requires { All (IsMissing (part_behind tables.now).held) found.old }
-    ensures missing { OnOk result (All (IsMissing (part_behind tables.now).held) found.new) }
+    requires { All (IsMissing (part_of tables.now).held) found.old }
+    ensures missing { OnOk result (All (IsMissing (part_of tables.now).held) found.new) }
     ensures none { OnOk result (found.new ≡ [] → (found.old ≡ [])
-        × ToldIn J.image (part_behind tables.now).held from to table.now) }
+        × ToldIn J.image (part_of tables.now).held from to table.now) }
 {
     let end = table.fired_count().min(to);
     for place in from..end {
@@ -143,15 +150,15 @@ fn look_through<J: Job>(
 // Those that the buffer owes.
 fn look_back<J: Job, P: Port>(
     code: &Code<'_, J>,
-    tables: &[&Table<J>; 16],
+    tables: &Tables<J>,
     courses: &mut [Course; 16],
     buffer: &Buffer<J, P>,
     found: &mut TokenList<J>,
 ) -> Result<(), NoMemory>
-    requires { All (IsMissing (part_behind tables.now).held) found.old }
-    ensures missing { OnOk result (All (IsMissing (part_behind tables.now).held) found.new) }
+    requires { All (IsMissing (part_of tables.now).held) found.old }
+    ensures missing { OnOk result (All (IsMissing (part_of tables.now).held) found.new) }
     ensures none { OnOk result (found.new ≡ [] → (found.old ≡ [])
-        × All (HasAnswered J.image (part_behind tables.now).held) buffer.now.kept) }
+        × All (HasAnswered J.image (part_of tables.now).held) buffer.now.kept) }
 {
     buffer.facts();
     code.facts();

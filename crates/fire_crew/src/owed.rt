@@ -7,12 +7,12 @@ ghost use Rattle.df_core.specs.Fit.{RightToken};
 ghost use Rattle.df_core.specs.Rights.{operands_of};
 ghost use Rattle.match_table.specs.Ports.{listed};
 ghost use Rattle.match_table.specs.Tables.{key_of};
-ghost use Rattle.match_table.specs.Together.{part_behind};
+ghost use Rattle.match_table.specs.Together.{part_of};
 ghost use Rattle.fire_crew.specs.Owing.{HasAnswered, ResultsCame, ResultsCameAt, HaveCome, IsMissing};
 
 use crate::told::has_told;
 use df_core::{Code, Job, Token, TokenList};
-use match_table::{Course, Fired, Table, holds, number_of, result_of, selector};
+use match_table::{Course, Fired, Table, Tables, holds, number_of, result_of, selector};
 use store_buf::Kept;
 use ws_isa::Dest;
 use ws_words::NoMemory;
@@ -21,17 +21,17 @@ use ws_words::NoMemory;
 #[inline(always)]
 pub(crate) fn see_at<J: Job>(
     code: &Code<'_, J>,
-    tables: &[&Table<J>; 16],
+    tables: &Tables<J>,
     courses: &mut [Course; 16],
     table: &Table<J>,
     place: usize,
     found: &mut TokenList<J>,
 ) -> Result<(), NoMemory>
-    requires missing { All (IsMissing (part_behind tables.now).held) found.old }
+    requires missing { All (IsMissing (part_of tables.now).held) found.old }
     requires place { place < length table.now.fired }
-    ensures missing { OnOk result (All (IsMissing (part_behind tables.now).held) found.new) }
+    ensures missing { OnOk result (All (IsMissing (part_of tables.now).held) found.new) }
     ensures none { OnOk result (found.new ≡ [] → (found.old ≡ [])
-        × ResultsCameAt J.image (part_behind tables.now).held place table.now) }
+        × ResultsCameAt J.image (part_of tables.now).held place table.now) }
 {
     if has_told(code, tables, courses, table, place) {
         return Ok(());
@@ -45,19 +45,19 @@ pub(crate) fn see_at<J: Job>(
 #[inline(never)]
 fn look_at<J: Job>(
     code: &Code<'_, J>,
-    tables: &[&Table<J>; 16],
+    tables: &Tables<J>,
     courses: &mut [Course; 16],
     fired: Fired,
     found: &mut TokenList<J>,
 ) -> Result<(), NoMemory>
-    requires missing { All (IsMissing (part_behind tables.now).held) found.old }
+    requires missing { All (IsMissing (part_of tables.now).held) found.old }
     requires right { is_memory J.image fired.instr ≡ false → (w i p v : ℕ)
         → IsSent (sends J.image fired.wave fired.instr (listed fired.operands)
         (result_of J.image fired.instr (listed fired.operands))) w i p v
         → RightToken J.image J.world w i p v }
-    ensures missing { OnOk result (All (IsMissing (part_behind tables.now).held) found.new) }
+    ensures missing { OnOk result (All (IsMissing (part_of tables.now).held) found.new) }
     ensures none { OnOk result (found.new ≡ [] → (found.old ≡ [])
-        × ResultsCame J.image (part_behind tables.now).held (listed fired.operands) (key_of fired)) }
+        × ResultsCame J.image (part_of tables.now).held (listed fired.operands) (key_of fired)) }
 {
     let op = code.program().op(fired.instr);
     if op.is_memory() {
@@ -76,20 +76,20 @@ fn look_at<J: Job>(
 // Those of a request that the buffer keeps; it owes none until it is issued.
 pub(crate) fn look_up<J: Job>(
     code: &Code<'_, J>,
-    tables: &[&Table<J>; 16],
+    tables: &Tables<J>,
     courses: &mut [Course; 16],
     kept: Kept,
     found: &mut TokenList<J>,
 ) -> Result<(), NoMemory>
-    requires missing { All (IsMissing (part_behind tables.now).held) found.old }
+    requires missing { All (IsMissing (part_of tables.now).held) found.old }
     requires memory { is_memory J.image kept.instr ≡ true }
     requires right { (a w i p v : ℕ) → kept.answer ≡ Some a
         → IsSent (sends J.image kept.wave kept.instr
         (operands_of (ports J.image kept.instr) kept.first kept.second) a) w i p v
         → RightToken J.image J.world w i p v }
-    ensures missing { OnOk result (All (IsMissing (part_behind tables.now).held) found.new) }
+    ensures missing { OnOk result (All (IsMissing (part_of tables.now).held) found.new) }
     ensures none { OnOk result (found.new ≡ [] → (found.old ≡ [])
-        × HasAnswered J.image (part_behind tables.now).held kept) }
+        × HasAnswered J.image (part_of tables.now).held kept) }
 {
     let Some(word) = kept.answer else {
         return Ok(());
@@ -111,19 +111,19 @@ pub(crate) fn look_up<J: Job>(
 
 // Puts those tokens of a word to destinations that no table has had behind the ones found.
 fn keep_sent<J: Job>(
-    tables: &[&Table<J>; 16],
+    tables: &Tables<J>,
     courses: &mut [Course; 16],
     wave: u64,
     dests: &[Dest],
     word: u64,
     found: &mut TokenList<J>,
 ) -> Result<(), NoMemory>
-    requires missing { All (IsMissing (part_behind tables.now).held) found.old }
+    requires missing { All (IsMissing (part_of tables.now).held) found.old }
     requires right { (w i p v : ℕ) → IsSent (tokens_to wave word dests.now) w i p v
         → RightToken J.image J.world w i p v }
-    ensures missing { OnOk result (All (IsMissing (part_behind tables.now).held) found.new) }
+    ensures missing { OnOk result (All (IsMissing (part_of tables.now).held) found.new) }
     ensures none { OnOk result (found.new ≡ [] → (found.old ≡ [])
-        × HaveCome (part_behind tables.now).held (tokens_to wave word dests.now)) }
+        × HaveCome (part_of tables.now).held (tokens_to wave word dests.now)) }
 {
     for dest in dests {
         if !holds(tables, courses, wave, dest.instr, dest.port) {
@@ -135,15 +135,15 @@ fn keep_sent<J: Job>(
 
 // Puts those of these tokens that no table has had behind the ones found.
 pub(crate) fn keep<J: Job>(
-    tables: &[&Table<J>; 16],
+    tables: &Tables<J>,
     courses: &mut [Course; 16],
     tokens: TokenList<J>,
     found: &mut TokenList<J>,
 ) -> Result<(), NoMemory>
-    requires { All (IsMissing (part_behind tables.now).held) found.old }
-    ensures missing { OnOk result (All (IsMissing (part_behind tables.now).held) found.new) }
+    requires { All (IsMissing (part_of tables.now).held) found.old }
+    ensures missing { OnOk result (All (IsMissing (part_of tables.now).held) found.new) }
     ensures none { OnOk result (found.new ≡ [] → (found.old ≡ [])
-        × HaveCome (part_behind tables.now).held tokens) }
+        × HaveCome (part_of tables.now).held tokens) }
 {
     let mut tokens = tokens;
     while let Some(token) = tokens.pop() {

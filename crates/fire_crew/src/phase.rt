@@ -48,7 +48,10 @@ impl<'a, G: Gate, R: Threads + Wait + Sync> Crew<'a, G, R> {
         let rt = self.rt;
         let alloc = self.alloc;
         let gate = self.gate;
-        let row: Row<J, Q> = Row::new(tables, limits);
+        let row: Row<J, Q> = match Row::new(alloc, tables, limits) {
+            Ok(row) => row,
+            Err(tables) => return starved_phase(tables, buffer, TokenList::empty(alloc)),
+        };
         let lock = Mutex::new(buffer);
         let shared = &row;
         let behind = &lock;
@@ -66,11 +69,27 @@ impl<'a, G: Gate, R: Threads + Wait + Sync> Crew<'a, G, R> {
             Err(_) => (TokenList::empty(alloc), true),
         };
         PhaseEnd {
-            tables: row.gather(),
+            tables: row.gather(rt),
             buffer: lock.into_inner(),
             let_go,
             starved,
         }
+    }
+}
+
+// Memory ran out before a worker could run.
+pub(crate) fn starved_phase<J: Job, P: Port>(
+    tables: Tables<J>,
+    buffer: Buffer<J, P>,
+    tokens: TokenList<J>,
+) -> PhaseEnd<J, P>
+    ensures { result.tables ≡ tables }
+{
+    PhaseEnd {
+        tables,
+        buffer,
+        let_go: tokens,
+        starved: true,
     }
 }
 

@@ -7,7 +7,7 @@ ghost use Rattle.match_table.specs.Growth.{content_at};
 ghost use Rattle.match_table.specs.Rows.{contents};
 
 use df_core::Job;
-use match_table::{Tables, table_at};
+use match_table::{Tables, count_of, table_at};
 use std::alloc::Global;
 use ws_words::NoMemory;
 
@@ -29,11 +29,12 @@ pub fn limits<J: Job>(
         → length (content_at (contents tables.now) first).fired < slice_index limits.items first) }
 {
     let mut limits = Vec::new(alloc);
+    let _ = count_of(tables);
     let mut left = left;
     for number in 0..16 {
         let share = share_of(left, number, first);
         left -= share;
-        limits.push(table_at(tables, number).fired_count() + share as usize)?;
+        limits.push(listed_at(tables, number) + share as usize)?;
     }
     Ok(limits)
 }
@@ -44,7 +45,19 @@ pub fn fitting<J: Job>(tables: &Tables<J>, limits: &[usize])
     requires fits { Fits tables.now limits.now }
     ensures serve { AllServe tables.now }
     ensures within { length (part_of tables.now).fired ≤ sum limits.now }
-{}
+{
+    let _ = count_of(tables);
+}
+
+// How many instances the table with this number lists, where there is one.
+fn listed_at<J: Job>(tables: &Tables<J>, number: u64) -> usize
+    ensures { result ≡ length (content_at (contents tables.now) number).fired }
+{
+    if number >= count_of(tables) {
+        return 0;
+    }
+    table_at(tables, number).fired_count()
+}
 
 // What a table gets of what is left for it and those behind it.
 fn share_of(left: u64, number: u64, first: u64) -> u64

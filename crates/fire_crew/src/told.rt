@@ -4,11 +4,11 @@ ghost use Rattle.std.specs.Prelude.{◌≡◌, ◌<◌, ℕ, length, slice_index
 ghost use Rattle.ws_isa.specs.Image.{selector_of, tokens_to};
 ghost use Rattle.df_core.specs.Core.{Key, operands_in};
 ghost use Rattle.match_table.specs.Tables.{held};
-ghost use Rattle.match_table.specs.Together.{part_behind};
+ghost use Rattle.match_table.specs.Together.{part_of};
 ghost use Rattle.fire_crew.specs.Owing.{ResultsCameAt, HaveCome};
 
 use df_core::{Code, Job};
-use match_table::{Course, Table, holds, number_of, selector};
+use match_table::{Course, Table, Tables, holds, number_of, selector};
 use ws_isa::{Dest, Op};
 
 // Whether all that the instance owes has come that fired at this place of a table's list. What it sends isn't
@@ -16,13 +16,13 @@ use ws_isa::{Dest, Op};
 #[inline(always)]
 pub(crate) fn has_told<J: Job>(
     code: &Code<'_, J>,
-    tables: &[&Table<J>; 16],
+    tables: &Tables<J>,
     courses: &mut [Course; 16],
     table: &Table<J>,
     place: usize,
 ) -> bool
     requires { place < length table.now.fired }
-    ensures { result ≡ true → ResultsCameAt J.image (part_behind tables.now).held place table.now }
+    ensures { result ≡ true → ResultsCameAt J.image (part_of tables.now).held place table.now }
 {
     let (wave, instr) = table.key_at(place);
     let op = code.program().op(instr);
@@ -53,13 +53,13 @@ fn choice_at<J: Job>(code: &Code<'_, J>, table: &Table<J>, place: usize, op: Op)
 // Whether the tokens of a word, whatever it is, to these destinations under a wave number have all come.
 #[inline(always)]
 fn have_come<J: Job>(
-    tables: &[&Table<J>; 16],
+    tables: &Tables<J>,
     courses: &mut [Course; 16],
     wave: u64,
     dests: &[Dest],
 ) -> bool
     ensures { result ≡ true → (word : ℕ)
-        → HaveCome (part_behind tables.now).held (tokens_to wave word dests.now) }
+        → HaveCome (part_of tables.now).held (tokens_to wave word dests.now) }
 {
     for dest in dests {
         if !holds(tables, courses, wave, dest.instr, dest.port) {

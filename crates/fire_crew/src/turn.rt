@@ -8,7 +8,7 @@ ghost use Rattle.match_table.specs.Rows.{contents};
 
 use crate::crew::Crew;
 use crate::own::see_brought;
-use crate::phase::PhaseEnd;
+use crate::phase::{PhaseEnd, starved_phase};
 use crate::shares::{fitting, limits};
 use crate::{Bare, Gate, Wrap};
 use df_core::{Code, Job, Token, TokenList};
@@ -82,22 +82,6 @@ impl<'a, G: Gate, R: Threads + Wait + Sync> Crew<'a, G, R> {
         let after = self.phase::<J, Brand, P>(code, tables, buffer, &limits, deal);
         fitting(&after.tables, &limits);
         after
-    }
-}
-
-// Memory ran out before a worker could run.
-fn starved_phase<J: Job, P: Port>(
-    tables: Tables<J>,
-    buffer: Buffer<J, P>,
-    tokens: TokenList<J>,
-) -> PhaseEnd<J, P>
-    ensures { result.tables ≡ tables }
-{
-    PhaseEnd {
-        tables,
-        buffer,
-        let_go: tokens,
-        starved: true,
     }
 }
 

@@ -8,7 +8,7 @@ ghost use Rattle.match_table.specs.Together.{part_of};
 ghost use Rattle.fire_crew.specs.Owing.{AllKnown, IsKnown};
 
 use df_core::{Code, Job, Request};
-use match_table::{Fired, Table, Tables, table_at};
+use match_table::{Fired, Table, Tables, count_of, table_at};
 use port_set::Port;
 use std::alloc::Global;
 use store_buf::{Buffer, MemoryOrder};
@@ -25,7 +25,7 @@ pub fn unknown<J: Job, P: Port>(
         → AllKnown J.image (part_of tables.now) buffer.now.kept) }
 {
     let mut requests = Vec::new(alloc);
-    for number in 0..16 {
+    for number in 0..count_of(tables) {
         note_all_unknown(code, table_at(tables, number), buffer, &mut requests)?;
     }
     Ok(requests)

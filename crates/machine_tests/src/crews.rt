@@ -5,7 +5,7 @@ ghost use Rattle.match_table.specs.Rows.{Fits, contents};
 
 use crate::tables::{DOUBLES, image_of, take_all};
 use df_core::{Code, Job, Token, start};
-use match_table::{Offer, Quotas, Results, Row, Tables, Took};
+use match_table::{Offer, Quotas, Results, Row, Tables, Took, count_of, table_at};
 use std::alloc::Global;
 use std::marker::Brand;
 use std::sync::Wait;
@@ -56,13 +56,16 @@ fn fire_all<J: Job, Q: Quotas, R: Wait>(
     Ok((fired, spent))
 }
 
-// The greater of what the first and the last table fired.
-fn most_of<J: Job>(tables: Tables<J>) -> usize {
-    tables.t0.fired_count().max(tables.t15.fired_count())
+// How many the table fired that fired the most.
+fn most_of<J: Job>(tables: &Tables<J>) -> usize {
+    let mut most = 0;
+    for number in 0..count_of(tables) {
+        most = table_at(tables, number).fired_count().max(most);
+    }
+    most
 }
 
-// Fires what can be fired in one phase with these quotas, and the greater of what the first and the last
-// table list then.
+// Fires what can be fired in one phase with these quotas, and how many the table fired that fired the most.
 fn counted<J: Job, Q: Quotas, R: Wait>(
     rt: &R,
     alloc: Global,
@@ -75,9 +78,12 @@ fn counted<J: Job, Q: Quotas, R: Wait>(
     requires fits { Fits tables limits.now }
     requires began { contents tables ≡ Q.began }
 {
-    let row: Row<J, Q> = Row::new(tables, limits);
+    let row: Row<J, Q> = match Row::new(alloc, tables, limits) {
+        Ok(row) => row,
+        Err(_) => return (Err(NoMemory), 0),
+    };
     let count = fire_all(rt, &row, code, way, alloc);
-    (count, most_of(row.gather()))
+    (count, most_of(&row.gather(rt)))
 }
 
 // Fires what can be fired in one phase of a job with these quotas.

@@ -15,3 +15,7 @@ loop-number-preserved g c = λ k lt. (let more = c.max-longest.ensures in
           let same = ap (λ (j : ℕ). length (content_at (contents c.args.tables.now) j).fired) e in
           omega (arith, here, count, same, more))
     ])
+
+pub returns : goal.returns
+returns g c = λ k lt. c.loop-number.invariant k (let t = c.loop-number-test.false in
+    let n = c.count_of-number-end.ensures.count in omega (arith, t, n, lt))

@@ -1,33 +1,29 @@
 use Rattle.std.proofs.Common.{length, ap, arith}
 use Rattle.store_buf.specs.Ordering.{no_request}
-use Rattle.match_table.specs.Together.{part_behind}
+use Rattle.match_table.specs.Together.{part_of}
 use Rattle.fire_crew.specs.Owing.{HasAnswered}
 use Rattle.fire_crew.proofs.Paid.{one_more, all_done}
 use Rattle.fire_crew.proofs.Rights.{memory_at, answers_at}
 use Rattle.fire_crew.proofs.missing.look_back.Goals as goal
 
-pub look_up-requires : goal.look_up-requires
-look_up-requires g c = (
-  omega arith,
-  (
-    c.loop-kept.invariant.0,
-    (
-      memory_at g.J.Job.image g.J.Job.world c.facts-2.ensures.formed c.facts-2.ensures.sound c.args.buffer.now
-          c.facts.ensures.stands.0 c.facts.ensures.stands.1.ok c.facts.ensures.once
-          c.kept-kept-items.result.now c.kept-kept-items.ensures c.loop-kept.kept-index c.loop-kept-test.true,
-      answers_at g.J.Job.image g.J.Job.world c.facts-2.ensures.formed c.facts-2.ensures.sound
-          c.args.buffer.now c.facts.ensures.stands.0 c.facts.ensures.stands.1.ok c.facts.ensures.once
-          c.kept-kept-items.result.now c.kept-kept-items.ensures c.loop-kept.kept-index c.loop-kept-test.true,
-    ),
-  ),
-)
+pub look_up-requires-clause-memory : goal.look_up-requires-clause-memory
+look_up-requires-clause-memory g c = memory_at g.J.Job.image g.J.Job.world c.facts-2.ensures.formed
+    c.facts-2.ensures.sound c.args.buffer.now c.facts.ensures.stands.0 c.facts.ensures.stands.1.ok
+    c.facts.ensures.once c.kept-kept-items.result.now c.kept-kept-items.ensures c.loop-kept.kept-index
+    c.loop-kept-test.true
+
+pub look_up-requires-clause-right : goal.look_up-requires-clause-right
+look_up-requires-clause-right g c = answers_at g.J.Job.image g.J.Job.world c.facts-2.ensures.formed
+    c.facts-2.ensures.sound c.args.buffer.now c.facts.ensures.stands.0 c.facts.ensures.stands.1.ok
+    c.facts.ensures.once c.kept-kept-items.result.now c.kept-kept-items.ensures c.loop-kept.kept-index
+    c.loop-kept-test.true
 
 pub loop-kept-preserved : goal.loop-kept-preserved
 loop-kept-preserved g c = (
   c.in_ok-look_up.ensures.missing,
   λ e. (let a = c.in_ok-look_up.ensures.none e in let b = c.loop-kept.invariant.1 a.0 in (
     b.0,
-    one_more (HasAnswered g.J.Job.image (part_behind c.args.tables.now).held)
+    one_more (HasAnswered g.J.Job.image (part_of c.args.tables.now).held)
         c.kept-kept-items.result.now c.args.buffer.now.kept c.loop-kept.kept-index no_request
         c.kept-kept-items.ensures c.loop-kept-test.true b.1 a.1,
   )),
@@ -38,6 +34,6 @@ returns-clause-none g c = λ e. (let b = c.loop-kept.invariant.1 e in
     let t = c.loop-kept-test.false in
     let l = ap length c.kept-kept-items.ensures in (
       b.0,
-      all_done (HasAnswered g.J.Job.image (part_behind c.args.tables.now).held) c.args.buffer.now.kept
+      all_done (HasAnswered g.J.Job.image (part_of c.args.tables.now).held) c.args.buffer.now.kept
           c.loop-kept.kept-index (omega (arith, t, l)) b.1,
     ))

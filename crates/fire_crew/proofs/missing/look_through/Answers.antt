@@ -1,19 +1,18 @@
 use Rattle.std.proofs.Common.{arith}
-use Rattle.match_table.specs.Together.{part_behind}
+use Rattle.match_table.specs.Together.{part_of}
 use Rattle.fire_crew.proofs.Paid.{told_more}
 use Rattle.fire_crew.proofs.missing.look_through.Goals as goal
 
-pub see_at-requires : goal.see_at-requires
-see_at-requires g c = let end = c.min-end.ensures in let count = c.fired_count.ensures in
-    let t = c.loop-place-test.true in
-    (omega arith, (c.loop-place.invariant.0, omega (arith, end, count, t)))
+pub see_at-requires-clause-place : goal.see_at-requires-clause-place
+see_at-requires-clause-place g c = let end = c.min-end.ensures in let count = c.fired_count.ensures in
+    let t = c.loop-place-test.true in omega (arith, end, count, t)
 
 pub loop-place-preserved : goal.loop-place-preserved
 loop-place-preserved g c = (
   c.in_ok-see_at.ensures.missing,
   λ e. (let a = c.in_ok-see_at.ensures.none e in let b = c.loop-place.invariant.1 a.0 in (
     b.0,
-    told_more g.J.Job.image (part_behind c.args.tables.now).held c.args.from c.loop-place.place
+    told_more g.J.Job.image (part_of c.args.tables.now).held c.args.from c.loop-place.place
         c.args.table.now b.1 a.1,
   )),
 )

@@ -1,12 +1,12 @@
 use Rattle.std.proofs.Common.{◌≡◌, ℕ, [], ◌∷◌, ◌++◌, true, false, ap, sym, ◌∙◌}
 use Rattle.df_core.specs.Core.{has}
-use Rattle.match_table.specs.Together.{part_behind}
+use Rattle.match_table.specs.Together.{part_of}
 use Rattle.fire_crew.proofs.Paid.{found_missing, keep_come, keep_found}
 use Rattle.fire_crew.proofs.owed.keep.Goals as goal
 
 pub loop-token-preserved : goal.loop-token-preserved
 loop-token-preserved g c =
-    let held = (part_behind c.args.tables.now).held in
+    let held = (part_of c.args.tables.now).held in
     let t = c.in-Some.token in
     let h : has (held t.wave t.instr t.port) ≡ true =
     sym (ap (λ (k : ℕ × ℕ × ℕ). has (held k.0 k.1 k.2))
@@ -20,7 +20,7 @@ loop-token-preserved g c =
 
 pub loop-token-preserved-in-Continue-1 : goal.loop-token-preserved-in-Continue-1
 loop-token-preserved-in-Continue-1 g c =
-    let held = (part_behind c.args.tables.now).held in
+    let held = (part_of c.args.tables.now).held in
     let t = c.in-Some.token in
     let h : has (held t.wave t.instr t.port) ≡ false =
     sym (ap (λ (k : ℕ × ℕ × ℕ). has (held k.0 k.1 k.2))

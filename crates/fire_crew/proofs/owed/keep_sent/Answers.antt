@@ -2,7 +2,7 @@ use Rattle.std.proofs.Common.{◌≡◌, ◌++◌, ◌∷◌, [], List, All, sli
 use Rattle.ws_isa.specs.declared.instr.Dest.{Dest}
 use Rattle.ws_isa.specs.Image.{Token}
 use Rattle.df_core.proofs.Sends.{sent_at}
-use Rattle.match_table.specs.Together.{part_behind}
+use Rattle.match_table.specs.Together.{part_of}
 use Rattle.fire_crew.specs.Owing.{IsMissing}
 use Rattle.fire_crew.proofs.Paid.{come_sent, found_missing, not_empty}
 use Rattle.fire_crew.proofs.owed.keep_sent.Goals.{then-not-holds+in_ok-push, else-not-holds}
@@ -15,7 +15,7 @@ right-requires g c =
 
 pub loop-dest-preserved : goal.loop-dest-preserved
 loop-dest-preserved g c =
-    let held = (part_behind c.args.tables.now).held in
+    let held = (part_of c.args.tables.now).held in
     let d : Dest = slice_index_or c.args.dests.now c.loop-dest.dest-index (record { instr = 0; port = 0 }) in
     let t : Token = record { wave = c.args.wave; instr = d.instr; port = d.port; value = c.args.word } in
     elim c.if-not-holds.branch [

@@ -1,9 +1,9 @@
-use Rattle.std.proofs.Common.{List, arith, sym, ◌∙◌, subst, true≢false}
+use Rattle.std.proofs.Common.{List, sym, ◌∙◌, subst, true≢false}
 use Rattle.ws_isa.specs.Image.{Token}
 use Rattle.df_core.specs.Core.{IsSent}
 use Rattle.df_core.specs.Places.{image_of}
 use Rattle.match_table.specs.Ports.{listed}
-use Rattle.match_table.specs.Together.{part_behind}
+use Rattle.match_table.specs.Together.{part_of}
 use Rattle.fire_crew.specs.Owing.{HaveCome}
 use Rattle.fire_crew.proofs.Rights.{code_memory, code_op, code_sent, sent_is}
 use Rattle.fire_crew.proofs.owed.look_at.Goals as goal
@@ -20,34 +20,29 @@ returns-then-is_memory-clause-none g c =
           ∙ m)),
     )
 
-pub keep_sent-requires : goal.keep_sent-requires
-keep_sent-requires g c = (
-  omega arith,
-  (
-    c.requires.missing,
+pub keep_sent-requires-clause-right : goal.keep_sent-requires-clause-right
+keep_sent-requires-clause-right g c =
     λ w i p v s.
-        let op = code_op g.J.Job.image (image_of c.program.result.now) c.args.fired.instr c.op-op.result
-        c.op-op.ensures c.program.ensures.image in
-        c.requires.right (code_memory g.J.Job.image (image_of c.program.result.now) c.args.fired.instr
-        c.op-op.result c.is_memory.result c.op-op.ensures c.program.ensures.image c.is_memory.ensures
-        ∙ c.if-is_memory.false) w i p v
-        (subst (λ (ts : List Token). IsSent ts w i p v)
-        (code_sent g.J.Job.image (image_of c.program-2.result.now) c.args.fired.wave c.args.fired.instr
-        c.op-op.result c.in-Some.number c.result_of-word.result c.selector-choice.result
-        c.destinations-dests.result.now op c.in-Some.ensures.number c.destinations-dests.ensures
-        c.program-2.ensures.image
-        ∙ sent_is g.J.Job.image c.args.fired.wave c.args.fired.instr c.op-op.result
-        (listed c.args.fired.operands) c.selector-choice.result c.result_of-word.result op
-        c.selector-choice.ensures c.result_of-word.ensures) s),
-  ),
-)
+    let op = code_op g.J.Job.image (image_of c.program.result.now) c.args.fired.instr c.op-op.result
+    c.op-op.ensures c.program.ensures.image in
+    c.requires.right (code_memory g.J.Job.image (image_of c.program.result.now) c.args.fired.instr
+    c.op-op.result c.is_memory.result c.op-op.ensures c.program.ensures.image c.is_memory.ensures
+    ∙ c.if-is_memory.false) w i p v
+    (subst (λ (ts : List Token). IsSent ts w i p v)
+    (code_sent g.J.Job.image (image_of c.program-2.result.now) c.args.fired.wave c.args.fired.instr
+    c.op-op.result c.in-Some.number c.result_of-word.result c.selector-choice.result
+    c.destinations-dests.result.now op c.in-Some.ensures.number c.destinations-dests.ensures
+    c.program-2.ensures.image
+    ∙ sent_is g.J.Job.image c.args.fired.wave c.args.fired.instr c.op-op.result
+    (listed c.args.fired.operands) c.selector-choice.result c.result_of-word.result op
+    c.selector-choice.ensures c.result_of-word.ensures) s)
 
 pub returns-clause-none : goal.returns-clause-none
 returns-clause-none g c = λ e. (let r = c.in_ok-keep_sent.ensures.none e in
     let op = code_op g.J.Job.image (image_of c.program.result.now) c.args.fired.instr c.op-op.result
     c.op-op.ensures c.program.ensures.image in (
       r.0,
-      λ m. subst (λ (ts : List Token). HaveCome (part_behind c.args.tables.now).held ts)
+      λ m. subst (λ (ts : List Token). HaveCome (part_of c.args.tables.now).held ts)
           (code_sent g.J.Job.image (image_of c.program-2.result.now) c.args.fired.wave c.args.fired.instr
           c.op-op.result c.in-Some.number c.result_of-word.result c.selector-choice.result
           c.destinations-dests.result.now op c.in-Some.ensures.number c.destinations-dests.ensures

@@ -1,30 +1,25 @@
-use Rattle.std.proofs.Common.{◌≡◌, ℕ, List, Some, ap, arith, sym, ◌∙◌, subst}
+use Rattle.std.proofs.Common.{◌≡◌, ℕ, List, Some, ap, sym, ◌∙◌, subst}
 use Rattle.ws_isa.specs.Image.{Token, ports, sends}
 use Rattle.df_core.specs.Core.{IsSent}
 use Rattle.df_core.specs.Places.{image_of}
 use Rattle.df_core.specs.Rights.{operands_of}
-use Rattle.match_table.specs.Together.{part_behind}
+use Rattle.match_table.specs.Together.{part_of}
 use Rattle.fire_crew.specs.Owing.{HaveCome}
 use Rattle.fire_crew.proofs.Rights.{answer_is, code_op, code_sent}
 use Rattle.fire_crew.proofs.owed.look_up.Goals as goal
 
-pub keep_sent-requires : goal.keep_sent-requires
-keep_sent-requires g c = (
-  omega arith,
-  (
-    c.requires.missing,
+pub keep_sent-requires-clause-right : goal.keep_sent-requires-clause-right
+keep_sent-requires-clause-right g c =
     λ w i p v s. c.requires.right c.in-Some.word w i p v c.in-Some.is
-        (subst (λ (ts : List Token). IsSent ts w i p v)
-        (code_sent g.J.Job.image (image_of c.program-program.result.now) c.args.kept.wave c.args.kept.instr
-        c.op.result c.in-Some-number_of.number c.in-Some.word 0 c.destinations.result.now
-        (code_op g.J.Job.image (image_of c.program-program.result.now) c.args.kept.instr c.op.result
-        c.op.ensures c.program-program.ensures.image) c.in-Some-number_of.ensures.number
-        c.destinations.ensures c.program-program.ensures.image
-        ∙ answer_is g.J.Job.image c.args.kept.wave c.args.kept.instr
-        (operands_of (ports g.J.Job.image c.args.kept.instr) c.args.kept.first c.args.kept.second)
-        c.in-Some.word c.requires.memory) s),
-  ),
-)
+    (subst (λ (ts : List Token). IsSent ts w i p v)
+    (code_sent g.J.Job.image (image_of c.program-program.result.now) c.args.kept.wave c.args.kept.instr
+    c.op.result c.in-Some-number_of.number c.in-Some.word 0 c.destinations.result.now
+    (code_op g.J.Job.image (image_of c.program-program.result.now) c.args.kept.instr c.op.result
+    c.op.ensures c.program-program.ensures.image) c.in-Some-number_of.ensures.number
+    c.destinations.ensures c.program-program.ensures.image
+    ∙ answer_is g.J.Job.image c.args.kept.wave c.args.kept.instr
+    (operands_of (ports g.J.Job.image c.args.kept.instr) c.args.kept.first c.args.kept.second)
+    c.in-Some.word c.requires.memory) s)
 
 pub returns-clause-none : goal.returns-clause-none
 returns-clause-none g c = λ e. (let r = c.in_ok-keep_sent.ensures.none e in (
@@ -32,7 +27,7 @@ returns-clause-none g c = λ e. (let r = c.in_ok-keep_sent.ensures.none e in (
   λ a is. (let xs = operands_of (ports g.J.Job.image c.args.kept.instr) c.args.kept.first
       c.args.kept.second in
       let word : c.in-Some.word ≡ a = (let q : Some c.in-Some.word ≡ Some a = sym c.in-Some.is ∙ is in cc) in
-      subst (λ (ts : List Token). HaveCome (part_behind c.args.tables.now).held ts)
+      subst (λ (ts : List Token). HaveCome (part_of c.args.tables.now).held ts)
       (code_sent g.J.Job.image (image_of c.program-program.result.now) c.args.kept.wave c.args.kept.instr
       c.op.result c.in-Some-number_of.number c.in-Some.word 0 c.destinations.result.now
       (code_op g.J.Job.image (image_of c.program-program.result.now) c.args.kept.instr c.op.result

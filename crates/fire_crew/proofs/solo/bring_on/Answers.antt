@@ -1,4 +1,4 @@
-use Rattle.std.proofs.Common.{◌≡◌, ◌++◌, ◌-◌, ℕ, List, refl, sym, ap, ◌∙◌, subst, arith}
+use Rattle.std.proofs.Common.{◌≡◌, ◌++◌, ◌-◌, ℕ, List, sym, ap, ◌∙◌, subst, arith}
 use Rattle.ws_isa.specs.Image.{Token}
 use Rattle.df_core.specs.Rights.{Asked}
 use Rattle.match_table.specs.Rows.{contents}
@@ -13,7 +13,7 @@ pub returns-in-Waits-clause-count : goal.returns-in-Waits-clause-count
 returns-in-Waits-clause-count g c =
     let b = c.in-Waits.ensures.brought in
     let n = count_same (contents c.args.run.now.tables) (contents c.bring-took.new.tables) c.args.token b.0
-    refl b.1.0.2 in
+    b.1.0.2 in
     omega (arith, n)
 
 pub returns-in-Waits-clause-goes : goal.returns-in-Waits-clause-goes
@@ -34,7 +34,7 @@ returns-in-Fires-clause-count g c =
     let b = c.in-Fires.ensures.brought in
     let full = b.1.0.1 in
     let n = count_one (contents c.args.run.now.tables) (contents c.bring-took.new.tables) c.args.token b.0
-    refl g.J.Job.image full.0 full.1 in
+    g.J.Job.image full.0 full.1 in
     let some = c.requires.some in
     omega (arith, n, some)
 
@@ -54,7 +54,7 @@ returns-in-Some-clause-count g c =
     let b = c.in-Asks.ensures.brought in
     let full = b.1.3.1 in
     let n = count_one (contents c.args.run.now.tables) (contents c.bring-took.new.tables) c.args.token b.0
-    refl g.J.Job.image full.0 full.1 in
+    g.J.Job.image full.0 full.1 in
     let some = c.requires.some in
     omega (arith, n, some)
 
@@ -62,14 +62,14 @@ pub returns-in-Old-clause-count : goal.returns-in-Old-clause-count
 returns-in-Old-clause-count g c =
     let b = c.in-Old.ensures.brought in
     let n = count_same (contents c.args.run.now.tables) (contents c.bring-took.new.tables) c.args.token b.0
-    refl (ap (λ (d : TableContent). d.fired) b.1.0.1) in
+    (ap (λ (d : TableContent). d.fired) b.1.0.1) in
     omega (arith, n)
 
 pub returns-in-NoMemory-clause-count : goal.returns-in-NoMemory-clause-count
 returns-in-NoMemory-clause-count g c =
     let b = c.in-NoMemory.ensures.brought in
     let n = count_same (contents c.args.run.now.tables) (contents c.bring-took.new.tables) c.args.token b.0
-    refl b.1.0.2 in
+    b.1.0.2 in
     omega (arith, n)
 
 pub returns-in-Some-clause-goes : goal.returns-in-Some-clause-goes

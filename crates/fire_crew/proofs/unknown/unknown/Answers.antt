@@ -1,4 +1,4 @@
-use Rattle.std.proofs.Common.{All, refl, arith}
+use Rattle.std.proofs.Common.{All, arith}
 use Rattle.match_table.specs.Tables.{of_memory, TableContent}
 use Rattle.match_table.specs.Rows.{contents}
 use Rattle.fire_crew.specs.Owing.{IsKnown}
@@ -12,5 +12,6 @@ loop-number-preserved g c = λ e. (let a = c.in_ok-note_all_unknown.ensures e in
     (c.loop-number.invariant a.0) a.1)
 
 pub returns : goal.returns
-returns g c = λ e. known_all g.J.Job.image c.args.buffer.now.kept (contents c.args.tables.now) refl
-    (λ k lt. (let t = c.loop-number-test.false in c.loop-number.invariant e k (omega (arith, t, lt))))
+returns g c = λ e. known_all g.J.Job.image c.args.buffer.now.kept (contents c.args.tables.now)
+    (λ k lt. (let t = c.loop-number-test.false in let n = c.count_of-number-end.ensures.count in
+    c.loop-number.invariant e k (omega (arith, t, n, lt))))
