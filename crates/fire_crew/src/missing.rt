@@ -62,7 +62,8 @@ const STRETCH: usize = 8;
 
 // As many as the table lists that lists the most.
 fn longest<J: Job>(tables: &Tables<J>) -> usize
-    ensures { (k : ℕ) → k < length (contents tables.now) → length (content_at (contents tables.now) k).fired ≤ result }
+    ensures { (k : ℕ) → k < length (contents tables.now)
+        → length (content_at (contents tables.now) k).fired ≤ result }
 {
     let mut longest = 0;
     for number in 0..count_of(tables) {

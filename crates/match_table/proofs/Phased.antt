@@ -83,7 +83,8 @@ module _ (began : List TableContent) (most : List ℕ) where
     each = λ k le lt. (let apart : k ≢ n = λ (f : k ≡ n). absurd (omega (arith, f, le)) in
         let l = length-set cs n c in
         subst (λ (x : TableContent). InPhase most k (content_at began k) x)
-        (sym (get_or-set_other cs n k c no_content apart)) (s.each k (omega (arith, le)) (omega (arith, l, lt))));
+        (sym (get_or-set_other cs n k c no_content apart))
+        (s.each k (omega (arith, le)) (omega (arith, l, lt))));
   })
 
   pub rest_back : (n : ℕ) (cs new : List TableContent) (c : TableContent) → RestOf began most (n + 1) cs

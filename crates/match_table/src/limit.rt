@@ -36,7 +36,8 @@ pub enum Offer {
 }
 
 /// A table of one phase. It serves the instances whose wave number plus instruction is its number modulo
-/// 16, and lists no more that fired than its quota allows. It has grown from what it was when the phase began.
+/// 16, and lists no more that fired than its quota allows. It has grown from what it was when the phase
+/// began.
 #[derive(Drop)]
 pub struct Limited<J: Job, Q: Quotas> {
     table: Table<J>,

@@ -4,7 +4,6 @@ use Rattle.std.proofs.Common.{inl, inr, length, refl, sym, subst, arith}
 use Rattle.ws_words.specs.Outside.{World}
 use Rattle.ws_isa.specs.Image.{Image, Token}
 use Rattle.ws_isa.specs.Walk.{CostAtMost}
-use Rattle.match_table.specs.declared.row.Tables.{Tables}
 use Rattle.match_table.specs.Growth.{AllGrow}
 use Rattle.match_table.specs.Rows.{contents}
 use Rattle.match_table.specs.Tables.{TableContent}
@@ -30,7 +29,7 @@ pub some_may_fire : (left fired budget : ℕ) → left ≡ fired → 0 < budget 
 some_may_fire left fired budget e lt = omega (arith, e, lt)
 
 module _ {J P : Type 0} where
-  pub over_grew : (tables : Tables J) (budget : ℕ) (lane : Lane J P) → IsOver lane → GrewTo tables budget lane
+  pub over_grew : (tables : List TableContent) (budget : ℕ) (lane : Lane J P) → IsOver lane → GrewTo tables budget lane
   over_grew tables budget Absent over = tt
   over_grew tables budget (Over end) over = tt
   over_grew tables budget (Going going) over = absurd over
@@ -60,43 +59,43 @@ module _ {J P : Type 0} where
   pub stays_from : (lane mid new : Lane J P) → lane ≡ mid → StaysAs mid new → StaysAs lane new
   stays_from lane mid new l s = subst (λ (x : Lane J P). StaysAs x new) (sym l) s
 
-  pub apart_absent : (lane : Lane J P) (tables : Tables J) (token : Option Token) (desk : Desk J P)
+  pub apart_absent : (lane : Lane J P) (tables : List TableContent) (token : Option Token) (desk : Desk J P)
       (end : Option (RunEnd P)) → lane ≡ Absent → desk ≡ Idle → end ≡ None
       → IsApart lane tables token desk end
   apart_absent lane tables token desk end l d e =
       subst (λ (x : Lane J P). IsApart x tables token desk end) (sym l) (d, e)
 
-  pub apart_over : (lane : Lane J P) (tables : Tables J) (token : Option Token) (desk : Desk J P)
+  pub apart_over : (lane : Lane J P) (tables : List TableContent) (token : Option Token) (desk : Desk J P)
       (ends : Option (RunEnd P)) (end : RunEnd P) → lane ≡ Over end → desk ≡ Idle → ends ≡ Some end
       → IsApart lane tables token desk ends
   apart_over lane tables token desk ends end l d e =
       subst (λ (x : Lane J P). IsApart x tables token desk ends) (sym l) (d, e)
 
-  pub apart_from : (lane mid : Lane J P) (tables : Tables J) (token : Option Token) (desk : Desk J P)
+  pub apart_from : (lane mid : Lane J P) (tables : List TableContent) (token : Option Token) (desk : Desk J P)
       (end : Option (RunEnd P)) → lane ≡ mid → IsApart mid tables token desk end
       → IsApart lane tables token desk end
   apart_from lane mid tables token desk end l a =
       subst (λ (x : Lane J P). IsApart x tables token desk end) (sym l) a
 
-  pub joined_absent : (tables : Tables J) (desk : Desk J P) (end : Option (RunEnd P)) → desk ≡ Idle
+  pub joined_absent : (tables : List TableContent) (desk : Desk J P) (end : Option (RunEnd P)) → desk ≡ Idle
       → end ≡ None → JoinedAs tables desk end Absent
   joined_absent tables desk end d e =
       subst (λ (x : Desk J P × Option (RunEnd P)). JoinedAs tables x.0 x.1 Absent)
       (λ j. (sym d j, sym e j)) refl
 
-  pub joined_over : (tables : Tables J) (desk : Desk J P) (ends : Option (RunEnd P)) (end : RunEnd P)
+  pub joined_over : (tables : List TableContent) (desk : Desk J P) (ends : Option (RunEnd P)) (end : RunEnd P)
       → desk ≡ Idle → ends ≡ Some end → JoinedAs tables desk ends (Over end)
   joined_over tables desk ends end d e =
       subst (λ (x : Desk J P × Option (RunEnd P)). JoinedAs tables x.0 x.1 (Over end))
       (λ j. (sym d j, sym e j)) refl
 
-  pub joined_open : (tables : Tables J) (desk : Desk J P) (end : Option (RunEnd P)) (lane : Lane J P)
+  pub joined_open : (tables : List TableContent) (desk : Desk J P) (end : Option (RunEnd P)) (lane : Lane J P)
       (budget : ℕ) → budget_of desk ≡ Some budget → GrewTo tables budget lane → JoinedAs tables desk end lane
   joined_open tables Idle end lane budget d h = absurd (let q : None ≡ Some budget = d in cc)
   joined_open tables (Open code buffer n) end lane budget d h =
       subst (λ (x : ℕ). GrewTo tables x lane) (sym (some_same d)) h
 
-  pub joined_on : (old new : Tables J) (desk : Desk J P) (end : Option (RunEnd P)) (lane : Lane J P)
+  pub joined_on : (old new : List TableContent) (desk : Desk J P) (end : Option (RunEnd P)) (lane : Lane J P)
       → AllGrow (contents old) (contents new) → JoinedAs new desk end lane → JoinedAs old desk end lane
   joined_on old new Idle None lane grow h = h
   joined_on old new Idle (Some over) lane grow h = h
@@ -106,7 +105,7 @@ module _ {J P : Type 0} where
   joined_on old new (Open code buffer budget) end (Over over) grow h = tt
 
   -- a thread taken apart and put together has grown
-  pub grown : (lane new : Lane J P) (tables : Tables J) (token : Option Token) (desk : Desk J P)
+  pub grown : (lane new : Lane J P) (tables : List TableContent) (token : Option Token) (desk : Desk J P)
       (end : Option (RunEnd P)) → IsApart lane tables token desk end → JoinedAs tables desk end new
       → HasGrown lane new
   grown Absent new tables token desk end a h =
@@ -127,7 +126,7 @@ module _ {J P : Type 0} where
   none_come (Going going) = tt
 
   -- the token of a thread taken apart is the one that it named
-  pub come_as : (lane new : Lane J P) (tables : Tables J) (token : Option Token) (desk : Desk J P)
+  pub come_as : (lane new : Lane J P) (tables : List TableContent) (token : Option Token) (desk : Desk J P)
       (end : Option (RunEnd P)) → IsApart lane tables token desk end → HasCome new token
       → HasCome new (token_in lane)
   come_as Absent new tables token desk end a h = none_come new

@@ -1,9 +1,10 @@
 -- What a phase does to a thread that goes on.
-use Rattle.std.specs.Prelude.{ℕ, ◌≡◌, ◌<◌, ◌≤◌, ◌*◌, Option, Some, None, length}
+use Rattle.std.specs.Prelude.{ℕ, ◌≡◌, ◌<◌, ◌≤◌, ◌*◌, List, Option, Some, None}
+use Rattle.std.specs.Prelude.{length}
 use Rattle.ws_words.specs.Outside.{World}
 use Rattle.ws_isa.specs.Image.{Image, Token}
 use Rattle.ws_isa.specs.Walk.{CostAtMost, Ports}
-use Rattle.match_table.specs.declared.row.Tables.{Tables}
+use Rattle.match_table.specs.Tables.{TableContent}
 use Rattle.match_table.specs.Coming.{Came}
 use Rattle.match_table.specs.Growth.{AllGrow}
 use Rattle.match_table.specs.Rows.{contents}
@@ -50,7 +51,7 @@ module _ {J P : Type 0} where
       AllGrow (contents old.tables) (contents new.tables) × (old.budget ≡ new.budget))
 
   -- these are of a thread that was taken apart
-  abbrev pub IsApart : Lane J P → Tables J → Option Token → Desk J P → Option (RunEnd P) → Type 0
+  abbrev pub IsApart : Lane J P → List TableContent → Option Token → Desk J P → Option (RunEnd P) → Type 0
   IsApart (Going going) tables token (Open code buffer budget) end =
       (contents tables ≡ contents going.tables) × (token ≡ going.token) × (budget ≡ going.budget)
   IsApart (Going going) tables token Idle end = ⊥
@@ -58,13 +59,13 @@ module _ {J P : Type 0} where
   IsApart Absent tables token desk end = (desk ≡ Idle) × (end ≡ None)
 
   -- where a thread goes on it has this budget, and these tables have grown into its own
-  abbrev pub GrewTo : Tables J → ℕ → Lane J P → Type 0
+  abbrev pub GrewTo : List TableContent → ℕ → Lane J P → Type 0
   GrewTo tables budget (Going going) = AllGrow (contents tables) (contents going.tables)
       × (budget ≡ going.budget)
   GrewTo tables budget lane = Unit {0}
 
   -- a thread put together of these, of which the tables may have grown
-  abbrev pub JoinedAs : Tables J → Desk J P → Option (RunEnd P) → Lane J P → Type 0
+  abbrev pub JoinedAs : List TableContent → Desk J P → Option (RunEnd P) → Lane J P → Type 0
   JoinedAs tables (Open code buffer budget) end lane = GrewTo tables budget lane
   JoinedAs tables Idle None lane = Absent ≡ lane
   JoinedAs tables Idle (Some over) lane = Over over ≡ lane

@@ -25,4 +25,5 @@ new-requires-2-clause-grows g c = (rest_next g.Q.Quotas.began g.Q.Quotas.most c.
 pub returns : goal.returns
 returns g c = rest_out g.Q.Quotas.began g.Q.Quotas.most c.args.number c.tables.inside.all.items _
     c.replace-table.new.dest
-    (subst (RestOf g.Q.Quotas.began g.Q.Quotas.most c.args.number) (sym c.tables.view_is) c.requires.rest) refl
+    (subst (RestOf g.Q.Quotas.began g.Q.Quotas.most c.args.number) (sym c.tables.view_is) c.requires.rest)
+    refl

@@ -21,7 +21,8 @@ loop-number-preserved g c k lt = elim (cases_lt k c.loop-number.number) [
 parts : (g : _) (c : goal.After-loop-number g)
     → PartsOk g.J.Job.image g.J.Job.world 0 (contents c.args.tables.now)
 parts g c = parts_from g.J.Job.image g.J.Job.world 0 (contents c.args.tables.now) c.requires
-    (λ k lt. c.loop-number.invariant k (let b = c.loop-number-test.false in let n = c.count_of-number-end.ensures.count in
+    (λ k lt. c.loop-number.invariant k (let b = c.loop-number-test.false in
+    let n = c.count_of-number-end.ensures.count in
     omega (arith, b, n, lt)))
 
 pub returns-clause-part : goal.returns-clause-part

@@ -30,4 +30,5 @@ loop-number-preserved g c =
 
 pub returns : goal.returns
 returns g c = c.loop-number.invariant ∙ all_taken (contents c.args.tables.now) c.loop-number.number
-    (let b = c.loop-number-test.false in let n = c.count_of-number-end.ensures.count in omega (arith, b, n)) ∙ sym (all_count (contents c.args.tables.now))
+    (let b = c.loop-number-test.false in let n = c.count_of-number-end.ensures.count in
+    omega (arith, b, n)) ∙ sym (all_count (contents c.args.tables.now))

@@ -20,7 +20,8 @@ invariant_of-self g c =
     let x = all_ok g.J.Job.image c.self.inside.table c.accept_into.new.self c.args.token.now
     c.accept_into.new.results c.accept_into.result c.self.inside.number c.self.inside.most c.self.invariant.0
     c.self.invariant.2
-    (c.requires ∙ ap (λ (x : Numbered). x.number) (sym c.self.view_is)) less c.accept_into.ensures.answer c.accept_into.ensures.fires in
+    (c.requires ∙ ap (λ (x : Numbered). x.number) (sym c.self.view_is)) less
+    c.accept_into.ensures.answer c.accept_into.ensures.fires in
     let y = all_grows g.J.Job.image c.self.inside.table c.accept_into.new.self c.args.token.now
     c.accept_into.new.results c.accept_into.result c.accept_into.ensures.answer in (
       x.0,
