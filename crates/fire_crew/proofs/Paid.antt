@@ -272,7 +272,8 @@ module _ (image : Image) (cs : List TableContent) (same : (k : ℕ)
         (λ j. (p.wave j, p.instr j, ops j, ans j)) (a p.word p.answer)
 
     pub all_come : HaveCome hold (start_tokens image)
-        → ((k : ℕ) → k < length cs → AllTold image hold (content_at cs k)) → All (HasAnswered image hold) c.kept
+        → ((k : ℕ) → k < length cs → AllTold image hold (content_at cs k)) → All (HasAnswered image hold)
+        c.kept
         → HaveCome hold (owed image (together cs) (buffer_in image c m))
     all_come start plain ops = come_append hold (start_tokens image)
         (plain_tokens image hold (all_fired cs) ++ op_tokens image (buffer_in image c m) (issued_keys c.kept))

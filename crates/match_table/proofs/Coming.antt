@@ -104,17 +104,6 @@ module _ {J : Type 0} where
     pub brought_there : (answer ≡ took.NoMemory → ⊥) → has ((together new).held t.wave t.instr t.port) ≡ true
     brought_there some = there image (content_at old k) (content_at new k) t rs answer b.1 some
 
--- the same said at the number of the table
-module _ {J : Type 0} where
-  pub brought_at : (image : Image) (old new : List TableContent) (t : Token) (rs : Results J) (answer : Took)
-      (n : ℕ) → served t ≡ n → new ≡ slice_set old n (content_at new n)
-      → TookAs image (content_at old n) t (content_at new n) rs answer
-      → FiresSo answer (will_fire image (content_at old n) t) → BroughtSo image old t new rs answer
-  brought_at image old new t rs answer n is same a f =
-      subst (λ (k : ℕ). (new ≡ slice_set old k (content_at new k)) × TookAs image (content_at old k) t
-      (content_at new k) rs answer × FiresSo answer (will_fire image (content_at old k) t)) (sym is)
-      (same, a, f)
-
 -- what tables held that have grown they hold
 grow_at : (olds news : List TableContent) (k w i p v : ℕ) → AllGrow olds news
     → held (content_at olds k) w i p ≡ Some v → held (content_at news k) w i p ≡ Some v

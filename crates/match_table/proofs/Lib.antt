@@ -1,4 +1,4 @@
-mod Phased
+pub mod Phased
 pub mod Names
 pub mod Arrivals
 pub mod Store

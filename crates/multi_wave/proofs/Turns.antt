@@ -29,7 +29,8 @@ pub some_may_fire : (left fired budget : ℕ) → left ≡ fired → 0 < budget 
 some_may_fire left fired budget e lt = omega (arith, e, lt)
 
 module _ {J P : Type 0} where
-  pub over_grew : (tables : List TableContent) (budget : ℕ) (lane : Lane J P) → IsOver lane → GrewTo tables budget lane
+  pub over_grew : (tables : List TableContent) (budget : ℕ) (lane : Lane J P) → IsOver lane → GrewTo tables
+      budget lane
   over_grew tables budget Absent over = tt
   over_grew tables budget (Over end) over = tt
   over_grew tables budget (Going going) over = absurd over

@@ -182,18 +182,20 @@ program_once section lexed parsed ruled = go lexed.answer lexed.holds lexed.only
 
 -- a refused program
 module _ (text : List ℕ) (r : Refusal) (fault : ProgramFault (program_of text) r)
-    (only : (other : Result (List Part) Refusal) → IsProgramAnswer (program_of text) other → other ≡ Err r) where
-  only_program : (other : Result (List Part × List ℕ) Refusal) → IsTextAnswer text other → other ≡ Err r
-  only_program (Ok (parts, words)) h = let bad = only (Ok parts) h.reads in cc
-  only_program (Err q) (program p h) = let same = only (Err p) h in cc
-  only_program (Err q) (input parts place h f) = let bad = only (Ok parts) h in cc
+    (only : (other : Result (List Part) Refusal) → IsProgramAnswer (program_of text) other → other ≡ Err r)
+  where
+    only_program : (other : Result (List Part × List ℕ) Refusal) → IsTextAnswer text other → other ≡ Err r
+    only_program (Ok (parts, words)) h = let bad = only (Ok parts) h.reads in cc
+    only_program (Err q) (program p h) = let same = only (Err p) h in cc
+    only_program (Err q) (input parts place h f) = let bad = only (Ok parts) h in cc
 
-  refused_once : ExactlyOne (IsTextAnswer text)
-  refused_once = record { answer = Err r; holds = program r fault; only = only_program }
+    refused_once : ExactlyOne (IsTextAnswer text)
+    refused_once = record { answer = Err r; holds = program r fault; only = only_program }
 
 -- a program with this tree
 module _ (text : List ℕ) (parts : List Part) (reads : ReadsAs (program_of text) parts)
-    (only : (other : Result (List Part) Refusal) → IsProgramAnswer (program_of text) other → other ≡ Ok parts) where
+    (only : (other : Result (List Part) Refusal) → IsProgramAnswer (program_of text) other → other ≡ Ok
+    parts) where
   same_parts : (found : List Part) → ReadsAs (program_of text) found → found ≡ parts
   same_parts found h = let same = only (Ok found) h in cc
 
@@ -259,7 +261,8 @@ pub text_once : (text : List ℕ) → ((bytes : List ℕ) → ExactlyOne (IsLexA
     → ((ls : List Lexeme) (finish : Place) → ExactlyOne (IsTreeAnswer ls finish))
     → ((parts : List Part) (finish : Place) → ExactlyOne (IsRuleAnswer parts finish))
     → ExactlyOne (IsTextAnswer text)
-text_once text lexed parsed ruled = let e = program_once (program_of text) (lexed (program_of text)) parsed ruled in
+text_once text lexed parsed ruled = let e = program_once (program_of text) (lexed (program_of text)) parsed
+    ruled in
     go e.answer e.holds e.only
   where
     go : (found : Result (List Part) Refusal) → IsProgramAnswer (program_of text) found

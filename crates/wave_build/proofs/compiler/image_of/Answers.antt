@@ -32,7 +32,8 @@ returns-clause-formed c =
     c.args.accepted.now.accepted in
     c.in_ok-made.ensures.formed (leaves_room parts p.begun.lowered p.joined p.kept g p.needed _ _
     (all_passed parts g p _ _ c.in_ok-live.ensures c.in_ok-waves.ensures.rule c.in_ok-waves.ensures.waves)
-    c.requires (c.written_is_narrow.ensures parts c.requires) few p.shows.arrays (code_words c.in_ok-graph.graph)
+    c.requires (c.written_is_narrow.ensures parts c.requires) few p.shows.arrays
+    (code_words c.in_ok-graph.graph)
     (image.draft c.in_ok-draft.draft) d.limits d.lists d.arrays)
 
 pub returns-clause-arrays : goal.returns-clause-arrays

@@ -15,7 +15,8 @@ returns-in-Ok-input_words-clause-ok c =
     record {
       reads = ap text.read (sym s.program) ∙ c.in-Ok.ensures.ok;
       sound = c.in-Ok.ensures.sound;
-      words = of_text (λ at t. InputWords at t c.in-Ok-input_words.words) c.args.text.now _ _ s.program s.input
+      words = of_text (λ at t. InputWords at t c.in-Ok-input_words.words) c.args.text.now _ _ s.program
+          s.input
           c.in-Ok-input_words.ensures.ok;
     }
 
