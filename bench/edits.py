@@ -10,7 +10,8 @@ The edits of crates/*/must-fail are tried by every run of the gate. Those of edi
 would, in a copy of the repository that is removed again, over the proofs that runs of the gate have kept; the first of
 a crate costs as much as its proof. What the contracts of a crate are is a checksum over its specs/ and over the
 signatures and contracts of its functions; edits/tried.txt has, for each crate, the one over which all its edits were
-refused, or that of the same contracts under new names, or without what nothing used. The exit status is 1 where an
+refused, or that of the same contracts in another form: under new names, with a fact in a type in place of a clause, or
+without what nothing used. The exit status is 1 where an
 edit wasn't refused, or can't be applied, and with --fit where they are due.
 """
 
