@@ -6,13 +6,12 @@
     bench/edits.py --fit       none: only whether each can be applied, and whether of some crate they are due
     bench/edits.py NAME..      those of these crates
 
-The edits of crates/*/must-fail are tried by every run of the gate. Those of edits/NAME are tried here, as the gate
-would, in a copy of the repository that is removed again, over the proofs that runs of the gate have kept; the first of
-a crate costs as much as its proof. What the contracts of a crate are is a checksum over its specs/ and over the
-signatures and contracts of its functions; edits/tried.txt has, for each crate, the one over which all its edits were
-refused, or that of the same contracts in another form: under new names, with a fact in a type in place of a clause, or
-without what nothing used. The exit status is 1 where an
-edit wasn't refused, or can't be applied, and with --fit where they are due.
+The edits of crates/*/must-fail are tried by every run of the gate. Those of edits/NAME are tried here by `rt must-fail`,
+in a copy of the repository that is removed again, over what `rt check` has kept in any checkout on this machine. What
+the contracts of a crate are is a checksum over its specs/ and over the signatures and contracts of its functions;
+edits/tried.txt has, for each crate, the one over which all its edits were refused, or that of the same contracts under
+new names, or without what nothing used. The exit status is 1 where an edit wasn't refused, or can't be applied, and
+with --fit where they are due.
 """
 
 import argparse
@@ -100,7 +99,7 @@ def are_refused(names: Iterable[str]) -> Iterator[str]:
             shutil.rmtree(copy / "crates" / name / "must-fail", ignore_errors=True)
             shutil.copytree(EDITS / name, copy / "crates" / name / "must-fail")
         for name in names:
-            if subprocess.run(["rt", "ci", name], cwd=copy).returncode == 0:
+            if subprocess.run(["rt", "must-fail", name], cwd=copy).returncode == 0:
                 yield name
 
 

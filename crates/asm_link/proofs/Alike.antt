@@ -9,7 +9,7 @@ use Rattle.ws_isa.specs.Image.{block_at, block_of, holder, first_number}
 use Rattle.ws_isa.specs.Formed.{WavesFrom, WavesInOrder}
 use Rattle.ws_words.specs.Items.{nth, or_else}
 use Rattle.wave_link.specs.Kept.{ops_in, GrowsTo}
-use Rattle.wave_link.proofs.Unnoted.{SameShape}
+use Rattle.wave_link.proofs.Sound.Unnoted.{SameShape}
 
 -- the same instruction but for its note
 pub record AlikeInstr (i j : Instr) : Type 0 where

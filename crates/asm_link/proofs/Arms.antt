@@ -20,7 +20,7 @@ use Rattle.ws_words.specs.Items.{nth, or_else}
 use Rattle.ws_words.proofs.Places.{nth_or, nth_short}
 use Rattle.asm_link.specs.declared.fault.Unfit.{Unfit}
 use Rattle.asm_link.specs.declared.fault.Unfit.TheVariants.{Arm, Trigger}
-use Rattle.wave_link.proofs.GrownOf.{steer_is}
+use Rattle.wave_link.proofs.Grown.GrownOf.{steer_is}
 use Rattle.asm_link.specs.Ways.{any_steer, any_giving, hits_of, marks_of}
 use Rattle.asm_link.specs.Unfit.{wave_of, wave_in, starts_in, is_arm, forks_or_ends, is_triggered, of_block}
 use Rattle.asm_link.specs.Unfit.{or_next, of_blocks, lack_in}

@@ -4,7 +4,7 @@ use Rattle.std.specs.List.{AllByRecursion}
 use Rattle.ws_isa.specs.Image.{Instr, Block, Image, flat}
 use Rattle.ws_isa.specs.Formed.{NoNotes}
 use Rattle.ws_words.proofs.Lists.{map_append}
-use Rattle.wave_link.proofs.Unnoted.{SameShape}
+use Rattle.wave_link.proofs.Sound.Unnoted.{SameShape}
 use Rattle.asm_link.specs.Bare.{bare_instr, bare_block, bare}
 use Rattle.asm_link.proofs.Alike.{AlikeInstrs, AlikeBlocks, same_shape}
 

@@ -6,7 +6,7 @@ use Rattle.wave_link.specs.Fit.{FitForNotes}
 use Rattle.wave_link.specs.Grown.{annotated}
 use Rattle.wave_link.specs.Plain.{noted}
 use Rattle.wave_link.specs.Room.{MadeWithin}
-use Rattle.wave_link.proofs.Unnoted.{slots_on, shape_on}
+use Rattle.wave_link.proofs.Sound.Unnoted.{slots_on, shape_on}
 use Rattle.asm_link.specs.declared.fault.Unfit.{Unfit}
 use Rattle.asm_link.specs.Bare.{bare}
 use Rattle.asm_link.specs.Unfit.{or_next, lack_in, room_in, lacks}

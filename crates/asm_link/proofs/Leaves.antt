@@ -13,8 +13,8 @@ use Rattle.ws_isa.proofs.Blocks.{at_block}
 use Rattle.ws_words.specs.Items.{In, nth, first_some}
 use Rattle.ws_words.proofs.Lists.{length_map, all_have, all_append}
 use Rattle.wave_link.specs.Room.{WithinLimits, MadeWithin}
-use Rattle.wave_link.proofs.FormedOf.{instr_of_all}
-use Rattle.wave_link.proofs.GrownOrigin.{is_instr}
+use Rattle.wave_link.proofs.Sound.FormedOf.{instr_of_all}
+use Rattle.wave_link.proofs.Grown.GrownOrigin.{is_instr}
 use Rattle.asm_link.specs.declared.fault.Unfit.TheVariants.{Full, Many}
 use Rattle.asm_link.specs.Bare.{bare_block, bare}
 use Rattle.asm_link.specs.Room.{is_short, full_among, size_of, full_in, count_from, count_in}

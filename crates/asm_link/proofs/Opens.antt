@@ -14,7 +14,7 @@ use Rattle.ws_isa.specs.Open.{Walkable}
 use Rattle.ws_isa.proofs.Blocks.{at_block}
 use Rattle.ws_words.proofs.Lists.{all_have}
 use Rattle.wave_link.specs.Fit.{FitForNotes}
-use Rattle.wave_link.proofs.Unnoted.{SameShape, block_on, ports_same, slots_on, shape_on}
+use Rattle.wave_link.proofs.Sound.Unnoted.{SameShape, block_on, ports_same, slots_on, shape_on}
 use Rattle.asm_link.specs.Bare.{bare}
 use Rattle.asm_link.specs.Unfit.{lack_in}
 use Rattle.asm_link.proofs.Alike.{AlikeInstr, AlikeBlock, AlikeBlocks, instrs_length, flat_alike, all_alike}

@@ -17,10 +17,11 @@ use Rattle.wave_link.specs.Outlines.{outlines_of}
 use Rattle.wave_link.specs.Grown.{note_for, seq_next, no_place}
 use Rattle.wave_link.specs.Plain.{noted_instrs, noted_from, noted}
 use Rattle.wave_link.specs.Triggers.{IsAdded}
-use Rattle.wave_link.proofs.FormedNotes.{PlaceUpTo, total_ops, place_more, all_places_up, outlines_writers}
-use Rattle.wave_link.proofs.FormedNotes.{outlines_ops}
-use Rattle.wave_link.proofs.FormedOf.{for_fits, instr_limit}
-use Rattle.wave_link.proofs.Unnoted.{SameShape}
+use Rattle.wave_link.proofs.Sound.FormedNotes.{PlaceUpTo, total_ops, place_more, all_places_up}
+use Rattle.wave_link.proofs.Sound.FormedNotes.{outlines_writers}
+use Rattle.wave_link.proofs.Sound.FormedNotes.{outlines_ops}
+use Rattle.wave_link.proofs.Sound.FormedOf.{for_fits, instr_limit}
+use Rattle.wave_link.proofs.Sound.Unnoted.{SameShape}
 use Rattle.asm_link.specs.Bare.{bare}
 use Rattle.asm_link.proofs.Alike.{AlikeInstrs, AlikeBlocks, instrs_length, flat_alike}
 use Rattle.asm_link.proofs.Alike.{same_shape}

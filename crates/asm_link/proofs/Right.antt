@@ -3,7 +3,7 @@ use Rattle.std.proofs.Common.{◌≡◌, Some, None, sym, ◌∙◌, inl, inr}
 use Rattle.ws_isa.specs.Image.{Image}
 use Rattle.annot_check.specs.declared.fault.Bad.{Bad}
 use Rattle.annot_check.specs.declared.fault.Bad.TheVariants.{Port, Pending, Link, Ripple, Shape}
-use Rattle.annot_check.proofs.Breach.{port_unsound, pending_unsound}
+use Rattle.annot_check.proofs.Slotted.Breach.{port_unsound, pending_unsound}
 use Rattle.asm_link.specs.declared.fault.LinkRefusal.{LinkRefusal}
 use Rattle.asm_link.specs.declared.fault.LinkRefusal.TheVariants as why
 use Rattle.asm_link.specs.Linked.{BreaksDraft, BreaksImage, CanBeNoted}

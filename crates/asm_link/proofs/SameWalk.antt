@@ -15,9 +15,9 @@ use Rattle.ws_isa.specs.Walk.{choice, edge_tokens, leave, is_within, step, pos, 
 use Rattle.ws_isa.specs.Walk.{with_inst, walk, has_ended}
 use Rattle.wave_link.specs.Kept.{KeepsBlocks}
 use Rattle.wave_link.specs.Passed.{where_left, added_left, WalksFor}
-use Rattle.wave_link.proofs.Unnoted.{SameShape, ports_same, advance_same, memory_same, stops_same}
-use Rattle.wave_link.proofs.Unnoted.{target_same}
-use Rattle.wave_link.proofs.Unnoted.{first_same, now_same, start_same, edge_same}
+use Rattle.wave_link.proofs.Sound.Unnoted.{SameShape, ports_same, advance_same, memory_same, stops_same}
+use Rattle.wave_link.proofs.Sound.Unnoted.{target_same}
+use Rattle.wave_link.proofs.Sound.Unnoted.{first_same, now_same, start_same, edge_same}
 use Rattle.asm_link.proofs.Alike.{AlikeBlocks, block_alike, ops_alike, grows_alike, same_shape}
 
 module _ (image new : Image) (arrays : new.arrays ≡ image.arrays)

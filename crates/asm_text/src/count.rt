@@ -60,7 +60,7 @@ fn ports(op: Op) -> u8
 }
 
 // Counts an array.
-#[tactic(auto, using(crate::proofs::Counts::cells_fit), unfolding(ws_isa::specs::Formed::most_arrays, ws_isa::specs::Formed::most_length, ws_isa::specs::Formed::most_cells))]
+#[tactic(auto, using(crate::proofs::Keeping::Counts::cells_fit), unfolding(ws_isa::specs::Formed::most_arrays, ws_isa::specs::Formed::most_length, ws_isa::specs::Formed::most_cells))]
 fn count_array(state: &mut TextState, cells: u32)
     requires { spec.is_within_cells state.old cells ≡ true }
     ensures { state.new ≡ record state.old {
@@ -98,7 +98,7 @@ fn count_instr(state: &mut TextState, alloc: Global, instr: &InstrLine) -> Resul
 }
 
 // Counts what a line has.
-#[tactic(auto, using(crate::proofs::Counts::counts), unfolding(crate::specs::State::counted, crate::specs::State::is_within, crate::specs::State::is_new))]
+#[tactic(auto, using(crate::proofs::Keeping::Counts::counts), unfolding(crate::specs::State::counted, crate::specs::State::is_within, crate::specs::State::is_new))]
 pub(crate) fn count(state: &mut TextState, alloc: Global, line: &Line) -> Result<(), NoMemory>
     requires within { spec.is_within state.old line.now ≡ true }
     requires new { spec.is_new state.old line.now ≡ true }

@@ -70,7 +70,7 @@ fn target(alloc: Global, lexemes: &[Lexeme]) -> Result<(Target, &[Lexeme]), Miss
 }
 
 // As many destinations as stand in front.
-#[tactic(auto, using(crate::proofs::Lists::lists))]
+#[tactic(auto, using(crate::proofs::Scanning::Lists::lists))]
 pub(crate) fn targets(alloc: Global, lexemes: &[Lexeme]) -> Result<(Targets, &[Lexeme]), Miss>
     ensures { Gives (λ x. (x.0, x.1.now)) result (Some (spec.targets_at lexemes.now)) }
 {
@@ -89,7 +89,7 @@ pub(crate) fn targets(alloc: Global, lexemes: &[Lexeme]) -> Result<(Targets, &[L
 }
 
 // As many references as stand in front.
-#[tactic(auto, using(crate::proofs::Lists::lists))]
+#[tactic(auto, using(crate::proofs::Scanning::Lists::lists))]
 pub(crate) fn labels(alloc: Global, lexemes: &[Lexeme]) -> Result<(Labels, &[Lexeme]), Miss>
     ensures { Gives (λ x. (x.0, x.1.now)) result (Some (spec.labels_at lexemes.now)) }
 {

@@ -13,7 +13,7 @@ use crate::writer::Writer;
 use ws_isa::{ArrayDecl, Dest, Exit, Instr, Link, Note, Op, Pad};
 use ws_words::NoMemory;
 
-#[tactic(auto, using(crate::proofs::Walks::walks))]
+#[tactic(auto, using(crate::proofs::Scanning::Walks::walks))]
 fn dests(out: &mut Writer, dests: &[Dest]) -> Result<(), NoMemory>
     ensures { OnOk result (seen out.new ≡ puts (seen out.old) (spec.dest_lexemes dests.now)) }
 {
@@ -25,7 +25,7 @@ fn dests(out: &mut Writer, dests: &[Dest]) -> Result<(), NoMemory>
     Ok(())
 }
 
-#[tactic(auto, using(crate::proofs::Walks::walks))]
+#[tactic(auto, using(crate::proofs::Scanning::Walks::walks))]
 fn numbers(out: &mut Writer, numbers: &[u32]) -> Result<(), NoMemory>
     ensures { OnOk result (seen out.new ≡ puts (seen out.old) (spec.numbers numbers.now)) }
 {
@@ -63,7 +63,7 @@ pub(crate) fn note(out: &mut Writer, note: Option<Note>) -> Result<(), NoMemory>
     out.number(u64::from(note.ripple))
 }
 
-#[tactic(auto, using(crate::proofs::Puts::appends), unfolding(crate::specs::Printed::list_lexemes, crate::specs::Printed::puts))]
+#[tactic(auto, using(crate::proofs::Scanning::Puts::appends), unfolding(crate::specs::Printed::list_lexemes, crate::specs::Printed::puts))]
 fn lists(out: &mut Writer, instr: &Instr) -> Result<(), NoMemory>
     ensures { OnOk result (seen out.new ≡
         puts (seen out.old)
@@ -101,7 +101,7 @@ fn op_number(out: &mut Writer, op: Op) -> Result<(), NoMemory>
     }
 }
 
-#[tactic(auto, using(crate::proofs::Puts::appends), unfolding(crate::specs::Printed::instr_lexemes, crate::specs::Printed::puts))]
+#[tactic(auto, using(crate::proofs::Scanning::Puts::appends), unfolding(crate::specs::Printed::instr_lexemes, crate::specs::Printed::puts))]
 pub(crate) fn instr_line(out: &mut Writer, number: u64, instr: &Instr) -> Result<(), NoMemory>
     ensures { OnOk result (seen out.new ≡
         end_line (puts (seen out.old) (spec.instr_lexemes number (view.instr instr.now)))) }

@@ -20,7 +20,7 @@ pub(crate) fn plus(a: u64, b: u64) -> Result<u64, NoMemory>
 }
 
 // How many instructions the blocks have.
-#[tactic(auto, using(crate::proofs::Walks::walks))]
+#[tactic(auto, using(crate::proofs::Scanning::Walks::walks))]
 fn instr_count(blocks: &[Block]) -> Result<u64, NoMemory>
     ensures { IfOk result (λ n. n ≡ length (flat (map view.block blocks.now))) }
 {
@@ -55,7 +55,7 @@ fn keep_first_blocks(blocks: &[Block]) -> bool
 }
 
 // Whether the image keeps the limits of version 1.
-#[tactic(auto, using(crate::proofs::Walks::firsts), unfolding(crate::specs::Printed::keeps_first_limits, crate::specs::Limits::first_most_instrs, crate::specs::Limits::first_most_blocks))]
+#[tactic(auto, using(crate::proofs::Scanning::Walks::firsts), unfolding(crate::specs::Printed::keeps_first_limits, crate::specs::Limits::first_most_instrs, crate::specs::Limits::first_most_blocks))]
 fn keeps_first_limits(image: &Image) -> Result<bool, NoMemory>
     ensures { IfOk result (λ b. b ≡ spec.keeps_first_limits (view.image image.now)) }
 {

@@ -184,7 +184,7 @@ pub fn spell_calls(alloc: Global, graph: &Graph, live: &LiveSets) -> Result<Grap
 }
 
 /// In a graph of the shape that lowering gives each branch leads forward, to blocks of its own.
-#[tactic(auto, using(crate::proofs::Arms::shaped_alone))]
+#[tactic(auto, using(crate::proofs::Ruling::Arms::shaped_alone))]
 pub fn shaped_branches_stand_alone()
     ensures { (graph : plain.Graph) → IsShaped graph → ArmsAlone graph }
 {}

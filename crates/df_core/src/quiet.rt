@@ -64,7 +64,7 @@ fn is_filled(slots: &MatchStore, token: Token, ports: u8) -> bool
 }
 
 // Whether the instance of a token has one at a port with it.
-#[tactic(auto, using(crate::proofs::Quietly::has_at_port))]
+#[tactic(auto, using(crate::proofs::Parts::Quietly::has_at_port))]
 fn has_with(slots: &MatchStore, token: Token, port: u8) -> bool
     ensures { result ≡ has (with_at token.wave token.instr token.port (Some token.value)
         (partial_of slots.now.slots.items slots.now.spill) token.wave token.instr port) }

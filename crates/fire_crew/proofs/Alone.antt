@@ -8,8 +8,8 @@ use Rattle.ws_isa.specs.Sound.{Sound}
 use Rattle.df_core.specs.Core.{Key, has, operands_in}
 use Rattle.df_core.specs.Shown.{Tables as Part, TablesOk}
 use Rattle.df_core.specs.Rights.{IsRight}
-use Rattle.df_core.proofs.Owing.{nothing}
-use Rattle.df_core.proofs.Ports.{has_some}
+use Rattle.df_core.proofs.Telling.Owing.{nothing}
+use Rattle.df_core.proofs.Keeping.Ports.{has_some}
 use Rattle.match_table.specs.Matching.{Arrives, Full}
 use Rattle.match_table.specs.Tables.{held, TableContent}
 use Rattle.match_table.specs.Growth.{content_at}

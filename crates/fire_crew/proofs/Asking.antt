@@ -8,8 +8,8 @@ use Rattle.df_core.specs.Core.{HasFired}
 use Rattle.df_core.specs.Shown.{Buffer, Tables as Part, owed, plain_tokens, op_tokens, waits_if}
 use Rattle.df_core.specs.Began.{Began}
 use Rattle.df_core.specs.Rights.{Asked, operands_of}
-use Rattle.df_core.proofs.Owing.{nothing}
-use Rattle.df_core.proofs.Ports.{SameKey, with_key_cases}
+use Rattle.df_core.proofs.Telling.Owing.{nothing}
+use Rattle.df_core.proofs.Keeping.Ports.{SameKey, with_key_cases}
 use Rattle.store_buf.specs.declared.kept.Kept.{Kept}
 use Rattle.store_buf.specs.Requests.{entry_of, issued_in, issued_keys, kept_in, operands_if, answer_if}
 use Rattle.store_buf.specs.Holds.{Issues, Issued, stays, goes, stops}

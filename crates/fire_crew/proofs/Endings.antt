@@ -13,14 +13,14 @@ use Rattle.df_core.specs.Core.{State, Issue, Enabled, HasFired, Once, has, opera
 use Rattle.df_core.specs.Fit.{Fit, FiresAt, NoOp, RightToken}
 use Rattle.df_core.specs.Ends.{WholeRun, AtFault, Passed}
 use Rattle.df_core.specs.Shown.{Tables, Buffer, TablesOk, OwesNothing, NoneIssuable, owed, shown, lists}
-use Rattle.df_core.proofs.Facts.{WalkFacts}
-use Rattle.df_core.proofs.FromSound.{facts_of}
-use Rattle.df_core.proofs.PortsThere.{ports_there}
-use Rattle.df_core.proofs.Effects.{effect_is}
-use Rattle.df_core.proofs.Pauses.{no_op_no_write, mem_same}
-use Rattle.df_core.proofs.Ends.{one_fault}
-use Rattle.df_core.proofs.ShownFit.{lists_true}
-use Rattle.df_core.proofs.Firings.{StepsOf, none_fires, steps_of}
+use Rattle.df_core.proofs.Walked.Facts.{WalkFacts}
+use Rattle.df_core.proofs.Walked.FromSound.{facts_of}
+use Rattle.df_core.proofs.Walked.PortsThere.{ports_there}
+use Rattle.df_core.proofs.Walked.Effects.{effect_is}
+use Rattle.df_core.proofs.Walked.Pauses.{no_op_no_write, mem_same}
+use Rattle.df_core.proofs.Telling.Ends.{one_fault}
+use Rattle.df_core.proofs.Telling.ShownFit.{lists_true}
+use Rattle.df_core.proofs.Telling.Firings.{StepsOf, none_fires, steps_of}
 use Rattle.df_core.specs.Began.{Began}
 use Rattle.df_core.specs.Rights.{IsRight}
 use Rattle.store_buf.specs.declared.kept.Kept.{Kept}
@@ -30,7 +30,7 @@ use Rattle.store_buf.specs.Outdoors.{HoldsOut}
 use Rattle.store_buf.proofs.Outside.{out_of}
 use Rattle.fire_crew.specs.Owing.{AllKnown, HaveCome, IsMissing}
 use Rattle.fire_crew.specs.Ends.{AllRun, SomeRun, FaultRun}
-use Rattle.df_core.proofs.Owing.{nothing, some_only, waits_cases}
+use Rattle.df_core.proofs.Telling.Owing.{nothing, some_only, waits_cases}
 use Rattle.ws_words.proofs.Places.{nth_short}
 
 kept_of : (image : Image) (o : Option Kept) → is_some o ≡ true → (xs : List ℕ)

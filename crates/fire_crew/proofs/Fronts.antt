@@ -10,12 +10,12 @@ use Rattle.df_core.specs.Effect.{effect_at}
 use Rattle.df_core.specs.Core.{Chain, IsNext}
 use Rattle.df_core.specs.Fit.{NoOp, RightRequest, chain_at}
 use Rattle.df_core.specs.Ends.{FirstWithin}
-use Rattle.df_core.proofs.Facts.{WalkFacts}
-use Rattle.df_core.proofs.FromSound.{facts_of}
-use Rattle.df_core.proofs.PortsThere.{ports_there}
-use Rattle.df_core.proofs.Past.{past_is, plain_within}
-use Rattle.df_core.proofs.Effects.{effect_is}
-use Rattle.df_core.proofs.Pauses.{no_op_no_write, mem_same}
+use Rattle.df_core.proofs.Walked.Facts.{WalkFacts}
+use Rattle.df_core.proofs.Walked.FromSound.{facts_of}
+use Rattle.df_core.proofs.Walked.PortsThere.{ports_there}
+use Rattle.df_core.proofs.Walked.Past.{past_is, plain_within}
+use Rattle.df_core.proofs.Walked.Effects.{effect_is}
+use Rattle.df_core.proofs.Walked.Pauses.{no_op_no_write, mem_same}
 use Rattle.df_core.specs.Began.{Began}
 use Rattle.df_core.specs.Rights.{operands_of}
 use Rattle.store_buf.specs.Requests.{issued_in, answer_if, operands_if}

@@ -2,8 +2,10 @@
 use Rattle.std.proofs.Common.{◌≡◌, inl, inr, ℕ, zero, Bool, true, false, cond, List, [], ◌∷◌, ◌++◌, ◌+◌, ◌<◌}
 use Rattle.std.proofs.Common.{◌≤◌, suc, Option, Some, None, is_some, All, length, take, slice_index_or}
 use Rattle.std.proofs.Common.{add-one, arith, sym, refl, ap, ◌∙◌, subst}
-use Rattle.std.proofs.lemmas.Bool.{cases_lt}
-use Rattle.std.proofs.lemmas.List.{take_all, append_assoc}
+use Rattle.std.proofs.Common.{replicate, slice_set}
+use Rattle.std.proofs.lemmas.Bool.{cases_eq, cases_lt}
+use Rattle.std.proofs.lemmas.List.{take_all, append_assoc, get_or-set_same, get_or-set_other}
+use Rattle.std.proofs.lemmas.List.{get_or-replicate, get_or_past, length-replicate}
 use Rattle.std.proofs.lemmas.List.Elements.{All-get_or, All-more, All-push}
 use Rattle.ws_words.specs.Outside.{Outside}
 use Rattle.ws_isa.specs.declared.instr.Dest.{Dest}
@@ -12,8 +14,8 @@ use Rattle.ws_isa.specs.Walk.{Ports}
 use Rattle.df_core.specs.Core.{Key, HasFired, has, operands_in}
 use Rattle.ws_isa.specs.Walk.{start_tokens}
 use Rattle.df_core.specs.Shown.{Buffer, owed, plain_tokens, op_tokens}
-use Rattle.df_core.proofs.Ports.{has_some}
-use Rattle.df_core.proofs.SlotLists.{is_sent_append_cases}
+use Rattle.df_core.proofs.Keeping.Ports.{has_some}
+use Rattle.df_core.proofs.Walked.SlotLists.{is_sent_append_cases}
 use Rattle.df_core.specs.Rights.{operands_of}
 use Rattle.match_table.specs.Tables.{held, of_memory, TableContent}
 use Rattle.store_buf.specs.declared.kept.Kept.{Kept}
@@ -145,6 +147,23 @@ told_more image all from place c before now k d low high within = elim (cases_lt
   | inr x ↦ (let same : place ≡ k = omega (arith, high, x) in
       subst (λ (j : ℕ). ResultsCame image all (operands_in image (held c) (slice_index_or c.fired j d).wave
       (slice_index_or c.fired j d).instr) (slice_index_or c.fired j d)) same (now d))
+]
+
+-- each of some places that are 0, and each past them
+pub zero_at : (n k : ℕ) → slice_index_or (replicate {A = ℕ} n 0) k 0 ≡ 0
+zero_at n k = elim (cases_lt k n) [
+  | inl x ↦ get_or-replicate n k 0 0 x
+  | inr x ↦ get_or_past (replicate {A = ℕ} n 0) k 0
+      (let l = length-replicate {A = ℕ} n 0 in omega (arith, l, x))
+]
+
+-- one place is another now
+pub set_each : (P : ℕ → ℕ → Type 0) (xs : List ℕ) (n v : ℕ) → n < length xs → P n v → (k : ℕ)
+    → ((k ≡ n → ⊥) → P k (slice_index_or xs k 0)) → P k (slice_index_or (slice_set xs n v) k 0)
+set_each P xs n v lt now k before = elim (cases_eq k n) [
+  | inl e ↦ subst (λ (j : ℕ). P j (slice_index_or (slice_set xs n v) j 0)) (sym e)
+      (subst (λ (x : ℕ). P n x) (sym (get_or-set_same xs n v 0 lt)) now)
+  | inr ne ↦ subst (λ (x : ℕ). P k x) (sym (get_or-set_other xs n k v 0 ne)) (before ne)
 ]
 
 -- one stretch after another

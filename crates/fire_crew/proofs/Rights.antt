@@ -14,12 +14,12 @@ use Rattle.ws_isa.specs.Walk.{Inst}
 use Rattle.df_core.specs.Core.{Key, HasFired, IsSent, operands_in}
 use Rattle.df_core.specs.Fit.{FiresAt, RightToken, RightRequest}
 use Rattle.df_core.specs.Shown.{Tables, Buffer, TablesOk, BufferOk}
-use Rattle.df_core.proofs.Facts.{WalkFacts}
-use Rattle.df_core.proofs.FromSound.{facts_of}
-use Rattle.df_core.proofs.MatchKept.{same_inst, right_operands}
-use Rattle.df_core.proofs.PortsThere.{ports_there}
+use Rattle.df_core.proofs.Walked.Facts.{WalkFacts}
+use Rattle.df_core.proofs.Walked.FromSound.{facts_of}
+use Rattle.df_core.proofs.Keeping.MatchKept.{same_inst, right_operands}
+use Rattle.df_core.proofs.Walked.PortsThere.{ports_there}
 use Rattle.df_core.specs.Places.{destinations}
-use Rattle.df_core.proofs.Arriving.{ports_is_op, memory_is_op, sends_are, result_is_op}
+use Rattle.df_core.proofs.Parts.Arriving.{ports_is_op, memory_is_op, sends_are, result_is_op}
 use Rattle.df_core.specs.Rights.{operands_of}
 use Rattle.match_table.specs.declared.meeting.Operands.{Operands}
 use Rattle.match_table.specs.declared.table.Fired.{Fired}

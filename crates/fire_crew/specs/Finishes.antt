@@ -1,5 +1,6 @@
 -- What the run of a crew answers.
 use Rattle.std.specs.Prelude.{ℕ, ◌≡◌, ◌≤◌, ◌⊎◌, List, Option, length}
+use Rattle.match_table.specs.Tables.{TableContent}
 use Rattle.ws_words.specs.Outside.{World}
 use Rattle.ws_isa.specs.Image.{Image}
 use Rattle.df_core.specs.Core.{Key}
@@ -37,3 +38,7 @@ abbrev pub EndsSo : Image → World → List (Option Began) → ℕ → List Key
     List (Option Told) → RunFinish → Type 0
 EndsSo image world began budget listed handed back finish =
     ((finish ≡ NoMemory) × (back ≡ handed)) ⊎ FinishSo image world began budget listed back finish
+
+-- a run that doesn't end for want of memory leaves sixteen tables
+abbrev pub LeavesAll : RunFinish → List TableContent → Type 0
+LeavesAll finish tables = (finish ≡ NoMemory → ⊥) → length tables ≡ 16

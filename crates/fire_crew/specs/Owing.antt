@@ -6,6 +6,7 @@ use Rattle.ws_isa.specs.Walk.{Ports}
 use Rattle.df_core.specs.Core.{Key, HasFired, IsSent, operands_in}
 use Rattle.df_core.specs.Shown.{Tables as Part}
 use Rattle.df_core.specs.Rights.{operands_of}
+use Rattle.match_table.specs.Growth.{content_at}
 use Rattle.match_table.specs.Tables.{held, TableContent}
 use Rattle.store_buf.specs.declared.kept.Kept.{Kept}
 use Rattle.store_buf.specs.Requests.{entry_of}
@@ -39,6 +40,15 @@ ToldIn image all from to c = (k : ℕ) (d : Key) → from ≤ k → k < to → k
     ResultsCame image all
     (operands_in image (held c) (slice_index_or c.fired k d).wave (slice_index_or c.fired k d).instr)
     (slice_index_or c.fired k d)
+
+-- each that a table lists before its place here has told so
+abbrev pub ToldUpTo : Image → Ports → List ℕ → List TableContent → Type 0
+ToldUpTo image all places cs = (k : ℕ) → k < length cs →
+    ToldIn image all 0 (slice_index_or places k 0) (content_at cs k)
+
+-- these places are past all that the tables list
+abbrev pub AllPast : List ℕ → List TableContent → Type 0
+AllPast places cs = (k : ℕ) → k < length cs → length (content_at cs k).fired ≤ slice_index_or places k 0
 
 -- if it is issued, its result tokens have come to their tables
 abbrev pub HasAnswered : Image → Ports → Kept → Type 0

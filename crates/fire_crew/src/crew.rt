@@ -1,15 +1,15 @@
 //! The run of a crew.
 
-ghost use Rattle.std.specs.Prelude.{◌≡◌, ◌+◌, ◌*◌, ◌≤◌, ◌-◌, ℕ, [], length};
+ghost use Rattle.std.specs.Prelude.{◌≡◌, ◌+◌, ◌*◌, ◌≤◌, ◌-◌, ℕ, [], IfOk, length};
 ghost use Rattle.ws_isa.specs.Walk.{CostAtMost};
 ghost use Rattle.port_set.specs.Slots.{AllOpen, contents};
 ghost use Rattle.store_buf.specs.Outdoors.{AllBegan};
 ghost use Rattle.match_table.specs.Growth.{AllGrow};
 ghost use Rattle.match_table.specs.Rows.{contents as all_contents};
 ghost use Rattle.match_table.specs.Together.{AllServe, part_of};
-ghost use Rattle.store_buf.specs.declared.finish.RunFinish.TheVariants.{NoMemory};
+ghost use Rattle.store_buf.specs.declared.finish.RunFinish.TheVariants as finish;
 ghost use Rattle.fire_crew.specs.Ends.{IsGoing};
-ghost use Rattle.fire_crew.specs.Finishes.{EndsSo};
+ghost use Rattle.fire_crew.specs.Finishes.{EndsSo, LeavesAll};
 ghost use Rattle.fire_crew.specs.Verdicts.{EndingSo, MovedOn};
 
 use crate::Gate;
@@ -25,7 +25,7 @@ use std::alloc::Global;
 use std::sync::Wait;
 use std::thread::Threads;
 use store_buf::{Buffer, RunFinish};
-use ws_words::Words;
+use ws_words::{NoMemory, Words};
 
 /// Who runs an image: from 1 to 8 workers, and the gate that each asks before it brings a token. They go on
 /// until so many instances have fired.
@@ -145,8 +145,12 @@ impl<'a, G: Gate, R: Threads + Wait + Sync> Crew<'a, G, R> {
         ensures within { length (part_of result.tables).fired ≤ self.now.budget }
         ensures finish { EndsSo J.image J.world J.began self.now.budget (part_of result.tables).fired
             (contents P.tells ports) (contents P.tells result.ports) result.finish }
+        ensures all { LeavesAll result.finish (all_contents result.tables) }
         ensures open { AllOpen (contents P.tells result.ports) }
     {
+        let Ok(tables) = fresh_tables(self.alloc) else {
+            return starved_crew(self.alloc, ports);
+        };
         match Buffer::begin(self.alloc, code, input, ports) {
             Ok(buffer) => {
                 let CrewLeft {
@@ -154,7 +158,7 @@ impl<'a, G: Gate, R: Threads + Wait + Sync> Crew<'a, G, R> {
                     buffer,
                     ending,
                     phases: _,
-                } = self.run_from(code, buffer);
+                } = self.run_from(code, tables, buffer);
                 let end = crew_end(code, &tables, buffer, ending, self.budget);
                 CrewEnd {
                     finish: end.finish,
@@ -170,19 +174,22 @@ impl<'a, G: Gate, R: Threads + Wait + Sync> Crew<'a, G, R> {
     fn run_from<J: Job + Send + Sync, P: Port + Send>(
         &self,
         code: &Code<'_, J>,
+        tables: Tables<J>,
         buffer: Buffer<J, P>,
     ) -> CrewLeft<J, P>
+        requires serve { AllServe tables }
+        requires fresh { length (part_of tables).fired ≡ 0 }
         requires going { IsGoing buffer }
         requires none { buffer.kept ≡ [] }
         ensures serve { AllServe result.tables }
+        ensures as_many { length (all_contents result.tables) ≡ length (all_contents tables) }
         ensures within { length (part_of result.tables).fired ≤ self.now.budget }
         ensures ended { EndingSo J.image J.world J.began (part_of result.tables).fired
             (self.now.budget - length (part_of result.tables).fired) result.buffer result.ending }
     {
         if self.workers == 1 {
-            return run_solo(self.alloc, code, buffer, self.budget, self.gate);
+            return run_solo(self.alloc, code, tables, buffer, self.budget, self.gate);
         }
-        let tables = no_tables(self.alloc);
         self.run_on(code, tables, buffer)
     }
 }
@@ -191,22 +198,34 @@ impl<'a, G: Gate, R: Threads + Wait + Sync> Crew<'a, G, R> {
 pub fn starved_crew<J: Job, P: Port>(alloc: Global, ports: Slots<P>) -> CrewEnd<J, P>
     ensures serve { AllServe result.tables }
     ensures none { length (part_of result.tables).fired ≡ 0 }
-    ensures finish { result.finish ≡ NoMemory }
+    ensures finish { result.finish ≡ finish.NoMemory }
     ensures ports { result.ports ≡ ports }
 {
     CrewEnd {
         finish: RunFinish::NoMemory,
         ports,
-        tables: no_tables(alloc),
+        tables: Tables::none(alloc),
     }
 }
 
-/// Tables that have had no token.
+// Sixteen tables that have had no token.
+fn fresh_tables<J: Job>(alloc: Global) -> Result<Tables<J>, NoMemory>
+    ensures all { IfOk result (λ tables. length (all_contents tables) ≡ 16) }
+    ensures serve { IfOk result (λ tables. AllServe tables) }
+    ensures none { IfOk result (λ tables. length (part_of tables).fired ≡ 0) }
+{
+    let tables = Tables::new(alloc)?;
+    fitting(&tables, &[0; 16]);
+    Ok(tables)
+}
+
+/// Tables that have had no token: sixteen, or none for want of memory.
 pub fn no_tables<J: Job>(alloc: Global) -> Tables<J>
     ensures serve { AllServe result }
     ensures none { length (part_of result).fired ≡ 0 }
 {
-    let tables = Tables::new(alloc);
-    fitting(&tables, &[0; 16]);
-    tables
+    match fresh_tables(alloc) {
+        Ok(tables) => tables,
+        Err(_) => Tables::none(alloc),
+    }
 }

@@ -1,12 +1,12 @@
 //! Tokens that are owed.
 
-ghost use Rattle.std.specs.Prelude.{◌≡◌, ◌<◌, ◌≤◌, ℕ, [], All, OnOk, IfOk, length};
+ghost use Rattle.std.specs.Prelude.{◌≡◌, ◌<◌, ◌≤◌, [], All, OnOk, IfOk, length, false};
 ghost use Rattle.ws_words.specs.Outside.{Outside};
 ghost use Rattle.df_core.specs.Shown.{owed};
 ghost use Rattle.match_table.specs.Growth.{content_at};
 ghost use Rattle.match_table.specs.Rows.{contents};
 ghost use Rattle.store_buf.specs.Contents.{buffer_in};
-ghost use Rattle.fire_crew.specs.Owing.{HasAnswered, HaveCome, IsMissing, ToldIn};
+ghost use Rattle.fire_crew.specs.Owing.{HasAnswered, HaveCome, IsMissing, AllPast, ToldIn, ToldUpTo};
 ghost use Rattle.match_table.specs.Together.{AllServe, part_of};
 
 use crate::owed::{keep, look_up, see_at};
@@ -18,8 +18,9 @@ use store_buf::{Buffer, MemoryOrder};
 use ws_words::NoMemory;
 
 /// The tokens that tables and a buffer owe and that no table has had: the start pulse's, and the
-/// results of instances that have fired and of operations that are issued. What fired last is looked
-/// at first, and once so many are found no more are looked for.
+/// results of instances that have fired and of operations that are issued. Tables are looked at side by
+/// side, wave by wave, and once so many are found no more are looked for. Where not all are wanted, those
+/// that fired last are looked at before.
 pub fn missing<J: Job, P: Port>(
     alloc: Global,
     code: &Code<'_, J>,
@@ -38,114 +39,154 @@ pub fn missing<J: Job, P: Port>(
     let mut found = TokenList::empty(alloc);
     let mut courses = courses_of(tables);
     keep(tables, &mut courses, start(alloc, code)?, &mut found)?;
-    let longest = longest(tables);
-    let mut to = longest;
-    while to > 0 && found.len() < most {
-        let from = to.saturating_sub((longest - to).max(LAST));
-        look_along(code, tables, &mut courses, from, to, &mut found)?;
-        to = from;
+    look_last(code, tables, &mut courses, most, &mut found)?;
+    let mut places = begin(tables);
+    let latest = latest(tables);
+    let stretch = stretch_of(tables, latest);
+    let mut left = latest;
+    while left > 0 && found.len() < most {
+        left = left.saturating_sub(stretch);
+        let wave = latest.saturating_sub(left);
+        look_across(code, tables, &mut courses, &mut places, wave, &mut found)?;
     }
     if found.len() >= most {
         return Ok(found);
     }
+    look_across(code, tables, &mut courses, &mut places, ALL, &mut found)?;
     look_back(code, tables, &mut courses, buffer, &mut found)?;
     Ok(found)
 }
 
-// How many instances of each table are looked at first, of those that fired last. Then twice as many are, and
-// so on, so that all that is looked at is at most twice what has to be.
+// How many instances of each table are looked at first, of those that fired last, where not all tokens are
+// wanted.
 const LAST: usize = 64;
 
-// How many instances of each table are looked at before the next table's. What fired together in all
-// tables is looked at together, so that what they hold is near.
-const STRETCH: usize = 8;
-
-// As many as the table lists that lists the most.
-fn longest<J: Job>(tables: &Tables<J>) -> usize
-    ensures { (k : ℕ) → k < length (contents tables.now)
-        → length (content_at (contents tables.now) k).fired ≤ result }
-{
-    let mut longest = 0;
-    for number in 0..count_of(tables) {
-        longest = table_at(tables, number).fired_count().max(longest);
-    }
-    longest
-}
-
-// Those that the tables owe for the instances that they list from one place to before another. They are
-// looked at in the order of firing.
-fn look_along<J: Job>(
+// Those among the last that tables list, where not all are wanted.
+fn look_last<J: Job>(
     code: &Code<'_, J>,
     tables: &Tables<J>,
     courses: &mut [Course; 16],
-    from: usize,
-    to: usize,
+    most: usize,
     found: &mut TokenList<J>,
 ) -> Result<(), NoMemory>
     requires { All (IsMissing (part_of tables.now).held) found.old }
     ensures missing { OnOk result (All (IsMissing (part_of tables.now).held) found.new) }
-    ensures none { OnOk result (found.new ≡ [] → (found.old ≡ [])
-        × ((k : ℕ) → k < length (contents tables.now) → ToldIn J.image (part_of tables.now).held from to
-        (content_at (contents tables.now) k))) }
+    ensures none { OnOk result (found.new ≡ [] → found.old ≡ []) }
 {
-    let mut at = from;
-    while at < to {
-        let next = at.saturating_add(STRETCH).min(to);
-        look_across(code, tables, courses, at, next, found)?;
-        at = next;
+    if most == usize::MAX {
+        return Ok(());
     }
-    Ok(())
+    let mut places = last_places(tables);
+    look_across(code, tables, courses, &mut places, ALL, found)
 }
 
-// Those that each table owes for the instances that it lists from one place to before another.
+// The places of the last that tables list.
+fn last_places<J: Job>(tables: &Tables<J>) -> [usize; 16] {
+    let mut places = [0; 16];
+    for number in 0..count_of(tables) {
+        let count = table_at(tables, number).fired_count();
+        places[number as usize] = count.saturating_sub(LAST);
+    }
+    places
+}
+
+// The first place of each table.
+fn begin<J: Job>(tables: &Tables<J>) -> [usize; 16]
+    ensures { ToldUpTo J.image (part_of tables.now).held result (contents tables.now) }
+{
+    let _ = tables;
+    [0; 16]
+}
+
+// About how many instances of a table are looked at before those of the next one.
+const STRETCH: u64 = 8;
+
+// Stands for the last of all waves.
+const ALL: u64 = 0;
+
+// In how many waves tables fire about so many instances each. Any number but 0 serves.
+fn stretch_of<J: Job>(tables: &Tables<J>, latest: u64) -> u64
+    ensures { 0 < result }
+{
+    let mut fired = 1;
+    for number in 0..count_of(tables) {
+        fired = table_at(tables, number).fired_count().max(fired);
+    }
+    (latest / (fired as u64 / STRETCH).max(1)).max(1)
+}
+
+// The last wave of which a table lists one last. Any number serves.
+fn latest<J: Job>(tables: &Tables<J>) -> u64 {
+    let mut latest = 0;
+    for number in 0..count_of(tables) {
+        let table = table_at(tables, number);
+        if let Some(last) = table.fired_count().checked_sub(1) {
+            latest = table.key_at(last).0.max(latest);
+        }
+    }
+    latest
+}
+
+// Those that each table owes for the instances that it lists from its place on, up to the first that is of a
+// later wave than this one.
 fn look_across<J: Job>(
     code: &Code<'_, J>,
     tables: &Tables<J>,
     courses: &mut [Course; 16],
-    from: usize,
-    to: usize,
+    places: &mut [usize; 16],
+    wave: u64,
     found: &mut TokenList<J>,
 ) -> Result<(), NoMemory>
     requires { All (IsMissing (part_of tables.now).held) found.old }
     ensures missing { OnOk result (All (IsMissing (part_of tables.now).held) found.new) }
     ensures none { OnOk result (found.new ≡ [] → (found.old ≡ [])
-        × ((k : ℕ) → k < length (contents tables.now) → ToldIn J.image (part_of tables.now).held from to
-        (content_at (contents tables.now) k))) }
+        × (ToldUpTo J.image (part_of tables.now).held places.old (contents tables.now)
+        → ToldUpTo J.image (part_of tables.now).held places.new (contents tables.now))) }
+    ensures all { OnOk result (wave ≡ 0 → AllPast places.new (contents tables.now)) }
 {
     for number in 0..count_of(tables) {
-        look_through(
-            code,
-            tables,
-            courses,
-            table_at(tables, number),
-            from,
-            to,
-            found,
-        )?;
+        let from = places[number as usize];
+        let table = table_at(tables, number);
+        let to = look_through(code, tables, courses, table, from, wave, found)?;
+        places[number as usize] = to;
     }
     Ok(())
 }
 
-// Those that one table owes for them.
+// Those that one table owes for the instances that it lists from a place on, up to the first that is of a
+// later wave than this one. Answers where that is, or would be.
 fn look_through<J: Job>(
     code: &Code<'_, J>,
     tables: &Tables<J>,
     courses: &mut [Course; 16],
     table: &Table<J>,
     from: usize,
-    to: usize,
+    wave: u64,
     found: &mut TokenList<J>,
-) -> Result<(), NoMemory>
+) -> Result<usize, NoMemory>
     requires { All (IsMissing (part_of tables.now).held) found.old }
     ensures missing { OnOk result (All (IsMissing (part_of tables.now).held) found.new) }
-    ensures none { OnOk result (found.new ≡ [] → (found.old ≡ [])
+    ensures none { IfOk result (λ to. found.new ≡ [] → (found.old ≡ [])
         × ToldIn J.image (part_of tables.now).held from to table.now) }
+    ensures all { IfOk result (λ to. wave ≡ 0 → length table.now.fired ≤ to) }
 {
-    let end = table.fired_count().min(to);
+    let end = table.fired_count();
     for place in from..end {
+        if is_later(table, place, wave) {
+            return Ok(place);
+        }
         see_at(code, tables, courses, table, place, found)?;
     }
-    Ok(())
+    Ok(from.max(end))
+}
+
+// Whether the instance that a table lists at a place is of a later wave than this one.
+#[inline(always)]
+fn is_later<J: Job>(table: &Table<J>, place: usize, wave: u64) -> bool
+    requires { place < length table.now.fired }
+    ensures { wave ≡ 0 → result ≡ false }
+{
+    wave != ALL && table.key_at(place).0 > wave
 }
 
 // Those that the buffer owes.

@@ -5,7 +5,8 @@ ghost use Rattle.port_set.specs.Slots.{AllOpen, contents};
 ghost use Rattle.store_buf.specs.Outdoors.{AllTell, began_of, world_with};
 ghost use Rattle.match_table.specs.Together.{AllServe, part_of};
 ghost use Rattle.store_buf.specs.Answer.{RunTells};
-ghost use Rattle.fire_crew.specs.Finishes.{EndsSo};
+ghost use Rattle.match_table.specs.Rows.{contents as all_contents};
+ghost use Rattle.fire_crew.specs.Finishes.{EndsSo, LeavesAll};
 
 use crate::Gate;
 use crate::crew::{Crew, starved_crew};
@@ -42,6 +43,7 @@ pub fn crew_run<J: Job + Send + Sync, P: Port + Send, G: Gate, R: Threads + Wait
     ensures within { length (part_of result.tables).fired ≤ budget }
     ensures finish { EndsSo J.image J.world J.began budget (part_of result.tables).fired
         (contents P.tells ports) (contents P.tells result.ports) result.finish }
+    ensures all { LeavesAll result.finish (all_contents result.tables) }
     ensures open { AllOpen (contents P.tells result.ports) }
 {
     let crew = Crew {
@@ -113,6 +115,7 @@ impl<'a, G: Gate, R: Threads + Wait + Sync> Crew<'a, G, R> {
         ensures within { length (part_of result.tables).fired ≤ self.now.budget }
         ensures finish { EndsSo J.image J.world J.began self.now.budget (part_of result.tables).fired
             (contents P.tells ports) (contents P.tells result.ports) result.finish }
+        ensures all { LeavesAll result.finish (all_contents result.tables) }
         ensures open { AllOpen (contents P.tells result.ports) }
     {
         told_ports_begin();

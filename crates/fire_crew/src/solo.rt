@@ -4,6 +4,7 @@ ghost use Rattle.std.specs.Prelude.{◌≡◌, ◌+◌, ◌-◌, ◌<◌, ◌≤
 ghost use Rattle.ws_isa.specs.Walk.{start_tokens};
 ghost use Rattle.df_core.specs.Core.{has};
 ghost use Rattle.store_buf.specs.Runs.{Covers};
+ghost use Rattle.match_table.specs.Rows.{contents};
 ghost use Rattle.match_table.specs.Together.{AllServe, part_of};
 ghost use Rattle.fire_crew.specs.Ends.{AllRun, IsGoing, SomeRun};
 ghost use Rattle.fire_crew.specs.Owing.{AllKnown};
@@ -11,7 +12,7 @@ ghost use Rattle.fire_crew.specs.Solo.{AsksSo, GoesOn, Paid, ending_of};
 ghost use Rattle.fire_crew.specs.Verdicts.{EndingSo};
 
 use crate::Gate;
-use crate::crew::{CrewLeft, no_tables};
+use crate::crew::CrewLeft;
 use crate::ends::{all_run, some_run};
 use crate::judge::Ending;
 use df_core::{Code, Job, Request, Token, start};
@@ -39,19 +40,23 @@ struct Solo<'i, J: Job, P: Port> {
 pub fn run_solo<J: Job, P: Port, G: Gate>(
     alloc: Global,
     code: &Code<'_, J>,
+    tables: Tables<J>,
     buffer: Buffer<J, P>,
     budget: u64,
     gate: &G,
 ) -> CrewLeft<J, P>
+    requires serve { AllServe tables }
+    requires fresh { length (part_of tables).fired ≡ 0 }
     requires going { IsGoing buffer }
     requires none { buffer.kept ≡ [] }
     ensures serve { AllServe result.tables }
+    ensures as_many { length (contents result.tables) ≡ length (contents tables) }
     ensures within { length (part_of result.tables).fired ≤ budget }
     ensures ended { EndingSo J.image J.world J.began (part_of result.tables).fired
         (budget - length (part_of result.tables).fired) result.buffer result.ending }
 {
     let mut run = Solo {
-        tables: no_tables(alloc),
+        tables,
         buffer,
         way: Rounds::none(alloc),
         results: Results::none(),
@@ -80,6 +85,7 @@ fn run_through<'i, J: Job, P: Port, G: Gate>(
     requires none { run.old.buffer.kept ≡ [] }
     requires sent { run.old.results.sent ≡ [] }
     ensures serve { AllServe run.new.tables }
+    ensures as_many { length (contents run.new.tables) ≡ length (contents run.old.tables) }
     ensures count { length (part_of run.new.tables).fired + run.new.left ≡ run.old.left }
     ensures ended { EndingSo J.image J.world J.began (part_of run.new.tables).fired run.new.left
         run.new.buffer result }
@@ -108,6 +114,7 @@ fn go_on<'i, J: Job, P: Port, G: Gate>(
     requires paid { Paid J.image (part_of run.old.tables) run.old.buffer
         (run.old.results.sent ++ run.old.way) }
     ensures serve { AllServe run.new.tables }
+    ensures as_many { length (contents run.new.tables) ≡ length (contents run.old.tables) }
     ensures count { length (part_of run.new.tables).fired + run.new.left
         ≡ length (part_of run.old.tables).fired + run.old.left }
     ensures ended { EndingSo J.image J.world J.began (part_of run.new.tables).fired run.new.left
@@ -132,6 +139,7 @@ fn step<'i, J: Job, P: Port, G: Gate>(
     requires paid { Paid J.image (part_of run.old.tables) run.old.buffer
         (run.old.results.sent ++ run.old.way) }
     ensures serve { AllServe run.new.tables }
+    ensures as_many { length (contents run.new.tables) ≡ length (contents run.old.tables) }
     ensures count { length (part_of run.new.tables).fired + run.new.left
         ≡ length (part_of run.old.tables).fired + run.old.left }
     ensures goes { GoesOn J.image J.world J.began (part_of run.new.tables) run.new.left run.new.buffer
@@ -199,6 +207,7 @@ fn bring_on<'i, J: Job, P: Port>(
     requires some { 0 < run.old.left }
     requires paid { Paid J.image (part_of run.old.tables) run.old.buffer (token ∷ run.old.way) }
     ensures serve { AllServe run.new.tables }
+    ensures as_many { length (contents run.new.tables) ≡ length (contents run.old.tables) }
     ensures count { length (part_of run.new.tables).fired + run.new.left
         ≡ length (part_of run.old.tables).fired + run.old.left }
     ensures goes { GoesOn J.image J.world J.began (part_of run.new.tables) run.new.left run.new.buffer

@@ -8,7 +8,7 @@ ghost use Rattle.match_table.specs.Together.{part_of};
 ghost use Rattle.fire_crew.specs.Owing.{ResultsCameAt, HaveCome};
 
 use df_core::{Code, Job};
-use match_table::{Course, Table, Tables, holds, number_of, selector};
+use match_table::{Course, Table, Tables, holds, number_of, selector, table_of};
 use ws_isa::{Dest, Op};
 
 // Whether all that the instance owes has come that fired at this place of a table's list. What it sends isn't
@@ -32,20 +32,27 @@ pub(crate) fn has_told<J: Job>(
     let Some(number) = number_of(op, wave) else {
         return false;
     };
-    let choice = choice_at(code, table, place, op);
+    let course = &mut courses[table_of(wave, instr) as usize];
+    let choice = choice_at(code, course, table, place, op);
     let dests = code.program().destinations(instr, choice);
     have_come(tables, courses, number, dests)
 }
 
 // The operand by which it chooses where its result goes.
 #[inline(always)]
-fn choice_at<J: Job>(code: &Code<'_, J>, table: &Table<J>, place: usize, op: Op) -> u64
+fn choice_at<J: Job>(
+    code: &Code<'_, J>,
+    course: &mut Course,
+    table: &Table<J>,
+    place: usize,
+    op: Op,
+) -> u64
     requires { place < length table.now.fired }
     ensures { (d : Key) → result ≡ selector_of op (operands_in J.image (held table.now)
         (slice_index_or table.now.fired place d).wave (slice_index_or table.now.fired place d).instr) }
 {
     match op {
-        Op::Steer | Op::Send(_) => selector(op, table.fired_at(code, place).operands),
+        Op::Steer | Op::Send(_) => selector(op, table.fired_on(course, code, place).operands),
         _ => 0,
     }
 }

@@ -1,14 +1,13 @@
 //! Requests that a buffer doesn't know.
 
-ghost use Rattle.std.specs.Prelude.{◌≡◌, [], All, OnOk, IfOk};
-ghost use Rattle.df_core.specs.Fit.{RightRequest};
-ghost use Rattle.match_table.specs.Ports.{listed};
-ghost use Rattle.match_table.specs.Tables.{key_of, of_memory};
+ghost use Rattle.std.specs.Prelude.{◌≡◌, ◌<◌, [], All, OnOk, IfOk, length, slice_index_or};
+ghost use Rattle.df_core.specs.Core.{Key};
+ghost use Rattle.match_table.specs.Tables.{of_memory};
 ghost use Rattle.match_table.specs.Together.{part_of};
 ghost use Rattle.fire_crew.specs.Owing.{AllKnown, IsKnown};
 
 use df_core::{Code, Job, Request};
-use match_table::{Fired, Table, Tables, count_of, table_at};
+use match_table::{Table, Tables, count_of, table_at};
 use port_set::Port;
 use std::alloc::Global;
 use store_buf::{Buffer, MemoryOrder};
@@ -41,29 +40,31 @@ fn note_all_unknown<J: Job, P: Port>(
     ensures { OnOk result (requests.new.items ≡ [] → (requests.old.items ≡ [])
         × All (IsKnown buffer.now.kept) (of_memory J.image table.now.fired)) }
 {
-    table.facts();
-    code.facts();
     for place in 0..table.asked_count() {
-        note_unknown(code, table.asked_at(code, place), buffer, requests)?;
+        note_unknown(code, table, place, buffer, requests)?;
     }
     Ok(())
 }
 
-// That of one instance of memory.
+// That of the instance of memory that fired at this place of a table's list of those.
 fn note_unknown<J: Job, P: Port>(
     code: &Code<'_, J>,
-    fired: Fired,
+    table: &Table<J>,
+    place: usize,
     buffer: &Buffer<J, P>,
     requests: &mut Vec<Request<J>>,
 ) -> Result<(), NoMemory>
-    requires { RightRequest J.image J.world fired.wave fired.instr (listed fired.operands) }
-    ensures { OnOk result (requests.new.items ≡ [] → (requests.old.items ≡ [])
-        × IsKnown buffer.now.kept (key_of fired)) }
+    requires { place < length (of_memory J.image table.now.fired) }
+    ensures { OnOk result (requests.new.items ≡ [] → (requests.old.items ≡ []) × ((d : Key)
+        → IsKnown buffer.now.kept (slice_index_or (of_memory J.image table.now.fired) place d))) }
 {
-    code.facts();
-    if buffer.knows(fired.wave, fired.instr) {
+    let (wave, instr) = table.asked_key_at(place);
+    if buffer.knows(wave, instr) {
         return Ok(());
     }
+    table.facts();
+    code.facts();
+    let fired = table.asked_at(code, place);
     let first = fired.operands.first();
     let second = fired.operands.second();
     requests.push(Request::right(fired.wave, fired.instr, first, second))?;

@@ -12,7 +12,7 @@ use Rattle.grid_clock.specs.Clocks.{last_cycle}
 use Rattle.grid_clock.specs.Schedule.{Grid, Cycle, Stopping, Cycles, blocked, stops, goes, Schedule, in_cycle}
 use Rattle.grid_clock.specs.Rules.{of_cycle, before_cycle, IsCycle}
 use Rattle.grid_clock.proofs.Listing.{cycle_run}
-use Rattle.df_core.proofs.Same.{same_refl}
+use Rattle.df_core.proofs.Keeping.Same.{same_refl}
 
 -- the events of one cycle among those of another
 of_own : (n : ℕ) (es : List Made) (more : List Timed) → of_cycle n (in_cycle n es ++ more) ≡ map event_of es

@@ -12,10 +12,10 @@ use Rattle.df_core.specs.declared.flow.Flow.{Flow}
 use Rattle.df_core.specs.Chains.{chain_of, next_flag, may_flag}
 use Rattle.df_core.specs.Flows.{GoingBeside, asked_at, AskedMay, NoneAskedMay, FlowIs}
 use Rattle.df_core.specs.Partial.{listed}
-use Rattle.df_core.proofs.Driving.{has_at, flagged}
-use Rattle.df_core.proofs.Bounds.{has_asked}
-use Rattle.df_core.proofs.Nexts.{next_is}
-use Rattle.df_core.proofs.Firsts.{next_first}
+use Rattle.df_core.proofs.Parts.Driving.{has_at, flagged}
+use Rattle.df_core.proofs.Telling.Bounds.{has_asked}
+use Rattle.df_core.proofs.Parts.Nexts.{next_is}
+use Rattle.df_core.proofs.Telling.Firsts.{next_first}
 use Rattle.grid_clock.specs.Schedule.{FirstIssue}
 use Rattle.grid_clock.specs.During.{IsFirst, Least}
 

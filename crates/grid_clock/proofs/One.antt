@@ -10,13 +10,13 @@ use Rattle.ws_isa.specs.Sound.{Sound, seq}
 use Rattle.ws_isa.specs.Walk.{Inst, fires}
 use Rattle.df_core.specs.Core.{State, Event, Match, Issue, Step, Enabled, with_at, core_opening}
 use Rattle.df_core.specs.Fit.{RightToken, Fit}
-use Rattle.df_core.proofs.Facts.{WalkFacts}
-use Rattle.df_core.proofs.FromSound.{facts_of}
-use Rattle.df_core.proofs.PortsThere.{ports_there}
-use Rattle.df_core.proofs.Reachable.{step_kept}
-use Rattle.df_core.proofs.Making.{alone}
-use Rattle.df_core.proofs.Ports.{with_at_cases, full_all}
-use Rattle.df_core.proofs.Reached.{reached}
+use Rattle.df_core.proofs.Walked.Facts.{WalkFacts}
+use Rattle.df_core.proofs.Walked.FromSound.{facts_of}
+use Rattle.df_core.proofs.Walked.PortsThere.{ports_there}
+use Rattle.df_core.proofs.Keeping.Reachable.{step_kept}
+use Rattle.df_core.proofs.Keeping.Making.{alone}
+use Rattle.df_core.proofs.Keeping.Ports.{with_at_cases, full_all}
+use Rattle.df_core.proofs.Keeping.Reached.{reached}
 use Rattle.df_core.specs.declared.engine.Event.{Event as Made}
 use Rattle.df_core.specs.declared.engine.Event.TheVariants as made
 use Rattle.df_core.specs.declared.answer.Done.{Done}
@@ -33,9 +33,9 @@ use Rattle.grid_clock.specs.Schedule.{Grid, Fires, FiresNothing, IsOld, NoIssue,
 use Rattle.grid_clock.specs.Schedule.{no_issue, issue, Quiets, no_quiet, quiet, Turns, no_turn, idle, turn}
 use Rattle.grid_clock.specs.Schedule.{Cycle, Stopping, Blocked, Cycles, blocked, stops, goes, Schedule}
 use Rattle.grid_clock.specs.Schedule.{in_cycle}
-use Rattle.df_core.proofs.Firsts.{same_op}
-use Rattle.df_core.proofs.States.{same_is}
-use Rattle.df_core.proofs.Same.{same_refl}
+use Rattle.df_core.proofs.Telling.Firsts.{same_op}
+use Rattle.df_core.proofs.Keeping.States.{same_is}
+use Rattle.df_core.proofs.Keeping.Same.{same_refl}
 use Rattle.ws_words.proofs.Places.{nth_short}
 
 -- of numbers in order

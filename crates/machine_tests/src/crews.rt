@@ -99,7 +99,7 @@ fn phase<J: Job, R: Wait>(
     let code: Code<'_, J> = Code::of(alloc, image)?;
     let mut way: Vec<Token<J>> = Vec::new(alloc);
     take_all(start(alloc, &code)?, &mut way)?;
-    let tables: Tables<J> = Tables::new(alloc);
+    let tables: Tables<J> = Tables::new(alloc)?;
     let (count, most) = counted::<J, Brand, R>(rt, alloc, tables, limits, &code, &mut way);
     Ok((count?, most))
 }

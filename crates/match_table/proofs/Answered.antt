@@ -13,10 +13,10 @@ use Rattle.ws_isa.specs.Sound.{Sound}
 use Rattle.ws_isa.specs.Walk.{gather}
 use Rattle.df_core.specs.Core.{IsSent, Key, has, is_full, with_at, same_key, operands_in}
 use Rattle.df_core.specs.Fit.{RightToken, RightRequest}
-use Rattle.df_core.proofs.Facts.{WalkFacts}
-use Rattle.df_core.proofs.FromSound.{facts_of}
-use Rattle.df_core.proofs.PortsThere.{ports_there}
-use Rattle.df_core.proofs.Arriving.{ports_is_op, memory_is_op, sends_are, result_is_op}
+use Rattle.df_core.proofs.Walked.Facts.{WalkFacts}
+use Rattle.df_core.proofs.Walked.FromSound.{facts_of}
+use Rattle.df_core.proofs.Walked.PortsThere.{ports_there}
+use Rattle.df_core.proofs.Parts.Arriving.{ports_is_op, memory_is_op, sends_are, result_is_op}
 use Rattle.df_core.specs.Rights.{IsRight, operands_of}
 use Rattle.match_table.specs.declared.entry.Arrived.{Arrived}
 use Rattle.match_table.specs.declared.entry.Page.{Page}

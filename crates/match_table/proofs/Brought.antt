@@ -5,8 +5,8 @@ use Rattle.std.proofs.lemmas.Bool.{cases_eq}
 use Rattle.std.proofs.lemmas.List.{append-nil, get_or-set_other, set-get_or}
 use Rattle.ws_isa.specs.Image.{Image, Token, ports}
 use Rattle.df_core.specs.Core.{Key, HasFired, operands_in, with_at}
-use Rattle.df_core.proofs.Ports.{with_at_cases}
-use Rattle.df_core.proofs.StandsMatch.{gather_agree}
+use Rattle.df_core.proofs.Keeping.Ports.{with_at_cases}
+use Rattle.df_core.proofs.Parts.StandsMatch.{gather_agree}
 use Rattle.match_table.specs.Matching.{Arrives, Full}
 use Rattle.match_table.specs.Tables.{held, TableContent}
 use Rattle.match_table.specs.Growth.{content_at, no_content}

@@ -4,7 +4,7 @@ use Rattle.std.proofs.Common.{Some, None, length, length-append, slice_set, sym,
 use Rattle.ws_isa.specs.Image.{Image, Token}
 use Rattle.ws_isa.specs.Walk.{Ports}
 use Rattle.df_core.specs.Core.{IsSent, has}
-use Rattle.df_core.proofs.Ports.{has_some, with_at_same}
+use Rattle.df_core.proofs.Keeping.Ports.{has_some, with_at_same}
 use Rattle.match_table.specs.declared.table.Results.{Results}
 use Rattle.match_table.specs.declared.table.Took.{Took}
 use Rattle.match_table.specs.declared.table.Took.TheVariants as took

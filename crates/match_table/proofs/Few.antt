@@ -9,11 +9,11 @@ use Rattle.ws_isa.specs.Sound.{Sound}
 use Rattle.ws_isa.specs.Walk.{Ports, CostAtMost, walk}
 use Rattle.df_core.specs.Core.{Apart, HasFired, IsSent, Key, Once, key_of_token}
 use Rattle.df_core.specs.Fit.{RightToken}
-use Rattle.df_core.proofs.Facts.{WalkFacts}
-use Rattle.df_core.proofs.FromSound.{facts_of}
-use Rattle.df_core.proofs.PortsThere.{ports_there}
-use Rattle.df_core.proofs.Counting.{count_within, keys_of, walk_has}
-use Rattle.df_core.proofs.Arriving.{ports_is_op}
+use Rattle.df_core.proofs.Walked.Facts.{WalkFacts}
+use Rattle.df_core.proofs.Walked.FromSound.{facts_of}
+use Rattle.df_core.proofs.Walked.PortsThere.{ports_there}
+use Rattle.df_core.proofs.Telling.Counting.{count_within, keys_of, walk_has}
+use Rattle.df_core.proofs.Parts.Arriving.{ports_is_op}
 use Rattle.match_table.specs.Coming.{Came}
 use Rattle.ws_isa.proofs.Images.{three_ports as few_ports}
 use Rattle.ws_words.proofs.Places.{nth_short}

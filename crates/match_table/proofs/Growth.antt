@@ -1,9 +1,9 @@
 -- A table grows where it takes a token.
 use Rattle.std.proofs.Common.{◌≡◌, ⊎_elim, ℕ, List, [], ◌∷◌, ◌++◌, Option, Some, None, append-nil}
-use Rattle.std.proofs.Common.{append_assoc, sym, ap, ◌∙◌, subst}
+use Rattle.std.proofs.Common.{append_assoc, length, refl, suc, sym, ap, ◌∙◌, subst}
 use Rattle.ws_isa.specs.Image.{Image, Token}
 use Rattle.df_core.specs.Core.{Key, with_at, key_of_token}
-use Rattle.df_core.proofs.Ports.{SamePlace, with_at_cases}
+use Rattle.df_core.proofs.Keeping.Ports.{SamePlace, with_at_cases}
 use Rattle.match_table.specs.declared.entry.Page.{Page}
 use Rattle.match_table.specs.declared.table.Results.{Results}
 use Rattle.match_table.specs.declared.table.Took.{Took}
@@ -36,6 +36,12 @@ all_grow_on [] (y ∷ ys) zs g h = absurd g
 all_grow_on (x ∷ xs) [] zs g h = absurd g
 all_grow_on (x ∷ xs) (y ∷ ys) [] g h = absurd h
 all_grow_on (x ∷ xs) (y ∷ ys) (z ∷ zs) g h = (grows_on x y z g.0 h.0, all_grow_on xs ys zs g.1 h.1)
+
+pub grow_many : (xs ys : List TableContent) → AllGrow xs ys → length ys ≡ length xs
+grow_many [] [] g = refl
+grow_many [] (y ∷ ys) g = absurd g
+grow_many (x ∷ xs) [] g = absurd g
+grow_many (x ∷ xs) (y ∷ ys) g = ap suc (grow_many xs ys g.1)
 
 arrives_keeps : (old new : TableContent) (t : Token) → Arrives old t new → (w i p v : ℕ)
     → held old w i p ≡ Some v → held new w i p ≡ Some v

@@ -8,8 +8,8 @@ use Rattle.ws_words.specs.Outside.{World}
 use Rattle.ws_isa.specs.Image.{Image, ports, is_memory}
 use Rattle.ws_isa.specs.Walk.{gather}
 use Rattle.df_core.specs.Core.{Key, HasFired, Once, is_full, operands_in}
-use Rattle.df_core.proofs.FromSound.{has_port}
-use Rattle.df_core.proofs.Ports.{full_all}
+use Rattle.df_core.proofs.Walked.FromSound.{has_port}
+use Rattle.df_core.proofs.Keeping.Ports.{full_all}
 use Rattle.match_table.specs.declared.entry.Arrived.{Arrived}
 use Rattle.match_table.specs.declared.entry.Instance.{Instance}
 use Rattle.match_table.specs.declared.entry.Page.{Page}

@@ -3,7 +3,7 @@ use Rattle.std.proofs.Common.{◌≡◌, ◌+◌, ◌<◌, ◌≤◌, ◌%◌, �
 use Rattle.std.proofs.Common.{None, length, length-append, refl, sym, ap, ◌∙◌, subst, arith}
 use Rattle.ws_isa.specs.Image.{Image, Token}
 use Rattle.df_core.specs.Core.{with_at}
-use Rattle.df_core.proofs.Ports.{SamePlace, with_at_cases}
+use Rattle.df_core.proofs.Keeping.Ports.{SamePlace, with_at_cases}
 use Rattle.match_table.specs.declared.entry.Page.{Page}
 use Rattle.match_table.specs.declared.table.Results.{Results}
 use Rattle.match_table.specs.declared.table.Took.{Took}

@@ -13,7 +13,7 @@ use Rattle.match_table.proofs.FiredPlaces.{none_fired, fired_there}
 use Rattle.match_table.specs.Together.{ServeFrom, all_fired, together}
 use Rattle.match_table.proofs.Served.{none_serves}
 use Rattle.match_table.specs.Growth.{content_at, no_content}
-use Rattle.df_core.proofs.StandsMatch.{gather_agree as gather_same}
+use Rattle.df_core.proofs.Parts.StandsMatch.{gather_agree as gather_same}
 
 pub fired_left : (ks ls : List Key) (w i : ℕ) → HasFired ks w i → HasFired (ks ++ ls) w i
 fired_left [] ls w i h = absurd h

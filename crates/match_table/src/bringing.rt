@@ -24,6 +24,7 @@ pub fn bring<'i, J: Job>(
         results.new result }
     ensures serve { AllServe tables.new }
     ensures grow { AllGrow (contents tables.old) (contents tables.new) }
+    ensures as_many { length (contents tables.new) ≡ length (contents tables.old) }
     ensures one { length (part_of tables.new).fired ≤ length (part_of tables.old).fired + 1 }
     ensures come { (result ≡ of_memory → ⊥) → has ((part_of tables.new).held
         token.now.wave token.now.instr token.now.port) ≡ true }

@@ -19,12 +19,13 @@
 //! lists no more that fired than its quota, and has grown from what it was when the phase began (`Grows`), as
 //! facts of its type; `offer` answers as `accept_into` does, or Spent, exactly where the token would fire its
 //! instance and the list of those that fired is full, and then nothing changes. `Tables` are the tables
-//! between two phases, in a list by number, sixteen at most: `Tables::new` gives such to which no token has
-//! come. `take_out` takes one out of the list for a phase, and `put_back` puts it back. `Row` is all of them,
-//! each behind a lock: `offer` takes a token at the table that serves it, of which no clause says more, and
-//! `gather` gives the tables back, as many as there were, each serving its own within its quota, and grown
-//! from what it was. `key_at` names an instance that `fired_at` gives, without its operands, and `holds_on`
-//! answers as `holds` does, whatever the course says (`Course`) along which it looks.
+//! between two phases, in a list by number: `Tables::new` gives sixteen to which no token has come, or tells
+//! that there was no memory for them. `take_out` takes one out of the list for a phase, and `put_back` puts
+//! it back. `Row` is all of them, each behind a lock: `offer` takes a token at the table that serves it, of
+//! which no clause says more, and `gather` gives the tables back, as many as there were, each serving its own
+//! within its quota, and grown from what it was. `key_at` names an instance that `fired_at` gives, without
+//! its operands, and `asked_key_at` one of `asked_at`, and `holds_on` answers as `holds` does, whatever the
+//! course says (`Course`) along which it looks.
 //!
 //! Tables that serve apart are together a part of the core's state of which the law speaks (`facts`
 //! of `together`): an instance fires once in all of them, and each has all operands of those that it lists.

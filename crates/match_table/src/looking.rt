@@ -66,6 +66,18 @@ impl<J: Job> Table<J> {
         (instance.wave, instance.instr)
     }
 
+    /// The wave number and the instruction of the instance of memory that fired here at this place, from 0,
+    /// in the order of those.
+    #[inline(always)]
+    pub fn asked_key_at(&self, place: usize) -> (u64, u32)
+        requires { place < length (of_memory J.image self.now.fired) }
+        ensures { (d : Key) → slice_index_or (of_memory J.image self.now.fired) place d
+            ≡ record { wave = result.0; instr = result.1 } }
+    {
+        let instance = self.asked[place];
+        (instance.wave, instance.instr)
+    }
+
     /// The instance that fired here at this place, from 0, in the order of firing.
     #[inline(always)]
     pub fn fired_at(&self, code: &Code<'_, J>, place: usize) -> Fired
@@ -74,7 +86,19 @@ impl<J: Job> Table<J> {
         ensures operands { listed result.operands
             ≡ operands_in J.image (held self.now) result.wave result.instr }
     {
-        self.fired_with(code, self.fired[place])
+        let mut course = self.course();
+        self.fired_on(&mut course, code, place)
+    }
+
+    /// The same. Its page is looked for first where the course says, which then knows where it stands.
+    #[inline(always)]
+    pub fn fired_on(&self, course: &mut Course, code: &Code<'_, J>, place: usize) -> Fired
+        requires { place < length self.now.fired }
+        ensures at { (d : Key) → slice_index_or self.now.fired place d ≡ key_of result }
+        ensures operands { listed result.operands
+            ≡ operands_in J.image (held self.now) result.wave result.instr }
+    {
+        self.fired_with(course, code, self.fired[place])
     }
 
     /// The instance of memory that fired here at this place, from 0, in the order of those.
@@ -86,12 +110,18 @@ impl<J: Job> Table<J> {
         ensures operands { listed result.operands
             ≡ operands_in J.image (held self.now) result.wave result.instr }
     {
-        self.fired_with(code, self.asked[place])
+        let mut course = self.course();
+        self.fired_with(&mut course, code, self.asked[place])
     }
 
     // An instance that has fired, with its operands.
     #[inline(always)]
-    pub(crate) fn fired_with(&self, code: &Code<'_, J>, instance: Instance) -> Fired
+    pub(crate) fn fired_with(
+        &self,
+        course: &mut Course,
+        code: &Code<'_, J>,
+        instance: Instance,
+    ) -> Fired
         requires { HasFired self.now.fired instance.wave instance.instr }
         ensures key { key_of result ≡ record { wave = instance.wave; instr = instance.instr } }
         ensures operands { listed result.operands
@@ -99,7 +129,7 @@ impl<J: Job> Table<J> {
     {
         let _ = &self.fired;
         let ports = code.program().op(instance.instr).ports();
-        let Some(arrived) = self.pages.look(instance.wave, instance.instr) else {
+        let Some(arrived) = self.pages.look_on(course, instance.wave, instance.instr) else {
             unreachable!();
         };
         match operands_of(arrived, ports) {

@@ -194,9 +194,18 @@ impl<J: Job> Table<J> {
         if self.room > 0 {
             return Ok(());
         }
-        self.reserve(MORE)
+        self.reserve(self.more())
+    }
+
+    // For how many tokens room is made at once.
+    fn more(&self) -> u32
+        ensures { 0 < result }
+    {
+        if self.fired.is_empty() { FIRST } else { MORE }
     }
 }
 
-// For how many tokens room is made at once.
-const MORE: u32 = 64;
+// For how many tokens room is made at first, and then at once: lists of so many grow where they lie.
+const FIRST: u32 = 64;
+
+const MORE: u32 = 8192;

@@ -1,6 +1,6 @@
 //! The tables between two phases.
 
-ghost use Rattle.std.specs.Prelude.{◌≡◌, ◌<◌, ◌≤◌, ℕ, List, length};
+ghost use Rattle.std.specs.Prelude.{◌≡◌, ◌<◌, ◌≤◌, ℕ, List, [], IfOk, length};
 ghost use Rattle.match_table.specs.Growth.{content_at};
 ghost use Rattle.match_table.specs.Rows.{Fits, contents};
 
@@ -8,9 +8,10 @@ use crate::Table;
 use df_core::Job;
 use std::alloc::Global;
 use std::marker::Model;
+use ws_words::NoMemory;
 
-/// The tables between two phases, by number. Where no memory could be had for the list of them there are
-/// none, and a token that is brought to one is answered want of memory.
+/// The tables between two phases, by number. Where there are none, a token that is brought to one is answered
+/// want of memory.
 #[derive(Drop)]
 pub struct Tables<J: Job> {
     pub(crate) all: Vec<Table<J>>,
@@ -28,19 +29,25 @@ impl<J: Job> Model for Tables<J> {
 }
 
 impl<J: Job> Tables<J> {
-    /// Tables that no token has come to.
-    pub fn new(alloc: Global) -> Tables<J>
-        ensures { (most : List ℕ) → Fits result most }
+    /// Sixteen tables that no token has come to.
+    pub fn new(alloc: Global) -> Result<Tables<J>, NoMemory>
+        ensures all { IfOk result (λ tables. length (contents tables) ≡ 16) }
+        ensures fits { IfOk result (λ tables. (most : List ℕ) → Fits tables most) }
     {
-        let Ok(mut all) = Vec::with_capacity(alloc, 16) else {
-            return Tables {
-                all: Vec::new(alloc),
-            };
-        };
+        let mut all = Vec::with_capacity(alloc, 16)?;
         while all.len() < 16 {
             all.push_reserved(Table::new(alloc));
         }
-        Tables { all }
+        Ok(Tables { all })
+    }
+
+    /// No tables, for want of memory. Takes none.
+    pub fn none(alloc: Global) -> Tables<J>
+        ensures { contents result ≡ [] }
+    {
+        Tables {
+            all: Vec::new(alloc),
+        }
     }
 }
 

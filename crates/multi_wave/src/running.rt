@@ -1,136 +1,98 @@
 //! Phase after phase of several threads.
 
 ghost use Rattle.std.specs.Prelude.{ℕ, ◌≡◌, ◌≤◌, ◌+◌, ◌*◌, true, false};
-ghost use Rattle.ws_isa.specs.Walk.{CostAtMost};
-ghost use Rattle.multi_wave.specs.Parts.{IsOver, LaneOk, StaysNamed};
-ghost use Rattle.multi_wave.specs.Rounds.{HasFew, NamesMissing, StaysAs};
+ghost use Rattle.multi_wave.specs.Fours.{EachIs, EachTo};
+ghost use Rattle.multi_wave.specs.Parts.{CostsAtMost};
+ghost use Rattle.multi_wave.specs.Stands.{IsOver, IsJudgedOf, StaysAs};
 
-use crate::each::Each;
-use crate::lane::{give_up, is_going, settle};
+use crate::crew::ThreadCrew;
+use crate::each::{Each, First, Fourth, Second, Third};
+use crate::jobs::FourParts;
+use crate::lane::Lane;
 use crate::part::ThreadGate;
-use crate::rounds::{AllLanes, round};
-use df_core::Job;
 use port_set::Port;
 use std::alloc::Global;
 use std::sync::Wait;
 use std::thread::Threads;
 
+/// Four threads between two phases.
+pub type AllLanes<'i, M, P> = Each<
+    Lane<'i, First<M>, P>,
+    Lane<'i, Second<M>, P>,
+    Lane<'i, Third<M>, P>,
+    Lane<'i, Fourth<M>, P>,
+>;
+
 /// Where a run of several threads has ended, and after how many phases.
 #[derive(Drop)]
-pub struct MultiLeft<'i, A: Job, B: Job, C: Job, D: Job, P: Port> {
-    pub lanes: AllLanes<'i, A, B, C, D, P>,
+pub struct MultiLeft<'i, M: FourParts, P: Port> {
+    pub lanes: AllLanes<'i, M, P>,
     pub phases: u64,
 }
 
-/// Runs phase after phase until every thread has ended. In each phase each thread that goes on has had a
-/// token that it had not, so where each walk has at most n instances there are at most 3 n + 1 phases.
-pub fn run_on<
-    'i,
-    A: Job + Send + Sync,
-    B: Job + Send + Sync,
-    C: Job + Send + Sync,
-    D: Job + Send + Sync,
-    P: Port + Send,
-    G: ThreadGate,
-    R: Threads + Wait + Sync,
->(
-    rt: &R,
-    alloc: Global,
-    lanes: AllLanes<'i, A, B, C, D, P>,
-    workers: u32,
-    gate: &G,
-) -> MultiLeft<'i, A, B, C, D, P>
-    requires workers { (1 ≤ workers) × (workers ≤ 8) }
-    requires first { LaneOk lanes.first }
-    requires second { LaneOk lanes.second }
-    requires third { LaneOk lanes.third }
-    requires fourth { LaneOk lanes.fourth }
-    ensures over_first { IsOver result.lanes.first }
-    ensures over_second { IsOver result.lanes.second }
-    ensures over_third { IsOver result.lanes.third }
-    ensures over_fourth { IsOver result.lanes.fourth }
-    ensures first { StaysNamed P.tells A.image A.world A.began lanes.entry.first
-        result.lanes.first }
-    ensures second { StaysNamed P.tells B.image B.world B.began lanes.entry.second
-        result.lanes.second }
-    ensures third { StaysNamed P.tells C.image C.world C.began lanes.entry.third
-        result.lanes.third }
-    ensures fourth { StaysNamed P.tells D.image D.world D.began lanes.entry.fourth
-        result.lanes.fourth }
-    ensures few { (cost : ℕ) → CostAtMost A.image A.world cost → CostAtMost B.image B.world cost
-        → CostAtMost C.image C.world cost → CostAtMost D.image D.world cost
-        → result.phases ≤ 3 * cost + 1 }
-{
-    let mut lanes = lanes;
-    for phases in 0..u64::MAX {
-        lanes = settle_all(alloc, lanes);
-        if !any_going(&lanes) {
-            return MultiLeft { lanes, phases };
+impl<'a, G: ThreadGate, R: Threads + Wait + Sync> ThreadCrew<'a, G, R> {
+    /// Runs phase after phase until every thread has ended. In each phase each thread that goes on has had a
+    /// token that it had not, so where each walk has at most n instances there are at most 3 n + 1 phases.
+    pub fn run_on<'i, M: FourParts + Send + Sync, P: Port + Send>(
+        &self,
+        lanes: AllLanes<'i, M, P>,
+    ) -> MultiLeft<'i, M, P>
+        ensures over { EachIs IsOver result.lanes }
+        ensures few { (cost : ℕ) → EachIs (CostsAtMost cost) M.parts → result.phases ≤ 3 * cost + 1 }
+    {
+        let mut lanes = lanes;
+        for phases in 0..u64::MAX {
+            lanes = settle_all(self.alloc, lanes);
+            if !any_going(&lanes) {
+                return MultiLeft { lanes, phases };
+            }
+            lanes = self.round(lanes);
         }
-        lanes = round(rt, alloc, lanes, workers, gate);
-    }
 
-    // So many tokens take more memory than there is.
-    MultiLeft {
-        lanes: Each {
-            first: give_up(lanes.first),
-            second: give_up(lanes.second),
-            third: give_up(lanes.third),
-            fourth: give_up(lanes.fourth),
-        },
-        phases: u64::MAX,
+        // So many tokens take more memory than there is.
+        MultiLeft {
+            lanes: give_up_all(lanes),
+            phases: u64::MAX,
+        }
     }
 }
 
 // Each thread goes on with the tokens that it has still to bring, or it has ended.
-fn settle_all<'i, A: Job, B: Job, C: Job, D: Job, P: Port>(
+fn settle_all<'i, M: FourParts, P: Port>(
     alloc: Global,
-    lanes: AllLanes<'i, A, B, C, D, P>,
-) -> AllLanes<'i, A, B, C, D, P>
-    requires first { LaneOk lanes.first }
-    requires second { LaneOk lanes.second }
-    requires third { LaneOk lanes.third }
-    requires fourth { LaneOk lanes.fourth }
-    ensures ok_first { LaneOk result.first }
-    ensures ok_second { LaneOk result.second }
-    ensures ok_third { LaneOk result.third }
-    ensures ok_fourth { LaneOk result.fourth }
-    ensures first { StaysNamed P.tells A.image A.world A.began lanes.entry.first result.first }
-    ensures second { StaysNamed P.tells B.image B.world B.began lanes.entry.second result.second }
-    ensures third { StaysNamed P.tells C.image C.world C.began lanes.entry.third result.third }
-    ensures fourth { StaysNamed P.tells D.image D.world D.began lanes.entry.fourth result.fourth }
-    ensures same_first { StaysAs lanes.entry.first result.first }
-    ensures same_second { StaysAs lanes.entry.second result.second }
-    ensures same_third { StaysAs lanes.entry.third result.third }
-    ensures same_fourth { StaysAs lanes.entry.fourth result.fourth }
-    ensures named_first { NamesMissing result.first }
-    ensures named_second { NamesMissing result.second }
-    ensures named_third { NamesMissing result.third }
-    ensures named_fourth { NamesMissing result.fourth }
-    ensures few_first { HasFew A.image A.world result.first }
-    ensures few_second { HasFew B.image B.world result.second }
-    ensures few_third { HasFew C.image C.world result.third }
-    ensures few_fourth { HasFew D.image D.world result.fourth }
+    lanes: AllLanes<'i, M, P>,
+) -> AllLanes<'i, M, P>
+    ensures same { EachTo StaysAs lanes.entry result }
+    ensures settled { EachTo IsJudgedOf M.parts result }
 {
     Each {
-        first: settle(alloc, lanes.first),
-        second: settle(alloc, lanes.second),
-        third: settle(alloc, lanes.third),
-        fourth: settle(alloc, lanes.fourth),
+        first: lanes.first.settle(alloc),
+        second: lanes.second.settle(alloc),
+        third: lanes.third.settle(alloc),
+        fourth: lanes.fourth.settle(alloc),
     }
 }
 
 // Whether a thread goes on.
-fn any_going<A: Job, B: Job, C: Job, D: Job, P: Port>(lanes: &AllLanes<'_, A, B, C, D, P>) -> bool
-    ensures first { result ≡ false → IsOver lanes.now.first }
-    ensures second { result ≡ false → IsOver lanes.now.second }
-    ensures third { result ≡ false → IsOver lanes.now.third }
-    ensures fourth { result ≡ false → IsOver lanes.now.fourth }
-    ensures some { result ≡ true → IsOver lanes.now.first → IsOver lanes.now.second
-        → IsOver lanes.now.third → ¬ IsOver lanes.now.fourth }
+fn any_going<M: FourParts, P: Port>(lanes: &AllLanes<'_, M, P>) -> bool
+    ensures over { result ≡ false → EachIs IsOver lanes.now }
+    ensures some { result ≡ true → ¬ EachIs IsOver lanes.now }
 {
-    is_going(&lanes.first)
-        || is_going(&lanes.second)
-        || is_going(&lanes.third)
-        || is_going(&lanes.fourth)
+    lanes.first.is_going()
+        || lanes.second.is_going()
+        || lanes.third.is_going()
+        || lanes.fourth.is_going()
+}
+
+/// No thread goes on, for want of memory.
+pub fn give_up_all<'i, M: FourParts, P: Port>(lanes: AllLanes<'i, M, P>) -> AllLanes<'i, M, P>
+    ensures over { EachIs IsOver result }
+    ensures same { EachTo StaysAs lanes.entry result }
+{
+    Each {
+        first: lanes.first.give_up(),
+        second: lanes.second.give_up(),
+        third: lanes.third.give_up(),
+        fourth: lanes.fourth.give_up(),
+    }
 }

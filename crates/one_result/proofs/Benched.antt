@@ -27,9 +27,9 @@ use Rattle.wsc_top.specs.Answers as answers
 use Rattle.wsc_top.specs.Answers.{Answers, Benched, TellsRun, Yields}
 use Rattle.wsc_top.specs.Threads as threads
 use Rattle.wsc_top.specs.Threads.{Replies, no_ports}
-use Rattle.wsc_top.proofs.AnswersOnce.{RunsOnce}
-use Rattle.wsc_top.proofs.RunsAlike as alike
-use Rattle.wsc_top.proofs.RunsAlike.{one_job}
+use Rattle.wsc_top.proofs.Reading.AnswersOnce.{RunsOnce}
+use Rattle.wsc_top.proofs.Told.RunsAlike as alike
+use Rattle.wsc_top.proofs.Told.RunsAlike.{one_job}
 use Rattle.one_result.specs.OneResult.{HasWritten, IsResult}
 use Rattle.one_result.specs.Others.{GivesNumber, OneBench, generate_commands, bench_commands}
 use Rattle.one_result.proofs.Words.{asked}

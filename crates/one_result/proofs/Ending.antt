@@ -36,13 +36,13 @@ use Rattle.wsc_top.specs.Answers.{Answers, JobEndsSo, AssemblyEndsSo, TellWords,
 use Rattle.wsc_top.specs.Answers.{IsCompiled, ComesToItsEnd}
 use Rattle.wsc_top.specs.Answers as answers
 use Rattle.wsc_top.specs.Threads.{no_ports}
-use Rattle.wsc_top.proofs.AnswersOnce.{RunsOnce}
-use Rattle.wsc_top.proofs.RunsAlike as alike
-use Rattle.wsc_top.proofs.RunsAlike.{one_job}
-use Rattle.wsc_top.proofs.Headline.{fault_told}
-use Rattle.wsc_top.proofs.Tasks.{OneLine}
-use Rattle.wsc_top.proofs.Tells.{input_words}
-use Rattle.wsc_top.proofs.ThreadAnswers.{reply_other}
+use Rattle.wsc_top.proofs.Reading.AnswersOnce.{RunsOnce}
+use Rattle.wsc_top.proofs.Told.RunsAlike as alike
+use Rattle.wsc_top.proofs.Told.RunsAlike.{one_job}
+use Rattle.wsc_top.proofs.Told.Headline.{fault_told}
+use Rattle.wsc_top.proofs.Calling.Tasks.{OneLine}
+use Rattle.wsc_top.proofs.Told.Tells.{input_words}
+use Rattle.wsc_top.proofs.Several.ThreadAnswers.{reply_other}
 use Rattle.one_result.specs.OneResult.{CalledBy, HasWritten, IsCodeOf, input_section, job_commands}
 use Rattle.one_result.specs.OneResult.{assembly_commands}
 use Rattle.one_result.specs.Ends.{MaySpend, AskToSpend, HasFailed, JobsEnd, CodeEnds}

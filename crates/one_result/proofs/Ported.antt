@@ -11,7 +11,7 @@ use Rattle.ws_isa.specs.Image.{Image}
 use Rattle.ws_isa.specs.Walk.{mem, walk}
 use Rattle.ws_isa.specs.Operations.{effect_of}
 use Rattle.df_core.specs.Began.{Began}
-use Rattle.df_core.proofs.Issuing.{took_alike}
+use Rattle.df_core.proofs.Parts.Issuing.{took_alike}
 use Rattle.port_set.specs.Ports.{Told}
 use Rattle.port_set.specs.Slots.{port_at}
 use Rattle.store_buf.specs.Outdoors.{SlotIs, began_of, world_with}
@@ -31,13 +31,14 @@ use Rattle.wsc_top.specs.Executions.{Executes, PortsAre, end_report, fault_repor
 use Rattle.wsc_top.specs.Executions as executions
 use Rattle.wsc_top.specs.Answers as answers
 use Rattle.wsc_top.specs.Answers.{TellWords, TellsRun, Yields, Answered, AssemblyAnswered}
-use Rattle.wsc_top.proofs.AnswersOnce.{RunsOnce}
-use Rattle.wsc_top.proofs.RunsAlike as alike
-use Rattle.wsc_top.proofs.RunsAlike.{one_job}
-use Rattle.wsc_top.proofs.AssembliesOnce.{WalksOnce, one_assembly, either_way, one_walk, one_effect, one_time}
-use Rattle.wsc_top.proofs.AssembliesOnce.{no_fault_here}
-use Rattle.wsc_top.proofs.PortActs.{ports_moved}
-use Rattle.wsc_top.proofs.Tells.{WalksEnd, input_words, run_tells, given_words}
+use Rattle.wsc_top.proofs.Reading.AnswersOnce.{RunsOnce}
+use Rattle.wsc_top.proofs.Told.RunsAlike as alike
+use Rattle.wsc_top.proofs.Told.RunsAlike.{one_job}
+use Rattle.wsc_top.proofs.Reading.AssembliesOnce.{WalksOnce, one_assembly, either_way, one_walk, one_effect}
+use Rattle.wsc_top.proofs.Reading.AssembliesOnce.{one_time}
+use Rattle.wsc_top.proofs.Reading.AssembliesOnce.{no_fault_here}
+use Rattle.wsc_top.proofs.Told.PortActs.{ports_moved}
+use Rattle.wsc_top.proofs.Told.Tells.{WalksEnd, input_words, run_tells, given_words}
 use Rattle.one_result.specs.OneResult.{HasFlags, CalledBy, IsResult, input_section}
 use Rattle.one_result.specs.Others.{IsLeftAlike, AreLeftAlike, JobHasRunWith, with_job, with_code}
 use Rattle.one_result.specs.Others.{OneResultWith}

@@ -24,7 +24,7 @@ use Rattle.wsc_top.specs.Traced.{IsTraced, replayed_text}
 use Rattle.wsc_top.specs.Executions.{Rests}
 use Rattle.wsc_top.specs.Answers as answers
 use Rattle.wsc_top.specs.Answers.{AssemblyAnswered}
-use Rattle.wsc_top.proofs.AssembliesOnce.{WalksOnce, one_assembly, no_fault_here}
+use Rattle.wsc_top.proofs.Reading.AssembliesOnce.{WalksOnce, one_assembly, no_fault_here}
 use Rattle.one_result.specs.OneResult.{HasFlags, HasWritten, IsResult}
 use Rattle.one_result.specs.Others.{OneTrace, lines_of, trace_commands, replay_commands}
 use Rattle.one_result.proofs.Written.{IsTrace, IsReplay, TextTold, trace_written, replay_written}

@@ -24,8 +24,8 @@ use Rattle.wsc_top.specs.Answers.{Answers, Yields, TellsRun}
 use Rattle.wsc_top.specs.Threads as threads
 use Rattle.wsc_top.specs.Threads.{Replies, Thread, ThreadsDo, RunsAlone, HasJob, MultiAnswered, pieces_of}
 use Rattle.wsc_top.specs.Threads.{no_ports, status_of}
-use Rattle.wsc_top.proofs.AnswersOnce.{RunsOnce}
-use Rattle.wsc_top.proofs.ThreadAnswers.{yields_never_fails}
+use Rattle.wsc_top.proofs.Reading.AnswersOnce.{RunsOnce}
+use Rattle.wsc_top.proofs.Several.ThreadAnswers.{yields_never_fails}
 use Rattle.one_result.specs.OneResult.{HasFlags, HasWritten, IsResult}
 use Rattle.one_result.specs.Others as others
 use Rattle.one_result.specs.Others.{IsOfJob, AreOfJobs, texts_of, OneMulti, multi_commands}

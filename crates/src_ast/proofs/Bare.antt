@@ -110,7 +110,7 @@ ending_written None = refl
 ending_written (Some last) = λ i. expression_written last.value i × FitsRow (width_bare last.value i + 1)
 
 cast : {S T : Type 0} → S ≡ T → S → T
-cast e h = subst (λ (T : Type 0). T) e h
+cast e h = rw e at h
 
 without_places : (all : List Part) → AreNearlyWritten all → AreNearlyWritten (bare_parts all)
 without_places [] h = tt

@@ -1,8 +1,7 @@
 -- The printed form keeps the limits.
 use Rattle.std.proofs.Common.{◌≡◌, ℕ, suc, ◌+◌, ◌≤◌, Bool, true, false, length, List, [], ◌∷◌, Option, Some}
-use Rattle.std.proofs.Common.{None, codes, refl, sym, ◌∙◌, subst, arith, add-one}
+use Rattle.std.proofs.Common.{None, codes, refl, arith}
 use Rattle.ws_words.specs.declared.alu.Alu.{Alu}
-use Rattle.ws_words.specs.declared.alu.Alu.TheVariants.{Or}
 use Rattle.src_ast.specs.declared.lexeme.Name.{Name}
 use Rattle.src_ast.specs.declared.lexeme.Shape.TheVariants.{Word, Mark}
 use Rattle.src_ast.specs.declared.lexeme.Shape.TheVariants as shape
@@ -11,12 +10,11 @@ use Rattle.src_ast.specs.declared.lexeme.Mark.TheVariants as mark
 use Rattle.src_ast.specs.declared.lexeme.Mark.TheVariants.{LParen, RParen, LBrace, RBrace, LSquare, RSquare}
 use Rattle.src_ast.specs.declared.lexeme.Mark.TheVariants.{Comma, Semi}
 use Rattle.src_ast.specs.declared.tree.Unary.{Unary}
-use Rattle.src_ast.specs.declared.tree.Unary.TheVariants.{Flip}
 use Rattle.src_ast.specs.Grammar.{level_of, mark_of, sign_mark}
 use Rattle.src_ast.specs.Syntax.{Expression, Number, Variable, Cell, Signed, Binary, Statement, Assign, Store}
 use Rattle.src_ast.specs.Syntax.{Print, Read, Give, Take, Call, If, While, Statements, Nothing, Then, Last}
 use Rattle.src_ast.specs.Syntax.{Part, Array, Proc}
-use Rattle.src_ast.specs.Printed.{is_looser, is_no_tighter, is_binary, indent}
+use Rattle.src_ast.specs.Printed.{is_looser, is_no_tighter, indent}
 use Rattle.src_ast.specs.Written.{IsWrittenName, AreWrittenNames, IsWrittenExpression, AreWrittenExpressions}
 use Rattle.src_ast.specs.Written.{rounded, width, list_width, names_width, IsWrittenStatement}
 use Rattle.src_ast.specs.Written.{AreWrittenStatements, IsWrittenEnding, IsWrittenPart, IsWritten}
@@ -34,45 +32,33 @@ is_inner m = true
 
 -- operators stand in the middle of a row
 pub op_inner : (op : Alu) → is_inner (mark_of op) ≡ true
-op_inner Or = refl
-op_inner op = refl
+op_inner op = grind arith
 
 -- so do signs
 pub sign_inner : (s : Unary) → is_inner (sign_mark s) ≡ true
-sign_inner Flip = refl
-sign_inner s = refl
+sign_inner s = grind arith
 
 -- one more lexeme in a row
 inner : (m : AnyMark) (braces row next : ℕ) (ps : List Piece) → is_inner m ≡ true → braces ≤ 32
     → row + 1 ≡ next → next ≤ 256
     → Keep braces next ps → Keep braces row (lexeme (Mark m) ∷ ps)
-inner Semi braces row next ps h d e w k = cc
-inner LBrace braces row next ps h d e w k = cc
-inner RBrace braces row next ps h d e w k = cc
-inner m braces row next ps h d e w k =
-    following (Mark m) tt d (omega arith) (subst (λ n. Keep braces n ps) (sym e ∙ add-one row) k)
+inner m braces row next ps h d e w k = grind (arith, following, Keep)
 
 word_in : (w : List ℕ) (braces row next : ℕ) (ps : List Piece) → length w ≤ 64 → braces ≤ 32 → row + 1 ≡ next
     → next ≤ 256
     → Keep braces next ps → Keep braces row (lexeme (Word w) ∷ ps)
-word_in w braces row next ps h d e l k = following (Word w) h d (omega arith)
-    (subst (λ n. Keep braces n ps) (sym e ∙ add-one row) k)
+word_in w braces row next ps h d e l k = grind (arith, following, Keep)
 
 number_in : (v : ℕ) (braces row next : ℕ) (ps : List Piece) → braces ≤ 32 → row + 1 ≡ next → next ≤ 256
     → Keep braces next ps → Keep braces row (lexeme (shape.Number v) ∷ ps)
-number_in v braces row next ps d e l k = following (shape.Number v) tt d (omega arith)
-    (subst (λ n. Keep braces n ps) (sym e ∙ add-one row) k)
+number_in v braces row next ps d e l k = grind (arith, following, Keep)
 
 wrapped_kept : (braces : ℕ) (needed : Bool) (f : List Piece → List Piece) (n : ℕ) → braces ≤ 32
     → ((row next : ℕ) (qs : List Piece) → row + n ≡ next → next ≤ 256 → Keep braces next qs
     → Keep braces row (f qs))
     → (row next : ℕ) (ps : List Piece) → row + rounded needed n ≡ next → next ≤ 256 → Keep braces next ps
     → Keep braces row (wrapped needed f ps)
-wrapped_kept braces true f n d h row next ps e l k =
-    inner LParen braces row (row + 1) _ refl d refl (omega arith)
-    (h (row + 1) (row + 1 + n) (lexeme (Mark RParen) ∷ ps) refl (omega arith)
-    (inner RParen braces (row + 1 + n) next ps refl d (omega arith) l k))
-wrapped_kept braces false f n d h row next ps e l k = h row next ps e l k
+wrapped_kept braces needed f n d h row next ps e l k = grind (arith, inner, lexeme)
 
 expression_kept : (braces : ℕ) → braces ≤ 32 → (e : Expression) → IsWrittenExpression e
     → (row next : ℕ) (ps : List Piece) → row + width e ≡ next → next ≤ 256 → Keep braces next ps
@@ -85,9 +71,7 @@ expression_kept braces d (Cell a i) g row next ps e l k =
     (expression_kept braces d i g.1 (row + 2) (row + 2 + width i) _ refl (omega arith)
     (inner RSquare braces (row + 2 + width i) next ps refl d (omega arith) l k)))
 expression_kept braces d (Signed s a) g row next ps e l k =
-    inner (sign_mark s) braces row (row + 1) _ (sign_inner s) d refl (omega arith)
-    (wrapped_kept braces (is_binary a) (expression a) (width a) d (expression_kept braces d a g) (row + 1)
-    next ps (omega arith) l k)
+    grind (arith, inner, sign_inner, wrapped_kept, expression, expression_kept braces d a g)
 expression_kept braces d (Binary op a b) g row next ps e l k =
     let left = rounded (is_looser a (level_of op)) (width a) in
     wrapped_kept braces (is_looser a (level_of op)) (expression a) (width a) d
@@ -100,8 +84,7 @@ expression_kept braces d (Binary op a b) g row next ps e l k =
 arguments_kept : (braces : ℕ) → braces ≤ 32 → (es : List Expression) → AreWrittenExpressions es
     → (row next : ℕ) (ps : List Piece) → row + list_width es ≡ next → next ≤ 256 → Keep braces next ps
     → Keep braces row (arguments es ps)
-arguments_kept braces d [] g row next ps e l k = let same : next ≡ row = omega arith in
-    subst (λ n. Keep braces n ps) same k
+arguments_kept braces d [] g row next ps e l k = grind (arith, Keep)
 arguments_kept braces d (x ∷ []) g row next ps e l k = expression_kept braces d x g.0 row next ps e l k
 arguments_kept braces d (x ∷ y ∷ xs) g row next ps e l k =
     expression_kept braces d x g.0 row (row + width x) _ refl (omega arith)
@@ -111,8 +94,7 @@ arguments_kept braces d (x ∷ y ∷ xs) g row next ps e l k =
 names_kept : (braces : ℕ) → braces ≤ 32 → (xs : List Name) → AreWrittenNames xs
     → (row next : ℕ) (ps : List Piece) → row + names_width xs ≡ next → next ≤ 256 → Keep braces next ps
     → Keep braces row (names xs ps)
-names_kept braces d [] g row next ps e l k = let same : next ≡ row = omega arith in
-    subst (λ n. Keep braces n ps) same k
+names_kept braces d [] g row next ps e l k = grind (arith, Keep)
 names_kept braces d (x ∷ []) g row next ps e l k = word_in x.text braces row next ps g.0.short d e l k
 names_kept braces d (x ∷ y ∷ xs) g row next ps e l k =
     word_in x.text braces row (row + 1) _ g.0.short d refl (omega arith)
@@ -127,18 +109,12 @@ finish_kept braces row ps d k = following (Mark Semi) tt d (omega arith) (after_
 last_kept : (braces row : ℕ) (ps : List Piece) → braces ≤ 32 → (e : Expression) → IsWrittenExpression e
     → row + width e ≤ 256 → Keep braces 0 ps
     → Keep braces row (expression e (finish ps))
-last_kept braces row ps d e g l k = expression_kept braces d e g row (row + width e) (finish ps) refl l
-    (finish_kept braces _ ps d k)
+last_kept braces row ps d e g l k = grind (arith, expression_kept, finish, finish_kept)
 
 call_kept : (braces row : ℕ) (ps : List Piece) → braces ≤ 32 → (f : Name) (es : List Expression)
     → IsWrittenName f.text → AreWrittenExpressions es → row + list_width es + 3 ≤ 256
     → Keep braces 0 ps → Keep braces row (call f es ps)
-call_kept braces row ps d f es h g l k =
-    word_in f.text braces row (row + 1) _ h.short d refl (omega arith)
-    (inner LParen braces (row + 1) (row + 2) _ refl d (omega arith) (omega arith)
-    (arguments_kept braces d es g (row + 2) (row + 2 + list_width es) _ refl (omega arith)
-    (inner RParen braces (row + 2 + list_width es) (row + 3 + list_width es) _ refl d (omega arith)
-    (omega arith) (finish_kept braces _ ps d k))))
+call_kept braces row ps d f es h g l k = grind (arith, word_in, inner, arguments_kept, finish_kept)
 
 opens : (braces row : ℕ) (ps : List Piece) → suc braces ≤ 32 → Keep (suc braces) 0 ps
     → Keep braces row (gap space ∷ lexeme (Mark LBrace) ∷ gap newline ∷ ps)
@@ -146,29 +122,18 @@ opens braces row ps d k = after_gap space (following (Mark LBrace) tt d (omega a
 
 closing_kept : (n braces row : ℕ) (ps : List Piece) → braces ≤ 32 → Keep braces 0 ps
     → Keep (suc braces) row (closing n ps)
-closing_kept n braces row ps d k =
-    after_gap (indent n) (following (Mark RBrace) tt d (omega arith) (after_gap newline k))
+closing_kept n braces row ps d k = grind (arith, after_gap, following, newline)
 
 test_kept : (braces : ℕ) (ps : List Piece) → suc braces ≤ 32 → (word : List ℕ) (e : Expression)
     → length word ≤ 64 → IsWrittenExpression e → width e + 3 ≤ 256
     → Keep (suc braces) 0 ps → Keep braces 0 (test word e ps)
-test_kept braces ps d word e w g l k =
-    let d' : braces ≤ 32 = omega arith in
-    word_in word braces 0 1 _ w d' refl (omega arith)
-    (after_gap space (inner LParen braces 1 2 _ refl d' refl (omega arith)
-    (expression_kept braces d' e g 2 (2 + width e) _ refl (omega arith)
-    (inner RParen braces (2 + width e) (3 + width e) _ refl d' (omega arith) (omega arith)
-    (opens braces _ ps d k)))))
+test_kept braces ps d word e w g l k = grind (arith, word_in, after_gap, space, inner, expression_kept, opens)
 
 second_arm_kept : (n braces : ℕ) (b : Statements) (f : List Piece → List Piece) → suc braces ≤ 32
     → ((qs : List Piece) → Keep (suc braces) 0 qs → Keep (suc braces) 0 (f qs))
     → (ps : List Piece) → Keep braces 0 ps → Keep (suc braces) 0 (second_arm n b f ps)
-second_arm_kept n braces Nothing f d h ps k = closing_kept n braces 0 ps (omega arith) k
-second_arm_kept n braces (Then s rest) f d h ps k =
-    let d' : braces ≤ 32 = omega arith in
-    after_gap (indent n) (following (Mark RBrace) tt d' (omega arith) (after_gap space
-    (word_in (codes "else") braces 0 1 _ (omega arith) d' refl (omega arith)
-    (opens braces 1 _ d (h _ (closing_kept n braces 0 ps d' k))))))
+second_arm_kept n braces b f d h ps k =
+    grind (arith, closing_kept, after_gap, following, space, word_in, opens)
 
 mutual
   pub statement_kept : (n braces : ℕ) → braces ≤ 32 → (s : Statement) → IsWrittenStatement braces s
@@ -236,11 +201,7 @@ variables_kept braces d (x ∷ xs) g l ps k =
 
 ending_kept : (braces : ℕ) → braces ≤ 32 → (e : Option Last) → IsWrittenEnding e → (ps : List Piece)
     → Keep braces 0 ps → Keep braces 0 (ending e ps)
-ending_kept braces d None h ps k = k
-ending_kept braces d (Some last) h ps k =
-    after_gap (indent 1) (word_in (codes "return") braces 0 1 _ (omega arith) d refl (omega arith)
-    (after_gap space
-    (last_kept braces 1 ps d last.value h.0 (omega arith) k)))
+ending_kept braces d e h ps k = grind (arith, after_gap, word_in, space, last_kept)
 
 part_kept : (p : Part) → IsWrittenPart p → (ps : List Piece) → Keep 0 0 ps → Keep 0 0 (part p ps)
 part_kept (Array x n at) h ps k =

@@ -17,18 +17,13 @@ separated_is t (u ∷ ts) = ap (λ x. t ++ codes ", " ++ x) (separated_is u ts) 
 -- names with commas, from the first on
 pub names_from : (xs : List Name) (x : Name) → 0 < length xs → x ≡ get_or xs 0 x
     → separated_text (name_texts xs) ≡ x.text ++ comma_text (name_texts (drop 1 xs))
-names_from [] x h e = absurd (omega arith)
-names_from (y ∷ ys) x h e = ap (λ z. separated_text (z.text ∷ name_texts ys)) (sym e)
-    ∙ separated_is x.text (name_texts ys)
+names_from xs x h e = grind (arith, separated_is)
 
 -- arguments with commas, from the first on
 pub args_from : (xs : List Expr) (x : Expr) → 0 < length xs → x ≡ get_or xs 0 x
     → separated_text (argument_texts (map expression xs)) ≡ expression_text (expression x) ++ comma_text
     (argument_texts (map expression (drop 1 xs)))
-args_from [] x h e = absurd (omega arith)
-args_from (y ∷ ys) x h e =
-    ap (λ z. separated_text (expression_text (expression z) ∷ argument_texts (map expression ys))) (sym e)
-    ∙ separated_is (expression_text (expression x)) (argument_texts (map expression ys))
+args_from xs x h e = grind (arith, separated_is)
 
 -- one level more
 pub indent_more : (n : ℕ) → indent (n + 1) ≡ indent n ++ codes "  "

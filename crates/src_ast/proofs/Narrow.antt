@@ -1,30 +1,26 @@
 -- A written program has narrow statements, and the procedures of an accepted one have few parameters and
 -- variables.
-use Rattle.std.proofs.Common.{◌≡◌, ℕ, suc, ◌+◌, ◌≤◌, nat_lt, ◌==◌, Bool, true, false, not, ◌&&◌, length, List}
-use Rattle.std.proofs.Common.{[], ◌∷◌, ◌++◌, Option, Some, None, sym, ◌∙◌, arith}
+use Rattle.std.proofs.Common.{◌≡◌, ℕ, suc, ◌+◌, ◌≤◌, nat_lt, ◌==◌, Bool, true, not, ◌&&◌, length, List, []}
+use Rattle.std.proofs.Common.{◌∷◌, ◌++◌, Option, Some, None, sym, ◌∙◌, arith}
 use Rattle.std.specs.List.{list_all}
 use Rattle.std.proofs.lemmas.Bool.{and_parts, ltb-true}
 use Rattle.std.proofs.lemmas.List.Folds.{list_all-append}
 use Rattle.src_ast.specs.declared.lexeme.Name.{Name}
 use Rattle.src_ast.specs.declared.lexeme.Place.{Place}
-use Rattle.src_ast.specs.declared.fault.RefusalKind.TheVariants.{Main}
 use Rattle.src_ast.specs.Syntax.{Expression, Number, Variable, Cell, Signed, Binary, Statement, Assign, Store}
 use Rattle.src_ast.specs.Syntax.{Print, Read, Give, Take, Call, If, While, Statements, Nothing, Then, Last}
 use Rattle.src_ast.specs.Syntax.{Procedure, Part, Array, Proc}
-use Rattle.src_ast.specs.Grammar.{level_of}
-use Rattle.src_ast.specs.Printed.{is_looser, is_no_tighter, is_binary}
+use Rattle.src_ast.specs.Printed.{is_binary}
 use Rattle.src_ast.specs.Written.{rounded, width, list_width, IsWrittenStatement, AreWrittenStatements}
 use Rattle.src_ast.specs.Written.{IsWrittenEnding, IsWritten}
 use Rattle.src_ast.specs.Bound.{nodes, nodes_of, most_nodes, most_nodes_of, ending_nodes, widest}
 use Rattle.src_ast.specs.Bound.{most_variables}
-use Rattle.src_ast.specs.Rules.{Rule, Declared, variable, variables, is_visible, declared_by, has_main}
-use Rattle.src_ast.specs.Rules.{is_main, procs_in, statements_in, size_of_all, parameter_rules}
-use Rattle.src_ast.specs.Rules.{variable_rules, body_rules, ending_rules, part_rules, rules_after, IsAccepted}
+use Rattle.src_ast.specs.Rules.{Rule, Declared, variable, is_visible, parameter_rules, variable_rules}
+use Rattle.src_ast.specs.Rules.{part_rules, rules_after, IsAccepted}
 
 -- parentheses only add
 rounded_least : (needed : Bool) (n : ℕ) → n ≤ rounded needed n
-rounded_least true n = omega arith
-rounded_least false n = omega arith
+rounded_least needed n = grind arith
 
 -- each node of an expression is a lexeme of its printed form
 nodes_width : (e : Expression) → nodes e ≤ width e
@@ -32,14 +28,7 @@ nodes_width (Number n) = omega arith
 nodes_width (Variable x) = omega arith
 nodes_width (Cell a e) = omega (arith, nodes_width e)
 nodes_width (Signed s e) = omega (arith, nodes_width e, rounded_least (is_binary e) (width e))
-nodes_width (Binary op a b) =
-    omega (
-      arith,
-      nodes_width a,
-      nodes_width b,
-      rounded_least (is_looser a (level_of op)) (width a),
-      rounded_least (is_no_tighter b (level_of op)) (width b),
-    )
+nodes_width (Binary op a b) = grind (arith, rounded_least, nodes_width a, nodes_width b)
 
 nodes_list_width : (es : List Expression) → nodes_of es ≤ list_width es
 nodes_list_width [] = omega arith
@@ -70,8 +59,7 @@ mutual
   all_narrow braces (Then s rest) h = omega (arith, fit_narrow braces s h.0, all_narrow braces rest h.1)
 
 ending_narrow : (e : Option Last) → IsWrittenEnding e → ending_nodes e ≤ 255
-ending_narrow None h = omega arith
-ending_narrow (Some last) h = omega (arith, h.1, nodes_width last.value)
+ending_narrow e h = grind (arith, nodes_width)
 
 -- the statements of a written program have few nodes
 pub written_narrow : (all : List Part) → IsWritten all → widest all ≤ 255
@@ -97,7 +85,7 @@ few_params main visible k (x ∷ xs) h e =
     omega (
       arith,
       few_params main (record { text = x.text; sort = variable } ∷ visible) (suc k) xs
-          (omega (arith, below)) third.1,
+          (omega arith) third.1,
     )
 
 -- a variable after 32 parameters and variables is refused
@@ -111,27 +99,12 @@ few_vars visible k (x ∷ xs) h e =
     omega (
       arith,
       few_vars (record { text = x.text; sort = variable } ∷ visible) (suc k) xs
-          (omega (arith, below)) second.1,
+          (omega arith) second.1,
     )
 
 procedure_few : (before : List Part) (p : Procedure) → list_all (λ r. r.kept) (part_rules before (Proc p))
     ≡ true → length p.params + length p.vars ≤ 32
-procedure_few before p e =
-    let kept : Rule → Bool = λ r. r.kept in
-    let params = parameter_rules (is_main p) (declared_by before) 0 p.params in
-    let vs = variable_rules (variables p.params ++ declared_by before) (length p.params) p.vars in
-    let visible = variables (p.params ++ p.vars) ++ declared_by before in
-    let k = statements_in before in
-    let following = body_rules visible k p.body ++ ending_rules visible (k + size_of_all p.body) p.ending in
-    let a = (and_parts (not (has_main before)) _ e).1 in
-    let b = (and_parts (not (is_visible (declared_by before) p.name.text)) _ a).1 in
-    let c = (and_parts (nat_lt (procs_in before) 64) (list_all kept (params ++ (vs ++ following))) b).1 in
-    let d = and_parts (list_all kept params) (list_all kept (vs ++ following))
-    (sym (list_all-append kept params (vs ++ following)) ∙ c) in
-    let few = few_params (is_main p) (declared_by before) 0 p.params (omega arith) d.0 in
-    let both = and_parts (list_all kept vs) (list_all kept following) (sym (list_all-append kept vs following)
-    ∙ d.1) in
-    few_vars (variables p.params ++ declared_by before) (length p.params) p.vars (omega (arith, few)) both.0
+procedure_few before p e = grind (arith, and_parts, list_all-append, few_params, few_vars)
 
 few_from : (before all : List Part) → list_all (λ r. r.kept) (rules_after before all) ≡ true
     → most_variables all ≤ 32
@@ -152,9 +125,4 @@ few_from before (Proc p ∷ all) e =
 
 -- the procedures of an accepted program have few variables
 pub accepted_few : (all : List Part) (finish : Place) → IsAccepted all finish → most_variables all ≤ 32
-accepted_few all finish e =
-    let kept : Rule → Bool = λ r. r.kept in
-    let front = rules_after [] all in
-    let last : List Rule = record { place = finish; kind = Main; kept = has_main all } ∷ [] in
-    few_from [] all (and_parts (list_all kept front) (list_all kept last)
-    (sym (list_all-append kept front last) ∙ e)).0
+accepted_few all finish e = grind (arith, few_from, and_parts, list_all-append)

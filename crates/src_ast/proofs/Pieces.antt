@@ -86,8 +86,7 @@ led (gap bytes ∷ ps) at pre blank h =
       place = following.place;
       leads = subst (λ text. LexesTo at text (placed (after at pre) (gap bytes ∷ ps)) following.place [])
           (append_assoc pre bytes (text_of ps))
-          (subst (λ p. LexesTo at ((pre ++ bytes) ++ text_of ps) (placed p ps) following.place [])
-          (after-append at pre bytes) following.leads);
+          (rw (after-append at pre bytes) at following.leads);
     }
 led (lexeme s ∷ ps) at pre blank h =
     let following = led ps (after (after at pre) (spelled s)) [] refl h.1 in

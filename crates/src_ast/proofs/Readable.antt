@@ -1,14 +1,13 @@
 -- Expressions that are read from lexemes are good, and their printed form has no more lexemes.
-use Rattle.std.proofs.Common.{◌≡◌, ℕ, ◌+◌, ◌^◌, ◌<◌, ◌≤◌, Bool, true, false, length, List, [], ◌∷◌, refl, sym}
-use Rattle.std.proofs.Common.{ap, subst, arith, length-append}
+use Rattle.std.proofs.Common.{◌≡◌, ℕ, ◌+◌, ◌^◌, ◌<◌, ◌≤◌, Bool, length, List, [], ◌∷◌, refl, sym, ap, subst}
+use Rattle.std.proofs.Common.{arith, length-append}
 use Rattle.std.proofs.lemmas.Bool.{le-ltb}
 use Rattle.src_ast.specs.declared.lexeme.Name.{Name}
 use Rattle.src_ast.specs.declared.lexeme.Lexeme.{Lexeme}
 use Rattle.src_ast.specs.declared.lexeme.Shape.TheVariants as shape
-use Rattle.src_ast.specs.declared.lexeme.Mark.TheVariants.{LParen, RParen, LSquare, RSquare, Comma}
-use Rattle.src_ast.specs.Grammar.{level_of, mark_of, sign_mark, IsName, Spelled, number, variable, cell}
-use Rattle.src_ast.specs.Grammar.{round, signed, binary, Separated, one, more, Listed, none, some}
-use Rattle.src_ast.specs.Grammar.{SpelledName, name}
+use Rattle.src_ast.specs.declared.lexeme.Mark.TheVariants.{LSquare, RSquare}
+use Rattle.src_ast.specs.Grammar.{level_of, mark_of, IsName, Spelled, number, variable, cell, round, signed}
+use Rattle.src_ast.specs.Grammar.{binary, Separated, one, more, Listed, none, some, SpelledName, name}
 use Rattle.src_ast.specs.Syntax.{Expression}
 use Rattle.src_ast.specs.Printed.{is_looser, is_no_tighter}
 use Rattle.src_ast.specs.Written.{IsWrittenName, AreWrittenNames, IsWrittenExpression, AreWrittenExpressions}
@@ -57,23 +56,18 @@ expression_plain (cell l first last ls a e eq is o s c) =
     (plain (plain_word l a.text is.word) (plain (plain_mark first LSquare refl o)
     (plain_append (expression_plain s) (plain (plain_mark last RSquare refl c) no_plain))))
 expression_plain (round first last ls eq o s c) =
-    subst AllPlain (sym eq)
-    (plain (plain_mark first LParen refl o)
-    (plain_append (expression_plain s) (plain (plain_mark last RParen refl c) no_plain)))
-expression_plain (signed l ls s e d is sp) = plain (plain_mark l (sign_mark s) (sign_inner s) is)
-    (expression_plain sp)
+    grind (arith, AllPlain, plain, plain_mark, plain_append, no_plain, expression_plain s)
+expression_plain (signed l ls s e d is sp) = grind (arith, plain, plain_mark, sign_inner, expression_plain sp)
 expression_plain (binary l ls rs op a b d eq is sa sb) =
     subst AllPlain (sym eq)
     (plain_append (expression_plain sa) (plain (plain_mark l (mark_of op) (op_inner op) is)
     (expression_plain sb)))
 
 rounded_least : (b : Bool) (n : ℕ) → n ≤ rounded b n
-rounded_least true n = omega arith
-rounded_least false n = omega arith
+rounded_least b n = grind arith
 
 rounded_most : (b : Bool) (n : ℕ) → rounded b n ≤ n + 2
-rounded_most true n = omega arith
-rounded_most false n = omega arith
+rounded_most b n = grind arith
 
 pub expression_width : {n : ℕ} {ls : List Lexeme} {e : Expression} → Spelled n ls e
     → rounded (is_looser e n) (width e) ≤ length ls
@@ -123,8 +117,7 @@ pub separated_plain : {A : Type 0} {L : List Lexeme → A → Type 0} {ks : List
     → Separated L ks xs → AllPlain ks
 separated_plain h (one ls a s) = h ls a s
 separated_plain h (more comma ls rs a xs eq s c more') =
-    subst AllPlain (sym eq)
-    (plain_append (h ls a s) (plain (plain_mark comma Comma refl c) (separated_plain h more')))
+    grind (arith, AllPlain, plain_append, plain, plain_mark, separated_plain h more')
 
 pub listed_plain : {A : Type 0} {L : List Lexeme → A → Type 0} {ks : List Lexeme} {xs : List A}
     → ((ls : List Lexeme) (a : A) → L ls a → AllPlain ls)

@@ -1,9 +1,8 @@
 -- The lexemes of the printed form have a tree, which is the same program.
 use Rattle.std.proofs.Common.{◌≡◌, ℕ, ◌+◌, ◌<◌, ◌≤◌, nat_lt, nat_le, Bool, true, false, List, [], ◌∷◌, ◌++◌}
-use Rattle.std.proofs.Common.{decimal, refl, sym, ap, ◌∙◌, ⊎_elim, arith, append_assoc}
+use Rattle.std.proofs.Common.{decimal, refl, sym, ap, ◌∙◌, arith, append_assoc}
 use Rattle.std.proofs.lemmas.Bool.{cases_lt, lt-ltb, le-ltb, le-leb, lt-leb, ltb-false}
 use Rattle.ws_words.specs.declared.alu.Alu.{Alu}
-use Rattle.ws_words.specs.declared.alu.Alu.TheVariants.{Or}
 use Rattle.src_ast.specs.declared.lexeme.Name.{Name}
 use Rattle.src_ast.specs.declared.lexeme.Place.{Place}
 use Rattle.src_ast.specs.declared.lexeme.Lexeme.{Lexeme}
@@ -35,27 +34,21 @@ pub record Reads {A : Type 0} (R : List Lexeme → A → Type 0) (IsSame : A →
   pub same : IsSame again
 
 level_low : (op : Alu) → level_of op < 8
-level_low Or = omega arith
-level_low op = omega arith
+level_low op = grind arith
 
 loose_zero : (e : Expression) → is_looser e 0 ≡ false
-loose_zero (Binary op a b) = le-ltb (level_of op) 0 (omega arith)
-loose_zero e = refl
+loose_zero e = grind (arith, le-ltb)
 
 next_level : (l n : ℕ) → nat_lt l (n + 1) ≡ nat_le l n
-next_level l n =
-    ⊎_elim (λ h. le-ltb l (n + 1) (omega arith) ∙ sym (lt-leb l n h)) (λ h. lt-ltb l (n + 1) (omega arith)
-    ∙ sym (le-leb l n h)) (cases_lt n l)
+next_level l n = grind (arith, le-ltb, lt-leb, lt-ltb, le-leb, cases_lt)
 
 -- a left operand of the next level is looser where a right one is no tighter
 pub loose_next : (e : Expression) (n : ℕ) → is_looser e (n + 1) ≡ is_no_tighter e n
-loose_next (Binary op a b) n = next_level (level_of op) n
-loose_next e n = refl
+loose_next e n = grind (arith, next_level)
 
 -- all binary operands are looser than a sign's
 pub loose_eight : (e : Expression) → is_looser e 8 ≡ is_binary e
-loose_eight (Binary op a b) = lt-ltb (level_of op) 8 (level_low op)
-loose_eight e = refl
+loose_eight e = grind (arith, lt-ltb, level_low)
 
 -- the name at another place
 abbrev pub named : Name → Place → Name

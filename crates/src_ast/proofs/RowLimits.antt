@@ -1,14 +1,13 @@
 -- What lexemes that keep the limits say of a row of them.
 use Rattle.std.proofs.Common.{◌≡◌, ℕ, suc, ◌+◌, ◌^◌, ◌<◌, ◌≤◌, Bool, true, IsTrue, length, List, [], ◌∷◌}
-use Rattle.std.proofs.Common.{◌++◌, refl, sym, ap, ◌∙◌, subst, arith, add-zero}
+use Rattle.std.proofs.Common.{◌++◌, ap, ◌∙◌, subst, arith}
 use Rattle.src_ast.specs.declared.lexeme.Place.{Place}
 use Rattle.src_ast.specs.declared.lexeme.Lexeme.{Lexeme}
 use Rattle.src_ast.specs.declared.lexeme.Shape.{Shape}
 use Rattle.src_ast.specs.declared.lexeme.Shape.TheVariants.{Word, Number, Mark}
 use Rattle.src_ast.specs.declared.lexeme.Mark.{Mark as AnyMark}
 use Rattle.src_ast.specs.declared.lexeme.Mark.TheVariants.{LBrace, RBrace, Semi}
-use Rattle.src_ast.specs.Lexemes.{Spells, word, number, mark, LexesTo, stop, next, IsShort, open_past}
-use Rattle.src_ast.specs.Lexemes.{row_past, KeepLimits}
+use Rattle.src_ast.specs.Lexemes.{Spells, LexesTo, stop, next, IsShort, open_past, row_past, KeepLimits}
 use Rattle.src_ast.specs.Grammar.{Is, IsNumber}
 use Rattle.src_ast.proofs.Kept.{is_inner}
 use Rattle.ws_words.specs.Letters.{is_word}
@@ -43,9 +42,7 @@ sound_back [] ys h = h
 sound_back (x ∷ xs) ys (sound h hs) = sound_back xs ys hs
 
 spells_sound : {s : Shape} {bytes rest : List ℕ} → Spells s bytes rest → IsShort s → IsSound s
-spells_sound (word h k) short = (h, short)
-spells_sound (number n h k e l) short = l
-spells_sound (mark m e l) short = tt
+spells_sound h short = grind arith
 
 -- lexemes of a text within the limits are such
 pub leads_sound : {at place : Place} {text rest : List ℕ} {ls : List Lexeme} (braces row : ℕ)
@@ -83,25 +80,16 @@ pub plain_mark : (l : Lexeme) (m : AnyMark) → is_inner m ≡ true → Is m l �
 plain_mark l m h e = ap is_plain e ∙ h
 
 mark_open : (braces : ℕ) (m : AnyMark) → is_inner m ≡ true → open_past braces (Mark m) ≡ braces
-mark_open braces LBrace h = cc
-mark_open braces RBrace h = cc
-mark_open braces m h = refl
+mark_open braces m h = grind arith
 
 mark_row : (row : ℕ) (m : AnyMark) → is_inner m ≡ true → row_past row (Mark m) ≡ suc row
-mark_row row Semi h = cc
-mark_row row LBrace h = cc
-mark_row row RBrace h = cc
-mark_row row m h = refl
+mark_row row m h = grind arith
 
 plain_open : (braces : ℕ) (s : Shape) → is_plain s ≡ true → open_past braces s ≡ braces
-plain_open braces (Word w) h = refl
-plain_open braces (Number n) h = refl
-plain_open braces (Mark m) h = mark_open braces m h
+plain_open braces s h = grind (arith, mark_open)
 
 plain_row : (row : ℕ) (s : Shape) → is_plain s ≡ true → row_past row s ≡ suc row
-plain_row row (Word w) h = refl
-plain_row row (Number n) h = refl
-plain_row row (Mark m) h = mark_row row m h
+plain_row row s h = grind (arith, mark_row)
 
 -- a row, and what stands after it
 pub record Within (braces row : ℕ) (rest : List Lexeme) : Type 0 where
@@ -110,8 +98,7 @@ pub record Within (braces row : ℕ) (rest : List Lexeme) : Type 0 where
 
 row_from : {ls : List Lexeme} (rest : List Lexeme) (braces row : ℕ) → AllPlain ls → row ≤ 256
     → KeepLimits braces row (ls ++ rest) → Within braces (row + length ls) rest
-row_from rest braces row no_plain d k = subst (λ r. Within braces r rest) (sym (add-zero row))
-    (record { short = d; kept = k })
+row_from rest braces row no_plain d k = grind arith
 row_from rest braces row (plain {l = l} {ls = ls} h hs) d k =
     let here = subst (λ r. r ≤ 256) (plain_row row l.shape h) k.2 in
     let moved = subst (λ b. KeepLimits b (row_past row l.shape) (ls ++ rest)) (plain_open braces l.shape h)
@@ -123,32 +110,24 @@ row_from rest braces row (plain {l = l} {ls = ls} h hs) d k =
 -- a row within the limits is short
 pub row_limits : {ls : List Lexeme} (rest : List Lexeme) (braces : ℕ) → AllPlain ls
     → KeepLimits braces 0 (ls ++ rest) → Within braces (length ls) rest
-row_limits {ls = ls} rest braces h k =
-    let same : 0 + length ls ≡ length ls = omega arith in
-    subst (λ r. Within braces r rest) same (row_from rest braces 0 h (omega arith) k)
+row_limits {ls = ls} rest braces h k = grind (arith, row_from)
 
 pub semi_limits : (braces row : ℕ) (l : Lexeme) (rest : List Lexeme) → Is Semi l
     → KeepLimits braces row (l ∷ rest) → KeepLimits braces 0 rest
-semi_limits braces row l rest e k = subst (λ s. KeepLimits (open_past braces s) (row_past row s) rest) e k.3
+semi_limits braces row l rest e k = rw e at k.3
 
 -- the limits after an open brace
 pub open_limits : (braces row : ℕ) (l : Lexeme) (rest : List Lexeme) → Is LBrace l
     → KeepLimits braces row (l ∷ rest) → (suc braces ≤ 32) × KeepLimits (suc braces) 0 rest
-open_limits braces row l rest e k = (
-  subst (λ s. open_past braces s ≤ 32) e k.1,
-  subst (λ s. KeepLimits (open_past braces s) (row_past row s) rest) e k.3,
-)
+open_limits braces row l rest e k = grind arith
 
 -- the limits after a closing brace
 pub close_limits : (braces row : ℕ) (l : Lexeme) (rest : List Lexeme) → Is RBrace l
     → KeepLimits (suc braces) row (l ∷ rest) → KeepLimits braces 0 rest
-close_limits braces row l rest e k = subst (λ s. KeepLimits (open_past (suc braces) s) (row_past row s) rest)
-    e k.3
+close_limits braces row l rest e k = grind arith
 
 -- a row that a semicolon ends
 pub line_limits : {ls : List Lexeme} (semi : Lexeme) (rest : List Lexeme) (braces : ℕ) → AllPlain ls
     → Is Semi semi → KeepLimits braces 0 (ls ++ semi ∷ rest)
     → (length ls ≤ 256) × KeepLimits braces 0 rest
-line_limits {ls = ls} semi rest braces h e k =
-    let w = row_limits (semi ∷ rest) braces h k in
-    (w.short, semi_limits braces (length ls) semi rest e w.kept)
+line_limits {ls = ls} semi rest braces h e k = grind (arith, row_limits, semi_limits)

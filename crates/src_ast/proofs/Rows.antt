@@ -1,6 +1,6 @@
 -- Worked runs: what the sequential meaning gives for small programs, by computing.
-use Rattle.std.proofs.Common.{◌≡◌, ℕ, zero, suc, ◌<◌, List, [], ◌∷◌, codes, refl, Some, None, Option}
-use Rattle.std.proofs.Common.{if◌then◌else◌, arith}
+use Rattle.std.proofs.Common.{◌≡◌, ℕ, ◌<◌, List, [], ◌∷◌, codes, refl, Some, None, Option, if◌then◌else◌}
+use Rattle.std.proofs.Common.{arith}
 use Rattle.ws_words.specs.declared.alu.Alu.TheVariants.{Add, Sub, Mul, Div, Rem, Shl, Le}
 use Rattle.ws_words.specs.Outside.{with_input, Outside, Act, prints, loads, stores, reads}
 use Rattle.ws_words.specs.Past.{AreWithin}
@@ -283,9 +283,7 @@ load_past_is_a_fault = record {
 }
   where
     not_sooner : (m : ℕ) → m < 2 → AreWithin (lengths_of reads_past) (acts_in reads_past (with_input []) m)
-    not_sooner zero lt = tt
-    not_sooner (suc zero) lt = (tt, tt)
-    not_sooner (suc (suc m)) lt = absurd (omega arith)
+    not_sooner m lt = grind arith
 
 -- one turn is not enough for it
 pub one_turn_goes : Goes reads_past (with_input []) 1 before_the_load
@@ -316,5 +314,4 @@ store_past_is_a_fault = record {
 }
   where
     not_sooner : (m : ℕ) → m < 1 → AreWithin (lengths_of stores_past) (acts_in stores_past (with_input []) m)
-    not_sooner zero lt = tt
-    not_sooner (suc m) lt = absurd (omega arith)
+    not_sooner m lt = grind arith

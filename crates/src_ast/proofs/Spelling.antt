@@ -1,12 +1,12 @@
 -- When what follows a lexeme can't be part of it.
 use Rattle.std.proofs.Common.{◌≡◌, ℕ, ◌^◌, ◌<◌, ◌≤◌, Bool, true, false, ◌||◌, ◌==◌, IsTrue, List, [], ◌∷◌}
-use Rattle.std.proofs.Common.{◌++◌, length, refl, sym, ap, ◌∙◌, decimal, arith, length-append}
+use Rattle.std.proofs.Common.{◌++◌, length, refl, sym, decimal, arith}
 use Rattle.std.specs.List.{list_all}
 use Rattle.std.proofs.lemmas.Bool.{and_parts, or_parts, or_from, not-true, not_from_false, true≢false, ne_eqb}
 use Rattle.ws_words.specs.Digits.{is_digit, is_number}
 use Rattle.src_ast.specs.declared.lexeme.Shape.TheVariants as shape
 use Rattle.src_ast.specs.declared.lexeme.Mark.{Mark}
-use Rattle.src_ast.specs.declared.lexeme.Mark.TheVariants.{LParen, LessEq, MoreEq, Same, Differs, ShiftLeft}
+use Rattle.src_ast.specs.declared.lexeme.Mark.TheVariants.{LessEq, MoreEq, Same, Differs, ShiftLeft}
 use Rattle.src_ast.specs.declared.lexeme.Mark.TheVariants.{ShiftRight}
 use Rattle.src_ast.specs.Lexemes.{spelling, IsLongest, Spells, word, number, mark}
 use Rattle.ws_words.specs.Letters.{is_letter, is_word_byte, is_word, starts_without}
@@ -23,29 +23,20 @@ pub record Breaks (text : List ℕ) : Type 0 where
 
 -- no mark has three bytes
 at_most_two : (m : Mark) → length (spelling m) ≤ 2
-at_most_two LParen = omega arith
-at_most_two m = omega arith
+at_most_two m = grind arith
 
 clash : (b c b' d : ℕ) (following more : List ℕ) → is_second c ≡ false → is_second d ≡ true
     → b ∷ c ∷ following ≡ b' ∷ d ∷ more → ⊥
-clash b c b' d following more h k e = let same : c ≡ d = cc in
-    true≢false (sym k ∙ ap is_second (sym same) ∙ h)
+clash b c b' d following more h k e = grind (arith, true≢false, is_second)
 
 -- a mark of two bytes has one of three as its second
 second : (other : Mark) (b c : ℕ) (following more : List ℕ) → is_second c ≡ false
     → b ∷ c ∷ following ≡ spelling other ++ more → length (spelling other) ≤ 1
-second LessEq b c following more h e = absurd (clash b c 60 61 following more h refl e)
-second MoreEq b c following more h e = absurd (clash b c 62 61 following more h refl e)
-second Same b c following more h e = absurd (clash b c 61 61 following more h refl e)
-second Differs b c following more h e = absurd (clash b c 33 61 following more h refl e)
-second ShiftLeft b c following more h e = absurd (clash b c 60 60 following more h refl e)
-second ShiftRight b c following more h e = absurd (clash b c 62 62 following more h refl e)
-second other b c following more h e = omega arith
+second other b c following more h e = grind (arith, clash)
 
 one_byte : (other : Mark) (b : ℕ) (text more : List ℕ) → IsTrue (starts_without is_second text)
     → b ∷ text ≡ spelling other ++ more → length (spelling other) ≤ 1
-one_byte other b [] more h e = omega (arith, ap length e, length-append (spelling other) more)
-one_byte other b (c ∷ following) more h e = second other b c following more (not-true (is_second c) h) e
+one_byte other b text more h e = grind (arith, second, not-true, is_second)
 
 longest : (m : Mark) (text : List ℕ) → IsTrue (starts_without is_second text)
     → IsLongest (spelling m) (spelling m ++ text)
@@ -68,9 +59,7 @@ pub spells_word : (w text : List ℕ) → IsTrue (is_word w) → IsTrue (starts_
 spells_word w text h k = word h k
 
 no_digit : (text : List ℕ) → IsTrue (starts_without is_word_byte text) → IsTrue (starts_without is_digit text)
-no_digit [] h = refl
-no_digit (b ∷ bytes) h =
-    not_from_false (is_digit b) (or_parts (is_letter b) (is_digit b) (not-true (is_word_byte b) h)).1
+no_digit text h = grind (arith, not_from_false, or_parts, not-true)
 
 -- a number in decimal before what makes it no longer
 pub spells_number : (n : ℕ) (text : List ℕ) → n < 2 ^ 64 → IsTrue (starts_without is_word_byte text)
@@ -82,10 +71,7 @@ spells_number n text h k =
 -- the first bytes of words and numbers go on no mark
 no_second : (p : ℕ → Bool) → p 60 ≡ false → p 61 ≡ false → p 62 ≡ false → (b : ℕ) → p b ≡ true
     → is_second b ≡ false
-no_second p k l m b h =
-    let other = λ (n : ℕ) (f : p n ≡ false). ne_eqb b n (λ e. true≢false (sym h ∙ ap p e ∙ f)) in
-    or_from ((b == 60) || (b == 61)) (b == 62) (or_from (b == 60) (b == 61) (other 60 k) (other 61 l))
-    (other 62 m)
+no_second p k l m b h = grind (arith, ne_eqb, true≢false, or_from)
 
 -- a word makes no mark longer
 pub word_starts : (w text : List ℕ) → IsTrue (is_word w) → IsTrue (starts_without is_second (w ++ text))
@@ -95,10 +81,7 @@ word_starts (b ∷ bytes) text h =
     (no_second is_letter refl refl refl b (and_parts (is_letter b) (list_all is_word_byte bytes) h).0)
 
 number_starts : (ds text : List ℕ) → is_number ds ≡ true → IsTrue (starts_without is_second (ds ++ text))
-number_starts [] text h = absurd (true≢false (sym h))
-number_starts (b ∷ bytes) text h =
-    not_from_false (is_second b)
-    (no_second is_digit refl refl refl b (and_parts (is_digit b) (list_all is_digit bytes) h).0)
+number_starts ds text h = grind (arith, true≢false, not_from_false, is_second, no_second, and_parts)
 
 -- nor does a number
 pub decimal_starts : (n : ℕ) (text : List ℕ) → n < 2 ^ 64

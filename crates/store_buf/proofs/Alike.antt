@@ -6,7 +6,7 @@ use Rattle.ws_words.specs.Outside.{Outside, World}
 use Rattle.ws_isa.specs.Image.{Image}
 use Rattle.df_core.specs.Core.{Chain, with_key}
 use Rattle.df_core.specs.Fit.{Legal, Ordered, StoppedAt}
-use Rattle.df_core.proofs.Ports.{with_key_cases}
+use Rattle.df_core.proofs.Keeping.Ports.{with_key_cases}
 use Rattle.store_buf.specs.declared.kept.Kept.{Kept}
 use Rattle.store_buf.specs.Requests.{entry_of}
 use Rattle.store_buf.specs.Ordering.{no_request}

@@ -10,7 +10,7 @@ use Rattle.ws_isa.specs.Sound.{Sound}
 use Rattle.df_core.specs.Core.{HasFired, IsNext, Issuable, has, position_after, with_key}
 use Rattle.df_core.specs.Shown.{waits_if}
 use Rattle.df_core.specs.Fit.{RightRequest}
-use Rattle.df_core.proofs.Ports.{with_key_cases}
+use Rattle.df_core.proofs.Keeping.Ports.{with_key_cases}
 use Rattle.df_core.specs.Began.{Began}
 use Rattle.df_core.specs.Rights.{Asked, IsAsked, operands_of}
 use Rattle.df_core.specs.declared.chain.Chain as code

@@ -12,7 +12,7 @@ use Rattle.df_core.specs.Fit.{RightRequest}
 use Rattle.df_core.specs.Began.{Began}
 use Rattle.df_core.specs.Rights.{operands_of}
 use Rattle.df_core.specs.Chains.{chain_of}
-use Rattle.df_core.proofs.Firsts as L
+use Rattle.df_core.proofs.Telling.Firsts as L
 use Rattle.store_buf.specs.declared.order.Order.{Order}
 use Rattle.store_buf.specs.declared.store.Store.{Store}
 use Rattle.store_buf.specs.Requests.{entry_of, kept_in, issued_in, answer_if, operands_if}

@@ -8,10 +8,10 @@ use Rattle.df_core.specs.Effect.{effect_after}
 use Rattle.df_core.specs.Core.{Chain, IsNext, Passes, stays, passes, pass, Issuable, issued_with}
 use Rattle.df_core.specs.Fit.{FiresAt, IssuedOp, Ordered, Legal, RightRequest}
 use Rattle.df_core.specs.Stands.{left_after, Settles}
-use Rattle.df_core.proofs.Facts.{WalkFacts}
-use Rattle.df_core.proofs.Ports.{SameKey, with_key_cases, with_key_same}
-use Rattle.df_core.proofs.BufferKept as B
-use Rattle.df_core.proofs.Settling.{EarlyAt, settle, early_any, one_time, pass_early, pass_issued}
+use Rattle.df_core.proofs.Walked.Facts.{WalkFacts}
+use Rattle.df_core.proofs.Keeping.Ports.{SameKey, with_key_cases, with_key_same}
+use Rattle.df_core.proofs.Keeping.BufferKept as B
+use Rattle.df_core.proofs.Keeping.Settling.{EarlyAt, settle, early_any, one_time, pass_early, pass_issued}
 use Rattle.store_buf.specs.Orders.{OrderGoes}
 
 module _ (image : Image) (world : World) (facts : WalkFacts image world) (issued : ℕ → ℕ → Option ℕ)

@@ -9,12 +9,12 @@ use Rattle.ws_isa.specs.Walk.{Ports, start_tokens}
 use Rattle.df_core.specs.Core.{Key, HasFired, operands_in, with_at}
 use Rattle.df_core.specs.Rights.{IsRight}
 use Rattle.df_core.specs.Shown.{Tables, TablesOk}
-use Rattle.df_core.proofs.Facts.{WalkFacts}
-use Rattle.df_core.proofs.FromSound.{facts_of}
-use Rattle.df_core.proofs.Owing.{nothing}
-use Rattle.df_core.proofs.Ports.{with_at_cases}
-use Rattle.df_core.proofs.PortsThere.{ports_there}
-use Rattle.df_core.proofs.StandsMatch.{gather_agree}
+use Rattle.df_core.proofs.Walked.Facts.{WalkFacts}
+use Rattle.df_core.proofs.Walked.FromSound.{facts_of}
+use Rattle.df_core.proofs.Telling.Owing.{nothing}
+use Rattle.df_core.proofs.Keeping.Ports.{with_at_cases}
+use Rattle.df_core.proofs.Walked.PortsThere.{ports_there}
+use Rattle.df_core.proofs.Parts.StandsMatch.{gather_agree}
 use Rattle.store_buf.specs.Runs.{AllReach, Covers, PaidOf}
 use Rattle.store_buf.proofs.Reaching as R
 use Rattle.ws_words.proofs.Places.{nth_short}

@@ -3,7 +3,7 @@ use Rattle.std.proofs.Common.{ℕ, suc, ◌≡◌, ◌<◌, ◌≤◌, ◌/◌, 
 use Rattle.std.proofs.Common.{length, Some, None, slice_set, refl, sym, ap, ◌∙◌, subst, inl, inr, arith}
 use Rattle.std.proofs.lemmas.Bool.{cases_lt, cases_eq}
 use Rattle.df_core.specs.Core.{same_key}
-use Rattle.df_core.proofs.Ports.{SameKey, with_key_cases}
+use Rattle.df_core.proofs.Keeping.Ports.{SameKey, with_key_cases}
 use Rattle.store_buf.specs.declared.node.Node.{Node}
 use Rattle.store_buf.specs.Trees.{nowhere, no_node, node_at, child_of, with_child, leaf, seek, root_of}
 use Rattle.store_buf.specs.Trees.{in_trees, IsLink, TreesOk, AllGrown, LeadsTo, NodeGrown}

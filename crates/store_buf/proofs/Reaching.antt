@@ -5,8 +5,8 @@ use Rattle.std.proofs.lemmas.List.{append_assoc}
 use Rattle.ws_isa.specs.Image.{Token}
 use Rattle.ws_isa.specs.Walk.{Ports}
 use Rattle.df_core.specs.Core.{IsSent, with_at}
-use Rattle.df_core.proofs.Ports.{with_at_cases}
-use Rattle.df_core.proofs.SlotLists.{is_sent_append_left, is_sent_append_right, is_sent_append_cases}
+use Rattle.df_core.proofs.Keeping.Ports.{with_at_cases}
+use Rattle.df_core.proofs.Walked.SlotLists.{is_sent_append_left, is_sent_append_right, is_sent_append_cases}
 use Rattle.store_buf.specs.Runs.{AllReach, Covers, IsOnItsWay}
 
 pub covers_self : (ts : List Token) → Covers ts ts

@@ -11,8 +11,8 @@ use Rattle.df_core.specs.Began.{Began}
 use Rattle.df_core.specs.Rights.{operands_of}
 use Rattle.df_core.specs.Partial.{listed}
 use Rattle.df_core.specs.Chains.{chain_of, may_flag}
-use Rattle.df_core.proofs.Driving.{flagged}
-use Rattle.df_core.proofs.Arriving.{ports_is_op, memory_is_op}
+use Rattle.df_core.proofs.Parts.Driving.{flagged}
+use Rattle.df_core.proofs.Parts.Arriving.{ports_is_op, memory_is_op}
 use Rattle.store_buf.specs.declared.kept.Kept.{Kept}
 use Rattle.store_buf.specs.declared.order.Order.{Order}
 use Rattle.store_buf.specs.Requests.{entry_of, kept_in, issued_in, answer_if, operands_if}

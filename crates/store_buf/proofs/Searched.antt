@@ -3,7 +3,7 @@ use Rattle.std.proofs.Common.{ℕ, zero, suc, ◌≡◌, ◌<◌, ◌≤◌, ◌
 use Rattle.std.proofs.Common.{lt-ltb, le-ltb, List, length, Some, None, refl, sym, ap, ◌∙◌, inl, inr, arith}
 use Rattle.std.proofs.lemmas.Bool.{cases_lt}
 use Rattle.df_core.specs.Core.{same_key}
-use Rattle.df_core.proofs.Ports.{SameKey, with_key_cases}
+use Rattle.df_core.proofs.Keeping.Ports.{SameKey, with_key_cases}
 use Rattle.store_buf.specs.declared.node.Node.{Node}
 use Rattle.store_buf.specs.Trees.{nowhere, node_at, child_of, with_child, leaf, seek, IsLink, TreesOk}
 use Rattle.store_buf.specs.Trees.{AllGrown, LeadsTo}

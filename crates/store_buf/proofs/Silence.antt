@@ -8,7 +8,7 @@ use Rattle.ws_isa.specs.declared.instr.Op.TheVariants.{Give, Take}
 use Rattle.ws_isa.specs.Image.{Image, instr_at, note_of, is_load_op, is_past_op}
 use Rattle.df_core.specs.Core.{position_after}
 use Rattle.df_core.specs.Chains.{chain_of, may_flag, next_flag}
-use Rattle.df_core.proofs.Nexts.{next_is}
+use Rattle.df_core.proofs.Parts.Nexts.{next_is}
 use Rattle.store_buf.specs.declared.order.Order.{Order}
 use Rattle.store_buf.specs.Finding.{place_in}
 use Rattle.store_buf.specs.Ordering.{kept_at, ready_flag}

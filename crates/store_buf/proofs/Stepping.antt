@@ -18,11 +18,11 @@ use Rattle.df_core.specs.Core.{IsNext, Issuable, Passes, issued_with, position_a
 use Rattle.df_core.specs.Fit.{RightRequest}
 use Rattle.df_core.specs.Shown.{waits_if}
 use Rattle.df_core.specs.Core.{IsSent}
-use Rattle.df_core.proofs.BufferKept.{fault_here}
-use Rattle.df_core.proofs.Facts.{WalkFacts}
-use Rattle.df_core.proofs.FromSound.{facts_of}
-use Rattle.df_core.proofs.PortsThere.{ports_there}
-use Rattle.df_core.proofs.Ports.{with_key_cases}
+use Rattle.df_core.proofs.Keeping.BufferKept.{fault_here}
+use Rattle.df_core.proofs.Walked.Facts.{WalkFacts}
+use Rattle.df_core.proofs.Walked.FromSound.{facts_of}
+use Rattle.df_core.proofs.Walked.PortsThere.{ports_there}
+use Rattle.df_core.proofs.Keeping.Ports.{with_key_cases}
 use Rattle.port_set.specs.Slots.{port_at}
 use Rattle.df_core.specs.Began.{Began}
 use Rattle.df_core.specs.Rights.{operands_of}
@@ -30,9 +30,10 @@ use Rattle.df_core.specs.declared.plain.Operands.{Operands}
 use Rattle.df_core.specs.Partial.{listed}
 use Rattle.df_core.specs.Places.{destinations}
 use Rattle.df_core.specs.Chains.{chain_of, may_flag, next_flag, PassedOn}
-use Rattle.df_core.proofs.Nexts.{next_is}
-use Rattle.df_core.proofs.Issuing.{same_answer, same_after, same_past, no_advance, printed_alike, took_alike}
-use Rattle.df_core.proofs.Arriving.{ports_is_op, memory_is_op, sends_are}
+use Rattle.df_core.proofs.Parts.Nexts.{next_is}
+use Rattle.df_core.proofs.Parts.Issuing.{same_answer, same_after, same_past, no_advance, printed_alike}
+use Rattle.df_core.proofs.Parts.Issuing.{took_alike}
+use Rattle.df_core.proofs.Parts.Arriving.{ports_is_op, memory_is_op, sends_are}
 use Rattle.store_buf.specs.Earlies.{early_ops}
 use Rattle.store_buf.specs.declared.kept.Kept.{Kept}
 use Rattle.store_buf.specs.declared.order.Order.{Order}

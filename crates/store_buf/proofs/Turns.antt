@@ -12,7 +12,7 @@ use Rattle.store_buf.specs.declared.wave_places.WavePlaces.{WavePlaces}
 use Rattle.store_buf.specs.Contents.{FaultIs, RightTokens}
 use Rattle.store_buf.specs.Holds.{Issued, Stopped, Issues, stays, goes, stops, part}
 use Rattle.store_buf.specs.Stores.{buffer_of, IssueLeads, StaysSo, AllLead}
-use Rattle.df_core.proofs.SlotLists.{is_sent_append_cases as sent_either}
+use Rattle.df_core.proofs.Walked.SlotLists.{is_sent_append_cases as sent_either}
 
 pub issues_on : (image : Image) (a b c : Buffer) (xs ys : List Token) → Issues image a xs b
     → Issues image b ys c → Issues image a (xs ++ ys) c

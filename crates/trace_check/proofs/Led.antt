@@ -16,9 +16,9 @@ use Rattle.df_core.specs.Quiet.{IsQuiet, IsQuietly, OnlyFires}
 use Rattle.trace_check.specs.declared.recording.TraceEnd.{TraceEnd}
 use Rattle.trace_check.specs.declared.recording.TraceEnd.TheVariants as end
 use Rattle.trace_check.specs.Recorded.{OutOfBudget, EndIs, Traces, Led, MakesEvents, IsDone, MayComeNext}
-use Rattle.df_core.proofs.Saying.{no_fault_at as no_fault}
-use Rattle.df_core.proofs.Same.{same_refl}
-use Rattle.df_core.proofs.Quietly.{issue_quiet}
+use Rattle.df_core.proofs.Telling.Saying.{no_fault_at as no_fault}
+use Rattle.df_core.proofs.Keeping.Same.{same_refl}
+use Rattle.df_core.proofs.Parts.Quietly.{issue_quiet}
 
 -- an event fires one instance at most, and an issue none
 fired_by : (image : Image) (s : State) (w i p v : ℕ) (a b : Bool) →

@@ -10,7 +10,7 @@ use Rattle.trace_check.specs.declared.events.Lined.{Lined}
 use Rattle.trace_check.specs.declared.replaying.ReplayFault.{ReplayFault}
 use Rattle.trace_check.specs.declared.replaying.ReplayFault.TheVariants.{Illegal, NoMemory}
 use Rattle.trace_check.specs.Replays.{events_of, event_in, MakesAll, IsEventFault, IsMakingFault}
-use Rattle.df_core.proofs.Same.{same_refl}
+use Rattle.df_core.proofs.Keeping.Same.{same_refl}
 
 -- Events have led from a state to one at which the core stands: whatever goes on from there goes on
 -- from the first.

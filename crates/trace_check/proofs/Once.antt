@@ -6,8 +6,8 @@ use Rattle.df_core.specs.Core.{State, Event, Same, Run, Step, Enabled}
 use Rattle.df_core.specs.Fit.{Fit}
 use Rattle.trace_check.specs.declared.events.Lined.{Lined}
 use Rattle.trace_check.specs.Replays.{StopsAt, events_of, event_in}
-use Rattle.df_core.proofs.States.{same_is as one_state}
-use Rattle.df_core.proofs.Quietly.{step_enabled}
+use Rattle.df_core.proofs.Keeping.States.{same_is as one_state}
+use Rattle.df_core.proofs.Parts.Quietly.{step_enabled}
 
 events_on : (xs ys : List Lined) → events_of (xs ++ ys) ≡ events_of xs ++ events_of ys
 events_on [] ys = refl

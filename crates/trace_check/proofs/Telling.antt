@@ -20,7 +20,7 @@ use Rattle.trace_check.specs.declared.replaying.ReplayFault.{ReplayFault}
 use Rattle.trace_check.specs.declared.replaying.ReplayFault.TheVariants.{Illegal, NoMemory}
 use Rattle.trace_check.specs.Replays.{PrintsAll, PrintsToFault, Replays, StopsAt, IsReplayFault}
 use Rattle.trace_check.specs.Replays.{IsMakingFault, events_of}
-use Rattle.df_core.proofs.Issuing.{printed_alike}
+use Rattle.df_core.proofs.Parts.Issuing.{printed_alike}
 
 module _ (image : Image) (world : World) (s : State) (r : Replayed)
     (printed : printed_words s.memory.acts ≡ r.printed) where

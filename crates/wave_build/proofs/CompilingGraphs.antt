@@ -12,7 +12,7 @@ use Rattle.cfg_core.proofs.Cost.{walk_over, fewer}
 use Rattle.cfg_core.proofs.Paired.{walk_add}
 use Rattle.ws_words.specs.Past.{ActsBegin}
 use Rattle.ws_words.proofs.Acts.{begins_then}
-use Rattle.wave_gen.proofs.OutOfTurns.{Longer, longer_same, append_three, outside, exit_longer}
+use Rattle.wave_gen.proofs.Walking.OutOfTurns.{Longer, longer_same, append_three, outside, exit_longer}
 
 -- this cost, and what is there after it
 record Exact (run : ℕ → OpsOutcome) : Type 0 where

@@ -9,7 +9,7 @@ use Rattle.cfg_core.specs.Shown.{shown_arrays, SameShown, SameWalks, SameArrays,
 use Rattle.cfg_build.specs.Keeps.{KeepsRun, ShowsRun, IsFirstForm, IsFirstExit, arrays_of}
 use Rattle.phi_conv.specs.Keeps.{SameOrGoto, ExitsKept}
 use Rattle.call_gen.specs.Keeps.{NoSend, HasNoSend}
-use Rattle.call_gen.proofs.Arms.{shaped_alone}
+use Rattle.call_gen.proofs.Ruling.Arms.{shaped_alone}
 use Rattle.wave_build.specs.Prepared.{Shown, ShowsProgram, Prepared}
 use Rattle.cfg_core.proofs.Spots.{each_at}
 

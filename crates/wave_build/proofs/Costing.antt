@@ -19,9 +19,9 @@ use Rattle.phi_conv.proofs.Standing.{same_vars}
 use Rattle.call_gen.specs.Reached.{Enters, Reached, start, follow, enter}
 use Rattle.call_gen.specs.Charged.{Places, beside, charged, LiveBelow, live_count, most_saved, StandsForExit}
 use Rattle.call_gen.specs.Charged.{StandsFor, SameExit, DoesTheSame}
-use Rattle.call_gen.proofs.Facts.{Placed}
-use Rattle.call_gen.proofs.Places.{all_placed}
-use Rattle.call_gen.proofs.PartRules.{none_past}
+use Rattle.call_gen.proofs.Spelled.Facts.{Placed}
+use Rattle.call_gen.proofs.Spelled.Places.{all_placed}
+use Rattle.call_gen.proofs.Parted.PartRules.{none_past}
 use Rattle.wave_gen.specs.Cost.{term_quarters, op_quarters, live_in, exit_quarters, quarters}
 use Rattle.wave_build.specs.Passed.{PassGraphs}
 use Rattle.wave_build.proofs.Weights.{number_few, saves_weigh, loads_weigh, clears_weigh}

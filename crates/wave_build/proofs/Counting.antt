@@ -4,7 +4,7 @@ use Rattle.std.proofs.Common.{List, [], ◌∷◌, length, refl, ap, ◌∙◌, 
 use Rattle.std.proofs.lemmas.Bool.{cases_eq}
 use Rattle.std.proofs.lemmas.Bool.Decides.{nat_tests}
 use Rattle.call_gen.specs.Spelled.{below}
-use Rattle.call_gen.proofs.Slots.{in_below, below_count}
+use Rattle.call_gen.proofs.Spelled.Slots.{in_below, below_count}
 use Rattle.wave_gen.specs.Words.{live_from}
 use Rattle.ws_words.specs.Items.{In}
 

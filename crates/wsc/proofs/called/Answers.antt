@@ -1,7 +1,7 @@
 use Rattle.std.proofs.Common.{◌∙◌, sym, subst}
 use Rattle.port_set.specs.Slots.{AllOpen}
 use Rattle.wsc_top.specs.Answers.{TellWords}
-use Rattle.wsc_top.proofs.CallEnds.{ends_alone}
+use Rattle.wsc_top.proofs.Calling.CallEnds.{ends_alone}
 use Rattle.wsc.proofs.called.Goals as goal
 
 pub wsc-outcome-requires-clause-told : goal.wsc-outcome-requires-clause-told

@@ -1,7 +1,7 @@
 use Rattle.std.proofs.Common.{◌∙◌, sym, arith}
 use Rattle.annot_check.specs.declared.open.Open.{Open}
 use Rattle.annot_check.specs.Open.{OpenOk}
-use Rattle.annot_check.proofs.Held.{shut_look, slots_blank}
+use Rattle.annot_check.proofs.Slotted.Held.{shut_look, slots_blank}
 use Rattle.annot_check.proofs.advances.advance_set.Goals as goal
 
 blank_ok : (o : Open) → OpenOk o → OpenOk (record o { set = 0 })

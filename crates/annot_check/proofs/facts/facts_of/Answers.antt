@@ -1,4 +1,4 @@
-use Rattle.annot_check.proofs.Shapes.{append_more, dropped}
+use Rattle.annot_check.proofs.Shaped.Shapes.{append_more, dropped}
 use Rattle.annot_check.proofs.facts.facts_of.Goals as goal
 
 pub loop-block-preserved : goal.loop-block-preserved

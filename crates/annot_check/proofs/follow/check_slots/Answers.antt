@@ -1,9 +1,9 @@
 use Rattle.std.proofs.Common.{◌≡◌, ◌∙◌, ◌+◌, ℕ, length, ap, arith}
 use Rattle.ws_isa.specs.View as view
 use Rattle.annot_check.specs.Open.{slots_in, nodes_of}
-use Rattle.annot_check.proofs.Blocks.{count_is}
-use Rattle.annot_check.proofs.Held.{shut_look, slots_blank}
-use Rattle.annot_check.proofs.Whole.{board_is, board_small, opening_ready}
+use Rattle.annot_check.proofs.Shaped.Blocks.{count_is}
+use Rattle.annot_check.proofs.Slotted.Held.{shut_look, slots_blank}
+use Rattle.annot_check.proofs.Slotted.Whole.{board_is, board_small, opening_ready}
 use Rattle.annot_check.proofs.follow.check_slots.Goals as goal
 
 pub none_held-requires : goal.none_held-requires

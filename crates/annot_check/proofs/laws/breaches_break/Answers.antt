@@ -1,4 +1,4 @@
-use Rattle.annot_check.proofs.Refusing.{bad_unsound}
+use Rattle.annot_check.proofs.Shaped.Refusing.{bad_unsound}
 use Rattle.annot_check.proofs.laws.breaches_break.Goals as goal
 
 pub returns : goal.returns

@@ -3,7 +3,7 @@ use Rattle.annot_check.specs.declared.fault.Bad.{Bad}
 use Rattle.annot_check.specs.declared.fault.CheckFault.TheVariants.{Refused}
 use Rattle.annot_check.specs.Order.{LastsOk}
 use Rattle.annot_check.specs.Seen.{OrderBreach}
-use Rattle.annot_check.proofs.Merging.{merged, same_number, grown_ok, grown_other, joint_is_ok}
+use Rattle.annot_check.proofs.Chained.Merging.{merged, same_number, grown_ok, grown_other, joint_is_ok}
 use Rattle.annot_check.proofs.merge.merge.Goals as goal
 
 pub returns-in-Err-clause-refused : goal.returns-in-Err-clause-refused

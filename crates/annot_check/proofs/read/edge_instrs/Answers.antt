@@ -1,6 +1,6 @@
 use Rattle.std.proofs.Common.{◌∙◌, Vec, Global, refl, ap}
 use Rattle.ws_isa.specs.declared.instr.Instr.{Instr}
-use Rattle.annot_check.proofs.Exits.{edges_push, edges_skip}
+use Rattle.annot_check.proofs.Shaped.Exits.{edges_push, edges_skip}
 use Rattle.annot_check.proofs.read.edge_instrs.Goals.{then-opens_on_edges+in_ok-copy+in_ok-push}
 use Rattle.annot_check.proofs.read.edge_instrs.Goals.{else-opens_on_edges}
 use Rattle.annot_check.proofs.read.edge_instrs.Goals as goal

@@ -3,9 +3,9 @@ use Rattle.ws_isa.specs.View as view
 use Rattle.ws_isa.specs.Image.{instr_at, first_number}
 use Rattle.ws_isa.specs.Formed.{most_instrs}
 use Rattle.annot_check.specs.Seen.{op_with, PassState}
-use Rattle.annot_check.proofs.Entries.{instrs_read, instrs_count}
-use Rattle.annot_check.proofs.Passing.{instr_here, step_breach, state_init, state_step, state_end}
-use Rattle.annot_check.proofs.Passing.{within_read, ends_read}
+use Rattle.annot_check.proofs.Slotted.Entries.{instrs_read, instrs_count}
+use Rattle.annot_check.proofs.Chained.Passing.{instr_here, step_breach, state_init, state_step, state_end}
+use Rattle.annot_check.proofs.Chained.Passing.{within_read, ends_read}
 use Rattle.annot_check.proofs.sequence.pass_all.Goals as goal
 use Rattle.ws_isa.proofs.Steps.{first_le}
 use Rattle.ws_isa.proofs.Blocks.{number_last}

@@ -4,7 +4,7 @@ use Rattle.ws_isa.specs.View as view
 use Rattle.ws_isa.specs.declared.image.Block.{Block as CodeBlock}
 use Rattle.ws_isa.specs.Image.{first_number}
 use Rattle.ws_isa.specs.Formed.{most_instrs}
-use Rattle.annot_check.proofs.Blocks.{pushed, first_zero, first_one_is, size_read, number_below}
+use Rattle.annot_check.proofs.Shaped.Blocks.{pushed, first_zero, first_one_is, size_read, number_below}
 use Rattle.annot_check.proofs.tables.first_numbers.Goals as goal
 
 pub loop-block-init : goal.loop-block-init

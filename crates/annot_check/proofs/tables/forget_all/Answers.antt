@@ -1,5 +1,5 @@
 use Rattle.std.proofs.Common.{◌∙◌, sym, inl, inr, arith}
-use Rattle.annot_check.proofs.Entries.{number_past, number_step}
+use Rattle.annot_check.proofs.Slotted.Entries.{number_past, number_step}
 use Rattle.annot_check.proofs.tables.forget_all.Goals as goal
 
 pub loop-number-preserved : goal.loop-number-preserved

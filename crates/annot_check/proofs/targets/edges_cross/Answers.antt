@@ -1,7 +1,7 @@
 use Rattle.std.proofs.Common.{subst, sym}
 use Rattle.ws_isa.specs.View as view
 use Rattle.ws_isa.specs.Image.{IsBlock}
-use Rattle.annot_check.proofs.Suits.{targets_in}
+use Rattle.annot_check.proofs.Slotted.Suits.{targets_in}
 use Rattle.annot_check.proofs.targets.edges_cross.Goals as goal
 
 pub starts_wave-requires : goal.starts_wave-requires

@@ -1,7 +1,7 @@
 use Rattle.std.proofs.Common.{subst, sym}
 use Rattle.ws_isa.specs.View as view
 use Rattle.ws_isa.specs.Image.{IsBlock}
-use Rattle.annot_check.proofs.Suits.{targets_in}
+use Rattle.annot_check.proofs.Slotted.Suits.{targets_in}
 use Rattle.annot_check.proofs.targets.edges_have.Goals as goal
 
 pub lands-requires : goal.lands-requires

@@ -1,6 +1,6 @@
 use Rattle.std.proofs.Common.{◌∙◌, sym}
 use Rattle.ws_isa.specs.View as view
-use Rattle.annot_check.proofs.Exiting.{edge_shape, stop_edges}
+use Rattle.annot_check.proofs.Shaped.Exiting.{edge_shape, stop_edges}
 use Rattle.annot_check.proofs.targets.edges_ok.Goals as goal
 
 pub returns-then-stops_at-clause-yes : goal.returns-then-stops_at-clause-yes

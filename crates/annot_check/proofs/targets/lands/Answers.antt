@@ -2,7 +2,7 @@ use Rattle.std.proofs.Common.{◌∙◌, sym, ap, map}
 use Rattle.ws_isa.specs.View as view
 use Rattle.ws_isa.specs.Image.{Block, block_at}
 use Rattle.annot_check.specs.Spread.{pad_in}
-use Rattle.annot_check.proofs.Pads.{lands_in, lands_not}
+use Rattle.annot_check.proofs.Slotted.Pads.{lands_in, lands_not}
 use Rattle.annot_check.proofs.targets.lands.Goals as goal
 
 pub returns-clause-yes : goal.returns-clause-yes

@@ -1,6 +1,6 @@
 use Rattle.std.proofs.Common.{◌<◌, arith}
 use Rattle.ws_isa.specs.Formed.{most_waves}
-use Rattle.asm_text.proofs.Counts.{waves_few}
+use Rattle.asm_text.proofs.Keeping.Counts.{waves_few}
 use Rattle.asm_text.proofs.count.count.Goals as goal
 
 pub overflow_add-state : goal.overflow_add-state

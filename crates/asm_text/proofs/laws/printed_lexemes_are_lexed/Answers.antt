@@ -1,6 +1,6 @@
 use Rattle.asm_text.specs.Printed.{start}
-use Rattle.asm_text.proofs.Lined.{lines_of_printed}
-use Rattle.asm_text.proofs.Spelt.{lexed_text}
+use Rattle.asm_text.proofs.Scanning.Lined.{lines_of_printed}
+use Rattle.asm_text.proofs.Scanning.Spelt.{lexed_text}
 use Rattle.asm_text.proofs.laws.printed_lexemes_are_lexed.Goals as goal
 
 pub returns-clause-lexemes : goal.returns-clause-lexemes

@@ -1,4 +1,4 @@
-use Rattle.asm_text.proofs.Shown.{printed_plain, printed_end}
+use Rattle.asm_text.proofs.Printing.Shown.{printed_plain, printed_end}
 use Rattle.asm_text.proofs.laws.printed_texts_have_no_marker.Goals as goal
 
 pub returns-clause-bytes : goal.returns-clause-bytes

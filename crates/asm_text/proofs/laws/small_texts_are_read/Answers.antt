@@ -1,4 +1,4 @@
-use Rattle.asm_text.proofs.SampleTexts.{reads_a, reads_b, reads_named}
+use Rattle.asm_text.proofs.Accepting.SampleTexts.{reads_a, reads_b, reads_named}
 use Rattle.asm_text.proofs.laws.small_texts_are_read.Goals as goal
 
 pub returns : goal.returns

@@ -1,6 +1,6 @@
 use Rattle.std.proofs.Common.{Some, sym, ap, ◌∙◌}
 use Rattle.asm_text.specs.Forms.{labels_at}
-use Rattle.asm_text.proofs.Lists.{stop, labels_end}
+use Rattle.asm_text.proofs.Scanning.Lists.{stop, labels_end}
 use Rattle.asm_text.proofs.parts.labels.Goals as goal
 
 pub returns-in-Err-Form : goal.returns-in-Err-Form

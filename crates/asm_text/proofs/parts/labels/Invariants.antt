@@ -1,6 +1,6 @@
 use Rattle.std.proofs.Common.{◌≡◌, length}
 use Rattle.asm_text.specs.Forms.{labels_at}
-use Rattle.asm_text.proofs.Lists.{with_front}
+use Rattle.asm_text.proofs.Scanning.Lists.{with_front}
 use Rattle.asm_text.proofs.parts.labels.Given as goal
 
 abbrev pub invariant-loop-label : goal.invariant-loop-label

@@ -1,6 +1,6 @@
 use Rattle.std.proofs.Common.{Some, sym, ap, ◌∙◌}
 use Rattle.asm_text.specs.Forms.{targets_at}
-use Rattle.asm_text.proofs.Lists.{stop, targets_end}
+use Rattle.asm_text.proofs.Scanning.Lists.{stop, targets_end}
 use Rattle.asm_text.proofs.parts.targets.Goals as goal
 
 pub returns-in-Err-Form : goal.returns-in-Err-Form

@@ -1,6 +1,6 @@
 use Rattle.std.proofs.Common.{◌≡◌, length}
 use Rattle.asm_text.specs.Forms.{targets_at}
-use Rattle.asm_text.proofs.Lists.{with_front}
+use Rattle.asm_text.proofs.Scanning.Lists.{with_front}
 use Rattle.asm_text.proofs.parts.targets.Given as goal
 
 abbrev pub invariant-loop-target : goal.invariant-loop-target

@@ -2,7 +2,7 @@ use Rattle.std.proofs.Common.{◌≡◌, ◌+◌, ◌<◌, length, drop, sym, ap
 use Rattle.asm_text.specs.declared.lexeme.Mark.TheVariants.{Dot}
 use Rattle.asm_text.specs.declared.lexeme.Lexeme.TheVariants.{Number, Mark}
 use Rattle.asm_text.specs.Printed.{Written, seen, put, puts, dest_lexemes}
-use Rattle.asm_text.proofs.Walks.{dests_step}
+use Rattle.asm_text.proofs.Scanning.Walks.{dests_step}
 use Rattle.asm_text.proofs.print_lines.dests.Goals as goal
 
 pub loop-dest-preserved : goal.loop-dest-preserved

@@ -1,7 +1,7 @@
 use Rattle.std.proofs.Common.{◌+◌, ◌<◌, length, drop, sym, ap, ◌∙◌, refl, arith}
 use Rattle.asm_text.specs.declared.lexeme.Lexeme.TheVariants.{Number}
 use Rattle.asm_text.specs.Printed.{seen, put, puts, numbers}
-use Rattle.asm_text.proofs.Walks.{numbers_step}
+use Rattle.asm_text.proofs.Scanning.Walks.{numbers_step}
 use Rattle.asm_text.proofs.print_lines.numbers.Goals as goal
 
 pub loop-number-preserved : goal.loop-number-preserved

@@ -1,4 +1,4 @@
-use Rattle.asm_text.proofs.Formed.{made_formed}
+use Rattle.asm_text.proofs.Keeping.Formed.{made_formed}
 use Rattle.asm_text.proofs.read.read_asm.Goals as goal
 
 pub returns-clause-formed : goal.returns-clause-formed

@@ -5,7 +5,7 @@ use Rattle.std.proofs.lemmas.List.{length-replicate}
 use Rattle.cfg_core.specs.Graph.{entry_of}
 use Rattle.cfg_core.specs.View as view
 use Rattle.call_gen.specs.Part.{FlagsMore}
-use Rattle.call_gen.proofs.Marking.{found_main, found_more, found_all}
+use Rattle.call_gen.proofs.Parted.Marking.{found_main, found_more, found_all}
 use Rattle.call_gen.proofs.find.find.Goals as goal
 
 pub loop-b-init : goal.loop-b-init

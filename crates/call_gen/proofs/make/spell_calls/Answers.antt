@@ -2,7 +2,7 @@ use Rattle.std.proofs.Common.{ℕ, List, ◌≡◌, ◌∙◌, ap}
 use Rattle.cfg_core.specs.View as view
 use Rattle.cfg_core.specs.declared.blocks.Graph.{Graph}
 use Rattle.call_gen.specs.Spelled.{spelled}
-use Rattle.call_gen.proofs.Making.{all_kept}
+use Rattle.call_gen.proofs.Spelled.Making.{all_kept}
 use Rattle.call_gen.proofs.make.spell_calls.Goals as goal
 
 pub returns : goal.returns

@@ -3,7 +3,7 @@ use Rattle.std.proofs.lemmas.List.{length_push}
 use Rattle.live_vars.proofs.Planes.{pushed}
 use Rattle.cfg_core.specs.View as view
 use Rattle.call_gen.specs.Plans.{CallPlaced}
-use Rattle.call_gen.proofs.Tallying.{tallied_none}
+use Rattle.call_gen.proofs.Spelled.Tallying.{tallied_none}
 use Rattle.call_gen.proofs.numbering.addresses.Goals as goal
 
 pub loop-b-init : goal.loop-b-init

@@ -1,6 +1,6 @@
 use Rattle.std.proofs.Common.{arith}
 use Rattle.cfg_core.specs.View as view
-use Rattle.call_gen.proofs.Planning.{cells_all}
+use Rattle.call_gen.proofs.Spelled.Planning.{cells_all}
 use Rattle.call_gen.proofs.numbering.cells.Goals as goal
 
 pub overflow_cast-f-end : goal.overflow_cast-f-end

@@ -1,5 +1,5 @@
 use Rattle.std.proofs.Common.{◌≡◌, ◌+◌, ◌∷◌, suc, drop, arith}
-use Rattle.call_gen.proofs.Planning.{homes_more}
+use Rattle.call_gen.proofs.Spelled.Planning.{homes_more}
 use Rattle.call_gen.proofs.numbering.homes.Goals as goal
 use Rattle.ws_words.proofs.Lists.{drop_next}
 

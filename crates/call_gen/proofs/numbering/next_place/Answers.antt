@@ -1,7 +1,7 @@
 use Rattle.std.proofs.Common.{ℕ, ◌+◌, List, sym, ◌∙◌, subst}
 use Rattle.cfg_core.specs.View as view
 use Rattle.call_gen.specs.Plans.{Tallied}
-use Rattle.call_gen.proofs.Tallying.{place_some, tallied_some, room_for_one, place_none, tallied_same}
+use Rattle.call_gen.proofs.Spelled.Tallying.{place_some, tallied_some, room_for_one, place_none, tallied_same}
 use Rattle.call_gen.proofs.numbering.next_place.Goals as goal
 
 pub tally-requires : goal.tally-requires

@@ -1,6 +1,6 @@
 use Rattle.std.proofs.Common.{◌≡◌, ◌+◌, ◌∙◌, sym, true, false, if◌then◌else◌, arith}
 use Rattle.cfg_core.specs.View as view
-use Rattle.call_gen.proofs.Planning.{own_is}
+use Rattle.call_gen.proofs.Spelled.Planning.{own_is}
 use Rattle.call_gen.proofs.numbering.own.Goals as goal
 
 pub returns-then-is_calling-clause-cells : goal.returns-then-is_calling-clause-cells

@@ -3,8 +3,8 @@ use Rattle.std.proofs.lemmas.List.{length_push}
 use Rattle.live_vars.proofs.Planes.{pushed}
 use Rattle.cfg_core.specs.View as view
 use Rattle.call_gen.specs.Spelled.{moved}
-use Rattle.call_gen.proofs.Counting.{one_at_most}
-use Rattle.call_gen.proofs.Planning.{homes_there, place_is, calls_next}
+use Rattle.call_gen.proofs.Spelled.Counting.{one_at_most}
+use Rattle.call_gen.proofs.Spelled.Planning.{homes_there, place_is, calls_next}
 use Rattle.call_gen.proofs.numbering.places.Goals as goal
 
 pub overflow_add-b-in-loop-b : goal.overflow_add-b-in-loop-b

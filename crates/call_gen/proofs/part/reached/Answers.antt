@@ -2,7 +2,7 @@ use Rattle.std.proofs.Common.{◌≡◌, ◌∙◌, ap, subst}
 use Rattle.cfg_core.specs.View as view
 use Rattle.cfg_core.specs.declared.blocks.Graph.{Graph}
 use Rattle.call_gen.specs.Part.{part, AreReached}
-use Rattle.call_gen.proofs.PartMaking.{reached_kept}
+use Rattle.call_gen.proofs.Parted.PartMaking.{reached_kept}
 use Rattle.call_gen.proofs.part.reached.Goals as goal
 use Rattle.ws_words.specs.Items.{flag_at}
 

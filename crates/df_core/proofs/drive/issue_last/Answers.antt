@@ -2,8 +2,8 @@ use Rattle.std.proofs.Common.{[], ◌-◌}
 use Rattle.df_core.specs.Core.{Issue}
 use Rattle.df_core.specs.Places.{image_of}
 use Rattle.df_core.specs.Flows.{asked_at}
-use Rattle.df_core.proofs.Driving.{alone, follows_none, leads_on}
-use Rattle.df_core.proofs.Steady.{same_parts}
+use Rattle.df_core.proofs.Parts.Driving.{alone, follows_none, leads_on}
+use Rattle.df_core.proofs.Sizes.Steady.{same_parts}
 use Rattle.df_core.proofs.drive.issue_last.Goals as goal
 
 pub returns-then-may_issue-clause-follows : goal.returns-then-may_issue-clause-follows

@@ -2,8 +2,8 @@ use Rattle.std.proofs.Common.{[], ◌∙◌, refl, arith}
 use Rattle.df_core.specs.Core.{Issue}
 use Rattle.df_core.specs.Places.{image_of}
 use Rattle.df_core.specs.Flows.{asked_at}
-use Rattle.df_core.proofs.Driving.{alone, going_on, follows_none, follows_on, leads_on}
-use Rattle.df_core.proofs.Steady.{same_parts}
+use Rattle.df_core.proofs.Parts.Driving.{alone, going_on, follows_none, follows_on, leads_on}
+use Rattle.df_core.proofs.Sizes.Steady.{same_parts}
 use Rattle.df_core.proofs.drive.issue_next.Goals as goal
 
 pub loop-place-init : goal.loop-place-init

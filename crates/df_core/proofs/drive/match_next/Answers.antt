@@ -2,8 +2,8 @@ use Rattle.std.proofs.Common.{◌+◌, ◌-◌, [], ◌∷◌, refl, arith}
 use Rattle.df_core.specs.Places.{image_of}
 use Rattle.df_core.specs.Ways.{token_of}
 use Rattle.df_core.specs.declared.flow.Flow.{Flow}
-use Rattle.df_core.proofs.Driving.{alone, takes_on, taken_going, going_on, follows_on}
-use Rattle.df_core.proofs.Steady.{same_parts, room_taken, room_less}
+use Rattle.df_core.proofs.Parts.Driving.{alone, takes_on, taken_going, going_on, follows_on}
+use Rattle.df_core.proofs.Sizes.Steady.{same_parts, room_taken, room_less}
 use Rattle.df_core.proofs.drive.match_next.Goals as goal
 
 pub arrive-requires-clause-going : goal.arrive-requires-clause-going

@@ -4,9 +4,9 @@ use Rattle.df_core.specs.declared.drive.Finish.{Finish}
 use Rattle.df_core.specs.Places.{image_of}
 use Rattle.df_core.specs.Flows.{asked_at, FlowFaultIs, FlowRoom}
 use Rattle.df_core.specs.Finishes.{FinishIs}
-use Rattle.df_core.proofs.Driving.{alone, follows_none, follows_on, going_on, leads_on, stands_still}
-use Rattle.df_core.proofs.Driving.{none_may}
-use Rattle.df_core.proofs.Steady.{same_parts, room_less}
+use Rattle.df_core.proofs.Parts.Driving.{alone, follows_none, follows_on, going_on, leads_on, stands_still}
+use Rattle.df_core.proofs.Parts.Driving.{none_may}
+use Rattle.df_core.proofs.Sizes.Steady.{same_parts, room_less}
 use Rattle.df_core.proofs.drive.run.Goals as goal
 
 pub loop-flow-init : goal.loop-flow-init

@@ -1,6 +1,7 @@
 use Rattle.std.proofs.Common.{◌≡◌, ◌∙◌, ◌⊎◌, sym, false, inl, inr, arith}
 use Rattle.df_core.specs.Places.{image_of}
-use Rattle.df_core.proofs.Driving.{follows_none, follows_on, going_on, same_follows, ended_follows, ended_on}
+use Rattle.df_core.proofs.Parts.Driving.{follows_none, follows_on, going_on, same_follows, ended_follows}
+use Rattle.df_core.proofs.Parts.Driving.{ended_on}
 use Rattle.df_core.specs.Finishes.{is_budget}
 use Rattle.df_core.proofs.drive.run_on.Goals.{then-until-budget-via-then-until-budget}
 use Rattle.df_core.proofs.drive.run_on.Goals.{then-until-budget-via-else-until-budget+then-not-is_budget}

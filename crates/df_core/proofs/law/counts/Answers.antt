@@ -1,9 +1,9 @@
-use Rattle.df_core.proofs.PortsThere.{ports_there}
-use Rattle.df_core.proofs.FromSound.{facts_of}
-use Rattle.df_core.proofs.Counting.{rest_count, fired_count, unfired_count, way_count, once_kept}
-use Rattle.df_core.proofs.Ends.{passed, after_fired, same_effect}
-use Rattle.df_core.proofs.Waves.{way_wave}
-use Rattle.df_core.proofs.Place.{fault_place}
+use Rattle.df_core.proofs.Walked.PortsThere.{ports_there}
+use Rattle.df_core.proofs.Walked.FromSound.{facts_of}
+use Rattle.df_core.proofs.Telling.Counting.{rest_count, fired_count, unfired_count, way_count, once_kept}
+use Rattle.df_core.proofs.Telling.Ends.{passed, after_fired, same_effect}
+use Rattle.df_core.proofs.Telling.Waves.{way_wave}
+use Rattle.df_core.proofs.Telling.Place.{fault_place}
 use Rattle.df_core.proofs.law.counts.Goals as goal
 
 pub returns : goal.returns

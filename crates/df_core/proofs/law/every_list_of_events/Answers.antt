@@ -1,10 +1,10 @@
-use Rattle.df_core.proofs.PortsThere.{ports_there}
-use Rattle.df_core.proofs.FromSound.{facts_of}
-use Rattle.df_core.proofs.Reachable.{step_kept, step_grounded}
-use Rattle.df_core.proofs.Reached.{reached}
-use Rattle.df_core.proofs.Making.{makes, alone}
-use Rattle.df_core.proofs.IssueKept.{stop_fault}
-use Rattle.df_core.proofs.Ends.{rest_ends, at_fault, same_memory}
+use Rattle.df_core.proofs.Walked.PortsThere.{ports_there}
+use Rattle.df_core.proofs.Walked.FromSound.{facts_of}
+use Rattle.df_core.proofs.Keeping.Reachable.{step_kept, step_grounded}
+use Rattle.df_core.proofs.Keeping.Reached.{reached}
+use Rattle.df_core.proofs.Keeping.Making.{makes, alone}
+use Rattle.df_core.proofs.Keeping.IssueKept.{stop_fault}
+use Rattle.df_core.proofs.Telling.Ends.{rest_ends, at_fault, same_memory}
 use Rattle.df_core.proofs.law.every_list_of_events.Goals as goal
 
 pub returns : goal.returns

@@ -1,4 +1,4 @@
-use Rattle.df_core.proofs.Owing.{rests}
+use Rattle.df_core.proofs.Telling.Owing.{rests}
 use Rattle.df_core.proofs.law.owing_nothing_is_rest.Goals as goal
 
 pub returns : goal.returns

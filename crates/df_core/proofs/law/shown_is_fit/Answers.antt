@@ -1,6 +1,6 @@
-use Rattle.df_core.proofs.PortsThere.{ports_there}
-use Rattle.df_core.proofs.FromSound.{facts_of}
-use Rattle.df_core.proofs.ShownFit.{shown_fit}
+use Rattle.df_core.proofs.Walked.PortsThere.{ports_there}
+use Rattle.df_core.proofs.Walked.FromSound.{facts_of}
+use Rattle.df_core.proofs.Telling.ShownFit.{shown_fit}
 use Rattle.df_core.proofs.law.shown_is_fit.Goals as goal
 
 pub returns : goal.returns

@@ -1,7 +1,7 @@
 use Rattle.std.proofs.Common.{◌++◌, ◌∷◌, [], ◌∙◌, ap, arith}
 use Rattle.ws_words.specs.Outside.{row, with_row}
 use Rattle.df_core.specs.Outdoors.{rows_of}
-use Rattle.df_core.proofs.Trays.{set_rows, value_in, set_space, written_past}
+use Rattle.df_core.proofs.Sizes.Trays.{set_rows, value_in, set_space, written_past}
 use Rattle.df_core.proofs.memory.add_word.Goals as goal
 
 pub returns-then-place-len-clause-rows : goal.returns-then-place-len-clause-rows

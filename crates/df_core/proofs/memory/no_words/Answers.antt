@@ -1,7 +1,7 @@
 use Rattle.std.proofs.Common.{◌+◌, ◌∙◌, ap, ◌++◌, ◌∷◌, [], arith}
 use Rattle.df_core.specs.Outdoors.{rows_of}
-use Rattle.df_core.proofs.Acts.{took_nothing}
-use Rattle.df_core.proofs.Trays.{rows_push}
+use Rattle.df_core.proofs.Walked.Acts.{took_nothing}
+use Rattle.df_core.proofs.Sizes.Trays.{rows_push}
 use Rattle.df_core.proofs.memory.no_words.Goals as goal
 
 pub loop-preserved : goal.loop-preserved

@@ -1,7 +1,7 @@
 use Rattle.std.proofs.Common.{ℕ, ◌≡◌, ◌<◌, ◌≤◌, ◌+◌, ◌∙◌, sym, refl, false, subst, length, Vec, Global}
 use Rattle.std.proofs.Common.{vec_len, vec_capacity, inl, inr, arith}
 use Rattle.std.proofs.lemmas.Bool.{cases_lt, both_ways}
-use Rattle.df_core.proofs.Trays.{kept_rows, kept_space, length_set, nth_set, value_nth}
+use Rattle.df_core.proofs.Sizes.Trays.{kept_rows, kept_space, length_set, nth_set, value_nth}
 use Rattle.df_core.proofs.memory.reserve_rows.Goals as goal
 use Rattle.ws_words.proofs.Places.{nth_short}
 

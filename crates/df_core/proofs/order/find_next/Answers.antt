@@ -4,7 +4,7 @@ use Rattle.ws_isa.specs.Image.{note_of}
 use Rattle.df_core.specs.Core.{IsNext}
 use Rattle.df_core.specs.Chains.{chain_of}
 use Rattle.df_core.specs.Places.{image_of}
-use Rattle.df_core.proofs.Settled.{in_at, seen_at}
+use Rattle.df_core.proofs.Keeping.Settled.{in_at, seen_at}
 use Rattle.df_core.proofs.order.find_next.Goals as goal
 
 pub loop-front-preserved : goal.loop-front-preserved

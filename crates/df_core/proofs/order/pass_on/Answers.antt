@@ -1,8 +1,8 @@
 use Rattle.std.proofs.Common.{◌∙◌, ap, inr, refl, sym}
 use Rattle.df_core.specs.Chains.{chain_of, next_flag}
 use Rattle.df_core.specs.Places.{image_of}
-use Rattle.df_core.proofs.Settled.{wave_ended, kept_behind}
-use Rattle.df_core.proofs.Nexts.{next_not}
+use Rattle.df_core.proofs.Keeping.Settled.{wave_ended, kept_behind}
+use Rattle.df_core.proofs.Parts.Nexts.{next_not}
 use Rattle.ws_isa.specs.Image.{note_of}
 use Rattle.df_core.proofs.order.pass_on.Goals as goal
 

@@ -5,7 +5,7 @@ use Rattle.df_core.specs.Core.{IsNext}
 use Rattle.df_core.specs.Stands.{done, left_after}
 use Rattle.df_core.specs.Chains.{chain_of}
 use Rattle.df_core.specs.Places.{image_of}
-use Rattle.df_core.proofs.Settled.{one_more, index_is, all_passed, same_wave}
+use Rattle.df_core.proofs.Keeping.Settled.{one_more, index_is, all_passed, same_wave}
 use Rattle.df_core.proofs.order.settle.Goals as goal
 use Rattle.ws_words.specs.Items.{In}
 

@@ -7,7 +7,7 @@ use Rattle.ws_isa.specs.View as view
 use Rattle.df_core.specs.declared.way.Way.{Way}
 use Rattle.df_core.specs.Places.{image_of}
 use Rattle.df_core.specs.Ways.{SentTo}
-use Rattle.df_core.proofs.Opening.{start_few, opens_so}
+use Rattle.df_core.proofs.Parts.Opening.{start_few, opens_so}
 use Rattle.df_core.proofs.outset.open.Goals as goal
 use Rattle.df_core.specs.Outdoors.{MemoryIs}
 

@@ -1,7 +1,7 @@
 use Rattle.std.proofs.Common.{◌++◌, List, ap, ◌∙◌}
 use Rattle.ws_isa.specs.Image.{Token, tokens_to}
 use Rattle.df_core.specs.Places.{image_of}
-use Rattle.df_core.proofs.Starts.{starts_are, starts_right}
+use Rattle.df_core.proofs.Walked.Starts.{starts_are, starts_right}
 use Rattle.df_core.proofs.pulse.start.Goals as goal
 
 pub send-requires : goal.send-requires

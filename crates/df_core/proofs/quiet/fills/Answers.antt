@@ -3,7 +3,7 @@ use Rattle.ws_isa.specs.Image.{ports_of}
 use Rattle.df_core.specs.Core.{is_full, with_at}
 use Rattle.df_core.specs.Places.{image_of}
 use Rattle.df_core.specs.Partial.{partial_of}
-use Rattle.df_core.proofs.Arriving.{ports_is_op}
+use Rattle.df_core.proofs.Parts.Arriving.{ports_is_op}
 use Rattle.df_core.proofs.quiet.fills.Goals as goal
 
 pub returns : goal.returns

@@ -4,7 +4,7 @@ use Rattle.df_core.specs.Core.{is_full, with_at}
 use Rattle.df_core.specs.declared.slots.MatchStore.{MatchStore}
 use Rattle.df_core.specs.declared.plain.Token.{Token}
 use Rattle.df_core.specs.Partial.{partial_of}
-use Rattle.df_core.proofs.Quietly.{full_more, not_full}
+use Rattle.df_core.proofs.Parts.Quietly.{full_more, not_full}
 use Rattle.df_core.proofs.quiet.is_filled.Goals as goal
 
 abbrev with_token : MatchStore → Token → Ports

@@ -1,6 +1,6 @@
 use Rattle.std.proofs.Common.{◌-◌, refl, sym, ◌∙◌, arith}
 use Rattle.df_core.specs.Places.{image_of}
-use Rattle.df_core.proofs.Quietly.{all_fill, fill_further, sent_at}
+use Rattle.df_core.proofs.Parts.Quietly.{all_fill, fill_further, sent_at}
 use Rattle.df_core.proofs.quiet.quiet_among.Goals as goal
 
 pub returns-then-not-fills : goal.returns-then-not-fills

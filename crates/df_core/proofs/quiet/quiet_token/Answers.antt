@@ -4,7 +4,7 @@ use Rattle.df_core.specs.declared.plain.Token.{Token}
 use Rattle.df_core.specs.Places.{image_of}
 use Rattle.df_core.specs.Ways.{token_of}
 use Rattle.df_core.specs.Quiet.{AllFill}
-use Rattle.df_core.proofs.Quietly.{sent_left, quiet_or}
+use Rattle.df_core.proofs.Parts.Quietly.{sent_left, quiet_or}
 use Rattle.df_core.proofs.quiet.quiet_token.Goals as goal
 
 pub returns-in-Some : goal.returns-in-Some

@@ -1,5 +1,5 @@
 use Rattle.std.proofs.Common.{arith}
-use Rattle.df_core.proofs.Found.{none_at}
+use Rattle.df_core.proofs.Parts.Found.{none_at}
 use Rattle.df_core.proofs.way.find_token.Goals as goal
 
 pub returns : goal.returns

@@ -7,8 +7,8 @@ use Rattle.ws_isa.specs.Sound.{Sound}
 use Rattle.df_core.specs.Places.{image_of}
 use Rattle.df_core.specs.Answer.{RunSo}
 use Rattle.df_core.specs.Told.{run_of}
-use Rattle.df_core.proofs.Saying.{opened_none, answers}
-use Rattle.df_core.proofs.Fine.{ok_so}
+use Rattle.df_core.proofs.Telling.Saying.{opened_none, answers}
+use Rattle.df_core.proofs.Sizes.Fine.{ok_so}
 use Rattle.df_core.proofs.whole.run_checked.Goals as goal
 use Rattle.ws_words.proofs.Lists.{length_map}
 

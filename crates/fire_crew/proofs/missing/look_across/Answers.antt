@@ -1,22 +1,47 @@
-use Rattle.std.proofs.Common.{arith}
+use Rattle.std.proofs.Common.{◌≡◌, ◌+◌, ◌<◌, ◌≤◌, ◌∙◌, inl, inr, ℕ, length, slice_index_or, subst, arith}
+use Rattle.std.proofs.lemmas.Bool.{cases_lt}
+use Rattle.std.proofs.lemmas.List.{length-set}
+use Rattle.match_table.specs.Growth.{content_at}
 use Rattle.match_table.specs.Rows.{contents}
+use Rattle.match_table.specs.Tables.{TableContent}
 use Rattle.match_table.specs.Together.{part_of}
 use Rattle.fire_crew.specs.Owing.{ToldIn}
-use Rattle.fire_crew.proofs.Paid.{next_table}
+use Rattle.fire_crew.proofs.Paid.{set_each, told_join}
 use Rattle.fire_crew.proofs.missing.look_across.Goals as goal
-use Rattle.match_table.specs.Tables.{TableContent}
 
 pub loop-number-preserved : goal.loop-number-preserved
-loop-number-preserved g c = (
-  c.in_ok-look_through.ensures.missing,
-  λ e. (let a = c.in_ok-look_through.ensures.none e in let b = c.loop-number.invariant.1 a.0 in (
-    b.0,
-    next_table (λ (x : TableContent). ToldIn g.J.Job.image (part_of c.args.tables.now).held
-        c.args.from c.args.to x) (contents c.args.tables.now) c.loop-number.number
-        c.table_at.result.now c.table_at.ensures b.1 a.1,
-  )),
-)
+loop-number-preserved g c =
+    let image = g.J.Job.image in
+    let cs = contents c.args.tables.now in
+    let held = (part_of c.args.tables.now).held in
+    let places = c.loop-number.places in
+    let n = c.loop-number.number in
+    let to = c.in_ok-to.to in
+    let old = c.loop-number.invariant in
+    let long = old.0 in
+    let most = c.count_of-number-end.ensures.most in
+    let count = c.count_of-number-end.ensures.count in
+    let test = c.loop-number-test.true in
+    let within : n < length places = omega (arith, long, most, test) in
+    let here : n < length cs = omega (arith, count, test) in (
+      length-set places n to ∙ long,
+      c.in_ok-to.ensures.missing,
+      (λ e. (let a = c.in_ok-to.ensures.none e in let b = old.2 a.0 in (
+        b.0,
+        λ told k lt. set_each (λ (j x : ℕ). ToldIn image held 0 x (content_at cs j)) places n to within
+            (told_join image held 0 (slice_index_or places n 0) to (content_at cs n) (b.1 told n here)
+            (subst (λ (t : TableContent). ToldIn image held (slice_index_or places n 0) to t)
+            c.table_at-table.ensures a.1)) k (λ apart. b.1 told k lt),
+      ))),
+      (λ all k lt. set_each (λ (j x : ℕ). j < n + 1 → length (content_at cs j).fired ≤ x) places n to within
+          (λ l. subst (λ (t : TableContent). length t.fired ≤ to) c.table_at-table.ensures
+          (c.in_ok-to.ensures.all all)) k
+          (λ apart l. old.3 all k (elim (cases_lt k n) [
+            | inl x ↦ x
+            | inr x ↦ absurd (apart (omega (arith, l, x)))
+          ])) lt),
+    )
 
-pub returns-clause-none : goal.returns-clause-none
-returns-clause-none g c = λ e. (let b = c.loop-number.invariant.1 e in let t = c.loop-number-test.false in
-    let n = c.count_of-number-end.ensures.count in (b.0, λ k lt. b.1 k (omega (arith, t, n, lt))))
+pub returns-clause-all : goal.returns-clause-all
+returns-clause-all g c = λ w k lt. c.loop-number.invariant.3 w k (let t = c.loop-number-test.false in
+    let n = c.count_of-number-end.ensures.count in omega (arith, t, n, lt))

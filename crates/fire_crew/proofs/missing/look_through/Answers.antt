@@ -3,10 +3,6 @@ use Rattle.match_table.specs.Together.{part_of}
 use Rattle.fire_crew.proofs.Paid.{told_more}
 use Rattle.fire_crew.proofs.missing.look_through.Goals as goal
 
-pub see_at-requires-clause-place : goal.see_at-requires-clause-place
-see_at-requires-clause-place g c = let end = c.min-end.ensures in let count = c.fired_count.ensures in
-    let t = c.loop-place-test.true in omega (arith, end, count, t)
-
 pub loop-place-preserved : goal.loop-place-preserved
 loop-place-preserved g c = (
   c.in_ok-see_at.ensures.missing,
@@ -20,6 +16,6 @@ loop-place-preserved g c = (
 pub returns-clause-none : goal.returns-clause-none
 returns-clause-none g c = λ e. (let b = c.loop-place.invariant.1 e in (
   b.0,
-  λ k d low high within. (let end = c.min-end.ensures in let count = c.fired_count.ensures in
-      let t = c.loop-place-test.false in b.1 k d low (omega (arith, end, count, t, high, within)) within),
+  λ k d low high within. (let count = c.fired_count-end.ensures in
+      let t = c.loop-place-test.false in b.1 k d low (omega (arith, count, t, within)) within),
 ))

@@ -1,7 +1,7 @@
 use Rattle.std.proofs.Common.{◌≡◌, ◌++◌, ◌∷◌, [], List, All, slice_index_or, sym, ap, ◌∙◌, subst}
 use Rattle.ws_isa.specs.declared.instr.Dest.{Dest}
 use Rattle.ws_isa.specs.Image.{Token}
-use Rattle.df_core.proofs.Sends.{sent_at}
+use Rattle.df_core.proofs.Sizes.Sends.{sent_at}
 use Rattle.match_table.specs.Together.{part_of}
 use Rattle.fire_crew.specs.Owing.{IsMissing}
 use Rattle.fire_crew.proofs.Paid.{come_sent, found_missing, not_empty}

@@ -1,6 +1,6 @@
 use Rattle.std.proofs.Common.{◌∷◌, ◌++◌, List, sym, subst}
 use Rattle.ws_isa.specs.Image.{Token}
-use Rattle.df_core.proofs.Ports.{has_some}
+use Rattle.df_core.proofs.Keeping.Ports.{has_some}
 use Rattle.match_table.specs.Together.{part_of}
 use Rattle.store_buf.proofs.Paying.{pay_held, pay_more}
 use Rattle.fire_crew.specs.Solo.{Knows, Owes, Paid}

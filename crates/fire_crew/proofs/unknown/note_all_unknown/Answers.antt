@@ -1,17 +1,14 @@
-use Rattle.std.proofs.Common.{arith, sym, subst}
+use Rattle.std.proofs.Common.{arith}
 use Rattle.std.proofs.lemmas.List.Elements.{All-more}
 use Rattle.match_table.specs.Tables.{of_memory}
 use Rattle.fire_crew.specs.Owing.{IsKnown}
 use Rattle.match_table.proofs.FiredPlaces.{none_fired}
 use Rattle.fire_crew.proofs.Paid.{all_done}
-use Rattle.fire_crew.proofs.Rights.{asks_at}
 use Rattle.fire_crew.proofs.unknown.note_all_unknown.Goals as goal
 
 pub note_unknown-requires : goal.note_unknown-requires
 note_unknown-requires g c = let t = c.loop-place-test.true in let count = c.asked_count-place-end.ensures in
-    asks_at g.J.Job.image g.J.Job.world c.facts-2.ensures.formed c.facts-2.ensures.sound c.args.table.now
-    c.facts.ensures.part c.asked_at.result c.asked_at.ensures.operands c.loop-place.place
-    (omega (arith, t, count)) c.asked_at.ensures.at
+    omega (arith, t, count)
 
 pub loop-place-preserved : goal.loop-place-preserved
 loop-place-preserved g c = λ e. (let a = c.in_ok-note_unknown.ensures e in
@@ -19,8 +16,7 @@ loop-place-preserved g c = λ e. (let a = c.in_ok-note_unknown.ensures e in
     let t = c.loop-place-test.true in let count = c.asked_count-place-end.ensures in (
       b.0,
       All-more (IsKnown c.args.buffer.now.kept) (of_memory g.J.Job.image c.args.table.now.fired)
-          c.loop-place.place none_fired (omega (arith, t, count)) b.1
-          (subst (IsKnown c.args.buffer.now.kept) (sym (c.asked_at.ensures.at none_fired)) a.1),
+          c.loop-place.place none_fired (omega (arith, t, count)) b.1 (a.1 none_fired),
     ))
 
 pub returns : goal.returns

@@ -4,7 +4,7 @@ use Rattle.ws_isa.specs.Image.{instr_at, no_instr}
 use Rattle.ws_isa.specs.View as view
 use Rattle.df_core.specs.declared.program.PlacedInstr.{PlacedInstr}
 use Rattle.df_core.specs.Places.{PlaceIs, image_of}
-use Rattle.df_core.proofs.Look.{to_steer, to_all, to_none}
+use Rattle.df_core.proofs.Parts.Look.{to_steer, to_all, to_none}
 use Rattle.match_table.specs.Tables.{IsPlacedAt}
 use Rattle.match_table.proofs.ops.dests_of.Goals as goal
 

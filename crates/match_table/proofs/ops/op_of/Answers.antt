@@ -1,7 +1,7 @@
 use Rattle.std.proofs.Common.{Option, sym, subst}
 use Rattle.ws_isa.specs.Image.{no_instr}
 use Rattle.df_core.specs.declared.program.PlacedInstr.{PlacedInstr}
-use Rattle.df_core.proofs.Look.{op_none}
+use Rattle.df_core.proofs.Parts.Look.{op_none}
 use Rattle.match_table.specs.Tables.{IsPlacedAt}
 use Rattle.match_table.proofs.ops.op_of.Goals as goal
 

@@ -1,4 +1,4 @@
-use Rattle.part_store.proofs.Telling.{tripped}
+use Rattle.part_store.proofs.Told.Telling.{tripped}
 use Rattle.part_store.proofs.ends.fault_run.Goals as goal
 
 pub returns : goal.returns

@@ -1,4 +1,4 @@
-use Rattle.part_store.proofs.Telling.{starved}
+use Rattle.part_store.proofs.Told.Telling.{starved}
 use Rattle.part_store.proofs.ends.front_run.Goals as goal
 
 pub returns : goal.returns

@@ -1,4 +1,4 @@
-use Rattle.part_store.proofs.Keeping as K
+use Rattle.part_store.proofs.Moving.Keeping as K
 use Rattle.part_store.proofs.laws.moves_keep.Goals as goal
 
 pub returns : goal.returns

@@ -1,4 +1,4 @@
-use Rattle.part_store.proofs.Quieting as Q
+use Rattle.part_store.proofs.Told.Quieting as Q
 use Rattle.part_store.proofs.laws.no_bare_submits_as_a_store_buffer.Goals as goal
 
 pub returns : goal.returns

@@ -1,6 +1,6 @@
 use Rattle.std.proofs.Common.{ℕ, sym, subst}
 use Rattle.part_store.specs.Parted.{IsAddressed}
-use Rattle.part_store.proofs.After as A
+use Rattle.part_store.proofs.Running.After as A
 use Rattle.part_store.proofs.part.kept_address.Goals as goal
 
 pub returns-clause-right : goal.returns-clause-right

@@ -4,11 +4,11 @@ use Rattle.match_table.specs.declared.table.AcceptFault.TheVariants.{Old}
 use Rattle.match_table.specs.Matching.{Accepted, Refused}
 use Rattle.match_table.specs.Tables.{held, part}
 use Rattle.part_store.specs.Runs.{IsWhole, Paid}
-use Rattle.part_store.proofs.Bringing.{both_ok}
+use Rattle.part_store.proofs.Running.Bringing.{both_ok}
 use Rattle.store_buf.proofs.Paying.{not_fired}
-use Rattle.part_store.proofs.Paying.{pay_held, taken_waits, taken_fires, taken_asks}
+use Rattle.part_store.proofs.Running.Paying.{pay_held, taken_waits, taken_fires, taken_asks}
 use Rattle.part_store.proofs.run.bring.Goals as goal
-use Rattle.df_core.proofs.Ports.{has_some}
+use Rattle.df_core.proofs.Keeping.Ports.{has_some}
 use Rattle.ws_words.proofs.Results.{on_ok}
 
 pub returns-in-Some-clause-paid : goal.returns-in-Some-clause-paid

@@ -1,5 +1,5 @@
 use Rattle.match_table.specs.Tables.{held}
-use Rattle.part_store.proofs.Paying.{pay_start}
+use Rattle.part_store.proofs.Running.Paying.{pay_start}
 use Rattle.part_store.proofs.run.run_from.Goals as goal
 
 pub run_on-ending-requires-clause-paid : goal.run_on-ending-requires-clause-paid

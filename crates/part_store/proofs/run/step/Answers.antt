@@ -3,9 +3,9 @@ use Rattle.ws_isa.specs.Image.{Token}
 use Rattle.df_core.specs.Core.{has}
 use Rattle.match_table.specs.Tables.{held, part}
 use Rattle.part_store.specs.Runs.{Paid}
-use Rattle.part_store.proofs.Paying.{pay_held}
+use Rattle.part_store.proofs.Running.Paying.{pay_held}
 use Rattle.part_store.proofs.run.step.Goals as goal
-use Rattle.df_core.proofs.Ports.{has_some}
+use Rattle.df_core.proofs.Keeping.Ports.{has_some}
 
 pub returns-then-holds-clause-paid : goal.returns-then-holds-clause-paid
 returns-then-holds-clause-paid g c = λ going.

@@ -2,7 +2,7 @@ use Rattle.std.proofs.Common.{◌∙◌, ap, sym}
 use Rattle.ws_isa.specs.declared.instr.Note.{Note}
 use Rattle.df_core.specs.Chains.{chain_of}
 use Rattle.df_core.specs.Places.{image_of}
-use Rattle.df_core.proofs.Settled.{wave_ended}
+use Rattle.df_core.proofs.Keeping.Settled.{wave_ended}
 use Rattle.store_buf.specs.Earlies.{early_ops}
 use Rattle.store_buf.proofs.pass.pass_on.Goals as goal
 

@@ -5,8 +5,8 @@ use Rattle.df_core.specs.Core.{IsNext, pass}
 use Rattle.df_core.specs.Chains.{chain_of, next_flag, is_nothing}
 use Rattle.df_core.specs.Places.{image_of}
 use Rattle.df_core.specs.Stands.{Settles, done}
-use Rattle.df_core.proofs.Nexts.{next_is, next_not}
-use Rattle.df_core.proofs.Settled.{none_by, all_by, same_wave}
+use Rattle.df_core.proofs.Parts.Nexts.{next_is, next_not}
+use Rattle.df_core.proofs.Keeping.Settled.{none_by, all_by, same_wave}
 use Rattle.store_buf.specs.Earlies.{StandsUnder, early_ops}
 use Rattle.store_buf.proofs.Earlies as E
 use Rattle.store_buf.proofs.pass.settle.Goals.{then-number-position+else-not-is_next+else-is_nothing}

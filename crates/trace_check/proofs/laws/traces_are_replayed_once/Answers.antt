@@ -2,7 +2,7 @@ use Rattle.std.proofs.Common.{[]}
 use Rattle.df_core.specs.Core.{core_opening}
 use Rattle.trace_check.proofs.Once.{one_run, no_stop}
 use Rattle.trace_check.proofs.laws.traces_are_replayed_once.Goals as goal
-use Rattle.df_core.proofs.Same.{same_refl}
+use Rattle.df_core.proofs.Keeping.Same.{same_refl}
 
 pub returns-clause-alone : goal.returns-clause-alone
 returns-clause-alone c = λ image world formed sound events one other r q.

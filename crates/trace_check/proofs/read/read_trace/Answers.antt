@@ -1,7 +1,7 @@
 use Rattle.std.proofs.Common.{◌≡◌, ◌+◌, ◌==◌, count_by, length, sym, ap, ◌∙◌, arith}
 use Rattle.std.specs.Option.{option_copied}
 use Rattle.asm_text.specs.Reading.{lines_of, fault_of}
-use Rattle.asm_text.proofs.Cutting.{line_count}
+use Rattle.asm_text.proofs.Scanning.Cutting.{line_count}
 use Rattle.trace_check.specs.Traces.{events_from, events_in}
 use Rattle.trace_check.proofs.Lines.{on_more, on_last, off, fails_along, nothing_before}
 use Rattle.trace_check.proofs.read.read_trace.Goals as goal

@@ -3,7 +3,7 @@ use Rattle.std.proofs.lemmas.List.{drop_all}
 use Rattle.wave_gen.specs.Wire.{Target, Front, Wants}
 use Rattle.wave_gen.specs.Plans.{fronts}
 use Rattle.wave_gen.specs.Tables.{listed}
-use Rattle.wave_gen.proofs.Framed.{front_more}
+use Rattle.wave_gen.proofs.OfGraphs.Framed.{front_more}
 use Rattle.wave_gen.proofs.at_start.fronts.Goals as goal
 
 pub loop-left-init : goal.loop-left-init

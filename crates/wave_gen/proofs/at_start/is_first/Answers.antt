@@ -2,7 +2,7 @@ use Rattle.std.proofs.Common.{◌-◌, ◌∙◌, map, sym, ap, arith}
 use Rattle.wave_gen.specs.declared.plan.Plan as code
 use Rattle.wave_gen.specs.View as view
 use Rattle.wave_gen.specs.Plans.{Plan}
-use Rattle.wave_gen.proofs.Framed.{plan_is, plan_zero, plan_past}
+use Rattle.wave_gen.proofs.OfGraphs.Framed.{plan_is, plan_zero, plan_past}
 use Rattle.wave_gen.proofs.at_start.is_first.Goals as goal
 
 pub returns-then-block-eq0-clause-first : goal.returns-then-block-eq0-clause-first

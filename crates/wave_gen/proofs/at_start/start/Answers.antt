@@ -8,7 +8,7 @@ use Rattle.wave_gen.specs.declared.table.Table.{Table}
 use Rattle.wave_gen.specs.declared.kept.Kept.{Kept}
 use Rattle.wave_gen.specs.declared.plan.Plan as code
 use Rattle.wave_gen.specs.Kept.{wanted, AreKept}
-use Rattle.wave_gen.proofs.Framed.{plan_is, start_first, start_later, kept_from_end, kept_none}
+use Rattle.wave_gen.proofs.OfGraphs.Framed.{plan_is, start_first, start_later, kept_from_end, kept_none}
 use Rattle.wave_gen.proofs.at_start.start.Goals as goal
 
 pub returns-then-is_first : goal.returns-then-is_first

@@ -8,7 +8,7 @@ use Rattle.wave_gen.specs.View as view
 use Rattle.wave_gen.specs.Wire.{wire}
 use Rattle.wave_gen.specs.Plans.{Tail, plan_at, start_of, blocks_from, selected, end_wants, behind_source}
 use Rattle.wave_gen.specs.Tables.{HasMade, bare, line_of, leaves_made}
-use Rattle.wave_gen.proofs.Framed.{plan_is, block_kept}
+use Rattle.wave_gen.proofs.OfGraphs.Framed.{plan_is, block_kept}
 use Rattle.wave_gen.proofs.block.make_block.Goals as goal
 
 pub returns : goal.returns

@@ -3,7 +3,7 @@ use Rattle.std.proofs.lemmas.List.{length-map, length_push}
 use Rattle.wave_gen.specs.declared.kept.Kept.{Kept}
 use Rattle.wave_gen.specs.View as view
 use Rattle.wave_gen.specs.Kept.{KeptBehind}
-use Rattle.wave_gen.proofs.Framed.{kept_more, all_kept}
+use Rattle.wave_gen.proofs.OfGraphs.Framed.{kept_more, all_kept}
 use Rattle.wave_gen.proofs.block.make_blocks.Goals as goal
 
 pub loop-left-preserved : goal.loop-left-preserved

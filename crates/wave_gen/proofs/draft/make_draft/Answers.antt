@@ -5,7 +5,7 @@ use Rattle.wave_gen.specs.View as view
 use Rattle.wave_gen.specs.Plans.{mades}
 use Rattle.wave_gen.specs.Kept.{AreKept}
 use Rattle.wave_gen.specs.Numbered.{numbers_from}
-use Rattle.wave_gen.proofs.Numberings.{draft_is}
+use Rattle.wave_gen.proofs.Tables.Numberings.{draft_is}
 use Rattle.wave_gen.proofs.draft.make_draft.Goals as goal
 
 pub returns : goal.returns

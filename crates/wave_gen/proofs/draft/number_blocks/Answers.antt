@@ -1,7 +1,7 @@
 use Rattle.std.proofs.Common.{length, map, arith}
 use Rattle.wave_gen.specs.View as view
 use Rattle.wave_gen.specs.Plans.{blocks_of}
-use Rattle.wave_gen.proofs.Numberings.{blocks_next}
+use Rattle.wave_gen.proofs.Tables.Numberings.{blocks_next}
 use Rattle.wave_gen.proofs.draft.number_blocks.Goals as goal
 
 pub loop-place-preserved : goal.loop-place-preserved

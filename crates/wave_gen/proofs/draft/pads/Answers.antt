@@ -3,7 +3,7 @@ use Rattle.ws_isa.specs.declared.image.Pad as isa_pad
 use Rattle.wave_gen.specs.Wire.{Target, Wants, dests_of}
 use Rattle.wave_gen.specs.Plans.{pads_of}
 use Rattle.wave_gen.specs.Numbered.{number_at}
-use Rattle.wave_gen.proofs.Numberings.{pads_next}
+use Rattle.wave_gen.proofs.Tables.Numberings.{pads_next}
 use Rattle.wave_gen.proofs.draft.pads.Goals as goal
 
 pub loop-place-preserved : goal.loop-place-preserved

@@ -2,7 +2,7 @@ use Rattle.std.proofs.Common.{◌-◌, map, List, ap, ◌∙◌, arith}
 use Rattle.wave_gen.specs.declared.tails.Tail.{Tail}
 use Rattle.wave_gen.specs.Plans.{differing}
 use Rattle.wave_gen.specs.Tables.{listed, tail_of}
-use Rattle.wave_gen.proofs.Keepings.{differing_from, forked_next, last_name, map_reverse}
+use Rattle.wave_gen.proofs.Tables.Keepings.{differing_from, forked_next, last_name, map_reverse}
 use Rattle.wave_gen.proofs.fork.fork.Goals as goal
 
 pub loop-name-preserved : goal.loop-name-preserved

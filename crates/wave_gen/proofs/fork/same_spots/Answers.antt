@@ -1,4 +1,4 @@
-use Rattle.wave_gen.proofs.Keepings.{lengths_differ}
+use Rattle.wave_gen.proofs.Tables.Keepings.{lengths_differ}
 use Rattle.wave_gen.proofs.fork.same_spots.Goals as goal
 
 pub returns-then-one-other : goal.returns-then-one-other

@@ -1,5 +1,5 @@
 use Rattle.std.proofs.Common.{arith}
-use Rattle.wave_gen.proofs.Keepings.{kept_all}
+use Rattle.wave_gen.proofs.Tables.Keepings.{kept_all}
 use Rattle.wave_gen.proofs.kept.keep.Goals as goal
 
 pub returns : goal.returns

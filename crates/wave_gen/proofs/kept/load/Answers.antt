@@ -4,7 +4,7 @@ use Rattle.wave_gen.specs.declared.kept.Want.{Want}
 use Rattle.wave_gen.specs.Wire.{Back}
 use Rattle.wave_gen.specs.Tables.{listed}
 use Rattle.wave_gen.specs.Kept.{wanted}
-use Rattle.wave_gen.proofs.Keepings.{load_more}
+use Rattle.wave_gen.proofs.Tables.Keepings.{load_more}
 use Rattle.wave_gen.proofs.kept.load.Goals as goal
 
 pub loop-left-init : goal.loop-left-init

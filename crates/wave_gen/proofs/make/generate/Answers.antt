@@ -10,7 +10,7 @@ use Rattle.wave_gen.specs.View as shown
 use Rattle.wave_gen.specs.declared.plan.Plan as declared
 use Rattle.wave_gen.specs.Listing.{width_of, plans_of}
 use Rattle.wave_gen.specs.Words.{arrays_of}
-use Rattle.wave_gen.proofs.Generated.{fits, kept, leads}
+use Rattle.wave_gen.proofs.OfGraphs.Generated.{fits, kept, leads}
 use Rattle.wave_gen.proofs.make.generate.Goals as goal
 
 pub make_draft-requires : goal.make_draft-requires

@@ -1,7 +1,7 @@
 use Rattle.std.proofs.Common.{◌<◌, ◌∙◌, length, arith}
 use Rattle.cfg_core.specs.View as view
 use Rattle.wave_gen.specs.Listing.{arms_of}
-use Rattle.wave_gen.proofs.Marked.{some_next}
+use Rattle.wave_gen.proofs.Tables.Marked.{some_next}
 use Rattle.wave_gen.proofs.marks.arms.Goals as goal
 use Rattle.ws_words.specs.Items.{flag_at}
 

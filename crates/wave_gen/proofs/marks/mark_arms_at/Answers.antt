@@ -2,7 +2,7 @@ use Rattle.std.proofs.Common.{refl}
 use Rattle.cfg_core.specs.Graph.{spot_at}
 use Rattle.cfg_core.specs.View as view
 use Rattle.wave_gen.specs.Listing.{arms_of}
-use Rattle.wave_gen.proofs.Marked.{none_marked}
+use Rattle.wave_gen.proofs.Tables.Marked.{none_marked}
 use Rattle.wave_gen.proofs.marks.mark_arms_at.Goals as goal
 
 pub returns-in-None-clause-marked : goal.returns-in-None-clause-marked

@@ -1,6 +1,6 @@
 use Rattle.cfg_core.specs.Graph.{spot_at}
 use Rattle.cfg_core.specs.View as view
-use Rattle.wave_gen.proofs.Marked.{none_vars}
+use Rattle.wave_gen.proofs.Tables.Marked.{none_vars}
 use Rattle.wave_gen.proofs.marks.vars_at.Goals as goal
 
 pub returns-in-None : goal.returns-in-None

@@ -1,6 +1,6 @@
 use Rattle.std.proofs.Common.{arith}
 use Rattle.cfg_core.specs.View as view
-use Rattle.wave_gen.proofs.Marked.{vars_more, vars_less}
+use Rattle.wave_gen.proofs.Tables.Marked.{vars_more, vars_less}
 use Rattle.wave_gen.proofs.marks.width.Goals as goal
 
 pub loop-i-preserved-then-most-vars : goal.loop-i-preserved-then-most-vars

@@ -1,7 +1,7 @@
 use Rattle.std.proofs.Common.{◌∙◌, ◌+◌, arith}
 use Rattle.std.proofs.lemmas.List.{length-set}
 use Rattle.wave_gen.specs.Placed.{known_name}
-use Rattle.wave_gen.proofs.Sharers.{share_next}
+use Rattle.wave_gen.proofs.Tables.Sharers.{share_next}
 use Rattle.wave_gen.proofs.share.share_constants.Goals as goal
 
 pub loop-i-preserved : goal.loop-i-preserved

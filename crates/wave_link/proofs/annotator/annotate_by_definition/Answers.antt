@@ -7,7 +7,7 @@ use Rattle.wave_link.specs.Outlines.{with_nops}
 use Rattle.wave_link.specs.Layout.{tables_of}
 use Rattle.wave_link.specs.Laid.{view_tables}
 use Rattle.wave_link.specs.Grown.{no_place, grown_from}
-use Rattle.wave_link.proofs.Made.{made}
+use Rattle.wave_link.proofs.Parted.Made.{made}
 use Rattle.wave_link.proofs.annotator.annotate_by_definition.Goals as goal
 
 pub returns : goal.returns

@@ -2,8 +2,8 @@ use Rattle.std.proofs.Common.{◌≡◌, subst}
 use Rattle.wsc_top.specs.declared.step.CallStep.TheVariants.{Run as Due, Threads as Many}
 use Rattle.wsc_top.specs.Steps.{StepSo}
 use Rattle.wsc_top.specs.Answers.{before}
-use Rattle.wsc_top.proofs.Due.{due_reply, due_starves}
-use Rattle.wsc_top.proofs.ThreadAnswers.{threads_reply, threads_fall, none_fall, some_inputs}
+use Rattle.wsc_top.proofs.Calling.Due.{due_reply, due_starves}
+use Rattle.wsc_top.proofs.Several.ThreadAnswers.{threads_reply, threads_fall, none_fall, some_inputs}
 use Rattle.wsc_top.proofs.answer.answer_words.Goals as goal
 
 pub returns-in-Ok-Run-clause-memory : goal.returns-in-Ok-Run-clause-memory

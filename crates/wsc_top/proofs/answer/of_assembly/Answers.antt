@@ -1,7 +1,8 @@
 use Rattle.std.specs.Prelude.{refl}
 use Rattle.wsc_top.specs.declared.task.Task.TheVariants.{Assembly}
-use Rattle.wsc_top.proofs.Calls.{known_step, err_same, unread_step, long_step, assembled_step, none_out}
-use Rattle.wsc_top.proofs.Calls.{some_read, assembly_out}
+use Rattle.wsc_top.proofs.Calling.Calls.{known_step, err_same, unread_step, long_step, assembled_step}
+use Rattle.wsc_top.proofs.Calling.Calls.{none_out}
+use Rattle.wsc_top.proofs.Calling.Calls.{some_read, assembly_out}
 use Rattle.wsc_top.proofs.answer.of_assembly.Goals as goal
 
 pub returns-in_ok-to_assembly-in-Ok-clause-ok : goal.returns-in_ok-to_assembly-in-Ok-clause-ok

@@ -1,7 +1,8 @@
 use Rattle.std.specs.Prelude.{refl}
 use Rattle.wsc_top.specs.declared.task.Task.TheVariants.{Job}
-use Rattle.wsc_top.proofs.Calls.{known_step, err_same, unread_step, long_step, read_step, none_out, some_read}
-use Rattle.wsc_top.proofs.Calls.{job_out}
+use Rattle.wsc_top.proofs.Calling.Calls.{known_step, err_same, unread_step, long_step, read_step, none_out}
+use Rattle.wsc_top.proofs.Calling.Calls.{some_read}
+use Rattle.wsc_top.proofs.Calling.Calls.{job_out}
 use Rattle.wsc_top.proofs.answer.of_job.Goals as goal
 
 pub returns-in_ok-to_text-in-Ok-clause-ok : goal.returns-in_ok-to_text-in-Ok-clause-ok

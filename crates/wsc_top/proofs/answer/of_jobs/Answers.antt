@@ -1,5 +1,5 @@
 use Rattle.wsc_top.specs.declared.task.Task.TheVariants.{Multi}
-use Rattle.wsc_top.proofs.Calls.{known_step, unread_step, long_step, jobs_step}
+use Rattle.wsc_top.proofs.Calling.Calls.{known_step, unread_step, long_step, jobs_step}
 use Rattle.wsc_top.proofs.answer.of_jobs.Goals as goal
 
 pub returns-in_ok-to_jobs-in-Ok-clause-ok : goal.returns-in_ok-to_jobs-in-Ok-clause-ok

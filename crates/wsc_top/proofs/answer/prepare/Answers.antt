@@ -1,9 +1,10 @@
 use Rattle.std.proofs.Common.{◌∙◌}
 use Rattle.wsc_top.specs.declared.task.Task.TheVariants.{Job, Assembly, Generate, Bench, Multi}
-use Rattle.wsc_top.proofs.Tasks.{found_line}
-use Rattle.wsc_top.proofs.Grids.{line_in_range}
-use Rattle.wsc_top.proofs.Calls.{known_step, err_same, err_none, none_out, none_read, some_read, no_line}
-use Rattle.wsc_top.proofs.Calls.{usage_step, generated_step, bench_step}
+use Rattle.wsc_top.proofs.Calling.Tasks.{found_line}
+use Rattle.wsc_top.proofs.Told.Grids.{line_in_range}
+use Rattle.wsc_top.proofs.Calling.Calls.{known_step, err_same, err_none, none_out, none_read, some_read}
+use Rattle.wsc_top.proofs.Calling.Calls.{no_line}
+use Rattle.wsc_top.proofs.Calling.Calls.{usage_step, generated_step, bench_step}
 use Rattle.wsc_top.proofs.answer.prepare.Goals as goal
 
 pub returns-in-None-clause-ok : goal.returns-in-None-clause-ok

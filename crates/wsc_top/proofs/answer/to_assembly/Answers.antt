@@ -1,7 +1,7 @@
 use Rattle.std.proofs.Common.{List, ℕ, ◌∙◌, ap, subst}
 use Rattle.wsc_top.specs.Texts.{asm_refusal_text}
 use Rattle.wsc_top.specs.Assembly.{IsAssembly, IsAssemblyFault}
-use Rattle.wsc_top.proofs.Calls.{sound_step, unsound_step, err_same, assembly_begun}
+use Rattle.wsc_top.proofs.Calling.Calls.{sound_step, unsound_step, err_same, assembly_begun}
 use Rattle.wsc_top.proofs.answer.to_assembly.Goals as goal
 
 pub returns-in_ok-assembly_yielded-in-Ok-clause-ok : goal.returns-in_ok-assembly_yielded-in-Ok-clause-ok

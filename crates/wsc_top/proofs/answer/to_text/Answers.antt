@@ -3,8 +3,8 @@ use Rattle.src_ast.specs.declared.fault.TextFault.TheVariants as fault
 use Rattle.src_ast.specs.View as view
 use Rattle.wsc_top.specs.Texts.{refusal_text}
 use Rattle.wsc_top.specs.Job.{IsRefused}
-use Rattle.wsc_top.proofs.Jobs.{job_written, job_step, refused_step}
-use Rattle.wsc_top.proofs.Calls.{err_same, job_begun}
+use Rattle.wsc_top.proofs.Reading.Jobs.{job_written, job_step, refused_step}
+use Rattle.wsc_top.proofs.Calling.Calls.{err_same, job_begun}
 use Rattle.wsc_top.proofs.answer.to_text.Goals as goal
 
 pub yielded-requires : goal.yielded-requires

@@ -1,7 +1,7 @@
 use Rattle.std.proofs.Common.{ap, sym, ◌∙◌}
 use Rattle.ws_isa.specs.View as view
 use Rattle.asm_text.specs.Reading.{read}
-use Rattle.wsc_top.proofs.Assemblies.{bad_of}
+use Rattle.wsc_top.proofs.Reading.Assemblies.{bad_of}
 use Rattle.wsc_top.proofs.assembly.checked.Goals as goal
 
 pub returns-in-Err-Refused-check_image-clause-refused : goal.returns-in-Err-Refused-check_image-clause-refused

@@ -1,8 +1,8 @@
 use Rattle.std.proofs.Common.{ap, sym, ◌∙◌}
 use Rattle.asm_text.specs.Reading as text
 use Rattle.wsc_top.specs.Sections.{InputWords, IsInputFault}
-use Rattle.wsc_top.proofs.Inputs.{of_text, of_sections}
-use Rattle.wsc_top.proofs.Assemblies.{section_fault, input_refused, no_words}
+use Rattle.wsc_top.proofs.Reading.Inputs.{of_text, of_sections}
+use Rattle.wsc_top.proofs.Reading.Assemblies.{section_fault, input_refused, no_words}
 use Rattle.wsc_top.proofs.assembly.read.Goals as goal
 
 pub returns-in-Err-clause-refused : goal.returns-in-Err-clause-refused

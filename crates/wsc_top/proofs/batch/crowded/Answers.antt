@@ -1,5 +1,5 @@
 use Rattle.std.proofs.Common.{ap}
-use Rattle.wsc_top.proofs.JobTexts.{few_jobs, is_crowded}
+use Rattle.wsc_top.proofs.Reading.JobTexts.{few_jobs, is_crowded}
 use Rattle.wsc_top.proofs.batch.crowded.Goals as goal
 
 pub returns-then-is_last-clause-none : goal.returns-then-is_last-clause-none

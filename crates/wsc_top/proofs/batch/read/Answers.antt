@@ -1,6 +1,6 @@
 use Rattle.std.proofs.Common.{arith}
 use Rattle.wsc_top.specs.Jobs.{crowded}
-use Rattle.wsc_top.proofs.JobTexts.{reads_more, reads_last, reads_fault}
+use Rattle.wsc_top.proofs.Reading.JobTexts.{reads_more, reads_last, reads_fault}
 use Rattle.wsc_top.proofs.batch.read.Goals as goal
 
 pub returns-in-Some-clause-refused : goal.returns-in-Some-clause-refused

@@ -1,6 +1,6 @@
 use Rattle.std.proofs.Common.{◌+◌, ◌<◌, ◌≤◌, ◌^◌, length}
 use Rattle.wsc_top.specs.Job.{job_limit}
-use Rattle.wsc_top.proofs.JobTexts.{Reading}
+use Rattle.wsc_top.proofs.Reading.JobTexts.{Reading}
 use Rattle.wsc_top.proofs.batch.read.Given as goal
 
 abbrev pub invariant-jobs : goal.invariant-jobs

@@ -1,7 +1,7 @@
 use Rattle.std.proofs.Common.{◌∙◌}
 use Rattle.src_ast.specs.View as view
-use Rattle.wsc_top.proofs.Jobs.{job_written}
-use Rattle.wsc_top.proofs.Benches.{bench_short, bench_refused, bench_job}
+use Rattle.wsc_top.proofs.Reading.Jobs.{job_written}
+use Rattle.wsc_top.proofs.Reading.Benches.{bench_short, bench_refused, bench_job}
 use Rattle.wsc_top.proofs.bench.generated.Goals as goal
 
 pub read-requires : goal.read-requires

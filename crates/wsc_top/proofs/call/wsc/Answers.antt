@@ -1,6 +1,6 @@
 use Rattle.std.specs.Prelude.{refl}
-use Rattle.wsc_top.proofs.ThreadAnswers.{reply_told}
-use Rattle.wsc_top.proofs.CallEnds.{starved_reply, not_ok, call_answered, call_cut, call_starved}
+use Rattle.wsc_top.proofs.Several.ThreadAnswers.{reply_told}
+use Rattle.wsc_top.proofs.Calling.CallEnds.{starved_reply, not_ok, call_answered, call_cut, call_starved}
 use Rattle.wsc_top.proofs.call.wsc.Goals as goal
 
 pub returns-in-Ok-write_all-clause-ends : goal.returns-in-Ok-write_all-clause-ends

@@ -4,7 +4,7 @@ use Rattle.grid_clock.specs.Clocks.{Clocks}
 use Rattle.wsc_top.specs.Job.{world_of}
 use Rattle.wsc_top.specs.Executions.{EndsRun}
 use Rattle.wsc_top.specs.Clocked.{grid_of, clocked_text}
-use Rattle.wsc_top.proofs.Grids.{ends_clocked}
+use Rattle.wsc_top.proofs.Told.Grids.{ends_clocked}
 use Rattle.wsc_top.proofs.clocked.clocked.Goals as goal
 
 pub returns-clause-told : goal.returns-clause-told

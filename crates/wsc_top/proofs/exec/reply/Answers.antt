@@ -1,6 +1,6 @@
 use Rattle.std.proofs.Common.{map, ◌≡◌, ◌∙◌, ap}
 use Rattle.ws_isa.specs.View as view
-use Rattle.wsc_top.proofs.Runs.{executed_so, run_begun}
+use Rattle.wsc_top.proofs.Told.Runs.{executed_so, run_begun}
 use Rattle.wsc_top.proofs.exec.reply.Goals as goal
 use Rattle.ws_words.proofs.Results.{on_err}
 

@@ -1,4 +1,4 @@
-use Rattle.wsc_top.proofs.Inputs.{blank_run}
+use Rattle.wsc_top.proofs.Reading.Inputs.{blank_run}
 use Rattle.wsc_top.proofs.input.blanks.Goals as goal
 
 pub returns-clause-blank : goal.returns-clause-blank

@@ -1,4 +1,4 @@
-use Rattle.wsc_top.proofs.Inputs.{item_run}
+use Rattle.wsc_top.proofs.Reading.Inputs.{item_run}
 use Rattle.wsc_top.proofs.input.item.Goals as goal
 
 pub returns-clause-item : goal.returns-clause-item

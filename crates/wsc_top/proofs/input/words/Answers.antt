@@ -1,5 +1,6 @@
 use Rattle.std.proofs.Common.{arith, refl, ap, length, length-append}
-use Rattle.wsc_top.proofs.Inputs.{reads_end, reads_fault, reads_word, one_list, no_fault_in_words, empty_is}
+use Rattle.wsc_top.proofs.Reading.Inputs.{reads_end, reads_fault, reads_word, one_list, no_fault_in_words}
+use Rattle.wsc_top.proofs.Reading.Inputs.{empty_is}
 use Rattle.wsc_top.proofs.input.words.Goals as goal
 
 pub returns-then-is_empty-clause-ok : goal.returns-then-is_empty-clause-ok

@@ -1,5 +1,5 @@
 use Rattle.std.proofs.Common.{◌+◌, ◌<◌, ◌≤◌, ◌^◌, length}
-use Rattle.wsc_top.proofs.Inputs.{Reading}
+use Rattle.wsc_top.proofs.Reading.Inputs.{Reading}
 use Rattle.wsc_top.proofs.input.words.Given as goal
 
 abbrev pub invariant-items : goal.invariant-items

@@ -1,4 +1,4 @@
-use Rattle.wsc_top.proofs.AssembliesOnce.{assembly_alike, checked_once, listed_once, gridded_alike}
+use Rattle.wsc_top.proofs.Reading.AssembliesOnce.{assembly_alike, checked_once, listed_once, gridded_alike}
 use Rattle.wsc_top.proofs.laws.assemblies_are_answered_alike.Goals as goal
 
 pub returns-clause-alike : goal.returns-clause-alike

@@ -1,4 +1,4 @@
-use Rattle.wsc_top.proofs.Ends.{job_answer_so, assembly_answer_so, bench_answer_so}
+use Rattle.wsc_top.proofs.Calling.Ends.{job_answer_so, assembly_answer_so, bench_answer_so}
 use Rattle.wsc_top.proofs.laws.each_answer_has_its_status.Goals as goal
 
 pub returns-clause-job : goal.returns-clause-job

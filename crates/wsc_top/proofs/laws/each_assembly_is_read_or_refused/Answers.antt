@@ -1,4 +1,4 @@
-use Rattle.wsc_top.proofs.AssembliesOnce.{one_assembly, never_both, one_refusal, text_comes}
+use Rattle.wsc_top.proofs.Reading.AssembliesOnce.{one_assembly, never_both, one_refusal, text_comes}
 use Rattle.wsc_top.proofs.laws.each_assembly_is_read_or_refused.Goals as goal
 
 pub returns-clause-one : goal.returns-clause-one

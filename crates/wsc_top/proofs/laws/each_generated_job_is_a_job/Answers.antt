@@ -1,4 +1,4 @@
-use Rattle.wsc_top.proofs.Generated.{generated_job}
+use Rattle.wsc_top.proofs.Reading.Generated.{generated_job}
 use Rattle.wsc_top.proofs.laws.each_generated_job_is_a_job.Goals as goal
 
 pub returns : goal.returns

@@ -1,4 +1,4 @@
-use Rattle.wsc_top.proofs.Walked.{job_walk, bench_walk}
+use Rattle.wsc_top.proofs.Told.Walked.{job_walk, bench_walk}
 use Rattle.wsc_top.proofs.laws.each_run_ends_as_its_walk.Goals as goal
 
 pub returns-clause-job : goal.returns-clause-job

@@ -1,4 +1,4 @@
-use Rattle.wsc_top.proofs.TextAnswers.{text_once}
+use Rattle.wsc_top.proofs.Reading.TextAnswers.{text_once}
 use Rattle.wsc_top.proofs.laws.each_text_is_a_job_or_refused.Goals as goal
 
 pub returns : goal.returns

@@ -1,5 +1,6 @@
 use Rattle.wsc_top.specs.Job.{world_of}
-use Rattle.wsc_top.proofs.ReadAgain.{image_again, input_again, compiled_again, traced_again, replayed_again}
+use Rattle.wsc_top.proofs.Reading.ReadAgain.{image_again, input_again, compiled_again, traced_again}
+use Rattle.wsc_top.proofs.Reading.ReadAgain.{replayed_again}
 use Rattle.wsc_top.proofs.laws.printed_texts_are_read_again.Goals as goal
 
 pub returns-clause-image : goal.returns-clause-image

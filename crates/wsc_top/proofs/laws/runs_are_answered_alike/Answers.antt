@@ -1,4 +1,4 @@
-use Rattle.wsc_top.proofs.RunsAlike.{runs_alike}
+use Rattle.wsc_top.proofs.Told.RunsAlike.{runs_alike}
 use Rattle.wsc_top.proofs.laws.runs_are_answered_alike.Goals as goal
 
 pub returns : goal.returns

@@ -1,4 +1,4 @@
-use Rattle.wsc_top.proofs.Due.{due_answers}
+use Rattle.wsc_top.proofs.Calling.Due.{due_answers}
 use Rattle.wsc_top.proofs.laws.what_is_due_is_answered.Goals as goal
 
 pub returns : goal.returns

@@ -2,7 +2,7 @@ use Rattle.std.proofs.Common.{List, IfOk, subst}
 use Rattle.ws_isa.specs.Image.{Image}
 use Rattle.port_set.specs.Slots.{contents}
 use Rattle.wsc_top.specs.Running.{AllTold}
-use Rattle.wsc_top.proofs.ThreadRuns.{answer_runs, answer_begun, first_open, each_end}
+use Rattle.wsc_top.proofs.Several.ThreadRuns.{answer_runs, answer_begun, first_open, each_end}
 use Rattle.wsc_top.proofs.multi.all_executed.Goals as goal
 
 pub returns-clause-executes : goal.returns-clause-executes

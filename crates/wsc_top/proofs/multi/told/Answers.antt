@@ -1,5 +1,5 @@
 use Rattle.std.proofs.Common.{◌∙◌}
-use Rattle.wsc_top.proofs.ThreadRuns.{all_told}
+use Rattle.wsc_top.proofs.Several.ThreadRuns.{all_told}
 use Rattle.wsc_top.proofs.multi.told.Goals as goal
 
 pub returns : goal.returns

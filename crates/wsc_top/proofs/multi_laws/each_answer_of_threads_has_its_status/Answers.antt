@@ -1,4 +1,4 @@
-use Rattle.wsc_top.proofs.ThreadAnswers.{jobs_answer_so}
+use Rattle.wsc_top.proofs.Several.ThreadAnswers.{jobs_answer_so}
 use Rattle.wsc_top.proofs.multi_laws.each_answer_of_threads_has_its_status.Goals as goal
 
 pub returns : goal.returns

@@ -1,4 +1,4 @@
-use Rattle.wsc_top.proofs.JobsOnce.{jobs_answer_once}
+use Rattle.wsc_top.proofs.Reading.JobsOnce.{jobs_answer_once}
 use Rattle.wsc_top.proofs.multi_laws.each_text_is_some_jobs_or_refused.Goals as goal
 
 pub returns : goal.returns

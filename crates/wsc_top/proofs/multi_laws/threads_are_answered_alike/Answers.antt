@@ -1,4 +1,4 @@
-use Rattle.wsc_top.proofs.ThreadAnswers.{multi_alike}
+use Rattle.wsc_top.proofs.Several.ThreadAnswers.{multi_alike}
 use Rattle.wsc_top.proofs.multi_laws.threads_are_answered_alike.Goals as goal
 
 pub returns : goal.returns

@@ -1,4 +1,4 @@
-use Rattle.wsc_top.proofs.Walked.{jobs_walk}
+use Rattle.wsc_top.proofs.Told.Walked.{jobs_walk}
 use Rattle.wsc_top.proofs.multi_laws.threads_end_as_their_walks.Goals as goal
 
 pub returns : goal.returns

@@ -1,4 +1,4 @@
-use Rattle.wsc_top.proofs.ThreadAnswers.{due_replies}
+use Rattle.wsc_top.proofs.Several.ThreadAnswers.{due_replies}
 use Rattle.wsc_top.proofs.multi_laws.what_threads_do_is_answered.Goals as goal
 
 pub returns : goal.returns

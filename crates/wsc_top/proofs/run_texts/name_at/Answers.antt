@@ -1,5 +1,5 @@
 use Rattle.std.proofs.Common.{◌∙◌}
-use Rattle.wsc_top.proofs.RunTexts.{name_found, name_past}
+use Rattle.wsc_top.proofs.Told.RunTexts.{name_found, name_past}
 use Rattle.wsc_top.proofs.run_texts.name_at.Goals as goal
 
 pub returns-in-Some : goal.returns-in-Some

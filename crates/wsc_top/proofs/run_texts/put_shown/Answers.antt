@@ -1,5 +1,5 @@
 use Rattle.std.proofs.Common.{arith}
-use Rattle.wsc_top.proofs.RunTexts.{shown_step}
+use Rattle.wsc_top.proofs.Told.RunTexts.{shown_step}
 use Rattle.wsc_top.proofs.run_texts.put_shown.Goals as goal
 
 pub loop-place-preserved : goal.loop-place-preserved

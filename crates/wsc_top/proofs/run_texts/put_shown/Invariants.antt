@@ -1,5 +1,5 @@
 use Rattle.std.proofs.Common.{◌≡◌, ◌++◌}
-use Rattle.wsc_top.proofs.RunTexts.{lines_from}
+use Rattle.wsc_top.proofs.Told.RunTexts.{lines_from}
 use Rattle.wsc_top.proofs.run_texts.put_shown.Given as goal
 
 abbrev pub invariant-loop-place : goal.invariant-loop-place

@@ -1,7 +1,7 @@
 use Rattle.std.proofs.Common.{◌≡◌, ◌++◌, List, ℕ, OnOk, ap, ◌∙◌, subst, sym, append-nil}
 use Rattle.src_ast.specs.View as view
 use Rattle.wsc_top.specs.Texts.{names_of, array_name}
-use Rattle.wsc_top.proofs.PlainTexts.{name_here, name_none}
+use Rattle.wsc_top.proofs.Reading.PlainTexts.{name_here, name_none}
 use Rattle.wsc_top.proofs.texts.put_array_name.Goals as goal
 
 pub returns-then-before-eq0 : goal.returns-then-before-eq0

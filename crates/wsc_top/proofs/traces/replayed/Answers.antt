@@ -10,7 +10,7 @@ use Rattle.wsc_top.specs.declared.status.Status.TheVariants.{Refused}
 use Rattle.wsc_top.specs.Texts.{asm_refusal_text}
 use Rattle.wsc_top.specs.Traced as traces
 use Rattle.wsc_top.specs.Traced.{IsReplayed}
-use Rattle.wsc_top.proofs.Replays.{ends_replay, nothing_there, something_there, section_events}
+use Rattle.wsc_top.proofs.Told.Replays.{ends_replay, nothing_there, something_there, section_events}
 use Rattle.wsc_top.proofs.traces.replayed.Goals as goal
 
 pub returns-then-is_empty-clause-told : goal.returns-then-is_empty-clause-told

@@ -1,5 +1,5 @@
 use Rattle.std.proofs.Common.{◌≡◌}
-use Rattle.wsc_top.proofs.Outcomes.{empties}
+use Rattle.wsc_top.proofs.Calling.Outcomes.{empties}
 use Rattle.wsc_top.proofs.world.world.Given as goal
 
 abbrev pub invariant-loop : goal.invariant-loop

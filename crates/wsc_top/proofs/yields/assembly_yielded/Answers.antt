@@ -1,8 +1,8 @@
 use Rattle.std.proofs.Common.{◌∙◌, subst}
 use Rattle.wsc_top.specs.Clocked.{TaskInRange}
-use Rattle.wsc_top.proofs.Calls.{err_same, replay_begun}
-use Rattle.wsc_top.proofs.Outcomes.{checked_yields, listed_yields, traced_yields, replayed_yields}
-use Rattle.wsc_top.proofs.Outcomes.{gridded_yields}
+use Rattle.wsc_top.proofs.Calling.Calls.{err_same, replay_begun}
+use Rattle.wsc_top.proofs.Calling.Outcomes.{checked_yields, listed_yields, traced_yields, replayed_yields}
+use Rattle.wsc_top.proofs.Calling.Outcomes.{gridded_yields}
 use Rattle.wsc_top.proofs.yields.assembly_yielded.Goals as goal
 
 pub returns-in-Check-clause-ok : goal.returns-in-Check-clause-ok

@@ -1,5 +1,5 @@
 use Rattle.src_ast.specs.View as view
-use Rattle.wsc_top.proofs.Outcomes.{compile_yields}
+use Rattle.wsc_top.proofs.Calling.Outcomes.{compile_yields}
 use Rattle.std.proofs.Common.{◌∙◌, ap}
 use Rattle.asm_text.specs.Printed.{printed}
 use Rattle.wsc_top.proofs.yields.compiled.Goals as goal

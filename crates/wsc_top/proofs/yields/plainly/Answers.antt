@@ -1,6 +1,6 @@
 use Rattle.std.proofs.Common.{◌∙◌}
 use Rattle.src_ast.specs.View as view
-use Rattle.wsc_top.proofs.Outcomes.{ended_yields, faulted_yields, going_yields}
+use Rattle.wsc_top.proofs.Calling.Outcomes.{ended_yields, faulted_yields, going_yields}
 use Rattle.wsc_top.proofs.yields.plainly.Goals as goal
 
 pub returns-in-Ended : goal.returns-in-Ended

@@ -3,8 +3,8 @@ use Rattle.src_ast.specs.View as view
 use Rattle.wsc_top.specs.declared.status.Status.TheVariants.{Done}
 use Rattle.std.specs.Prelude.{None}
 use Rattle.wsc_top.specs.Answers.{Yields}
-use Rattle.wsc_top.proofs.Calls.{err_same, compile_begun}
-use Rattle.wsc_top.proofs.Outcomes.{format_yields}
+use Rattle.wsc_top.proofs.Calling.Calls.{err_same, compile_begun}
+use Rattle.wsc_top.proofs.Calling.Outcomes.{format_yields}
 use Rattle.wsc_top.proofs.yields.yielded.Goals as goal
 
 pub returns-in_ok-text-in-Format-clause-ok : goal.returns-in_ok-text-in-Format-clause-ok

@@ -1,7 +1,7 @@
 use Rattle.std.proofs.Common.{◌∙◌, sym, ap}
 use Rattle.ws_isa.specs.View as view
 use Rattle.ws_isa.specs.Image.{Block}
-use Rattle.annot_check.proofs.Exiting.{goto_shape, branch_shape, landings_shape, stop_shape}
+use Rattle.annot_check.proofs.Shaped.Exiting.{goto_shape, branch_shape, landings_shape, stop_shape}
 use Rattle.annot_check.proofs.facts.Facts.exit_ok.Goals as goal
 
 pub returns-in-Branch-clause-yes : goal.returns-in-Branch-clause-yes

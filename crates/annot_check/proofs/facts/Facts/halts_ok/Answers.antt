@@ -1,6 +1,6 @@
 use Rattle.std.proofs.Common.{◌∙◌, sym, arith, inl, inr, suc}
 use Rattle.ws_isa.specs.View as view
-use Rattle.annot_check.proofs.Shapes.{halt_begin, halt_next, halt_broken, halt_shape, halt_lacks}
+use Rattle.annot_check.proofs.Shaped.Shapes.{halt_begin, halt_next, halt_broken, halt_shape, halt_lacks}
 use Rattle.annot_check.proofs.facts.Facts.halts_ok.Goals as goal
 use Rattle.ws_words.proofs.Bools.{not_false, not_true}
 use Rattle.ws_isa.proofs.Steps.{first_le}

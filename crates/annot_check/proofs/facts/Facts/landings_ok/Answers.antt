@@ -2,7 +2,7 @@ use Rattle.std.proofs.Common.{◌≡◌, ◌∙◌, ℕ, List, true, sym, ap, ar
 use Rattle.ws_isa.specs.View as view
 use Rattle.ws_isa.specs.Image.{Block, Exit, Goto, Branch, Landings, Stop, block_at, is_first}
 use Rattle.ws_isa.specs.Sound.{HasPad}
-use Rattle.annot_check.proofs.Exiting.{each_edge, landing_goes, send_below}
+use Rattle.annot_check.proofs.Shaped.Exiting.{each_edge, landing_goes, send_below}
 use Rattle.annot_check.proofs.facts.Facts.landings_ok.Goals as goal
 
 pub returns-then-stops_at-clause-firsts : goal.returns-then-stops_at-clause-firsts

@@ -4,8 +4,8 @@ use Rattle.ws_isa.specs.View as view
 use Rattle.ws_isa.specs.Image.{Instr, instr_at, first_number}
 use Rattle.ws_isa.specs.Formed.{most_instrs}
 use Rattle.ws_isa.specs.Sound.{HasDest, IsAhead}
-use Rattle.annot_check.proofs.Entries.{instrs_read, instrs_count}
-use Rattle.annot_check.proofs.Passing.{instr_here, within_read, ends_read}
+use Rattle.annot_check.proofs.Slotted.Entries.{instrs_read, instrs_count}
+use Rattle.annot_check.proofs.Chained.Passing.{instr_here, within_read, ends_read}
 use Rattle.annot_check.proofs.facts.Facts.lists_ahead.Goals as goal
 use Rattle.ws_isa.proofs.Steps.{first_le}
 use Rattle.ws_isa.proofs.Blocks.{number_last}

@@ -1,4 +1,4 @@
-use Rattle.annot_check.proofs.Shapes.{has_here}
+use Rattle.annot_check.proofs.Shaped.Shapes.{has_here}
 use Rattle.annot_check.proofs.facts.Facts.pad_leads.Goals as goal
 
 pub returns-then-not-is_advance_of-clause-no : goal.returns-then-not-is_advance_of-clause-no

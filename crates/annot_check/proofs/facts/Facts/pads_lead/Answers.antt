@@ -2,7 +2,7 @@ use Rattle.std.proofs.Common.{inl, inr, subst}
 use Rattle.ws_isa.specs.View as view
 use Rattle.ws_isa.specs.Image.{Pad}
 use Rattle.ws_isa.specs.Sound.{HasDest}
-use Rattle.annot_check.proofs.Shapes.{pad_here, pad_rest, pad_more}
+use Rattle.annot_check.proofs.Shaped.Shapes.{pad_here, pad_rest, pad_more}
 use Rattle.annot_check.proofs.facts.Facts.pads_lead.Goals as goal
 
 pub returns-then-not-pad_leads-clause-no : goal.returns-then-not-pad_leads-clause-no

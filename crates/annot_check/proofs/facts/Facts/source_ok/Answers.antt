@@ -1,6 +1,6 @@
 use Rattle.std.proofs.Common.{◌∙◌, sym, arith}
 use Rattle.ws_isa.specs.View as view
-use Rattle.annot_check.proofs.Shapes.{giving_is}
+use Rattle.annot_check.proofs.Shaped.Shapes.{giving_is}
 use Rattle.annot_check.proofs.facts.Facts.source_ok.Goals as goal
 
 pub returns-clause-yes : goal.returns-clause-yes

@@ -1,5 +1,5 @@
 use Rattle.std.proofs.Common.{refl, arith}
-use Rattle.annot_check.proofs.Leaving.{order_entered}
+use Rattle.annot_check.proofs.Chained.Leaving.{order_entered}
 use Rattle.annot_check.proofs.links.WaveLinks.deliver.Goals as goal
 
 pub returns-clause-ready : goal.returns-clause-ready

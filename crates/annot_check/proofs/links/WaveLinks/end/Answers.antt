@@ -1,7 +1,7 @@
 use Rattle.std.proofs.Common.{◌∙◌, inl, sym, refl}
 use Rattle.annot_check.specs.Seen.{order_image, lasts_at}
-use Rattle.annot_check.proofs.Leaving.{end_breach, end_goes, end_stops}
-use Rattle.annot_check.proofs.Edges.{on_ok}
+use Rattle.annot_check.proofs.Chained.Leaving.{end_breach, end_goes, end_stops}
+use Rattle.annot_check.proofs.Shaped.Edges.{on_ok}
 use Rattle.annot_check.proofs.links.WaveLinks.end.Goals as goal
 
 pub returns-in-Some-clause-refused : goal.returns-in-Some-clause-refused

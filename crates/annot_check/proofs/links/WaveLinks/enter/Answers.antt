@@ -1,5 +1,5 @@
 use Rattle.std.proofs.Common.{◌∙◌, refl, sym}
-use Rattle.annot_check.proofs.Visiting.{enter_first}
+use Rattle.annot_check.proofs.Chained.Visiting.{enter_first}
 use Rattle.annot_check.proofs.links.WaveLinks.enter.Goals as goal
 
 pub returns-then-starts_wave-clause-entered : goal.returns-then-starts_wave-clause-entered

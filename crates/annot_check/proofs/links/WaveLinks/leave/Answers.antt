@@ -4,7 +4,7 @@ use Rattle.ws_isa.specs.Image.{Image, is_first, first_number, target, stops, IsB
 use Rattle.annot_check.specs.declared.lasts.Lasts.{Lasts}
 use Rattle.annot_check.specs.Order.{LastsOk, EndOk}
 use Rattle.annot_check.specs.Seen.{order_image, lasts_at, LeaveState, Delivered}
-use Rattle.annot_check.proofs.Leaving.{leave_init, leave_next}
+use Rattle.annot_check.proofs.Chained.Leaving.{leave_init, leave_next}
 use Rattle.annot_check.proofs.links.WaveLinks.leave.Goals as goal
 
 pub loop-choice-init : goal.loop-choice-init

@@ -2,7 +2,7 @@ use Rattle.std.proofs.Common.{◌≡◌, ◌∙◌, sym, ap, inr, subst, true, f
 use Rattle.ws_isa.specs.Image.{is_first, first_number, target, IsBlock}
 use Rattle.annot_check.specs.Order.{LastsOk}
 use Rattle.annot_check.specs.Seen.{order_image}
-use Rattle.annot_check.proofs.Leaving.{end_breach, edge_ok}
+use Rattle.annot_check.proofs.Chained.Leaving.{end_breach, edge_ok}
 use Rattle.annot_check.proofs.links.WaveLinks.leave_by.Goals as goal
 
 pub returns-in-Some-clause-refused : goal.returns-in-Some-clause-refused

@@ -3,8 +3,8 @@ use Rattle.ws_isa.specs.View as view
 use Rattle.ws_isa.specs.Image.{Image, IsBlock}
 use Rattle.annot_check.specs.Order.{LastsOk}
 use Rattle.annot_check.specs.Seen.{order_image}
-use Rattle.annot_check.proofs.Edges.{on_ok_three}
-use Rattle.annot_check.proofs.Visiting.{visit_none, visit_some, entry_read}
+use Rattle.annot_check.proofs.Shaped.Edges.{on_ok_three}
+use Rattle.annot_check.proofs.Chained.Visiting.{visit_none, visit_some, entry_read}
 use Rattle.annot_check.proofs.links.WaveLinks.visit.Goals as goal
 
 pub returns-in-None-clause-ok : goal.returns-in-None-clause-ok

@@ -1,8 +1,8 @@
 use Rattle.std.proofs.Common.{refl, arith}
 use Rattle.annot_check.specs.Table.{image_of}
-use Rattle.annot_check.proofs.Entries.{advances_known, base_ok, block_room, instrs_count, instrs_read}
-use Rattle.annot_check.proofs.Entries.{ready_stays}
-use Rattle.annot_check.proofs.Whole.{reached_again}
+use Rattle.annot_check.proofs.Slotted.Entries.{advances_known, base_ok, block_room, instrs_count, instrs_read}
+use Rattle.annot_check.proofs.Slotted.Entries.{ready_stays}
+use Rattle.annot_check.proofs.Slotted.Whole.{reached_again}
 use Rattle.annot_check.proofs.trace.Trace.begin_wave.Goals as goal
 
 pub advance_set-requires-clause-on : goal.advance_set-requires-clause-on

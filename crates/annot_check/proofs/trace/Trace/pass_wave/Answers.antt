@@ -5,10 +5,12 @@ use Rattle.ws_isa.specs.Image.{is_first, IsBlock}
 use Rattle.annot_check.specs.declared.trace.Trace.{Trace}
 use Rattle.annot_check.specs.Done.{CameTo, WaveDone}
 use Rattle.annot_check.specs.Table.{HasNumber, Ready}
-use Rattle.annot_check.proofs.Whole.{InTable, begun_wave, begun_in, passed_more, all_in_grown, all_in_front}
-use Rattle.annot_check.proofs.Whole.{all_in_more, todo_in, came_in, all_left_passed, wave_done, ends_number}
-use Rattle.annot_check.proofs.Whole.{nil_left, none_has}
-use Rattle.annot_check.proofs.Entries.{ready_stays}
+use Rattle.annot_check.proofs.Slotted.Whole.{InTable, begun_wave, begun_in, passed_more, all_in_grown}
+use Rattle.annot_check.proofs.Slotted.Whole.{all_in_front}
+use Rattle.annot_check.proofs.Slotted.Whole.{all_in_more, todo_in, came_in, all_left_passed, wave_done}
+use Rattle.annot_check.proofs.Slotted.Whole.{ends_number}
+use Rattle.annot_check.proofs.Slotted.Whole.{nil_left, none_has}
+use Rattle.annot_check.proofs.Slotted.Entries.{ready_stays}
 use Rattle.annot_check.proofs.trace.Trace.pass_wave.Goals as goal
 
 pub loop-number-init : goal.loop-number-init

@@ -1,6 +1,6 @@
 use Rattle.std.proofs.Common.{◌≡◌, ◌+◌, length}
 use Rattle.annot_check.specs.Table.{AllPassed, Ready, Shut, free}
-use Rattle.annot_check.proofs.Whole.{InTable, AllIn}
+use Rattle.annot_check.proofs.Slotted.Whole.{InTable, AllIn}
 use Rattle.annot_check.proofs.trace.Trace.pass_wave.Given as goal
 
 abbrev pub invariant-loop-number : goal.invariant-loop-number

@@ -1,8 +1,8 @@
 use Rattle.std.proofs.Common.{refl, arith}
 use Rattle.std.proofs.lemmas.List.{get_or-set_same}
 use Rattle.std.proofs.Common.{Some, None}
-use Rattle.annot_check.proofs.Held.{shut_look}
-use Rattle.annot_check.proofs.Entries.{enter_grows, ready_entered}
+use Rattle.annot_check.proofs.Slotted.Held.{shut_look}
+use Rattle.annot_check.proofs.Slotted.Entries.{enter_grows, ready_entered}
 use Rattle.annot_check.proofs.trace.Trace.put.Goals as goal
 
 pub returns-clause-ready : goal.returns-clause-ready

@@ -2,8 +2,8 @@ use Rattle.std.proofs.Common.{◌≡◌, ◌∙◌, ℕ, true, sym, ap, inl, inr
 use Rattle.ws_isa.specs.View as view
 use Rattle.ws_isa.specs.Image.{is_first}
 use Rattle.annot_check.specs.Table.{HasNumber}
-use Rattle.annot_check.proofs.Come.{come_twice}
-use Rattle.annot_check.proofs.Entries.{number_there, number_past, number_step}
+use Rattle.annot_check.proofs.Slotted.Come.{come_twice}
+use Rattle.annot_check.proofs.Slotted.Entries.{number_there, number_past, number_step}
 use Rattle.annot_check.proofs.worklist.Waves.come_into_all.Goals as goal
 use Rattle.ws_words.specs.Items.{flag_at}
 

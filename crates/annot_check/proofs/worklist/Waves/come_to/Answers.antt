@@ -1,5 +1,5 @@
 use Rattle.std.proofs.Common.{refl}
-use Rattle.annot_check.proofs.Come.{come_more, read_false}
+use Rattle.annot_check.proofs.Slotted.Come.{come_more, read_false}
 use Rattle.annot_check.proofs.worklist.Waves.come_to.Goals as goal
 
 pub returns-clause-more : goal.returns-clause-more

@@ -1,6 +1,6 @@
 use Rattle.std.proofs.Common.{map, ap}
 use Rattle.cfg_core.specs.View as view
-use Rattle.call_gen.proofs.Marking.{marks_arms, marks_call}
+use Rattle.call_gen.proofs.Parted.Marking.{marks_arms, marks_call}
 use Rattle.call_gen.proofs.find.Finder.leave.Goals as goal
 use Rattle.ws_words.proofs.Results.{on_ok}
 

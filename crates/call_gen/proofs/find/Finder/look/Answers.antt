@@ -1,5 +1,5 @@
 use Rattle.cfg_core.specs.View as view
-use Rattle.call_gen.proofs.Marking.{marks_beyond}
+use Rattle.call_gen.proofs.Parted.Marking.{marks_beyond}
 use Rattle.call_gen.proofs.find.Finder.look.Goals as goal
 
 pub returns-in-None : goal.returns-in-None

@@ -1,6 +1,6 @@
 use Rattle.std.proofs.Common.{◌≡◌, ◌<◌, false, length, arith}
 use Rattle.std.proofs.lemmas.Grind.{common_steps}
-use Rattle.call_gen.proofs.Marking.{marks_one}
+use Rattle.call_gen.proofs.Parted.Marking.{marks_one}
 use Rattle.call_gen.proofs.find.Finder.mark.Goals as goal
 use Rattle.ws_words.specs.Items.{flag_at}
 

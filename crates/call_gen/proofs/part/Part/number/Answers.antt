@@ -1,7 +1,7 @@
 use Rattle.std.proofs.Common.{ℕ, ◌≡◌, ◌∙◌, ap, List, slice_index, arith}
 use Rattle.cfg_core.specs.View as view
 use Rattle.call_gen.specs.Part.{keeps, number}
-use Rattle.call_gen.proofs.PartPlaces.{before_most}
+use Rattle.call_gen.proofs.Parted.PartPlaces.{before_most}
 use Rattle.call_gen.proofs.part.Part.number.Goals as goal
 use Rattle.ws_words.specs.Items.{flag_at}
 

@@ -1,6 +1,6 @@
 use Rattle.std.proofs.Common.{ℕ, ◌≡◌, ◌∙◌, ap, List, slice_index, arith}
 use Rattle.call_gen.specs.Part.{before}
-use Rattle.call_gen.proofs.PartPlaces.{before_most}
+use Rattle.call_gen.proofs.Parted.PartPlaces.{before_most}
 use Rattle.call_gen.proofs.part.Part.place.Goals as goal
 use Rattle.ws_words.specs.Items.{flag_at}
 

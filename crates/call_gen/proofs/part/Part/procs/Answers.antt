@@ -3,8 +3,8 @@ use Rattle.std.specs.List.{AllByRecursion}
 use Rattle.cfg_core.specs.Graph as plain
 use Rattle.cfg_core.specs.View as view
 use Rattle.call_gen.specs.Part.{name, BlocksThere}
-use Rattle.call_gen.proofs.Making.{count_next}
-use Rattle.call_gen.proofs.PartMaking.{all_there, part_next}
+use Rattle.call_gen.proofs.Spelled.Making.{count_next}
+use Rattle.call_gen.proofs.Parted.PartMaking.{all_there, part_next}
 use Rattle.call_gen.proofs.part.Part.procs.Goals as goal
 use Rattle.ws_words.proofs.Lists.{drop_next}
 use Rattle.ws_words.specs.Items.{flag_at}

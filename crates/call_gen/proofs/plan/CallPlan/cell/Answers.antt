@@ -1,6 +1,6 @@
 use Rattle.std.proofs.Common.{arith}
 use Rattle.cfg_core.specs.View as view
-use Rattle.call_gen.proofs.Planning.{first_in_all}
+use Rattle.call_gen.proofs.Spelled.Planning.{first_in_all}
 use Rattle.call_gen.proofs.plan.CallPlan.cell.Goals as goal
 
 pub overflow_add-number : goal.overflow_add-number

@@ -1,7 +1,7 @@
 use Rattle.std.proofs.Common.{map, ◌+◌, arith}
 use Rattle.cfg_core.specs.View as view
 use Rattle.call_gen.specs.Spelled.{is_unset}
-use Rattle.call_gen.proofs.Planning.{clears_next}
+use Rattle.call_gen.proofs.Spelled.Planning.{clears_next}
 use Rattle.call_gen.proofs.plan.CallPlan.clears.Goals as goal
 
 pub loop-x-preserved : goal.loop-x-preserved

@@ -1,7 +1,7 @@
 use Rattle.std.proofs.Common.{◌∙◌, ◌-◌, ap, arith}
 use Rattle.call_gen.specs.Spelled.{moved}
 use Rattle.cfg_core.specs.View as view
-use Rattle.call_gen.proofs.Planning.{entry_there, door_is}
+use Rattle.call_gen.proofs.Spelled.Planning.{entry_there, door_is}
 use Rattle.call_gen.proofs.plan.CallPlan.door.Goals as goal
 
 pub overflow_cast-entry : goal.overflow_cast-entry

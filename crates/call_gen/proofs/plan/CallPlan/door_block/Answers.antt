@@ -1,6 +1,6 @@
 use Rattle.std.proofs.Common.{arith}
 use Rattle.cfg_core.specs.View as view
-use Rattle.call_gen.proofs.Planning.{entry_there}
+use Rattle.call_gen.proofs.Spelled.Planning.{entry_there}
 use Rattle.call_gen.proofs.plan.CallPlan.door_block.Goals as goal
 
 pub overflow_cast-entry : goal.overflow_cast-entry

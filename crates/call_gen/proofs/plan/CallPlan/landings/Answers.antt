@@ -2,7 +2,7 @@ use Rattle.std.proofs.Common.{◌≡◌, ◌<◌, ◌∙◌, ap, List, ℕ, get_
 use Rattle.cfg_core.specs.Graph.{spots}
 use Rattle.cfg_core.specs.View as view
 use Rattle.call_gen.specs.Spelled.{moved}
-use Rattle.call_gen.proofs.Planning.{small_place, landings_next, landings_all}
+use Rattle.call_gen.proofs.Spelled.Planning.{small_place, landings_next, landings_all}
 use Rattle.call_gen.proofs.plan.CallPlan.landings.Goals as goal
 
 pub overflow_add-place : goal.overflow_add-place

@@ -1,7 +1,7 @@
 use Rattle.std.proofs.Common.{arith}
 use Rattle.cfg_core.specs.View as view
 use Rattle.call_gen.specs.Spelled.{is_saved}
-use Rattle.call_gen.proofs.Planning.{saved_end}
+use Rattle.call_gen.proofs.Spelled.Planning.{saved_end}
 use Rattle.call_gen.proofs.plan.CallPlan.saved.Goals as goal
 
 pub returns : goal.returns

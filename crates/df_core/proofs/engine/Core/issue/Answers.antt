@@ -3,9 +3,9 @@ use Rattle.df_core.specs.declared.plain.Asked.{Asked}
 use Rattle.df_core.specs.Places.{image_of}
 use Rattle.df_core.specs.Chains.{chain_of, may_flag}
 use Rattle.df_core.specs.Flows.{asked_at, no_asked}
-use Rattle.df_core.proofs.Issuing.{or_any}
-use Rattle.df_core.proofs.Stepping.{may_enabled}
-use Rattle.df_core.proofs.Quietly.{issue_quietly}
+use Rattle.df_core.proofs.Parts.Issuing.{or_any}
+use Rattle.df_core.proofs.Parts.Stepping.{may_enabled}
+use Rattle.df_core.proofs.Parts.Quietly.{issue_quietly}
 use Rattle.df_core.proofs.engine.Core.issue.Goals as goal
 
 pub returns-in-Some : goal.returns-in-Some

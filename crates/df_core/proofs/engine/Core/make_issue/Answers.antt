@@ -4,8 +4,8 @@ use Rattle.std.specs.Result.{is_err}
 use Rattle.std.proofs.lemmas.Bool.{both_ways}
 use Rattle.df_core.specs.declared.plain.Asked.{Asked}
 use Rattle.df_core.specs.Flows.{asked_at, no_asked, FlowRoom}
-use Rattle.df_core.proofs.Steady.{room_less, room_still}
-use Rattle.df_core.proofs.Stepping.{kept_same, not_ready, going_prepared, makes_issue}
+use Rattle.df_core.proofs.Sizes.Steady.{room_less, room_still}
+use Rattle.df_core.proofs.Parts.Stepping.{kept_same, not_ready, going_prepared, makes_issue}
 use Rattle.df_core.proofs.engine.Core.make_issue.Goals as goal
 
 pub returns-in-None-clause-refused : goal.returns-in-None-clause-refused

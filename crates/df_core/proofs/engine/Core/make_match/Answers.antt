@@ -5,10 +5,10 @@ use Rattle.df_core.specs.declared.way.Way.{Way}
 use Rattle.df_core.specs.Cores.{IsAt, KeepsRoom}
 use Rattle.df_core.specs.Places.{image_of}
 use Rattle.df_core.specs.Ways.{token_of}
-use Rattle.df_core.proofs.Driving.{alone}
-use Rattle.df_core.proofs.Stepping.{kept_same, not_on_way, same_way, going_match, makes_match}
-use Rattle.df_core.proofs.Turning.{leads_turned}
-use Rattle.df_core.proofs.Steady.{room_still, room_taken, room_turned}
+use Rattle.df_core.proofs.Parts.Driving.{alone}
+use Rattle.df_core.proofs.Parts.Stepping.{kept_same, not_on_way, same_way, going_match, makes_match}
+use Rattle.df_core.proofs.Parts.Turning.{leads_turned}
+use Rattle.df_core.proofs.Sizes.Steady.{room_still, room_taken, room_turned}
 use Rattle.df_core.proofs.engine.Core.make_match.Goals as goal
 use Rattle.df_core.proofs.engine.Core.make_match.Goals.{then-self-via-then-self}
 use Rattle.df_core.proofs.engine.Core.make_match.Goals.{then-self-via-else-self+then-is_err}

@@ -1,7 +1,7 @@
 use Rattle.std.proofs.Common.{sym, subst}
 use Rattle.df_core.specs.Core.{Event}
 use Rattle.df_core.specs.Cores.{IsEnabled}
-use Rattle.df_core.proofs.Stepping.{token_enabled, core_rests}
+use Rattle.df_core.proofs.Parts.Stepping.{token_enabled, core_rests}
 use Rattle.df_core.proofs.engine.Core.pick.Goals as goal
 
 pub returns-in-Some-some : goal.returns-in-Some-some

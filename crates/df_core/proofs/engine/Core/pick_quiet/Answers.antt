@@ -1,7 +1,7 @@
 use Rattle.std.proofs.Common.{sym, subst}
 use Rattle.df_core.specs.Core.{Event}
 use Rattle.df_core.specs.Quiet.{IsQuietly}
-use Rattle.df_core.proofs.Quietly.{match_quietly, only_fires}
+use Rattle.df_core.proofs.Parts.Quietly.{match_quietly, only_fires}
 use Rattle.df_core.proofs.engine.Core.pick_quiet.Goals as goal
 
 pub returns-in-Some-quiet_token : goal.returns-in-Some-quiet_token

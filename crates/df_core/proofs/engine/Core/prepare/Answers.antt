@@ -1,4 +1,4 @@
-use Rattle.df_core.proofs.Stepping.{runs_same}
+use Rattle.df_core.proofs.Parts.Stepping.{runs_same}
 use Rattle.df_core.proofs.engine.Core.prepare.Goals as goal
 
 pub returns-clause-core : goal.returns-clause-core

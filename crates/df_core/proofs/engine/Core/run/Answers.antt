@@ -6,8 +6,8 @@ use Rattle.df_core.specs.Places.{image_of}
 use Rattle.df_core.specs.Answer.{RunSo}
 use Rattle.df_core.specs.Ends.{AfterFired}
 use Rattle.df_core.specs.Told.{run_of}
-use Rattle.df_core.proofs.Saying.{answers, spends}
-use Rattle.df_core.proofs.Reached.{Kept}
+use Rattle.df_core.proofs.Telling.Saying.{answers, spends}
+use Rattle.df_core.proofs.Keeping.Reached.{Kept}
 use Rattle.df_core.proofs.engine.Core.run.Goals as goal
 use Rattle.df_core.specs.Flows.{FlowIs}
 

@@ -2,8 +2,8 @@ use Rattle.std.proofs.Common.{OnOk, sym, subst}
 use Rattle.df_core.specs.Core.{Match, Issue}
 use Rattle.df_core.specs.declared.engine.Event.{Event}
 use Rattle.df_core.specs.Cores.{Makes, event_of}
-use Rattle.df_core.proofs.Stepping.{runs_on}
-use Rattle.df_core.proofs.Steady.{room_after, prepared_after}
+use Rattle.df_core.proofs.Parts.Stepping.{runs_on}
+use Rattle.df_core.proofs.Sizes.Steady.{room_after, prepared_after}
 use Rattle.df_core.proofs.engine.Core.step.Goals as goal
 
 pub returns-in-Match-clause-made : goal.returns-in-Match-clause-made

@@ -1,6 +1,6 @@
 use Rattle.std.proofs.Common.{List, ℕ, ◌-◌, ◌∙◌, ap, sym, arith}
 use Rattle.ws_words.specs.Outside.{row}
-use Rattle.df_core.proofs.Trays.{value_in, past_row}
+use Rattle.df_core.proofs.Sizes.Trays.{value_in, past_row}
 use Rattle.df_core.proofs.engine.Core.took.Goals as goal
 
 pub returns-then-place-len-clause-words : goal.returns-then-place-len-clause-words

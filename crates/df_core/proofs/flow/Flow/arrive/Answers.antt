@@ -4,10 +4,11 @@ use Rattle.ws_isa.specs.Walk.{gather}
 use Rattle.df_core.specs.Core.{is_full}
 use Rattle.df_core.specs.Places.{image_of}
 use Rattle.df_core.specs.Partial.{partial_of, listed}
-use Rattle.df_core.proofs.Arriving.{arrived_waits, arrived_fires, arrival_below, arrival_free, single_fires}
-use Rattle.df_core.proofs.Arriving.{ports_is_op}
-use Rattle.df_core.proofs.Bounds.{arrival_wave}
-use Rattle.df_core.proofs.Rooms.{room_put, asked_more}
+use Rattle.df_core.proofs.Parts.Arriving.{arrived_waits, arrived_fires, arrival_below, arrival_free}
+use Rattle.df_core.proofs.Parts.Arriving.{single_fires}
+use Rattle.df_core.proofs.Parts.Arriving.{ports_is_op}
+use Rattle.df_core.proofs.Telling.Bounds.{arrival_wave}
+use Rattle.df_core.proofs.Sizes.Rooms.{room_put, asked_more}
 use Rattle.df_core.proofs.flow.Flow.arrive.Goals as goal
 
 pub returns-then-ports-eq1-clause-leads : goal.returns-then-ports-eq1-clause-leads

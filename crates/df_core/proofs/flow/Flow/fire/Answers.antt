@@ -1,8 +1,8 @@
 use Rattle.std.proofs.Common.{◌≤◌, length, List, subst, sym, refl, arith}
 use Rattle.ws_isa.specs.declared.instr.Dest.{Dest}
 use Rattle.df_core.specs.Places.{image_of}
-use Rattle.df_core.proofs.Few.{few}
-use Rattle.df_core.proofs.Rooms.{room_sent}
+use Rattle.df_core.proofs.Walked.Few.{few}
+use Rattle.df_core.proofs.Sizes.Rooms.{room_sent}
 use Rattle.df_core.proofs.flow.Flow.fire.Goals as goal
 
 pub send-requires-clause-now : goal.send-requires-clause-now

@@ -9,10 +9,10 @@ use Rattle.df_core.specs.declared.flow.Flow.{Flow}
 use Rattle.df_core.specs.Places.{destinations}
 use Rattle.df_core.specs.Ways.{SentTo}
 use Rattle.df_core.specs.Flows.{all_of, asked_at, no_asked, FlowIs}
-use Rattle.df_core.proofs.Few.{few}
-use Rattle.df_core.proofs.Issuing as I
-use Rattle.df_core.proofs.Bounds.{issue_wave}
-use Rattle.df_core.proofs.Rooms.{room_issued}
+use Rattle.df_core.proofs.Walked.Few.{few}
+use Rattle.df_core.proofs.Parts.Issuing as I
+use Rattle.df_core.proofs.Telling.Bounds.{issue_wave}
+use Rattle.df_core.proofs.Sizes.Rooms.{room_issued}
 use Rattle.df_core.proofs.flow.Flow.issue.Goals as goal
 
 pub returns-then-is_past-clause-leads : goal.returns-then-is_past-clause-leads

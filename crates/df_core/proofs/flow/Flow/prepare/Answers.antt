@@ -1,5 +1,5 @@
 use Rattle.std.proofs.Common.{refl, arith}
-use Rattle.df_core.proofs.Rooms.{room_kept}
+use Rattle.df_core.proofs.Sizes.Rooms.{room_kept}
 use Rattle.df_core.proofs.flow.Flow.prepare.Goals as goal
 
 pub returns-in_err-reserve-in-Some-5-clause-kept : goal.returns-in_err-reserve-in-Some-5-clause-kept

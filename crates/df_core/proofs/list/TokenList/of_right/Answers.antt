@@ -1,5 +1,5 @@
 use Rattle.df_core.specs.Rights.{tokens_of}
-use Rattle.df_core.proofs.Sends.{all_right}
+use Rattle.df_core.proofs.Sizes.Sends.{all_right}
 use Rattle.df_core.proofs.list.TokenList.of_right.Goals as goal
 
 pub invariant_of-result : goal.invariant_of-result

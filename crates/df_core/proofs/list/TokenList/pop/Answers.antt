@@ -1,6 +1,6 @@
 use Rattle.std.proofs.Common.{arith}
 use Rattle.df_core.specs.Rights.{IsRight}
-use Rattle.df_core.proofs.TokenLists.{front_right}
+use Rattle.df_core.proofs.Sizes.TokenLists.{front_right}
 use Rattle.df_core.proofs.list.TokenList.pop.Goals as goal
 
 pub invariant_of-self-2 : goal.invariant_of-self-2

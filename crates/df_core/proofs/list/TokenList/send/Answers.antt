@@ -1,6 +1,6 @@
 use Rattle.std.proofs.Common.{◌++◌, ◌∷◌, [], ap, ◌∙◌}
 use Rattle.ws_isa.specs.Image.{Token}
-use Rattle.df_core.proofs.Sends.{sent_at, sent_behind}
+use Rattle.df_core.proofs.Sizes.Sends.{sent_at, sent_behind}
 use Rattle.df_core.proofs.list.TokenList.send.Goals as goal
 
 pub right-requires : goal.right-requires

@@ -1,4 +1,4 @@
-use Rattle.df_core.proofs.Rooms.{space_kept}
+use Rattle.df_core.proofs.Sizes.Rooms.{space_kept}
 use Rattle.df_core.proofs.memory.Memory.reserve.Goals as goal
 
 pub returns-clause-kept : goal.returns-clause-kept

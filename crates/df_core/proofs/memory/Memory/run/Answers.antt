@@ -1,7 +1,7 @@
 use Rattle.std.proofs.Common.{◌≡◌, ◌∙◌, ◌-◌, ap, slice_index, slice_set, arith}
 use Rattle.ws_words.specs.Outside.{row, with_row, head_or_zero, rest_of}
 use Rattle.ws_isa.specs.declared.instr.Op.TheVariants as code
-use Rattle.df_core.proofs.Held.{from_op, load_is, store_is, read_is, print_is, give_is}
+use Rattle.df_core.proofs.Walked.Held.{from_op, load_is, store_is, read_is, print_is, give_is}
 use Rattle.df_core.proofs.memory.Memory.run.Goals as goal
 
 pub returns-in-Load-clause-answer : goal.returns-in-Load-clause-answer

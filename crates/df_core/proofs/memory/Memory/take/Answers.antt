@@ -1,5 +1,5 @@
 use Rattle.std.proofs.Common.{arith}
-use Rattle.df_core.proofs.Held.{taken_is, taken_by_none}
+use Rattle.df_core.proofs.Walked.Held.{taken_is, taken_by_none}
 use Rattle.df_core.proofs.memory.Memory.take.Goals as goal
 
 pub returns-then-port-gt0-clause-taken : goal.returns-then-port-gt0-clause-taken

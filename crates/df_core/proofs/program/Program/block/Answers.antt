@@ -1,6 +1,6 @@
 use Rattle.std.proofs.Common.{◌-◌, arith, refl}
 use Rattle.df_core.specs.Places.{image_of}
-use Rattle.df_core.proofs.Look.{block_none, block_is, block_past}
+use Rattle.df_core.proofs.Parts.Look.{block_none, block_is, block_past}
 use Rattle.df_core.proofs.program.Program.block.Goals as goal
 
 pub returns-then-number-eq0 : goal.returns-then-number-eq0

@@ -2,7 +2,7 @@ use Rattle.std.proofs.Common.{◌∙◌, sym, eqb, eq-eqb, ne_eqb}
 use Rattle.std.proofs.lemmas.Bool.{cond-true, cond-false}
 use Rattle.ws_isa.specs.View as view
 use Rattle.df_core.specs.Places.{image_of}
-use Rattle.df_core.proofs.Look.{to_steer, to_pad, to_all, to_none}
+use Rattle.df_core.proofs.Parts.Look.{to_steer, to_pad, to_all, to_none}
 use Rattle.df_core.proofs.program.Program.destinations.Goals as goal
 
 pub returns-then-selector-eq0 : goal.returns-then-selector-eq0

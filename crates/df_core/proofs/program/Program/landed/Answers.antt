@@ -2,7 +2,7 @@ use Rattle.std.proofs.Common.{◌∙◌, ap}
 use Rattle.ws_isa.specs.Image.{pad_of, block_at}
 use Rattle.ws_isa.specs.View as view
 use Rattle.df_core.specs.Places.{image_of}
-use Rattle.df_core.proofs.Look.{target_is, target_none}
+use Rattle.df_core.proofs.Parts.Look.{target_is, target_none}
 use Rattle.df_core.proofs.program.Program.landed.Goals as goal
 
 pub returns-in-Some : goal.returns-in-Some

@@ -1,7 +1,7 @@
 use Rattle.std.proofs.Common.{◌∙◌, ap}
 use Rattle.df_core.specs.Places.{image_of}
 use Rattle.ws_isa.specs.View as view
-use Rattle.df_core.proofs.Look.{note_is, note_none, unwrapped}
+use Rattle.df_core.proofs.Parts.Look.{note_is, note_none, unwrapped}
 use Rattle.df_core.proofs.program.Program.note.Goals as goal
 use Rattle.ws_words.specs.Items.{or_else}
 

@@ -1,6 +1,6 @@
 use Rattle.std.proofs.Common.{◌+◌, suc, map, drop, arith}
 use Rattle.ws_isa.specs.View as view
-use Rattle.df_core.proofs.Placed.{spots_more}
+use Rattle.df_core.proofs.Parts.Placed.{spots_more}
 use Rattle.df_core.proofs.program.Program.of.Goals as goal
 use Rattle.ws_words.proofs.Lists.{drop_next}
 

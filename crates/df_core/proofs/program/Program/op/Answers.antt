@@ -1,7 +1,7 @@
 use Rattle.std.proofs.Common.{sym}
 use Rattle.ws_isa.specs.Image.{no_instr}
 use Rattle.df_core.specs.Places.{image_of}
-use Rattle.df_core.proofs.Look.{op_none}
+use Rattle.df_core.proofs.Parts.Look.{op_none}
 use Rattle.df_core.proofs.program.Program.op.Goals as goal
 
 pub returns-in-None : goal.returns-in-None

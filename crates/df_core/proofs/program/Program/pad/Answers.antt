@@ -1,5 +1,5 @@
 use Rattle.df_core.specs.Places.{image_of}
-use Rattle.df_core.proofs.Look.{pads_none}
+use Rattle.df_core.proofs.Parts.Look.{pads_none}
 use Rattle.df_core.proofs.program.Program.pad.Goals as goal
 
 pub returns-in-None : goal.returns-in-None

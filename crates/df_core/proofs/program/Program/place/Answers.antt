@@ -1,6 +1,6 @@
 use Rattle.std.proofs.Common.{◌-◌, arith}
 use Rattle.df_core.specs.Places.{image_of}
-use Rattle.df_core.proofs.Placed.{place_is, place_past, place_zero}
+use Rattle.df_core.proofs.Parts.Placed.{place_is, place_past, place_zero}
 use Rattle.df_core.proofs.program.Program.place.Goals as goal
 
 pub returns-then-number-eq0 : goal.returns-then-number-eq0

@@ -1,6 +1,6 @@
 use Rattle.std.proofs.Common.{List, length, ap, ◌∙◌}
 use Rattle.ws_isa.specs.Image.{Token}
-use Rattle.df_core.proofs.Sends.{tokens_count}
+use Rattle.df_core.proofs.Sizes.Sends.{tokens_count}
 use Rattle.df_core.proofs.sent.Sent.len.Goals as goal
 
 pub returns : goal.returns

@@ -1,4 +1,4 @@
-use Rattle.df_core.proofs.Spilled.{clear_none}
+use Rattle.df_core.proofs.Parts.Spilled.{clear_none}
 use Rattle.df_core.proofs.slots.MatchStore.drop_spilled.Goals as goal
 
 pub returns-else-not-is_empty-clause-spilled : goal.returns-else-not-is_empty-clause-spilled

@@ -1,7 +1,7 @@
 use Rattle.std.proofs.Common.{Vec, Global, ap, ◌∙◌}
 use Rattle.df_core.specs.declared.slots.Slot.{Slot}
 use Rattle.df_core.specs.Partial.{partial_of}
-use Rattle.df_core.proofs.Spilled.{put_is}
+use Rattle.df_core.proofs.Parts.Spilled.{put_is}
 use Rattle.df_core.proofs.slots.MatchStore.put.Goals as goal
 
 pub returns-clause-partial : goal.returns-clause-partial

@@ -1,7 +1,7 @@
 use Rattle.std.proofs.Common.{◌∙◌, ap}
 use Rattle.df_core.specs.declared.slots.Slot.{Slot}
 use Rattle.df_core.specs.Partial.{with_port}
-use Rattle.df_core.proofs.Spilled.{put_so}
+use Rattle.df_core.proofs.Parts.Spilled.{put_so}
 use Rattle.df_core.proofs.slots.MatchStore.put_spilled.Goals as goal
 
 pub returns-clause-spilled : goal.returns-clause-spilled

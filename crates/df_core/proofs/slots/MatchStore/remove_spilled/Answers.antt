@@ -1,4 +1,4 @@
-use Rattle.df_core.proofs.Spilled.{clear_so}
+use Rattle.df_core.proofs.Parts.Spilled.{clear_so}
 use Rattle.df_core.proofs.slots.MatchStore.remove_spilled.Goals as goal
 
 pub returns-clause-spilled : goal.returns-clause-spilled

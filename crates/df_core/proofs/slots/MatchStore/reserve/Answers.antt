@@ -1,4 +1,4 @@
-use Rattle.df_core.proofs.Spilled.{same_spilled}
+use Rattle.df_core.proofs.Parts.Spilled.{same_spilled}
 use Rattle.df_core.proofs.slots.MatchStore.reserve.Goals as goal
 
 pub returns-clause-spilled : goal.returns-clause-spilled

@@ -1,7 +1,7 @@
 use Rattle.std.proofs.Common.{◌∙◌, map, sym, subst}
 use Rattle.df_core.specs.Ways.{token_of, NoneAt}
-use Rattle.df_core.proofs.Fine.{none_if}
-use Rattle.df_core.proofs.Found.{none_both}
+use Rattle.df_core.proofs.Sizes.Fine.{none_if}
+use Rattle.df_core.proofs.Parts.Found.{none_both}
 use Rattle.df_core.proofs.way.Way.has.Goals as goal
 
 pub returns-else-is_some : goal.returns-else-is_some

@@ -1,5 +1,5 @@
 use Rattle.std.proofs.Common.{◌-◌, arith}
-use Rattle.df_core.proofs.Found.{now_sent, later_sent}
+use Rattle.df_core.proofs.Parts.Found.{now_sent, later_sent}
 use Rattle.df_core.proofs.way.Way.some.Goals as goal
 
 pub returns-then-count-gt0 : goal.returns-then-count-gt0

@@ -1,7 +1,7 @@
 use Rattle.std.proofs.Common.{◌<◌, map, length, refl, subst}
 use Rattle.df_core.specs.Ways.{token_of, NoneAt, IsTokenAt, no_token}
-use Rattle.df_core.proofs.Issuing.{or_any}
-use Rattle.df_core.proofs.Found.{none_both, taken_now, taken_later}
+use Rattle.df_core.proofs.Parts.Issuing.{or_any}
+use Rattle.df_core.proofs.Parts.Found.{none_both, taken_now, taken_later}
 use Rattle.df_core.proofs.way.Way.take_at.Goals as goal
 
 pub returns-in-Some-clause-taken : goal.returns-in-Some-clause-taken

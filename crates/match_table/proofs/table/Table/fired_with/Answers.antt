@@ -17,7 +17,7 @@ unreachable-requires g c =
     (instances c.self.inside.fired.items) (instances c.self.inside.asked.items) c.args.self.now.fired
     c.args.instance.wave c.args.instance.instr c.self.invariant.0
     (ap (λ (s : TableContent). s.fired) c.self.view_is) c.requires) in
-    c.in_default.not-Some fired.arrived (c.look.ensures ∙ fired.is)
+    c.in_default.not-Some fired.arrived (c.look_on.ensures ∙ fired.is)
 
 pub unreachable-requires-in-None : goal.unreachable-requires-in-None
 unreachable-requires-in-None g c =
@@ -29,7 +29,7 @@ unreachable-requires-in-None g c =
     c.args.instance.instr
     c.op.result c.op.ensures c.program.ensures.image refl c.ports-ports.result c.ports-ports.ensures in
     let same : fired.arrived ≡ c.in-Some.arrived = some_same
-    (sym fired.is ∙ sym c.look.ensures ∙ c.in-Some.is) in
+    (sym fired.is ∙ sym c.look_on.ensures ∙ c.in-Some.is) in
     both_ways (is_full (alone c.in-Some.arrived) 0 0 c.ports-ports.result) c.in-None.ensures
     (subst (λ (x : Arrived × ℕ). is_full (alone x.0) 0 0 x.1 ≡ true) (λ j. (same j, sym count.0 j))
     fired.full)
@@ -44,7 +44,7 @@ returns-clause-operands g c =
     c.args.instance.instr
     c.op.result c.op.ensures c.program.ensures.image refl c.ports-ports.result c.ports-ports.ensures in
     let same : fired.arrived ≡ c.in-Some.arrived = some_same
-    (sym fired.is ∙ sym c.look.ensures ∙ c.in-Some.is) in
+    (sym fired.is ∙ sym c.look_on.ensures ∙ c.in-Some.is) in
     c.in-Some-operands_of.ensures.1
     ∙ ap (λ (x : Arrived × ℕ). gather (alone x.0) 0 0 0 x.1) (λ j. (sym same j, count.0 j))
     ∙ fired.operands

@@ -3,7 +3,7 @@ use Rattle.ws_isa.specs.Image.{Token, instr_at, ports}
 use Rattle.df_core.specs.Core.{IsSent}
 use Rattle.df_core.specs.Fit.{RightRequest}
 use Rattle.ws_isa.specs.Formed.{Formed}
-use Rattle.df_core.proofs.Few.{few}
+use Rattle.df_core.proofs.Walked.Few.{few}
 use Rattle.df_core.specs.Places.{image_of}
 use Rattle.df_core.specs.Rights.{Asked, operands_of}
 use Rattle.match_table.specs.Ports.{listed}

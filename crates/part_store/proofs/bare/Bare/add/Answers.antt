@@ -1,4 +1,4 @@
-use Rattle.part_store.proofs.Coming.{take_ok}
+use Rattle.part_store.proofs.Running.Coming.{take_ok}
 use Rattle.part_store.proofs.bare.Bare.add.Goals as goal
 
 pub returns : goal.returns

@@ -1,11 +1,11 @@
 use Rattle.std.proofs.Common.{arith, subst}
 use Rattle.df_core.specs.Places.{image_of}
 use Rattle.df_core.specs.Rights.{tokens_of}
-use Rattle.df_core.proofs.Sends.{all_right}
+use Rattle.df_core.proofs.Sizes.Sends.{all_right}
 use Rattle.part_store.specs.Calls.{address_of, AddressSo}
 use Rattle.part_store.specs.Parts.{content_of}
 use Rattle.part_store.specs.Contents.{PartContent}
-use Rattle.part_store.proofs.After as A
+use Rattle.part_store.proofs.Running.After as A
 use Rattle.part_store.proofs.part.PartBuffer.address_into.Goals as goal
 
 pub invariant_of-self : goal.invariant_of-self

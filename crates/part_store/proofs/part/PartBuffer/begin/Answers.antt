@@ -9,7 +9,7 @@ use Rattle.store_buf.specs.Outdoors.{AllBegan}
 use Rattle.part_store.specs.declared.bare.Bare.{Bare}
 use Rattle.part_store.specs.declared.parts.Parts.{Parts}
 use Rattle.part_store.specs.Bares.{is_in}
-use Rattle.part_store.proofs.Opening as O
+use Rattle.part_store.proofs.Running.Opening as O
 use Rattle.part_store.proofs.part.PartBuffer.begin.Goals as goal
 use Rattle.store_buf.proofs.Idle.{none_wait}
 use Rattle.store_buf.proofs.Coming.{no_room}

@@ -5,7 +5,7 @@ use Rattle.store_buf.specs.Stores.{asked_of}
 use Rattle.part_store.specs.Calls.{request_of, PartSubmitSo}
 use Rattle.part_store.specs.Parts.{content_of}
 use Rattle.part_store.specs.Contents.{PartContent}
-use Rattle.part_store.proofs.After as A
+use Rattle.part_store.proofs.Running.After as A
 use Rattle.part_store.proofs.part.PartBuffer.take_whole.Goals as goal
 
 pub invariant_of-self : goal.invariant_of-self

@@ -2,8 +2,8 @@ use Rattle.std.proofs.Common.{◌≡◌, ◌∙◌, [], Some, slice_set, refl, a
 use Rattle.store_buf.specs.declared.kept.Kept.{Kept}
 use Rattle.store_buf.specs.Ordering.{no_request, kept_at}
 use Rattle.store_buf.proofs.Lists.{or_any}
-use Rattle.part_store.proofs.Answering as A
-use Rattle.part_store.proofs.Turning as U
+use Rattle.part_store.proofs.Moving.Answering as A
+use Rattle.part_store.proofs.Moving.Turning as U
 use Rattle.part_store.proofs.parts.Parts.answer_at.Goals as goal
 
 pub invariant_of-self : goal.invariant_of-self

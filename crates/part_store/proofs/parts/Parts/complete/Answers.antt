@@ -4,7 +4,7 @@ use Rattle.df_core.specs.Places.{image_of}
 use Rattle.df_core.specs.Rights.{tokens_of}
 use Rattle.store_buf.specs.Contents.{RightTokens}
 use Rattle.part_store.specs.Parts.{content_of}
-use Rattle.part_store.proofs.Draining as D
+use Rattle.part_store.proofs.Moving.Draining as D
 use Rattle.part_store.proofs.parts.Parts.complete.Goals as goal
 use Rattle.part_store.specs.Calls.{PartSubmitSo}
 

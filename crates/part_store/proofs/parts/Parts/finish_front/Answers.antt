@@ -12,11 +12,11 @@ use Rattle.part_store.specs.Contents.{cell}
 use Rattle.part_store.specs.Parted.{is_store_op}
 use Rattle.part_store.specs.Rules.{Moves}
 use Rattle.part_store.specs.Parts.{Beside, content_of, PartsStand}
-use Rattle.part_store.proofs.Fronts as F
-use Rattle.part_store.proofs.Finishing as N
-use Rattle.part_store.proofs.Times as T
+use Rattle.part_store.proofs.Queueing.Fronts as F
+use Rattle.part_store.proofs.Moving.Finishing as N
+use Rattle.part_store.proofs.Queueing.Times as T
 use Rattle.part_store.proofs.parts.Parts.finish_front.Goals as goal
-use Rattle.df_core.proofs.Few.{few_sent}
+use Rattle.df_core.proofs.Walked.Few.{few_sent}
 
 pub returns-in_default-clause-leads : goal.returns-in_default-clause-leads
 returns-in_default-clause-leads g c = (

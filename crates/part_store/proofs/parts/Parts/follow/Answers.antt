@@ -1,7 +1,7 @@
 use Rattle.std.proofs.Common.{◌∙◌, refl}
 use Rattle.df_core.specs.Places.{image_of}
 use Rattle.df_core.specs.Rights.{tokens_of}
-use Rattle.part_store.proofs.Followed as F
+use Rattle.part_store.proofs.Moving.Followed as F
 use Rattle.part_store.proofs.parts.Parts.follow.Goals as goal
 
 pub loop-entry-init : goal.loop-entry-init

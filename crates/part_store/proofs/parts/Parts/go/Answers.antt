@@ -22,13 +22,13 @@ use Rattle.part_store.specs.Bares.{is_in}
 use Rattle.part_store.specs.Contents.{holds_op}
 use Rattle.part_store.specs.Rules.{Moves, is_past_at, operands_at}
 use Rattle.part_store.specs.Parts.{Calm, content_of, PartsSilentSo}
-use Rattle.part_store.proofs.Goes as G
-use Rattle.part_store.proofs.Sending as N
-use Rattle.part_store.proofs.Turning as U
+use Rattle.part_store.proofs.Moving.Goes as G
+use Rattle.part_store.proofs.Moving.Sending as N
+use Rattle.part_store.proofs.Moving.Turning as U
 use Rattle.part_store.proofs.parts.Parts.go.Goals as goal
 use Rattle.part_store.proofs.parts.Parts.go.Goals.{then-is_alone-via-then-is_alone}
 use Rattle.part_store.proofs.parts.Parts.go.Goals.{then-is_alone-via-else-is_alone+then-holds}
-use Rattle.df_core.proofs.Few.{few_sent}
+use Rattle.df_core.proofs.Walked.Few.{few_sent}
 use Rattle.ws_words.proofs.Results.{on_err}
 
 past_so : (image : Image) (op : Op) (k m : Kept) (b : Bool) → is_past_op image.arrays op (k.first ∷ []) ≡ b →

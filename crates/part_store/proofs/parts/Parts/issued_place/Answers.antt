@@ -1,7 +1,7 @@
 use Rattle.std.proofs.Common.{ℕ, ◌≡◌, ◌∙◌, ◌<◌, Some, None, false, length, sym, subst}
 use Rattle.std.proofs.lemmas.Bool.{both_ways}
 use Rattle.part_store.specs.Parts.{issued_flag}
-use Rattle.part_store.proofs.Answering as A
+use Rattle.part_store.proofs.Moving.Answering as A
 use Rattle.part_store.proofs.parts.Parts.issued_place.Goals as goal
 
 pub returns-else-is_issued_at-clause-none : goal.returns-else-is_issued_at-clause-none

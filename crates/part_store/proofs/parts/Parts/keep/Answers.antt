@@ -2,7 +2,7 @@ use Rattle.std.proofs.Common.{◌+◌, ◌≡◌, ◌≤◌, ◌++◌, ◌∷◌
 use Rattle.store_buf.proofs.Earlies.{as_long}
 use Rattle.store_buf.specs.declared.kept.Kept.{Kept}
 use Rattle.store_buf.specs.Requests.{entry_of}
-use Rattle.part_store.proofs.Coming as C
+use Rattle.part_store.proofs.Running.Coming as C
 use Rattle.part_store.proofs.parts.Parts.keep.Goals as goal
 use Rattle.ws_words.proofs.Results.{on_ok}
 

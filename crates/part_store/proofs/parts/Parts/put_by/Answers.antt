@@ -1,7 +1,7 @@
 use Rattle.std.proofs.Common.{ℕ, ◌≡◌, false, ap, refl, inl}
 use Rattle.part_store.specs.Bares.{is_in}
 use Rattle.df_core.specs.Places.{image_of}
-use Rattle.part_store.proofs.Coming as C
+use Rattle.part_store.proofs.Running.Coming as C
 use Rattle.part_store.proofs.parts.Parts.put_by.Goals as goal
 
 pub returns-in-Ok-clause-leads : goal.returns-in-Ok-clause-leads

@@ -1,6 +1,6 @@
 use Rattle.std.proofs.Common.{true, refl, inl}
 use Rattle.df_core.specs.Places.{image_of}
-use Rattle.part_store.proofs.Coming as C
+use Rattle.part_store.proofs.Running.Coming as C
 use Rattle.part_store.proofs.parts.Parts.put_by_address.Goals as goal
 
 pub returns-in-Ok-clause-leads : goal.returns-in-Ok-clause-leads

@@ -8,8 +8,8 @@ use Rattle.store_buf.proofs.Lists.{or_any}
 use Rattle.part_store.specs.Bares.{is_in}
 use Rattle.store_buf.proofs.Filing as P
 use Rattle.part_store.specs.Parted.{is_store_op}
-use Rattle.part_store.proofs.Answering as A
-use Rattle.part_store.proofs.Sought as S
+use Rattle.part_store.proofs.Moving.Answering as A
+use Rattle.part_store.proofs.Running.Sought as S
 use Rattle.part_store.proofs.parts.Parts.put_data.Goals as goal
 
 pub invariant_of-self : goal.invariant_of-self

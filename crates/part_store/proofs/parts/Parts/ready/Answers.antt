@@ -1,7 +1,7 @@
 use Rattle.std.proofs.Common.{◌∙◌, sym}
 use Rattle.df_core.specs.Places.{image_of}
 use Rattle.part_store.specs.declared.parts.Parts.{Parts}
-use Rattle.part_store.proofs.Sought as S
+use Rattle.part_store.proofs.Running.Sought as S
 use Rattle.part_store.proofs.parts.Parts.ready.Goals as goal
 
 pub returns-else-may_go-2-clause-goes : goal.returns-else-may_go-2-clause-goes

@@ -5,7 +5,7 @@ use Rattle.df_core.specs.Rights.{tokens_of}
 use Rattle.store_buf.specs.Contents.{RightTokens}
 use Rattle.part_store.specs.Calls.{AddressSo}
 use Rattle.part_store.specs.Parts.{content_of}
-use Rattle.part_store.proofs.Coming as C
+use Rattle.part_store.proofs.Running.Coming as C
 use Rattle.part_store.proofs.parts.Parts.take_address.Goals as goal
 
 pub returns-in-Ok-clause-leads : goal.returns-in-Ok-clause-leads

@@ -5,7 +5,7 @@ use Rattle.df_core.specs.Rights.{tokens_of}
 use Rattle.store_buf.specs.Contents.{RightTokens}
 use Rattle.part_store.specs.Bares.{is_in}
 use Rattle.part_store.specs.Parts.{content_of}
-use Rattle.part_store.proofs.Coming as C
+use Rattle.part_store.proofs.Running.Coming as C
 use Rattle.part_store.proofs.parts.Parts.take_request.Goals as goal
 use Rattle.part_store.specs.Calls.{PartSubmitSo}
 

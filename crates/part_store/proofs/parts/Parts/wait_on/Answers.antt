@@ -7,7 +7,7 @@ use Rattle.store_buf.specs.Ordering.{kept_at}
 use Rattle.store_buf.proofs.Counted as C
 use Rattle.part_store.specs.declared.entry.Queued.{Queued}
 use Rattle.part_store.specs.Queues.{joined}
-use Rattle.part_store.proofs.Turning as U
+use Rattle.part_store.proofs.Moving.Turning as U
 use Rattle.part_store.proofs.parts.Parts.wait_on.Goals as goal
 
 pub join-requires-clause-room : goal.join-requires-clause-room

@@ -3,7 +3,7 @@ use Rattle.df_core.specs.Rights.{tokens_of}
 use Rattle.store_buf.specs.Contents.{Content, SubmitSo, with_tokens}
 use Rattle.store_buf.specs.Stores.{asked_of}
 use Rattle.part_store.specs.Contents.{whole_of}
-use Rattle.part_store.proofs.Quieting as Q
+use Rattle.part_store.proofs.Told.Quieting as Q
 use Rattle.part_store.proofs.quiet.QuietMemoryOrder.take_in.Goals as goal
 
 pub invariant_of-self : goal.invariant_of-self

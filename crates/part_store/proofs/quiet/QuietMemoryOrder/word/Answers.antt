@@ -5,7 +5,7 @@ use Rattle.store_buf.specs.Requests.{issued_in}
 use Rattle.store_buf.specs.Contents.{Content, answer_of, gives_word}
 use Rattle.part_store.specs.declared.entry.Queued.{Queued}
 use Rattle.part_store.specs.Queues.{is_queued}
-use Rattle.part_store.proofs.Wholly as W
+use Rattle.part_store.proofs.Told.Wholly as W
 use Rattle.part_store.proofs.quiet.QuietMemoryOrder.word.Goals as goal
 
 unqueued : (b : Bool) (o : Option ℕ) → cond (b && not false) o None ≡ cond b o None

@@ -1,6 +1,6 @@
 use Rattle.std.proofs.Common.{arith}
 use Rattle.df_core.specs.Rights.{tokens_of}
-use Rattle.df_core.proofs.Sends.{all_right}
+use Rattle.df_core.proofs.Sizes.Sends.{all_right}
 use Rattle.store_buf.proofs.memory_order.MemoryOrder.submit_into.Goals as goal
 
 pub invariant_of-answers : goal.invariant_of-answers

@@ -25,7 +25,7 @@ use Rattle.store_buf.proofs.Counted as C
 use Rattle.store_buf.proofs.Silence.{port_waits}
 use Rattle.store_buf.proofs.Stepping as S
 use Rattle.store_buf.proofs.store.Store.issue.Goals as goal
-use Rattle.df_core.proofs.Few.{few_sent}
+use Rattle.df_core.proofs.Walked.Few.{few_sent}
 use Rattle.ws_words.proofs.Results.{on_err}
 
 pub run-requires-clause-port : goal.run-requires-clause-port

@@ -1,5 +1,5 @@
 use Rattle.std.proofs.lemmas.Result.{on_ok_weaker}
-use Rattle.wave_gen.proofs.Keepings.{compared_same, compared_other}
+use Rattle.wave_gen.proofs.Tables.Keepings.{compared_same, compared_other}
 use Rattle.wave_gen.proofs.fork.Arms.compare.Goals as goal
 
 pub returns-then-same_spots : goal.returns-then-same_spots

@@ -2,7 +2,7 @@ use Rattle.std.proofs.Common.{refl}
 use Rattle.ws_isa.specs.declared.instr.Op.TheVariants.{Steer}
 use Rattle.wave_gen.specs.declared.spot.Line.{Line}
 use Rattle.wave_gen.specs.declared.fork.Arms.{Arms}
-use Rattle.wave_gen.proofs.Keepings.{forked_more}
+use Rattle.wave_gen.proofs.Tables.Keepings.{forked_more}
 use Rattle.wave_gen.proofs.fork.Arms.steer.Goals as goal
 
 pub returns : goal.returns

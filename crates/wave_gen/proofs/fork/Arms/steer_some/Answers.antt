@@ -3,7 +3,7 @@ use Rattle.std.proofs.lemmas.Bool.{eqb-true, false≢true}
 use Rattle.std.proofs.lemmas.Bool.Decides.{eqb_tells}
 use Rattle.std.specs.Prelude.{vec_len}
 use Rattle.std.proofs.lemmas.Result.{on_ok_weaker}
-use Rattle.wave_gen.proofs.Keepings.{steered_some, steered_none}
+use Rattle.wave_gen.proofs.Tables.Keepings.{steered_some, steered_none}
 use Rattle.wave_gen.proofs.fork.Arms.steer_some.Goals as goal
 
 pub returns-then-is_empty : goal.returns-then-is_empty

@@ -4,7 +4,7 @@ use Rattle.wave_gen.specs.declared.spot.Line.{Line}
 use Rattle.wave_gen.specs.Wire as plain
 use Rattle.wave_gen.specs.Wire.{rest, with_rooms}
 use Rattle.wave_gen.specs.Tables.{HasMade}
-use Rattle.wave_gen.proofs.Making.{bare_line}
+use Rattle.wave_gen.proofs.Tables.Making.{bare_line}
 use Rattle.wave_gen.proofs.maker.Maker.act.Goals as goal
 
 pub returns : goal.returns

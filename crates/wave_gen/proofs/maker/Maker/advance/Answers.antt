@@ -1,7 +1,7 @@
 use Rattle.std.proofs.Common.{◌≡◌, ℕ, List, drop, sym, subst, arith}
 use Rattle.wave_gen.specs.Plans.{advances}
 use Rattle.wave_gen.specs.Tables.{HasMade}
-use Rattle.wave_gen.proofs.Making.{back_number}
+use Rattle.wave_gen.proofs.Tables.Making.{back_number}
 use Rattle.wave_gen.proofs.maker.Maker.advance.Goals as goal
 
 pub loop-left-preserved : goal.loop-left-preserved

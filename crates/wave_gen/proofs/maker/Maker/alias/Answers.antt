@@ -4,7 +4,7 @@ use Rattle.std.proofs.lemmas.Bool.{false≢true}
 use Rattle.wave_gen.specs.declared.maker.Maker.{Maker}
 use Rattle.wave_gen.specs.Tables.{HasMade}
 use Rattle.wave_gen.specs.Wire.{gather}
-use Rattle.wave_gen.proofs.Making.{alias_stands}
+use Rattle.wave_gen.proofs.Tables.Making.{alias_stands}
 use Rattle.wave_gen.proofs.maker.Maker.alias.Goals.{then-is_full+in_ok-gather+in_ok-gather-2, else-is_full}
 use Rattle.wave_gen.proofs.maker.Maker.alias.Goals as goal
 

@@ -3,7 +3,7 @@ use Rattle.std.proofs.lemmas.Result.{on_ok_weaker}
 use Rattle.wave_gen.specs.View as view
 use Rattle.wave_gen.specs.Plans.{advances, renew}
 use Rattle.wave_gen.specs.Tables.{HasMade}
-use Rattle.wave_gen.proofs.Making.{begun_first, begun_other}
+use Rattle.wave_gen.proofs.Tables.Making.{begun_first, begun_other}
 use Rattle.wave_gen.proofs.maker.Maker.begin.Goals as goal
 
 pub returns-in_ok-renew : goal.returns-in_ok-renew

@@ -2,7 +2,7 @@ use Rattle.std.proofs.Common.{refl}
 use Rattle.std.proofs.lemmas.Result.{on_ok_weaker}
 use Rattle.wave_gen.specs.declared.spot.Line.{Line}
 use Rattle.wave_gen.specs.declared.maker.Maker.{Maker}
-use Rattle.wave_gen.proofs.Making.{emit_stands}
+use Rattle.wave_gen.proofs.Tables.Making.{emit_stands}
 use Rattle.wave_gen.proofs.maker.Maker.emit.Goals as goal
 
 pub returns : goal.returns

@@ -5,7 +5,7 @@ use Rattle.wave_gen.specs.Wire as plain
 use Rattle.wave_gen.specs.Wire.{rest}
 use Rattle.wave_gen.specs.Plans.{pulse}
 use Rattle.wave_gen.specs.Tables.{HasMade}
-use Rattle.wave_gen.proofs.Making.{bare_line}
+use Rattle.wave_gen.proofs.Tables.Making.{bare_line}
 use Rattle.wave_gen.proofs.maker.Maker.halt.Goals as goal
 
 pub returns-clause-made : goal.returns-clause-made

@@ -4,7 +4,7 @@ use Rattle.ws_isa.specs.declared.instr.Op.{Op}
 use Rattle.wave_gen.specs.Wire.{rest}
 use Rattle.wave_gen.specs.Plans.{operands_of}
 use Rattle.wave_gen.specs.Tables.{HasMade, line_of}
-use Rattle.wave_gen.proofs.Hanging.{operands_other}
+use Rattle.wave_gen.proofs.Tables.Hanging.{operands_other}
 use Rattle.wave_gen.proofs.maker.Maker.hang.Goals as goal
 
 pub returns-in-Send : goal.returns-in-Send

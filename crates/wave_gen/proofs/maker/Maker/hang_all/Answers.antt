@@ -4,7 +4,7 @@ use Rattle.std.proofs.lemmas.List.{length_push, nil_from_length}
 use Rattle.wave_gen.specs.declared.tails.Tail.{Tail}
 use Rattle.wave_gen.specs.Wire.{Made}
 use Rattle.wave_gen.specs.Tables.{HasMade, tail_of, hangs}
-use Rattle.wave_gen.proofs.Hanging.{hangs_more}
+use Rattle.wave_gen.proofs.Tables.Hanging.{hangs_more}
 use Rattle.wave_gen.proofs.maker.Maker.hang_all.Goals as goal
 
 pub loop-tail-preserved : goal.loop-tail-preserved

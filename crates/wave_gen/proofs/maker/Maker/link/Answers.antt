@@ -2,7 +2,7 @@ use Rattle.std.proofs.Common.{◌+◌, ◌-◌, refl, subst, arith}
 use Rattle.wave_gen.specs.Wire.{Made, wire}
 use Rattle.wave_gen.specs.Plans.{chain}
 use Rattle.wave_gen.specs.Tables.{HasMade}
-use Rattle.wave_gen.proofs.Hanging.{chain_more, chain_none, chain_end}
+use Rattle.wave_gen.proofs.Tables.Hanging.{chain_more, chain_none, chain_end}
 use Rattle.wave_gen.proofs.maker.Maker.link.Goals as goal
 
 pub loop-left-preserved : goal.loop-left-preserved

@@ -1,5 +1,5 @@
 use Rattle.std.proofs.lemmas.Result.{on_ok_weaker}
-use Rattle.wave_gen.proofs.Making.{room_made}
+use Rattle.wave_gen.proofs.Tables.Making.{room_made}
 use Rattle.wave_gen.proofs.maker.Maker.make_room.Goals as goal
 
 pub returns-then-is_full : goal.returns-then-is_full

@@ -2,7 +2,7 @@ use Rattle.std.proofs.Common.{ℕ, List, length, take, slice_index, subst}
 use Rattle.wave_gen.specs.Wire.{with_rooms}
 use Rattle.wave_gen.specs.Tables.{HasMade}
 use Rattle.std.proofs.lemmas.List.{take_more, take_all}
-use Rattle.wave_gen.proofs.Making.{rooms_push}
+use Rattle.wave_gen.proofs.Tables.Making.{rooms_push}
 use Rattle.wave_gen.proofs.maker.Maker.make_rooms.Goals as goal
 
 pub loop-name-preserved : goal.loop-name-preserved

@@ -2,7 +2,7 @@ use Rattle.std.proofs.Common.{ℕ, List, take, slice_index, subst}
 use Rattle.std.proofs.lemmas.List.{take_more, take_all}
 use Rattle.wave_gen.specs.Plans.{renew}
 use Rattle.wave_gen.specs.Tables.{HasMade}
-use Rattle.wave_gen.proofs.Making.{renew_push}
+use Rattle.wave_gen.proofs.Tables.Making.{renew_push}
 use Rattle.wave_gen.proofs.maker.Maker.renew.Goals as goal
 
 pub loop-name-preserved : goal.loop-name-preserved

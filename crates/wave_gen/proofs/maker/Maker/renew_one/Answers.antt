@@ -1,5 +1,5 @@
 use Rattle.std.proofs.lemmas.Result.{on_ok_weaker}
-use Rattle.wave_gen.proofs.Making.{renewed, not_renewed}
+use Rattle.wave_gen.proofs.Tables.Making.{renewed, not_renewed}
 use Rattle.wave_gen.proofs.maker.Maker.renew_one.Goals as goal
 
 pub returns-then-has_front : goal.returns-then-has_front

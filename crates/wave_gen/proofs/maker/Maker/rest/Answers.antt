@@ -1,7 +1,7 @@
 use Rattle.std.proofs.Common.{refl, ◌∙◌}
 use Rattle.std.proofs.lemmas.Result.{on_ok_weaker}
 use Rattle.wave_gen.specs.declared.maker.Maker.{Maker}
-use Rattle.wave_gen.proofs.Making.{rest_stands}
+use Rattle.wave_gen.proofs.Tables.Making.{rest_stands}
 use Rattle.wave_gen.proofs.maker.Maker.rest.Goals as goal
 
 pub returns : goal.returns

@@ -3,7 +3,7 @@ use Rattle.std.proofs.lemmas.Result.{on_ok_weaker}
 use Rattle.std.proofs.lemmas.List.{length-map}
 use Rattle.wave_gen.specs.Wire.{Made}
 use Rattle.wave_gen.specs.Tables.{HasMade, bare, tail_of, hangs}
-use Rattle.wave_gen.proofs.Hanging.{selected_is}
+use Rattle.wave_gen.proofs.Tables.Hanging.{selected_is}
 use Rattle.wave_gen.proofs.maker.Maker.select.Goals as goal
 
 pub returns : goal.returns

@@ -3,7 +3,7 @@ use Rattle.wave_gen.specs.declared.plan.Item.{Item}
 use Rattle.wave_gen.specs.View as view
 use Rattle.wave_gen.specs.Wire.{wire}
 use Rattle.wave_gen.specs.Tables.{HasMade}
-use Rattle.wave_gen.proofs.Making.{back_one}
+use Rattle.wave_gen.proofs.Tables.Making.{back_one}
 use Rattle.wave_gen.proofs.maker.Maker.wire.Goals as goal
 
 pub loop-left-preserved : goal.loop-left-preserved

@@ -1,5 +1,5 @@
 use Rattle.std.proofs.lemmas.Result.{on_ok_weaker}
-use Rattle.wave_gen.proofs.Making.{make_busy}
+use Rattle.wave_gen.proofs.Tables.Making.{make_busy}
 use Rattle.wave_gen.proofs.maker.Maker.wire_make.Goals as goal
 
 pub returns-else-is_idle : goal.returns-else-is_idle

@@ -1,5 +1,5 @@
 use Rattle.live_vars.specs.Marks.{has}
-use Rattle.wave_gen.proofs.Outlined.{entries_next}
+use Rattle.wave_gen.proofs.OfGraphs.Outlined.{entries_next}
 use Rattle.wave_gen.proofs.plans.PlanGround.entries.Goals as goal
 use Rattle.std.proofs.Common.{◌∙◌, ◌++◌, ◌∷◌, [], ap, cond, suc, Bool}
 

@@ -1,7 +1,7 @@
 use Rattle.std.proofs.Common.{◌∙◌, ap, List, ℕ, arith, cond, map, suc, ◌∷◌, [], ◌||◌, eqb}
 use Rattle.wave_gen.specs.Plans.{pulse}
 use Rattle.wave_gen.specs.declared.plan.Plan.{Plan}
-use Rattle.wave_gen.proofs.Outlined.{plan_made}
+use Rattle.wave_gen.proofs.OfGraphs.Outlined.{plan_made}
 use Rattle.wave_gen.proofs.plans.PlanGround.plan.Goals as goal
 use Rattle.ws_words.specs.Items.{flag_at}
 

@@ -6,7 +6,7 @@ use Rattle.wave_cut.specs.Cut.{is_first}
 use Rattle.wave_gen.specs.Plans.{Plan}
 use Rattle.wave_gen.specs.Listing.{plan_of, plans_of, turned, place_of, width_of}
 use Rattle.wave_gen.specs.View as shown
-use Rattle.wave_gen.proofs.Buckets.{in_at, listed_below}
+use Rattle.wave_gen.proofs.OfGraphs.Buckets.{in_at, listed_below}
 use Rattle.wave_gen.proofs.plans.PlanGround.plans.Goals as goal
 use Rattle.ws_words.proofs.Lists.{drop_all, slid}
 

@@ -1,6 +1,6 @@
 use Rattle.std.proofs.lemmas.Result.{on_ok_weaker}
 use Rattle.wave_gen.specs.Tables.{listed}
-use Rattle.wave_gen.proofs.Listed.{wanted_more}
+use Rattle.wave_gen.proofs.Tables.Listed.{wanted_more}
 use Rattle.wave_gen.proofs.table.Table.add.Goals as goal
 
 pub returns : goal.returns

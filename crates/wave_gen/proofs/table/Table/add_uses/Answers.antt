@@ -1,7 +1,7 @@
 use Rattle.wave_gen.specs.Wire.{with_uses}
 use Rattle.wave_gen.specs.Tables.{listed}
 use Rattle.std.proofs.Common.{slice_index, refl}
-use Rattle.wave_gen.proofs.Listed.{used_more}
+use Rattle.wave_gen.proofs.Tables.Listed.{used_more}
 use Rattle.wave_gen.proofs.table.Table.add_uses.Goals as goal
 
 pub loop-port-preserved : goal.loop-port-preserved

@@ -2,7 +2,7 @@ use Rattle.std.proofs.Common.{ap, ◌++◌, ◌∙◌, List}
 use Rattle.std.proofs.lemmas.Result.{on_ok_weaker}
 use Rattle.wave_gen.specs.Wire.{Target}
 use Rattle.wave_gen.specs.Tables.{listed}
-use Rattle.wave_gen.proofs.Listed.{wanted_moved}
+use Rattle.wave_gen.proofs.Tables.Listed.{wanted_moved}
 use Rattle.wave_gen.proofs.table.Table.give.Goals as goal
 
 pub returns : goal.returns

@@ -1,5 +1,5 @@
 use Rattle.std.proofs.Common.{sym, ◌∙◌, arith}
-use Rattle.wave_gen.proofs.Listed.{list_at, list_past}
+use Rattle.wave_gen.proofs.Tables.Listed.{list_at, list_past}
 use Rattle.wave_gen.proofs.table.Table.list.Goals as goal
 
 pub returns-then-name-len : goal.returns-then-name-len

@@ -1,6 +1,6 @@
 use Rattle.std.proofs.Common.{refl, ap, ◌∙◌}
 use Rattle.wave_gen.specs.Wire.{Wants, with_wants}
-use Rattle.wave_gen.proofs.Listed.{list_set}
+use Rattle.wave_gen.proofs.Tables.Listed.{list_set}
 use Rattle.wave_gen.proofs.table.Table.put.Goals as goal
 
 pub returns : goal.returns

@@ -1,6 +1,6 @@
 use Rattle.std.proofs.Common.{◌∙◌, ap}
 use Rattle.wave_gen.specs.Tables.{listed}
-use Rattle.wave_gen.proofs.Listed.{list_push}
+use Rattle.wave_gen.proofs.Tables.Listed.{list_push}
 use Rattle.wave_gen.proofs.table.Table.reach.Goals as goal
 
 pub loop-alloc-preserved : goal.loop-alloc-preserved

@@ -3,7 +3,7 @@ use Rattle.std.specs.Prelude.{Vec}
 use Rattle.std.specs.declared.alloc.Global.{Global}
 use Rattle.wave_gen.specs.Wire.{Target}
 use Rattle.wave_gen.specs.Tables.{listed}
-use Rattle.wave_gen.proofs.Listed.{list_at, list_past, list_set, none_wanted}
+use Rattle.wave_gen.proofs.Tables.Listed.{list_at, list_past, list_set, none_wanted}
 use Rattle.wave_gen.proofs.table.Table.take.Goals as goal
 
 pub returns-then-name-len-clause-list : goal.returns-then-name-len-clause-list

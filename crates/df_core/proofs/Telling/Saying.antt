@@ -1,0 +1,184 @@
+-- What the end of a run says of the walk.
+use Rattle.std.proofs.Common.{ℕ, ◌+◌, ◌≡◌, ◌<◌, ◌≤◌, ◌⊎◌, true, false, List, [], length, refl, sym, ◌∙◌}
+use Rattle.std.proofs.Common.{subst, arith}
+use Rattle.std.proofs.lemmas.Bool.{both_ways}
+use Rattle.ws_words.specs.Outside.{Outside, World}
+use Rattle.ws_isa.specs.Image as plain
+use Rattle.ws_isa.specs.Image.{Image}
+use Rattle.ws_isa.specs.Formed.{Formed}
+use Rattle.ws_isa.specs.Walk.{mem, walk, CostAtMost}
+use Rattle.ws_isa.specs.Operations.{ops, effect_of, Effect, FaultsAt, NoFault}
+use Rattle.ws_isa.specs.Sound.{Sound}
+use Rattle.df_core.specs.Effect.{effect_at}
+use Rattle.df_core.specs.Core.{State, core_opening}
+use Rattle.df_core.specs.Fit.{NoOp}
+use Rattle.df_core.specs.Ends.{WholeRun, AtFault, AfterFired}
+use Rattle.df_core.proofs.Walked.Facts.{WalkFacts}
+use Rattle.df_core.proofs.Walked.FromSound.{facts_of}
+use Rattle.df_core.proofs.Walked.PortsThere.{ports_there}
+use Rattle.df_core.proofs.Walked.Effects.{effect_is}
+use Rattle.df_core.proofs.Walked.Pauses.{no_op_no_write, mem_same}
+use Rattle.df_core.proofs.Keeping.Reached.{Kept}
+use Rattle.df_core.proofs.Telling.Ends.{rest_ends, at_fault, after_fired, same_effect, one_fault}
+use Rattle.df_core.proofs.Telling.Counting.{rest_count, fired_count, way_count}
+use Rattle.df_core.proofs.Telling.Place.{fault_place}
+use Rattle.df_core.specs.declared.drive.Finish.{Finish}
+use Rattle.df_core.specs.declared.drive.Finish.TheVariants as finish
+use Rattle.df_core.specs.declared.flow.Flow.{Flow}
+use Rattle.df_core.specs.Flows.{IsFault, FlowIs}
+use Rattle.df_core.specs.Finishes.{FinishIs, IsSpent, Ended, is_budget}
+use Rattle.df_core.specs.Told.{done_of, run_of}
+use Rattle.df_core.specs.Answer.{Tells, Rested, CutShort, Faulted, RunSo}
+use Rattle.df_core.proofs.Parts.Issuing.{printed_alike, ports_alike}
+use Rattle.df_core.proofs.Telling.Firings.{none_fires}
+use Rattle.df_core.specs.Outdoors.{MemoryIs}
+
+pub no_fault_at : (image : Image) (world : World) → NoFault image world → (t : ℕ) → FaultsAt image world t → ⊥
+no_fault_at image world none t f = both_ways _ (none t f.inst f.fired) f.is_past
+
+going_rest : (image : Image) (world : World) (s : State) → s.stopped ≡ false
+    → WholeRun image world s ⊎ AtFault image world s → WholeRun image world s
+going_rest image world s going h = grind (arith, both_ways)
+
+-- an effect tells what is outside: loads neither print, nor store, nor give words to ports
+tells : (o : Outside) (flow : Flow) → MemoryIs (effect_of o) flow.memory → Tells o (done_of flow)
+tells o flow h = grind (arith, printed_alike, ports_alike)
+
+module _ (image : Image) (world : World) (facts : WalkFacts image world) (budget : ℕ)
+    (taken : List plain.Token) (flow : Flow) (s : State) (k : Kept image world s)
+    (h : FlowIs image world taken flow s) where
+  tells_at : (t : ℕ) → effect_at image world t ≡ s.memory → Tells (mem image world t) (done_of flow)
+  tells_at t e = tells (mem image world t) flow (subst (λ (o : Outside). MemoryIs o flow.memory)
+      (sym e ∙ effect_is image world t) h.memory_is)
+
+  rested : flow.fired ≤ budget → WholeRun image world s → Rested image world budget (done_of flow)
+  rested within w =
+      let f = fired_count image world facts s k.fit k.once in
+      let n : length s.fired ≡ flow.fired = h.count_is in
+      let all : (t : ℕ) → length (walk image world t) ≤ length s.fired =
+      rest_count image world facts s k.fit w.fired in
+      let cost : CostAtMost image world flow.fired =
+      λ t. (let a : length (walk image world t) ≤ length s.fired = all t in omega arith) in
+      record {
+        no_fault = w.within;
+        steps = f.0;
+        fired = (let a : length (walk image world f.0) ≤ length s.fired = all f.0 in
+            let b : length s.fired ≤ length (walk image world f.0) = f.1 in omega arith);
+        cost = cost;
+        within = within;
+        left = λ t l. tells_at t (
+            let quiet : NoOp image world t (t + w.end) = none_fires image world flow.fired t (t + w.end) cost
+            l in
+            sym (mem_same image world facts t (t + w.end) (omega arith)
+            (no_op_no_write image world t (t + w.end) quiet)) ∙ w.memory (t + w.end) (omega arith)
+            );
+      }
+
+  cut : IsSpent image budget s → CutShort image world budget (done_of flow)
+  cut p =
+      let after = after_fired image world facts s k.fit p.going k.grounded p.settled in
+      record {
+        dear = λ cost. (let r = way_count image world facts s k.fit k.once p.wave p.instr p.port p.value
+            p.on_way in let l : length s.fired < length (walk image world r.0) = r.1 in
+            let c : length (walk image world r.0) ≤ budget = cost r.0 in omega (arith, p.count));
+        fired = sym h.count_is ∙ p.count;
+        state = s;
+        fit = k.fit;
+        grounded = k.grounded;
+        once = k.once;
+        count = p.count;
+        passed = _;
+        after = after;
+        front = after.memory.steps;
+        front_has = after.memory.count;
+        within = after.within after.memory.steps (let e : length (ops image world after.memory.steps) ≡ _ =
+            after.memory.count in omega arith);
+        left = tells_at after.memory.steps (effect_is image world after.memory.steps ∙ after.memory.left);
+      }
+
+  faulted : flow.fired ≤ budget → s.stopped ≡ true → (array : ℕ) → IsFault image world array
+      → Faulted image world budget array (done_of flow)
+  faulted within e array f =
+      let at : AtFault image world s = at_fault image world facts s k.fit e in
+      let same : at.time ≡ f.time = one_fault image world facts at.time f.time at.fault f.fault in
+      let left : Effect image world (length (ops image world f.time)) s.memory =
+      subst (λ (t : ℕ). Effect image world (length (ops image world t)) s.memory) same at.memory in
+      let here : Effect image world (length (ops image world f.time)) (effect_of (mem image world f.time)) =
+      record { steps = f.time; count = refl; left = refl } in
+      record {
+        time = f.time;
+        fault = f.fault;
+        array_is = f.array_is;
+        place = (let n : length (ops image world f.time) < length s.fired = fault_place image world facts s
+            k.fit k.grounded e f.time f.fault in omega (arith, h.count_is));
+        within = within;
+        left = tells_at f.time (effect_is image world f.time ∙ same_effect image world facts
+            (length (ops image world f.time)) (effect_of (mem image world f.time)) s.memory here left);
+      }
+
+  pub says : (finish : Finish) → flow.fired ≤ budget → FinishIs image world budget finish s
+      → RunSo image world budget (run_of finish flow)
+  says finish.Rest le f =
+      let w = rested le (going_rest image world s f.1 (rest_ends image world facts s k.fit f.0)) in
+      record {
+        told = w;
+        rests = (
+          λ e. (
+            w.no_fault,
+            λ t. (let a : length (walk image world t) ≤ flow.fired = w.cost t in
+                omega arith),
+          ),
+          λ e. refl,
+        );
+        faults = λ t at c. absurd (no_fault_at image world w.no_fault t at);
+      }
+  says finish.Budget le f =
+      let w = cut f in
+      record {
+        told = w;
+        rests = (λ e. absurd (both_ways false refl e), λ e. absurd (w.dear e.1));
+        faults = λ t at c. absurd (w.dear c);
+      }
+  says (finish.Fault array) le f =
+      let w = faulted le f.0 array f.1 in
+      record {
+        told = w;
+        rests = (
+          λ e. absurd (both_ways false refl e),
+          λ e. absurd (no_fault_at image world e.0 w.time w.fault),
+        );
+        faults = λ t at c. refl;
+      }
+
+-- a run from what was opened
+pub opened_none : (image : Image) (world : World) (flow : Flow)
+    → FlowIs image world [] flow (core_opening image world) → flow.fired ≡ 0
+unfolding core_opening
+opened_none image world flow h = sym h.count_is
+
+-- a run from wherever the parts stood
+pub answers : (image : Image) (world : World) (budget : ℕ) (finish : Finish) (old new : Flow) (s : State)
+    → Formed image → Sound image → FlowIs image world [] old s → new.fired ≤ budget
+    → Ended image budget old new finish → RunSo image world budget (run_of finish new)
+answers image world budget finish old new s formed sound h le f =
+    let r = f world s formed sound h in
+    let held : FlowIs image world [] new r.0 = r.2 in
+    let k : Kept image world r.0 = record {
+      fit = held.stands.fit;
+      grounded = held.stands.grounded;
+      once = held.stands.once;
+    } in
+    says image world (facts_of image world (ports_there image formed) sound) budget [] new r.0 k held finish
+    le r.3
+
+-- where the budget is spent: the operations that the chain has passed are the most that have fired
+pub spends : (image : Image) (world : World) (budget : ℕ) (finish : Finish) (s : State) → Formed image
+    → Sound image → Kept image world s → FinishIs image world budget finish s → is_budget finish ≡ true
+    → (p : ℕ) × AfterFired image world s p
+spends image world budget finish.Rest s formed sound k f e = absurd (both_ways false refl e)
+spends image world budget finish.Budget s formed sound k f e = (
+  _,
+  after_fired image world (facts_of image world (ports_there image formed) sound) s k.fit f.going
+      k.grounded f.settled,
+)
+spends image world budget (finish.Fault array) s formed sound k f e = absurd (both_ways false refl e)

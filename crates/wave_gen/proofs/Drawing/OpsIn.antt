@@ -1,0 +1,163 @@
+-- A property of the operations of a graph's terms, operations and exits holds of those of its plans.
+use Rattle.std.proofs.Common.{ℕ, zero, suc, List, [], ◌∷◌, ◌++◌}
+use Rattle.std.specs.List.{AllByRecursion}
+use Rattle.ws_words.specs.declared.alu.Alu.{Alu as Operator}
+use Rattle.ws_words.specs.declared.alu.Alu.TheVariants.{Sub, Eq}
+use Rattle.ws_isa.specs.declared.instr.Op.{Op}
+use Rattle.ws_isa.specs.declared.instr.Op.TheVariants.{Const, Alu, Merge, Steer, Phi, Send, Load, Store}
+use Rattle.ws_isa.specs.declared.instr.Op.TheVariants.{Input, Output, Give, Take, Halt}
+use Rattle.cfg_core.specs.Graph as graph
+use Rattle.cfg_core.specs.Graph.{Term, Number, Var, Cell, Flip, Not, Neg, Binary}
+use Rattle.wave_gen.specs.Wire.{Item, Make, Act, Same}
+use Rattle.wave_gen.specs.Plans.{pulse}
+use Rattle.wave_gen.specs.Gen.{Got, got, then_make, top_word, gen_term, gen_op, gen_ops}
+use Rattle.wave_gen.specs.Drawn.{gen_source, gen_terms}
+use Rattle.wave_gen.specs.Listing.{gen_exit}
+use Rattle.wave_gen.proofs.OfItems.Lines.{Items}
+use Rattle.wave_gen.proofs.Drawing.Drafts.{Kind}
+
+-- what holds of all operations that name nothing of the graph
+pub record Plain (P : Op → Type 0) : Type 0 where
+  pub top : P (Const top_word)
+  pub alu : (o : Operator) → P (Alu o)
+  pub merge : P Merge
+  pub phi : P Phi
+  pub input : P Input
+  pub output : P Output
+  pub steer : P Steer
+  pub send : (p : ℕ) → P (Send p)
+  pub halt : P Halt
+
+-- it holds of the operations that a term, an operation and an exit name
+abbrev pub TermHas : (Op → Type 0) → Term → Type 0
+TermHas P (Number zero) = Unit {0}
+TermHas P (Number (suc n)) = P (Const (suc n))
+TermHas P (Var x) = Unit {0}
+TermHas P (Cell a t) = P (Load a) × TermHas P t
+TermHas P (Flip t) = TermHas P t
+TermHas P (Not t) = TermHas P t
+TermHas P (Neg t) = TermHas P t
+TermHas P (Binary op a b) = TermHas P a × TermHas P b
+
+abbrev pub OpHas : (Op → Type 0) → graph.Op → Type 0
+OpHas P (graph.Assign x t) = TermHas P t
+OpHas P (graph.Store a t u) = P (Store a) × TermHas P t × TermHas P u
+OpHas P (graph.Print t) = TermHas P t
+OpHas P (graph.Read x) = Unit {0}
+OpHas P (graph.Give p x) = P (Give p)
+OpHas P (graph.Take p t) = P (Take p) × TermHas P t
+OpHas P (graph.Choose x t a b) = TermHas P t × TermHas P a × TermHas P b
+OpHas P (graph.Tick n) = Unit {0}
+OpHas P (graph.TickBy t n m) = Unit {0}
+
+abbrev pub ExitHas : (Op → Type 0) → graph.Exit → Type 0
+ExitHas P (graph.Branch t a b) = TermHas P t
+ExitHas P (graph.Return t) = TermHas P t
+ExitHas P (graph.Send t ts ls) = TermHas P t × AllByRecursion (TermHas P) ts
+ExitHas P _ = Unit {0}
+
+-- items before others
+pub both : (P : Op → Type 0) (xs ys : List Item) → Items P xs → Items P ys → Items P (xs ++ ys)
+both P [] ys h k = k
+both P (Make x op from ∷ xs) ys h k = (h.0, both P xs ys h.1 k)
+both P (Act op from ∷ xs) ys h k = (h.0, both P xs ys h.1 k)
+both P (Same x y ∷ xs) ys h k = both P xs ys h k
+
+module _ (P : Op → Type 0) (plain : Plain P) where
+  last : (g : Got) (op : Op) (from : List ℕ) → P op → Items P g.items
+      → Items P (then_make g (λ n. Make n op from)).items
+  last g op from e h = both P g.items (Make g.next op from ∷ []) h (e, tt)
+
+  term_items : (t : Term) (k : ℕ) → TermHas P t → Items P (gen_term k t).items
+  term_items (Number zero) k h = tt
+  term_items (Number (suc n)) k h = (h, tt)
+  term_items (Var x) k h = tt
+  term_items (Cell a t) k h = let g = gen_term k t in last g (Load a) (g.name ∷ []) h.0 (term_items t k h.1)
+  term_items (Flip t) k h = let g = gen_term k t in
+      last (then_make g (λ n. Make n (Const top_word) (g.name ∷ []))) (Alu Sub) (g.next ∷ g.name ∷ [])
+      (plain.alu Sub) (last g (Const top_word) (g.name ∷ []) plain.top (term_items t k h))
+  term_items (Not t) k h = let g = gen_term k t in last g (Alu Eq) (g.name ∷ pulse ∷ []) (plain.alu Eq)
+      (term_items t k h)
+  term_items (Neg t) k h = let g = gen_term k t in last g (Alu Sub) (pulse ∷ g.name ∷ []) (plain.alu Sub)
+      (term_items t k h)
+  term_items (Binary op a b) k h =
+      let g = gen_term k a in let i = gen_term g.next b in
+      last (got (g.items ++ i.items) i.name i.next) (Alu op) (g.name ∷ i.name ∷ []) (plain.alu op)
+      (both P g.items i.items (term_items a k h.0) (term_items b g.next h.1))
+
+  source_items : (t : Term) (k : ℕ) → TermHas P t → Items P (gen_source k t).items
+  source_items (Number zero) k h = tt
+  source_items (Number (suc n)) k h = tt
+  source_items (Var x) k h = tt
+  source_items (Cell a t) k h = term_items t k h.1
+  source_items (Flip t) k h = let g = gen_term k t in last g (Const top_word) (g.name ∷ []) plain.top
+      (term_items t k h)
+  source_items (Not t) k h = term_items t k h
+  source_items (Neg t) k h = term_items t k h
+  source_items (Binary op a b) k h = let g = gen_term k a in both P g.items (gen_term g.next b).items
+      (term_items a k h.0) (term_items b g.next h.1)
+
+  source_has : (t : Term) (k : ℕ) → TermHas P t → P (gen_source k t).op
+  source_has (Number zero) k h = plain.merge
+  source_has (Number (suc n)) k h = h
+  source_has (Var x) k h = plain.merge
+  source_has (Cell a t) k h = h.0
+  source_has (Flip t) k h = plain.alu Sub
+  source_has (Not t) k h = plain.alu Eq
+  source_has (Neg t) k h = plain.alu Sub
+  source_has (Binary op a b) k h = plain.alu op
+
+  terms_items : (ts : List Term) (k : ℕ) → AllByRecursion (TermHas P) ts → Items P (gen_terms k ts).items
+  terms_items [] k h = tt
+  terms_items (t ∷ ts) k h = let g = gen_term k t in
+      both P g.items (Same g.next g.name ∷ (gen_terms (suc g.next) ts).items) (term_items t k h.0)
+      (terms_items ts (suc g.next) h.1)
+
+  op_items : (op : graph.Op) (k : ℕ) → OpHas P op → Items P (gen_op k op).items
+  op_items (graph.Assign x t) k h = let g = gen_term k t in both P g.items (Same (suc x) g.name ∷ [])
+      (term_items t k h) tt
+  op_items (graph.Store a t u) k h = let g = gen_term k t in let i = gen_term g.next u in
+      both P g.items (i.items ++ Act (Store a) (g.name ∷ i.name ∷ []) ∷ []) (term_items t k h.1)
+      (both P i.items (Act (Store a) (g.name ∷ i.name ∷ []) ∷ []) (term_items u g.next h.2) (h.0, tt))
+  op_items (graph.Print t) k h = let g = gen_term k t in both P g.items (Act Output (g.name ∷ []) ∷ [])
+      (term_items t k h) (plain.output, tt)
+  op_items (graph.Read x) k h = (plain.input, tt)
+  op_items (graph.Give p x) k h = (h, tt)
+  op_items (graph.Take p t) k h = let g = gen_term k t in both P g.items (Act (Take p) (g.name ∷ []) ∷ [])
+      (term_items t k h.1) (h.0, tt)
+  op_items (graph.Choose x t a b) k h = let g = gen_term k t in let i = gen_term g.next a in
+      let j = gen_term i.next b in
+      both P g.items (i.items ++ (j.items ++ Make (suc x) Phi (i.name ∷ j.name ∷ g.name ∷ []) ∷ []))
+      (term_items t k h.0)
+      (both P i.items (j.items ++ Make (suc x) Phi (i.name ∷ j.name ∷ g.name ∷ []) ∷ [])
+      (term_items a g.next h.1)
+      (both P j.items (Make (suc x) Phi (i.name ∷ j.name ∷ g.name ∷ []) ∷ []) (term_items b i.next h.2)
+      (plain.phi, tt)))
+  op_items (graph.Tick n) k h = tt
+  op_items (graph.TickBy t n m) k h = tt
+
+  -- operations, one after another
+  pub ops_items : (ops : List graph.Op) (k : ℕ) → AllByRecursion (OpHas P) ops → Items P (gen_ops k ops).items
+  ops_items [] k h = tt
+  ops_items (op ∷ ops) k h = both P (gen_op k op).items (gen_ops (gen_op k op).next ops).items
+      (op_items op k h.0) (ops_items ops (gen_op k op).next h.1)
+
+  -- the items of an exit, and its own operations
+  pub exit_items : (place : ℕ → ℕ) (exit : graph.Exit) (k : ℕ) → ExitHas P exit
+      → Items P (gen_exit place k exit).items
+  exit_items place (graph.Goto c) k h = tt
+  exit_items place (graph.Branch t a b) k h = source_items t k h
+  exit_items place (graph.Call r f ts back) k h = tt
+  exit_items place (graph.Return t) k h = term_items t k h
+  exit_items place (graph.Send t ts ls) k h = both P (gen_term k t).items
+      (gen_terms (gen_term k t).next ts).items (term_items t k h.0) (terms_items ts (gen_term k t).next h.1)
+  exit_items place graph.Stop k h = tt
+
+  pub exit_kind : (place : ℕ → ℕ) (exit : graph.Exit) (k : ℕ) → ExitHas P exit
+      → Kind P (gen_exit place k exit).exit
+  exit_kind place (graph.Goto c) k h = tt
+  exit_kind place (graph.Branch t a b) k h = (source_has t k h, plain.steer)
+  exit_kind place (graph.Call r f ts back) k h = plain.halt
+  exit_kind place (graph.Return t) k h = plain.halt
+  exit_kind place (graph.Send t ts ls) k h = (plain.merge, plain.send)
+  exit_kind place graph.Stop k h = plain.halt

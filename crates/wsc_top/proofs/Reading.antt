@@ -1,0 +1,16 @@
+-- What the text of a job, of an assembly or of an input section comes to, and that it is one thing.
+pub mod Assemblies
+pub mod AssembliesOnce
+pub mod Inputs
+pub mod JobTexts
+pub mod Jobs
+pub mod JobsOnce
+pub mod Markers
+pub mod PlainTexts
+pub mod Programs
+pub mod ReadAgain
+pub mod TextAnswers
+pub mod AnswersOnce
+pub mod Generated
+pub mod Benches
+pub mod Bounds
