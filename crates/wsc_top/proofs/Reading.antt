@@ -12,5 +12,6 @@ pub mod ReadAgain
 pub mod TextAnswers
 pub mod AnswersOnce
 pub mod Generated
+pub mod BeforeTrace
 pub mod Benches
 pub mod Bounds

@@ -1,5 +1,6 @@
 -- What a call of the program comes to.
 use Rattle.std.specs.Prelude.{◌≡◌, ◌≢◌, ◌⊎◌, ℕ, ◌≤◌, List, [], ◌∷◌, length, take, Option, Some, None}
+use Rattle.std.specs.Prelude.{Result, IsOk, IfOk, OnErr}
 use Rattle.ws_io.specs.Streams.{Rose, Adds, Flushes}
 use Rattle.src_ast.specs.Syntax.{Part}
 use Rattle.ws_isa.specs.Image.{Image}
@@ -71,6 +72,16 @@ ReadsWell reads = ¬ Rose reads.faults reads.counted
 
 abbrev pub WritesWell : Writing → Type 0
 WritesWell writes = ¬ Rose writes.faults writes.counted
+
+-- What a call on these words comes to before its answer is written: a status and a text; or memory ran out,
+-- which it doesn't where the first word is no command.
+pub record IsReply {E : Type 0} (words : List (List ℕ)) (reads : SourceCall) (handed : List (Option Told))
+    (answer : Result (Status × List ℕ) E) (image : Option Image) (threads : List Image)
+    (back : List (Option Told)) : Type 0 where
+  pub answered : IfOk answer (λ a. Replies words reads.left reads.after reads.faults reads.counted handed
+      a.0 a.1 image threads back)
+  pub memory : OnErr answer (Falls words reads.left reads.after handed image threads back)
+  pub known : ¬ HasCommand words → IsOk answer
 
 -- A call on these words, of which the source and the sink tell this, and to which these ports are handed
 -- in, ends with this status and hands back this image, the images of these threads, and the ports.

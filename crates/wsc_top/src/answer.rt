@@ -1,43 +1,35 @@
-//! The answer, before it is written.
+//! What is to be done for a call: an answer that is ready, or images that are to be run.
 
-ghost use Rattle.std.specs.Prelude.{◌≡◌, ◌≤◌, ◌+◌, ℕ, List, None, Ok, length, map, IsOk, IfOk, IfErr, IfSome};
+ghost use Rattle.std.specs.Prelude.{◌≡◌, ◌≤◌, ◌+◌, ℕ, List, None, Ok, length, map, IfOk, IfErr, IfSome};
 ghost use Rattle.std.specs.Prelude.{OnErr, string_bytes};
 ghost use Rattle.ws_io.specs.Streams.{Takes};
-ghost use Rattle.port_set.specs.Slots.{AllOpen, contents};
 ghost use Rattle.wsc_words.specs.Lines.{HasCommand};
 ghost use Rattle.wsc_top.specs.declared.status.Status.TheVariants.{Usage};
 ghost use Rattle.wsc_top.specs.declared.task.Task.{Task};
 ghost use Rattle.wsc_top.specs.Tasks.{AsksFor};
 ghost use Rattle.wsc_top.specs.Job.{job_limit};
+ghost use Rattle.wsc_top.specs.Sections.{input_of, trace_section};
+ghost use Rattle.wsc_top.specs.declared.task.AssemblyTask.TheVariants.{Replay};
 ghost use Rattle.wsc_top.specs.Assembly.{assembly_limit};
 ghost use Rattle.wsc_top.specs.Clocked.{TaskInRange};
 ghost use Rattle.wsc_top.specs.declared.step.CallStep.TheVariants.{Ready};
 ghost use Rattle.wsc_top.specs.Phrases.{phrase_text};
 ghost use Rattle.wsc_top.specs.Texts.{usage_text};
 ghost use Rattle.wsc_top.specs.Steps.{JobStep, JobBegun, JobsStep, AssemblyStep, AssemblyBegun, StepSo};
-ghost use Rattle.wsc_top.specs.Answers.{TellWords, RunsOut, assembly_text};
-ghost use Rattle.wsc_top.specs.Threads.{Replies, Falls};
+ghost use Rattle.wsc_top.specs.Answers.{RunsOut, assembly_text};
 
 use crate::assembly::{self, AssemblyFault};
 use crate::batch::{self, JobsFault};
 use crate::bench::generated;
-use crate::exec::{CommandReply, executed};
-use crate::laws::what_is_due_is_answered;
-use crate::multi::all_executed;
-use crate::multi_laws::what_threads_do_is_answered;
-use crate::sections::split_trace;
+use crate::sections::{split, split_trace};
 use crate::status::Status;
 use crate::step::{CallStep, StarvedCall};
 use crate::task::{AssemblyTask, JobTask, RunOptions, Task, read_task};
 use crate::text::{Phrase, Text};
 use crate::yields::{assembly_yielded, yielded};
 use crate::{job, refusals};
-use fire_crew::Gate;
-use port_set::{Port, Slots};
 use src_ast::{TextFault, read_is_written};
 use std::alloc::Global;
-use std::sync::Wait;
-use std::thread::Threads;
 use work_gen::workload;
 use ws_io::{ReadEnd, Source, read_all};
 use ws_words::NoMemory;
@@ -88,17 +80,17 @@ fn of_job<S: Source>(alloc: Global, task: JobTask, source: &mut S) -> Result<Cal
     }
 }
 
-// The part of a text that is an assembly with its input words.
-fn assembly_text(task: AssemblyTask, text: &[u8]) -> &[u8]
-    ensures same { result.now ≡ assembly_text task text.now }
-    ensures within { length result.now ≤ length text.now }
+// The words of the input section of a text for a task, and its trace section: `replay` alone has one.
+fn words_and_trace(task: AssemblyTask, input: &[u8]) -> (&[u8], &[u8])
+    ensures words { (text : List ℕ) → input.now ≡ input_of text
+        → result.0.now ≡ input_of (assembly_text task text) }
+    ensures trace { (text : List ℕ) → input.now ≡ input_of text → task ≡ Replay
+        → result.1.now ≡ trace_section text }
+    ensures within { length result.0.now ≤ length input.now }
 {
     match task {
-        AssemblyTask::Replay => {
-            let (front, _) = split_trace(text);
-            front
-        }
-        _ => text,
+        AssemblyTask::Replay => split_trace(input),
+        _ => (input, &[]),
     }
 }
 
@@ -109,8 +101,10 @@ fn to_assembly(alloc: Global, task: AssemblyTask, text: &[u8]) -> Result<CallSte
     ensures ok { IfOk result (AssemblyStep task text.now) }
     ensures begun { IfErr result (λ starved. IfSome starved.image (AssemblyBegun task text.now)) }
 {
-    match assembly::read(alloc, assembly_text(task, text)) {
-        Ok((image, input)) => Ok(assembly_yielded(alloc, task, text, image, input)?),
+    let (section, behind) = split(text);
+    let (input, trace) = words_and_trace(task, behind);
+    match assembly::read(alloc, section, input) {
+        Ok((image, input)) => Ok(assembly_yielded(alloc, task, text, trace, image, input)?),
         Err(AssemblyFault::Refused(why)) => {
             let text = refusals::asm_refused(alloc, why)?;
             Ok(CallStep::Ready(Status::Refused, Text::built(text), None))
@@ -204,48 +198,5 @@ pub fn prepare<S: Source>(
         Some(Task::Job(task)) => Ok(of_job(alloc, task, source)?),
         Some(Task::Assembly(task)) => Ok(of_assembly(alloc, task, source)?),
         Some(Task::Multi(options)) => Ok(of_jobs(alloc, options, source)?),
-    }
-}
-
-/// The answer to these words of the command line and what the source gives, and these ports.
-pub fn answer_words<S: Source, P: Port + Send, G: Gate, R: Threads + Wait + Sync>(
-    rt: &R,
-    alloc: Global,
-    words: &[String],
-    source: &mut S,
-    ports: Slots<P>,
-    gate: &G,
-) -> CommandReply<P>
-    requires told { TellWords (contents P.tells ports) }
-    requires open { AllOpen (contents P.tells ports) }
-    ensures answered { IfOk result.answer (λ a.
-        Replies (map string_bytes words.now) (S.left source.old) (S.left source.new)
-        (S.faults source.old) (S.faults source.new) (contents P.tells ports) a.0 a.1
-        result.image result.threads.items (contents P.tells result.ports)) }
-    ensures memory { OnErr result.answer (Falls (map string_bytes words.now)
-        (S.left source.old) (S.left source.new) (contents P.tells ports)
-        result.image result.threads.items (contents P.tells result.ports)) }
-    ensures unknown { ¬ HasCommand (map string_bytes words.now) → IsOk result.answer }
-    ensures open { AllOpen (contents P.tells result.ports) }
-{
-    what_is_due_is_answered();
-    what_threads_do_is_answered();
-    match prepare(alloc, words, source) {
-        Ok(CallStep::Ready(status, text, image)) => CommandReply {
-            answer: Ok((status, text)),
-            image,
-            threads: Vec::new(alloc),
-            ports,
-        },
-        Ok(CallStep::Run(options, image, input)) => {
-            executed(rt, alloc, options, image, input, ports, gate)
-        }
-        Ok(CallStep::Threads(options, jobs)) => all_executed(rt, alloc, options, jobs, ports, gate),
-        Err(StarvedCall { image }) => CommandReply {
-            answer: Err(NoMemory),
-            image,
-            threads: Vec::new(alloc),
-            ports,
-        },
     }
 }

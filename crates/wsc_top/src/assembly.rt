@@ -4,11 +4,11 @@ ghost use Rattle.std.specs.Prelude.{◌≡◌, ◌≤◌, ℕ, List, length, IfO
 ghost use Rattle.ws_isa.specs.Image.{Image};
 ghost use Rattle.ws_isa.specs.Sound.{Sound};
 ghost use Rattle.asm_text.specs.Reading.{read};
+ghost use Rattle.wsc_top.specs.Sections.{program_of, input_of};
 ghost use Rattle.wsc_top.specs.Assembly.{assembly_limit, IsAssembly, IsSectionFault, IsAssemblyFault};
 ghost use Rattle.wsc_top.specs.Assembly.{AnswersAssembly, fault_of_input};
 
 use crate::input::input_words;
-use crate::sections::split;
 use annot_check::{Bad, CheckFault, breaches_break, check_image};
 use asm_text::{AsmFault, AsmKind, read_asm};
 use src_ast::{Place, TextFault};
@@ -63,16 +63,19 @@ fn input_fault(fault: TextFault) -> AssemblyFault
     }
 }
 
-/// The image of an assembly and the words that it reads, or why the text is refused.
-pub fn read(alloc: Global, text: &[u8]) -> Result<(Checked, Words), AssemblyFault>
-    requires { length text.now ≤ assembly_limit }
-    ensures ok { IfOk result (λ x. IsAssembly text.now x.0 x.1) }
-    ensures only { (image : Image) (input : List ℕ) → IsAssembly text.now image input
-        → AnswersAssembly result image input }
-    ensures refused { IfErr result (IsAssemblyFault text.now) }
+/// The image of an assembly section and the words of the input section behind it, or why the text with
+/// these sections is refused.
+pub fn read(alloc: Global, section: &[u8], input: &[u8]) -> Result<(Checked, Words), AssemblyFault>
+    requires section { length section.now ≤ assembly_limit }
+    requires input { length input.now ≤ assembly_limit }
+    ensures ok { IfOk result (λ x. (text : List ℕ) → section.now ≡ program_of text
+        → input.now ≡ input_of text → IsAssembly text x.0 x.1) }
+    ensures only { (text : List ℕ) (image : Image) (words : List ℕ) → section.now ≡ program_of text
+        → input.now ≡ input_of text → IsAssembly text image words → AnswersAssembly result image words }
+    ensures refused { IfErr result (λ fault. (text : List ℕ) → section.now ≡ program_of text
+        → input.now ≡ input_of text → IsAssemblyFault text fault) }
 {
     breaches_break();
-    let (section, input) = split(text);
     let image = match checked(alloc, section) {
         Ok(image) => image,
         Err(fault) => return Err(fault),

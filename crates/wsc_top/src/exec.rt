@@ -1,6 +1,6 @@
 //! The run of an image.
 
-ghost use Rattle.std.specs.Prelude.{◌≡◌, List, [], Option, Some};
+ghost use Rattle.std.specs.Prelude.{List, Option};
 ghost use Rattle.ws_words.specs.Outside.{World};
 ghost use Rattle.port_set.specs.Ports.{Told};
 ghost use Rattle.port_set.specs.Slots.{AllOpen, contents};
@@ -23,36 +23,25 @@ use store_buf::RunEnd;
 use ws_isa::Checked;
 use ws_words::{NoMemory, Words};
 
-/// What is to be written, the image that was run or is printed, the images of the threads that were run,
-/// and the ports.
-#[derive(Drop)]
-pub struct CommandReply<P: Port> {
-    pub answer: Result<(Status, Text), NoMemory>,
-    pub image: Option<Checked>,
-    pub threads: Vec<Checked>,
-    pub ports: Slots<P>,
-}
-
 // A line has from 1 to 8 workers.
 const MOST_WORKERS: u32 = 8;
 
-/// Runs an image on these words with these ports, by a crew or with decoupled stores.
+/// What is to be written of the run of an image on these words with these ports, by a crew or with
+/// decoupled stores, and the ports.
 pub fn executed<P: Port + Send, G: Gate, R: Threads + Wait + Sync>(
     rt: &R,
     alloc: Global,
     options: RunOptions,
-    image: Checked,
+    image: &Checked,
     input: Words,
     ports: Slots<P>,
     gate: &G,
-) -> CommandReply<P>
+) -> (Result<(Status, Text), NoMemory>, Slots<P>)
     requires told { TellWords (contents P.tells ports) }
     requires open { AllOpen (contents P.tells ports) }
-    ensures answered { RunAnswered options image (world_with input (contents P.tells ports))
-        (contents P.tells ports) result.answer (contents P.tells result.ports) }
-    ensures image { result.image ≡ Some image }
-    ensures threads { result.threads.items ≡ [] }
-    ensures open { AllOpen (contents P.tells result.ports) }
+    ensures answered { RunAnswered options image.now (world_with input (contents P.tells ports))
+        (contents P.tells ports) result.0 (contents P.tells result.1) }
+    ensures open { AllOpen (contents P.tells result.1) }
 {
     if options.decoupled {
         return decoupled(alloc, options, image, input, ports);
@@ -60,23 +49,21 @@ pub fn executed<P: Port + Send, G: Gate, R: Threads + Wait + Sync>(
     crewed(rt, alloc, options, image, input, ports, gate)
 }
 
-// Runs an image by a crew.
+// The same by a crew.
 fn crewed<P: Port + Send, G: Gate, R: Threads + Wait + Sync>(
     rt: &R,
     alloc: Global,
     options: RunOptions,
-    image: Checked,
+    image: &Checked,
     input: Words,
     ports: Slots<P>,
     gate: &G,
-) -> CommandReply<P>
+) -> (Result<(Status, Text), NoMemory>, Slots<P>)
     requires told { TellWords (contents P.tells ports) }
     requires open { AllOpen (contents P.tells ports) }
-    ensures answered { RunAnswered options image (world_with input (contents P.tells ports))
-        (contents P.tells ports) result.answer (contents P.tells result.ports) }
-    ensures image { result.image ≡ Some image }
-    ensures threads { result.threads.items ≡ [] }
-    ensures open { AllOpen (contents P.tells result.ports) }
+    ensures answered { RunAnswered options image.now (world_with input (contents P.tells ports))
+        (contents P.tells ports) result.0 (contents P.tells result.1) }
+    ensures open { AllOpen (contents P.tells result.1) }
 {
     let workers = options.workers.max(1).min(MOST_WORKERS);
     let budget = options.budget;
@@ -87,53 +74,43 @@ fn crewed<P: Port + Send, G: Gate, R: Threads + Wait + Sync>(
         workers,
         budget,
     };
-    let end = crew.run_image(&image, input, ports);
+    let end = crew.run_image(image, input, ports);
     reply(alloc, options, image, end)
 }
 
-/// Runs an image with decoupled stores on these words with these ports. It starts no thread and never
-/// waits.
+/// The same with decoupled stores. It starts no thread and never waits.
 pub fn decoupled<P: Port>(
     alloc: Global,
     options: RunOptions,
-    image: Checked,
+    image: &Checked,
     input: Words,
     ports: Slots<P>,
-) -> CommandReply<P>
+) -> (Result<(Status, Text), NoMemory>, Slots<P>)
     requires told { TellWords (contents P.tells ports) }
     requires open { AllOpen (contents P.tells ports) }
-    ensures answered { RunAnswered options image (world_with input (contents P.tells ports))
-        (contents P.tells ports) result.answer (contents P.tells result.ports) }
-    ensures image { result.image ≡ Some image }
-    ensures threads { result.threads.items ≡ [] }
-    ensures open { AllOpen (contents P.tells result.ports) }
+    ensures answered { RunAnswered options image.now (world_with input (contents P.tells ports))
+        (contents P.tells ports) result.0 (contents P.tells result.1) }
+    ensures open { AllOpen (contents P.tells result.1) }
 {
-    let end = part_image(alloc, &image, input, ports, options.budget);
+    let end = part_image(alloc, image, input, ports, options.budget);
     reply(alloc, options, image, end)
 }
 
-// What is to be written of a run that has ended so, with its image and its ports.
+// What is to be written of the run of an image that has ended so, and the ports.
 fn reply<P: Port>(
     alloc: Global,
     options: RunOptions,
-    image: Checked,
+    image: &Checked,
     end: RunEnd<P>,
-) -> CommandReply<P>
+) -> (Result<(Status, Text), NoMemory>, Slots<P>)
     requires open { AllOpen (contents P.tells end.ports) }
-    ensures answered { (world : World) (handed : List (Option Told)) → RunTells image world handed
+    ensures answered { (world : World) (handed : List (Option Told)) → RunTells image.now world handed
         options.budget end.finish (contents P.tells end.ports) →
-        RunAnswered options image world handed result.answer (contents P.tells result.ports) }
-    ensures image { result.image ≡ Some image }
-    ensures threads { result.threads.items ≡ [] }
-    ensures open { AllOpen (contents P.tells result.ports) }
+        RunAnswered options image.now world handed result.0 (contents P.tells result.1) }
+    ensures open { AllOpen (contents P.tells result.1) }
 {
     let RunEnd { finish, ports } = end;
     let arrays = image.image().arrays.as_slice();
     let answer = answer(alloc, options.report, options.budget, arrays, &finish);
-    CommandReply {
-        answer,
-        image: Some(image),
-        threads: Vec::new(alloc),
-        ports,
-    }
+    (answer, ports)
 }

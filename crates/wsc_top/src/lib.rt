@@ -36,7 +36,7 @@ mod yields;
 pub use answer::prepare;
 pub use batch::ReadJobs;
 pub use call::wsc;
-pub use exec::{CommandReply, decoupled};
+pub use exec::decoupled;
 pub use laws::{
     assemblies_are_answered_alike, each_answer_has_its_status, each_assembly_is_read_or_refused,
     each_generated_job_is_a_job, each_input_is_read_once, each_run_ends_as_its_walk,

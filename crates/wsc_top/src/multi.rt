@@ -11,8 +11,6 @@ ghost use Rattle.wsc_top.specs.Threads.{no_ports, status_of, thread_line};
 ghost use Rattle.wsc_top.specs.Jobs.{most_jobs};
 ghost use Rattle.wsc_top.specs.Running.{alone_at, ThreadTold, BeforeSo, AllTold};
 
-use crate::batch::ReadJobs;
-use crate::exec::CommandReply;
 use crate::run_texts::answer;
 use crate::status::Status;
 use crate::task::RunOptions;
@@ -190,42 +188,35 @@ fn ports_of<P: Port>(end: Option<RunEnd<P>>) -> Slots<P>
     }
 }
 
-/// Runs threads, each alone on its words, the first with the ports.
+/// What is to be written of threads that run these images, each alone on its words, the first with the
+/// ports; and the ports.
 pub fn all_executed<P: Port + Send, G: Gate, R: Threads + Wait + Sync>(
     rt: &R,
     alloc: Global,
     options: RunOptions,
-    jobs: ReadJobs,
+    images: &[Checked],
+    inputs: Vec<Words>,
     ports: Slots<P>,
     gate: &G,
-) -> CommandReply<P>
+) -> (Result<(Status, Text), NoMemory>, Slots<P>)
     requires told { TellWords (contents P.tells ports) }
     requires open { AllOpen (contents P.tells ports) }
-    requires some { 1 ≤ length jobs.inputs.items }
-    requires few { length jobs.inputs.items ≤ most_jobs }
-    requires same { length jobs.inputs.items ≡ length jobs.images.items }
-    ensures executes { IfOk result.answer (λ y. (threads : List Thread)
-        → images_of threads ≡ jobs.images.items → inputs_of threads ≡ jobs.inputs.items
+    requires some { 1 ≤ length inputs.items }
+    requires few { length inputs.items ≤ most_jobs }
+    requires same { length inputs.items ≡ length images.now }
+    ensures executes { IfOk result.0 (λ y. (threads : List Thread)
+        → images_of threads ≡ images.now → inputs_of threads ≡ inputs.items
         → (statuses : List Status)
         × ThreadsDo (ExecutesAlone options) 1 threads (contents P.tells ports) statuses y.1
-        (contents P.tells result.ports) × (y.0 ≡ status_of statuses)) }
-    ensures begun { OnErr result.answer ((threads : List Thread)
-        → images_of threads ≡ jobs.images.items → inputs_of threads ≡ jobs.inputs.items
-        → HaveBegun threads (contents P.tells ports) (contents P.tells result.ports)) }
-    ensures image { result.image ≡ None }
-    ensures threads { result.threads.items ≡ jobs.images.items }
-    ensures open { AllOpen (contents P.tells result.ports) }
+        (contents P.tells result.1) × (y.0 ≡ status_of statuses)) }
+    ensures begun { OnErr result.0 ((threads : List Thread)
+        → images_of threads ≡ images.now → inputs_of threads ≡ inputs.items
+        → HaveBegun threads (contents P.tells ports) (contents P.tells result.1)) }
+    ensures open { AllOpen (contents P.tells result.1) }
 {
-    let ReadJobs { images, inputs } = jobs;
     let workers = options.workers.max(1).min(MOST_WORKERS);
-    let parts = parts(images.as_slice(), inputs, ports, options.budget);
+    let parts = parts(images, inputs, ports, options.budget);
     let ends = multi_run(rt, alloc, parts, workers, &Unnumbered { gate });
-    let answer = told(alloc, options, images.as_slice(), &ends);
-    let ports = ports_of(ends.first);
-    CommandReply {
-        answer,
-        image: None,
-        threads: images,
-        ports,
-    }
+    let answer = told(alloc, options, images, &ends);
+    (answer, ports_of(ends.first))
 }

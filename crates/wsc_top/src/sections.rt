@@ -1,6 +1,6 @@
 //! The sections of a text.
 
-ghost use Rattle.std.specs.Prelude.{◌≡◌, ◌≤◌, length, take, drop, true};
+ghost use Rattle.std.specs.Prelude.{◌≡◌, ◌≤◌, length, take, drop, codes, true};
 ghost use Rattle.wsc_top.specs.Sections as sections;
 
 /// The marker of the input section.
@@ -75,15 +75,11 @@ pub fn split(text: &[u8]) -> (&[u8], &[u8])
     (program, after_line(rest))
 }
 
-/// What stands in front of the trace section of a text, and that section, from its marker on.
-pub fn split_trace(text: &[u8]) -> (&[u8], &[u8])
-    ensures front { result.0.now ≡ sections.before_trace text.now }
-    ensures section { result.1.now ≡ sections.trace_section text.now }
-    ensures front_within { length result.0.now ≤ length text.now }
-    ensures section_within { length result.1.now ≤ length text.now }
+/// The words of an input section, and the trace section that stands in it, from its marker on.
+pub fn split_trace(input: &[u8]) -> (&[u8], &[u8])
+    ensures words { result.0.now ≡ sections.front_of (codes "%trace") true input.now }
+    ensures trace { result.1.now ≡ sections.rest_of (codes "%trace") true input.now }
+    ensures words_within { length result.0.now ≤ length input.now }
 {
-    let (_, input) = split(text);
-    let (_, section) = input.split_at(front_length(input, TRACE));
-    let (front, _) = text.split_at(text.len() - section.len());
-    (front, section)
+    input.split_at(front_length(input, TRACE))
 }

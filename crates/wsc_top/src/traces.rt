@@ -14,7 +14,7 @@ ghost use Rattle.trace_check.specs.declared.events.Lined.{Lined};
 use crate::assembly::AsmRefusal;
 use crate::refusals::asm_refused;
 use crate::run_texts::put_firings;
-use crate::sections::{after_line, split_trace};
+use crate::sections::after_line;
 use crate::status::Status;
 use crate::step::StarvedCall;
 use crate::texts::put_words;
@@ -131,15 +131,17 @@ fn last_line(text: &[u8]) -> u32
     place_after(START, text).line
 }
 
-/// The status and the text of the replay of the trace of a text, and the image where the text has a
-/// trace.
+/// The status and the text of the replay of the trace of a text, which stands in this section, and the image
+/// where the text has a trace.
 pub fn replayed(
     alloc: Global,
     text: &[u8],
+    section: &[u8],
     image: Checked,
     input: Words,
 ) -> Result<(Status, Bytes, Option<Checked>), StarvedCall>
-    requires { length text.now ≤ assembly_limit }
+    requires text { length text.now ≤ assembly_limit }
+    requires section { section.now ≡ sections.trace_section text.now }
     ensures told { IfOk result (λ y. IsReplayed text.now image input y.0 y.1 y.2) }
     ensures ends { IfOk result (λ y. EndsReplay text.now image input y.0) }
     ensures begun { IfErr result (λ starved. IfSome starved.image
@@ -147,11 +149,11 @@ pub fn replayed(
 {
     traces_are_replayed_once();
     let _ = image.image();
-    let (front, section) = split_trace(text);
     if section.is_empty() {
         let why = AsmRefusal::Text(AsmKind::Line, last_line(text));
         return Ok((Status::Refused, asm_refused(alloc, why)?, None));
     }
+    let (front, _) = text.split_at(text.len() - section.len());
     match read_trace(alloc, after_line(section), last_line(front) + 1) {
         Ok(trace) => match made(alloc, &image, input, &trace) {
             Ok((status, text)) => Ok((status, text, Some(image))),

@@ -6,6 +6,8 @@ ghost use Rattle.ws_words.specs.Outside.{IsMachineWord};
 ghost use Rattle.src_ast.specs.View as view;
 ghost use Rattle.src_ast.specs.Written.{IsWritten};
 ghost use Rattle.port_set.specs.Ports.{Told};
+ghost use Rattle.wsc_top.specs.Sections.{trace_section};
+ghost use Rattle.wsc_top.specs.declared.task.AssemblyTask.TheVariants.{Replay};
 ghost use Rattle.wsc_top.specs.Assembly.{assembly_limit};
 ghost use Rattle.wsc_top.specs.Clocked.{TaskInRange};
 ghost use Rattle.wsc_top.specs.Answers.{IsCompiled, Yields, AssemblyYields, RunsClosed};
@@ -139,15 +141,18 @@ pub fn yielded(
     }
 }
 
-/// What comes of a task to a sound image, or what is to be run for it.
+/// What comes of a task to the sound image of a text, which has this trace section for `replay`, or what is
+/// to be run for it.
 pub fn assembly_yielded(
     alloc: Global,
     task: AssemblyTask,
     text: &[u8],
+    trace: &[u8],
     image: Checked,
     input: Words,
 ) -> Result<CallStep, StarvedCall>
     requires text { length text.now ≤ assembly_limit }
+    requires trace { task ≡ Replay → trace.now ≡ trace_section text.now }
     requires task { TaskInRange task }
     ensures ok { IfOk result (AssemblyYieldStep task text.now image input) }
     ensures begun { IfErr result (λ starved. IfSome starved.image
@@ -168,7 +173,7 @@ pub fn assembly_yielded(
             Err(NoMemory) => Err(StarvedCall { image: Some(image) }),
         },
         AssemblyTask::Replay => {
-            let (status, text, again) = replayed(alloc, text, image, input)?;
+            let (status, text, again) = replayed(alloc, text, trace, image, input)?;
             Ok(CallStep::Ready(status, Text::built(text), again))
         }
         AssemblyTask::Grid(options) => match clocked(alloc, options, &image, input) {

@@ -1,5 +1,5 @@
 -- What comes of the run that is due is the answer.
-use Rattle.std.specs.Prelude.{◌≡◌, ℕ, List, [], Option, Some, Result, Ok, Err, IfOk, OnErr}
+use Rattle.std.specs.Prelude.{◌≡◌, ℕ, List, [], Option, Some, Result, Ok, Err, refl}
 use Rattle.std.proofs.Common.{sym, subst}
 use Rattle.port_set.specs.Ports.{Told}
 use Rattle.store_buf.specs.Outdoors.{world_with}
@@ -8,12 +8,17 @@ use Rattle.wsc_top.specs.declared.status.Status.{Status}
 use Rattle.wsc_top.specs.declared.task.RunOptions.{RunOptions}
 use Rattle.wsc_top.specs.declared.task.JobTask.TheVariants.{Run}
 use Rattle.wsc_top.specs.declared.task.AssemblyTask.TheVariants.{Exec}
-use Rattle.wsc_top.specs.Executions.{Executes, HasBegun}
+use Rattle.wsc_words.specs.Lines.{HasCommand}
+use Rattle.wsc_top.specs.Executions.{Executes, RunAnswered}
 use Rattle.wsc_top.specs.Answers.{TellWords, ran, executed, read, assembled, benched, Answers, IsDue, Starves}
 use Rattle.wsc_top.specs.Answers.{within}
 use Rattle.wsc_top.specs.Answers as answers
 use Rattle.wsc_top.specs.Threads.{Replies, alone, Falls}
 use Rattle.wsc_top.specs.Threads as threads
+use Rattle.wsc_top.specs.Calls.{SourceCall, IsReply}
+use Rattle.wsc_top.specs.Steps.{StepSo}
+use Rattle.wsc_top.specs.declared.step.CallStep.{CallStep}
+use Rattle.wsc_top.specs.declared.step.CallStep.TheVariants.{Ready}
 use Rattle.wsc_top.proofs.Reading.AssembliesOnce.{WalksOnce}
 use Rattle.wsc_top.proofs.Told.Tells.{WalksEnd, input_words, given_words, run_tells}
 
@@ -42,26 +47,48 @@ module _ (known : WalksOnce) (whole : WalksEnd) (words : List (List ℕ)) (left 
       })
 
 -- the reply of a run that was due
-module _ {E : Type 0} (words : List (List ℕ)) (left after : Option (List ℕ)) (faults counted : ℕ)
-    (handed back : List (Option Told)) (options : RunOptions) (image : Image) (input : List ℕ)
-    (due : IsDue words left after options image input) (seen : Option Image) (is : seen ≡ Some image)
-    (images : List Image) (none_seen : images ≡ []) where
+module _ {E : Type 0} (words : List (List ℕ)) (reads : SourceCall) (handed back : List (Option Told))
+    (options : RunOptions) (image : Image) (input : List ℕ)
+    (due : IsDue words reads.left reads.after options image input) (images : List Image) (none : images ≡ [])
+    (known : (HasCommand words → ⊥) → ⊥) where
   pub due_reply : (answer : Result (Status × List ℕ) E)
       → ((status : Status) (out : List ℕ) → Executes options image (world_with input handed) handed status out
-      back → Answers words left after faults counted handed status out (Some image) back)
-      → IfOk answer (λ y. Executes options image (world_with input handed) handed y.0 y.1 back)
-      → IfOk answer (λ a. Replies words left after faults counted handed a.0 a.1 seen images back)
-  due_reply (Ok y) law e = subst (λ (is : List Image). Replies words left after faults counted handed y.0 y.1
-      seen is back) (sym none_seen)
-      (alone (subst (λ (i : Option Image). Answers words left after faults counted handed y.0 y.1 i back)
-      (sym is) (law y.0 y.1 e)))
-  due_reply (Err x) law e = tt
+      back → Answers words reads.left reads.after reads.faults reads.counted handed status out (Some image)
+      back) → RunAnswered options image (world_with input handed) handed answer back
+      → IsReply words reads handed answer (Some image) images back
+  due_reply (Ok y) law a = record {
+    answered = subst (λ (is : List Image). Replies words reads.left reads.after reads.faults reads.counted
+        handed y.0 y.1 (Some image) is back) (sym none) (alone (law y.0 y.1 a.executes));
+    memory = tt;
+    known = λ h. refl;
+  }
+  due_reply (Err x) law a = record {
+    answered = tt;
+    memory = subst (λ (is : List Image). Falls words reads.left reads.after handed (Some image) is back)
+        (sym none) (threads.Falls.alone (within due a.begun));
+    known = λ h. absurd (known h);
+  }
 
-  pub due_starves : (answer : Result (Status × List ℕ) E)
-      → OnErr answer (HasBegun image (world_with input handed) handed back)
-      → OnErr answer (Falls words left after handed seen images back)
-  due_starves (Ok y) h = tt
-  due_starves (Err x) h = subst (λ (is : List Image). Falls words left after handed seen is back)
-      (sym none_seen)
-      (threads.Falls.alone (subst (λ (i : Option Image). Starves words left after handed i back) (sym is)
-      (within due h)))
+-- the reply where nothing was due
+module _ {E : Type 0} (words : List (List ℕ)) (reads : SourceCall) (handed : List (Option Told))
+    (image : Option Image) (images : List Image) (none : images ≡ []) where
+  pub ready_reply : (step : CallStep) (status : Status) (out : List ℕ) → step ≡ Ready status out image
+      → StepSo words reads.left reads.after reads.faults reads.counted step
+      → IsReply {E} words reads handed (Ok (status, out)) image images handed
+  ready_reply step status out is so = record {
+    answered = subst (λ (is : List Image). Replies words reads.left reads.after reads.faults reads.counted
+        handed status out image is handed) (sym none)
+        (subst (StepSo words reads.left reads.after reads.faults reads.counted) is so handed);
+    memory = tt;
+    known = λ h. refl;
+  }
+
+  pub unbegun_reply : (e : E) → ((HasCommand words → ⊥) → ⊥)
+      → Starves words reads.left reads.after handed image handed
+      → IsReply words reads handed (Err e) image images handed
+  unbegun_reply e known starves = record {
+    answered = tt;
+    memory = subst (λ (is : List Image). Falls words reads.left reads.after handed image is handed) (sym none)
+        (threads.Falls.alone starves);
+    known = λ h. absurd (known h);
+  }

@@ -37,6 +37,8 @@ use Rattle.wsc_top.specs.Threads.{ExecutesAlone, MultiAnswered, Replies, alone, 
 use Rattle.wsc_top.specs.Threads.{AreToldNoJobs, OthersEndSo, EachEndsSo, MultiEndsSo, ComeToTheirEnd}
 use Rattle.wsc_top.specs.Threads.{IsFreeAnswer}
 use Rattle.wsc_top.specs.Threads as threads
+use Rattle.wsc_words.specs.Lines.{HasCommand}
+use Rattle.wsc_top.specs.Calls.{SourceCall, IsReply}
 use Rattle.wsc_top.proofs.Calling.Tasks.{OneLine, same_task_by}
 use Rattle.wsc_top.proofs.Calling.Calls.{IsOfText, yields_status, not_memory, not_write_fault, read_rose}
 use Rattle.wsc_top.proofs.Calling.Calls.{port_rose}
@@ -434,44 +436,34 @@ pub some_inputs : (text : List ℕ) (xs : List Thread) (inputs : List (List ℕ)
 some_inputs text [] inputs a e = absurd (no_pieces text _ a.split refl)
 some_inputs text (x ∷ xs) inputs a e = omega (arith, ap length e)
 
--- where no run with ports had begun
-pub none_fall : (words : List (List ℕ)) (left after : Option (List ℕ)) (handed : List (Option Told))
-    (image : Option Image) (seen : List Image) → seen ≡ [] → Starves words left after handed image handed
-    → Falls words left after handed image seen handed
-none_fall words left after handed image seen e h =
-    subst (λ (is : List Image). Falls words left after handed image is handed) (sym e) (threads.Falls.alone h)
-
--- what is handed back of the run of threads that are due
-module _ {E : Type 0} (words : List (List ℕ)) (left after : Option (List ℕ)) (m n : ℕ)
-    (handed back : List (Option Told)) (options : RunOptions) (images : List Image) (inputs : List (List ℕ))
-    (due : (xs : List Thread) × AreDue words left after options xs × (images_of xs ≡ images)
-    × (inputs_of xs ≡ inputs)) (image : Option Image) (none_seen : image ≡ None) (seen : List Image)
-    (seen_are : seen ≡ images) where
+-- the reply of threads that were due
+module _ {E : Type 0} (words : List (List ℕ)) (reads : SourceCall) (handed back : List (Option Told))
+    (options : RunOptions) (images : List Image) (inputs : List (List ℕ))
+    (due : (xs : List Thread) × AreDue words reads.left reads.after options xs × (images_of xs ≡ images)
+    × (inputs_of xs ≡ inputs)) (known : (HasCommand words → ⊥) → ⊥) where
   pub threads_reply : (answer : Result (Status × List ℕ) E)
       → ((statuses : List Status) (out : List ℕ) → ThreadsDo (ExecutesAlone options) 1 due.0 handed statuses
-      out back → Replies words left after m n handed (status_of statuses) out None (images_of due.0) back)
+      out back → Replies words reads.left reads.after reads.faults reads.counted handed (status_of statuses)
+      out None (images_of due.0) back)
       → IfOk answer (λ y. (xs : List Thread) → images_of xs ≡ images → inputs_of xs ≡ inputs
       → (statuses : List Status) × ThreadsDo (ExecutesAlone options) 1 xs handed statuses y.1 back
       × (y.0 ≡ status_of statuses))
-      → IfOk answer (λ a. Replies words left after m n handed a.0 a.1 image seen back)
-  threads_reply (Ok y) law h =
-      let r = h due.0 due.2 due.3 in
-      subst (λ (s : Status). Replies words left after m n handed s y.1 image seen back) (sym r.2)
-      (subst (λ (i : Option Image). Replies words left after m n handed (status_of r.0) y.1 i seen back)
-      (sym none_seen)
-      (subst (λ (is : List Image). Replies words left after m n handed (status_of r.0) y.1 None is back)
-      (due.2 ∙ sym seen_are) (law r.0 y.1 r.1)))
-  threads_reply (Err x) law h = tt
-
-  pub threads_fall : (answer : Result (Status × List ℕ) E)
       → OnErr answer ((xs : List Thread) → images_of xs ≡ images → inputs_of xs ≡ inputs
-      → HaveBegun xs handed back)
-      → OnErr answer (Falls words left after handed image seen back)
-  threads_fall (Ok y) h = tt
-  threads_fall (Err x) h =
-      subst (λ (i : Option Image). Falls words left after handed i seen back) (sym none_seen)
-      (subst (λ (is : List Image). Falls words left after handed None is back) (due.2 ∙ sym seen_are)
-      (threads.Falls.together due.0 due.1 (h due.0 due.2 due.3)))
+      → HaveBegun xs handed back) → IsReply words reads handed answer None images back
+  threads_reply (Ok y) law h begun = let r = h due.0 due.2 due.3 in record {
+    answered = subst (λ (s : Status). Replies words reads.left reads.after reads.faults reads.counted handed s
+        y.1 None images back) (sym r.2)
+        (subst (λ (is : List Image). Replies words reads.left reads.after reads.faults reads.counted handed
+        (status_of r.0) y.1 None is back) due.2 (law r.0 y.1 r.1));
+    memory = tt;
+    known = λ h. refl;
+  }
+  threads_reply (Err x) law h begun = record {
+    answered = tt;
+    memory = subst (λ (is : List Image). Falls words reads.left reads.after handed None is back) due.2
+        (threads.Falls.together due.0 due.1 (begun due.0 due.2 due.3));
+    known = λ h. absurd (known h);
+  }
 
 -- Two answers to one text.
 

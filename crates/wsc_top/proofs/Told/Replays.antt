@@ -1,5 +1,5 @@
 -- What the statuses of `trace` and `replay` say.
-use Rattle.std.proofs.Common.{◌≡◌, ℕ, ◌+◌, ◌==◌, Bool, true, false, List, [], length, Option, Ok, Err, refl}
+use Rattle.std.proofs.Common.{◌≡◌, ℕ, ◌+◌, ◌-◌, ◌==◌, take, Bool, true, false, List, [], length, Option, Ok, Err, refl}
 use Rattle.std.proofs.Common.{sym, ap, ◌∙◌, subst, inl}
 use Rattle.std.proofs.lemmas.Bool.{true≢false}
 use Rattle.ws_words.specs.Outside.{World}
@@ -14,7 +14,7 @@ use Rattle.trace_check.specs.Replays.{StopsAt, events_of}
 use Rattle.trace_check.specs.Traces.{events_in}
 use Rattle.wsc_top.specs.declared.status.Status.{Status}
 use Rattle.wsc_top.specs.Job.{world_of}
-use Rattle.wsc_top.specs.Sections.{after_line, before_trace, trace_section, trace_of, trace_line, last_line}
+use Rattle.wsc_top.specs.Sections.{after_line, trace_section, trace_of, trace_line, last_line}
 use Rattle.wsc_top.specs.Executions.{EndsRun}
 use Rattle.wsc_top.specs.Traced as traces
 use Rattle.wsc_top.specs.Traced.{illegal, made, IsReplayed, missing, faulty, trace_status, HasTrace}
@@ -94,9 +94,11 @@ module _ (text section : List ℕ) (empty : Bool) (is : section ≡ trace_sectio
       true≢false (sym zero_long ∙ sym e ∙ not_so)
 
 -- its events, from what was cut of the text
-pub section_events : (text front section behind : List ℕ) (line : ℕ) → front ≡ before_trace text
-    → section ≡ trace_section text → behind ≡ after_line section → line ≡ last_line front
+pub section_events : (text front section behind : List ℕ) (line : ℕ)
+    → front ≡ take (length text - length section) text → section ≡ trace_section text
+    → behind ≡ after_line section → line ≡ last_line front
     → events_in (line + 1) behind ≡ events_in (trace_line text) (trace_of text)
 section_events text front section behind line f s b l =
-    ap (λ (n : ℕ). events_in (n + 1) behind) (l ∙ ap last_line f) ∙ ap (events_in (trace_line text))
+    ap (λ (n : ℕ). events_in (n + 1) behind) (l ∙ ap last_line
+    (f ∙ ap (λ (x : List ℕ). take (length text - length x) text) s)) ∙ ap (events_in (trace_line text))
     (b ∙ ap after_line s)

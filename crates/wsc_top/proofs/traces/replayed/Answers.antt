@@ -15,7 +15,7 @@ use Rattle.wsc_top.proofs.traces.replayed.Goals as goal
 
 pub returns-then-is_empty-clause-told : goal.returns-then-is_empty-clause-told
 returns-then-is_empty-clause-told c =
-    let none = nothing_there c.args.text.now _ _ c.split_trace.ensures.section c.is_empty.ensures
+    let none = nothing_there c.args.text.now _ _ c.requires.section c.is_empty.ensures
     c.if-is_empty.true in
     subst (λ (o : List ℕ). IsReplayed c.args.text.now c.args.image c.args.input Refused o None)
     (sym (c.in_ok-asm_refused.ensures ∙ ap (λ (n : ℕ). asm_refusal_text (Text Line n))
@@ -23,10 +23,10 @@ returns-then-is_empty-clause-told c =
 
 pub returns-in-Ok-made-clause-told : goal.returns-in-Ok-made-clause-told
 returns-in-Ok-made-clause-told c =
-    let some = something_there c.args.text.now _ _ c.split_trace.ensures.section c.is_empty.ensures
+    let some = something_there c.args.text.now _ _ c.requires.section c.is_empty.ensures
     c.if-is_empty.false in
-    let events = section_events c.args.text.now _ _ _ _ c.split_trace.ensures.front
-    c.split_trace.ensures.section c.after_line.ensures.after c.last_line-2.ensures.line in
+    let events = section_events c.args.text.now _ _ _ _ c.split_at.ensures.before
+    c.requires.section c.after_line.ensures.after c.last_line-2.ensures.line in
     traces.IsReplayed.read c.in-Ok.trace (record { there = some; events = sym events ∙ c.in-Ok.ensures })
     c.in-Ok-made.ensures
 
@@ -37,10 +37,10 @@ returns-in-Ok-made-clause-ends c = ends_replay c.args.text.now c.args.image c.ar
 
 pub returns-in-Err-Refused-clause-told : goal.returns-in-Err-Refused-clause-told
 returns-in-Err-Refused-clause-told c =
-    let some = something_there c.args.text.now _ _ c.split_trace.ensures.section c.is_empty.ensures
+    let some = something_there c.args.text.now _ _ c.requires.section c.is_empty.ensures
     c.if-is_empty.false in
-    let events = section_events c.args.text.now _ _ _ _ c.split_trace.ensures.front
-    c.split_trace.ensures.section c.after_line.ensures.after c.last_line-2.ensures.line in
+    let events = section_events c.args.text.now _ _ _ _ c.split_at.ensures.before
+    c.requires.section c.after_line.ensures.after c.last_line-2.ensures.line in
     let kind = c.in-Err-Refused.kind in
     let line = c.in-Err-Refused.line in
     let is : c.in-Err-Refused.field-0 ≡ fault.Refused kind line = cc in
@@ -53,8 +53,8 @@ returns-in-Err-Refused-clause-told c =
 
 pub returns-in-Ok-clause-begun : goal.returns-in-Ok-clause-begun
 returns-in-Ok-clause-begun c =
-    let some = something_there c.args.text.now _ _ c.split_trace.ensures.section c.is_empty.ensures
+    let some = something_there c.args.text.now _ _ c.requires.section c.is_empty.ensures
     c.if-is_empty.false in
-    let events = section_events c.args.text.now _ _ _ _ c.split_trace.ensures.front
-    c.split_trace.ensures.section c.after_line.ensures.after c.last_line-2.ensures.line in
+    let events = section_events c.args.text.now _ _ _ _ c.split_at.ensures.before
+    c.requires.section c.after_line.ensures.after c.last_line-2.ensures.line in
     (refl, c.in-Ok.trace, record { there = some; events = sym events ∙ c.in-Ok.ensures })
