@@ -9,9 +9,7 @@ ghost use Rattle.wsc_top.specs.Calls.{CallEnds, IsReply, SourceCall, reading, wr
 use crate::answer::prepare;
 use crate::batch::ReadJobs;
 use crate::exec::executed;
-use crate::laws::{
-    each_answer_has_its_status, each_run_ends_as_its_walk, what_is_due_is_answered,
-};
+use crate::laws::{each_answer_has_its_status, each_run_ends_as_its_walk, what_is_due_is_answered};
 use crate::multi::all_executed;
 use crate::multi_laws::{
     each_answer_of_threads_has_its_status, threads_end_as_their_walks, what_threads_do_is_answered,
@@ -61,8 +59,15 @@ pub fn wsc<S: Source, K: Sink, P: Port + Send, G: Gate, R: Threads + Wait + Sync
             written(sink, answer, Some(image), Vec::new(alloc), ports)
         }
         Ok(CallStep::Threads(options, ReadJobs { images, inputs })) => {
-            let (answer, ports) =
-                all_executed(rt, alloc, options, images.as_slice(), inputs, ports, gate);
+            let (answer, ports) = all_executed(
+                rt,
+                alloc,
+                options,
+                images.as_slice(),
+                inputs,
+                ports,
+                gate,
+            );
             written(sink, answer, None, images, ports)
         }
         Err(StarvedCall { image }) => {

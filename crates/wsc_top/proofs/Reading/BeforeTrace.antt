@@ -48,7 +48,8 @@ after_feed (b ∷ t) = go (after_feed t) (cases_Bool (b == 10))
 front_rest : (marker : List ℕ) (at_line : Bool) (t : List ℕ)
     → front_of marker at_line t ++ rest_of marker at_line t ≡ t
 front_rest marker at_line [] = refl
-front_rest marker at_line (b ∷ t) = grind (arith, cases_Bool (at_line && is_line marker (b ∷ t)), front_rest marker (b == 10) t)
+front_rest marker at_line (b ∷ t) =
+    grind (arith, cases_Bool (at_line && is_line marker (b ∷ t)), front_rest marker (b == 10) t)
 
 -- what follows the marker's line ends in these bytes, so a line feed stands in front of them
 feed_before : (marker : List ℕ) (at_line : Bool) (w u v : List ℕ) (c : ℕ)
@@ -101,7 +102,8 @@ parted marker dry at_line (b ∷ w) u v c e =
     chosen t is = subst (λ (t : Bool). after_line (if t then b ∷ w ++ c ∷ v else
         rest_of marker (b == 10) (w ++ c ∷ v)) ≡ u ++ c ∷ v) (tests ∙ is) e
 
-    go : (after_line (rest_of marker (b == 10) (w ++ c ∷ v)) ≡ u ++ c ∷ v → Parted marker (b == 10) w u (c ∷ v))
+    go : (after_line (rest_of marker (b == 10) (w ++ c ∷ v)) ≡ u ++ c ∷ v
+        → Parted marker (b == 10) w u (c ∷ v))
         → ((at_line && is_line marker (b ∷ w)) ≡ true) ⊎ ((at_line && is_line marker (b ∷ w)) ≡ false)
         → Parted marker at_line (b ∷ w) u (c ∷ v)
     go further (inl t) = (
@@ -140,8 +142,7 @@ module _ (text : List ℕ) where
 
   front : (z : List ℕ) × (text ≡ (z ++ words) ++ trace_section text)
   front =
-      let l = line_last (rest_of (codes "%input") true text) in
-      (
+      let l = line_last (rest_of (codes "%input") true text) in (
         program_of text ++ l.0,
         grind (arith, append_assoc, input_is, l.1, front_rest (codes "%input") true text),
       )
@@ -150,12 +151,12 @@ module _ (text : List ℕ) where
   long = ap length front.1 ∙ length-append (front.0 ++ words) (trace_section text)
 
   before_is : before_trace text ≡ front.0 ++ words
-  before_is = ap (λ (n : ℕ). take n text) (omega (arith, long)) ∙ ap (take (length (front.0 ++ words))) front.1
-      ∙ take-append_seam (front.0 ++ words) (trace_section text)
+  before_is = ap (λ (n : ℕ). take n text) (omega (arith, long))
+      ∙ ap (take (length (front.0 ++ words))) front.1 ∙ take-append_seam (front.0 ++ words) (trace_section text)
 
   both : Parted (codes "%input") true (front.0 ++ words) words (trace_section text)
-  both = parted_whole (codes "%input") (refl, (refl, (refl, (refl, (refl, (refl, tt)))))) (front.0 ++ words) words
-      (trace_section text) (ap input_of (sym front.1) ∙ sym input_is)
+  both = parted_whole (codes "%input") (refl, (refl, (refl, (refl, (refl, (refl, tt))))))
+      (front.0 ++ words) words (trace_section text) (ap input_of (sym front.1) ∙ sym input_is)
 
   pub same_program : program_of (before_trace text) ≡ program_of text
   same_program = ap program_of before_is ∙ both.0 ∙ ap program_of (sym front.1)
