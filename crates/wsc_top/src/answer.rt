@@ -86,7 +86,8 @@ fn words_and_trace(task: AssemblyTask, input: &[u8]) -> (&[u8], &[u8])
         → result.0.now ≡ input_of (assembly_text task text) }
     ensures trace { (text : List ℕ) → input.now ≡ input_of text → task ≡ Replay
         → result.1.now ≡ trace_section text }
-    ensures within { length result.0.now ≤ length input.now }
+    ensures words_within { length result.0.now ≤ length input.now }
+    ensures trace_within { length result.1.now ≤ length input.now }
 {
     match task {
         AssemblyTask::Replay => split_trace(input),

@@ -58,7 +58,8 @@ pub fn wsc<S: Source, K: Sink, P: Port + Send, G: Gate, R: Threads + Wait + Sync
             let (answer, ports) = executed(rt, alloc, options, &image, input, ports, gate);
             written(sink, answer, Some(image), Vec::new(alloc), ports)
         }
-        Ok(CallStep::Threads(options, ReadJobs { images, inputs })) => {
+        Ok(CallStep::Threads(options, jobs)) => {
+            let ReadJobs { images, inputs } = jobs;
             let (answer, ports) = all_executed(
                 rt,
                 alloc,
@@ -84,29 +85,39 @@ fn written<K: Sink, P: Port>(
     threads: Vec<Checked>,
     ports: Slots<P>,
 ) -> Outcome<P>
+    requires open { AllOpen (contents P.tells ports) }
     ensures ends { (words : List (List ℕ)) (reads : SourceCall) (handed : List (Option Told))
         → TellWords handed
         → IsReply words reads handed answer image threads.items (contents P.tells ports)
         → CallEnds words reads (writing K.held K.flushed K.faults sink.old sink.new) handed result.status
         result.image result.threads.items (contents P.tells result.ports) }
-    ensures ports { result.ports ≡ ports }
+    ensures open { AllOpen (contents P.tells result.ports) }
 {
     words_are_one_line();
     each_answer_has_its_status();
     each_answer_of_threads_has_its_status();
     each_run_ends_as_its_walk();
     threads_end_as_their_walks();
-    let status = match answer {
+    match answer {
         Ok((status, text)) => match write_all(sink, text.as_slice()) {
-            Ok(()) => status,
-            Err(_) => Status::WriteFault,
+            Ok(()) => Outcome {
+                status,
+                image,
+                threads,
+                ports,
+            },
+            Err(_) => Outcome {
+                status: Status::WriteFault,
+                image,
+                threads,
+                ports,
+            },
         },
-        Err(NoMemory) => Status::NoMemory,
-    };
-    Outcome {
-        status,
-        image,
-        threads,
-        ports,
+        Err(NoMemory) => Outcome {
+            status: Status::NoMemory,
+            image,
+            threads,
+            ports,
+        },
     }
 }

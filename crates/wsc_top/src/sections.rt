@@ -80,6 +80,7 @@ pub fn split_trace(input: &[u8]) -> (&[u8], &[u8])
     ensures words { result.0.now ≡ sections.front_of (codes "%trace") true input.now }
     ensures trace { result.1.now ≡ sections.rest_of (codes "%trace") true input.now }
     ensures words_within { length result.0.now ≤ length input.now }
+    ensures trace_within { length result.1.now ≤ length input.now }
 {
     input.split_at(front_length(input, TRACE))
 }

@@ -141,6 +141,7 @@ pub fn replayed(
     input: Words,
 ) -> Result<(Status, Bytes, Option<Checked>), StarvedCall>
     requires text { length text.now ≤ assembly_limit }
+    requires within { length section.now ≤ length text.now }
     requires section { section.now ≡ sections.trace_section text.now }
     ensures told { IfOk result (λ y. IsReplayed text.now image input y.0 y.1 y.2) }
     ensures ends { IfOk result (λ y. EndsReplay text.now image input y.0) }

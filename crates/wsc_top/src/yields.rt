@@ -152,6 +152,7 @@ pub fn assembly_yielded(
     input: Words,
 ) -> Result<CallStep, StarvedCall>
     requires text { length text.now ≤ assembly_limit }
+    requires within { length trace.now ≤ length text.now }
     requires trace { task ≡ Replay → trace.now ≡ trace_section text.now }
     requires task { TaskInRange task }
     ensures ok { IfOk result (AssemblyYieldStep task text.now image input) }

@@ -74,7 +74,7 @@ module _ {E : Type 0} (words : List (List ℕ)) (reads : SourceCall) (handed : L
     (image : Option Image) (images : List Image) (none : images ≡ []) where
   pub ready_reply : (step : CallStep) (status : Status) (out : List ℕ) → step ≡ Ready status out image
       → StepSo words reads.left reads.after reads.faults reads.counted step
-      → IsReply {E} words reads handed (Ok (status, out)) image images handed
+      → IsReply {E = E} words reads handed (Ok (status, out)) image images handed
   ready_reply step status out is so = record {
     answered = subst (λ (is : List Image). Replies words reads.left reads.after reads.faults reads.counted
         handed status out image is handed) (sym none)

@@ -1,7 +1,7 @@
 -- What stands in front of the trace section of a text has the text's program, and of its input section what
 -- stands in front of the trace.
-use Rattle.std.proofs.Common.{ℕ, ◌+◌, ◌-◌, ◌==◌, ◌≡◌, ◌≤◌, ◌⊎◌, Bool, true, false, not, ◌&&◌, List, [], ◌∷◌}
-use Rattle.std.proofs.Common.{◌++◌, length, take, codes, if◌then◌else◌, refl, sym, ap, subst, ◌∙◌, inl, inr, arith}
+use Rattle.std.proofs.Common.{ℕ, ◌+◌, ◌-◌, ◌==◌, ◌≡◌, ◌⊎◌, Bool, true, false, ◌&&◌, List, [], ◌∷◌, ◌++◌}
+use Rattle.std.proofs.Common.{length, take, codes, if◌then◌else◌, refl, sym, ap, subst, ◌∙◌, inl, inr, arith}
 use Rattle.std.proofs.lemmas.Bool.{cases_Bool}
 use Rattle.std.proofs.lemmas.List.{append_cancel_right, length-append, append_assoc, append-nil}
 use Rattle.std.proofs.Math.Seq.{take-append_seam}
@@ -152,7 +152,8 @@ module _ (text : List ℕ) where
 
   before_is : before_trace text ≡ front.0 ++ words
   before_is = ap (λ (n : ℕ). take n text) (omega (arith, long))
-      ∙ ap (take (length (front.0 ++ words))) front.1 ∙ take-append_seam (front.0 ++ words) (trace_section text)
+      ∙ ap (take (length (front.0 ++ words))) front.1
+      ∙ take-append_seam (front.0 ++ words) (trace_section text)
 
   both : Parted (codes "%input") true (front.0 ++ words) words (trace_section text)
   both = parted_whole (codes "%input") (refl, (refl, (refl, (refl, (refl, (refl, tt))))))
@@ -164,9 +165,6 @@ module _ (text : List ℕ) where
   pub words_before : input_of (before_trace text) ≡ front_of (codes "%trace") true (input_of text)
   words_before = ap input_of before_is ∙ both.1
 
-  pub trace_within : length (trace_section text) ≤ length text
-  trace_within = omega (arith, long)
-
 -- The program of the part of a text that is read for a task.
 pub program_for : (task : AssemblyTask) (text : List ℕ)
     → program_of text ≡ program_of (assembly_text task text)
@@ -176,12 +174,3 @@ program_for (Exec options) text = refl
 program_for (Trace budget) text = refl
 program_for Replay text = sym (same_program text)
 program_for (Grid options) text = refl
-
--- The part of a text that is read for a task other than `replay` is the text.
-pub text_for : (task : AssemblyTask) (text : List ℕ) → (task ≡ Replay → ⊥) → assembly_text task text ≡ text
-text_for Check text no = refl
-text_for Listing text no = refl
-text_for (Exec options) text no = refl
-text_for (Trace budget) text no = refl
-text_for Replay text no = absurd (no refl)
-text_for (Grid options) text no = refl

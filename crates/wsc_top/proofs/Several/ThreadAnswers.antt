@@ -29,8 +29,8 @@ use Rattle.wsc_top.specs.Job.{job_limit, IsJob, IsTextAnswer}
 use Rattle.wsc_top.specs.Jobs.{most_jobs, Piece, last, next, Jobs, ProgramAndInput, AreJobs}
 use Rattle.wsc_top.specs.Jobs.{jobs_refusal_text}
 use Rattle.wsc_top.specs.Executions.{Executes, rested, spent, stopped, failed, PortsAre, IsFailed, OrFailed}
-use Rattle.wsc_top.specs.Answers.{TellWords, Yields, ran, IsFree, done, limit_of, Answers, Starves, usage}
-use Rattle.wsc_top.specs.Answers.{generated, benched, unread, long, read, assembled}
+use Rattle.wsc_top.specs.Answers.{TellWords, Yields, ran, IsFree, done, limit_of, Answers, usage, generated}
+use Rattle.wsc_top.specs.Answers.{benched, unread, long, read, assembled}
 use Rattle.wsc_top.specs.Threads.{no_ports, thread_line, ThreadsDo, none, more, status_of, Thread, pieces_of}
 use Rattle.wsc_top.specs.Threads.{images_of, inputs_of, HaveBegun, Falls, HasJob, AreThreads, RunsAlone}
 use Rattle.wsc_top.specs.Threads.{ExecutesAlone, MultiAnswered, Replies, alone, together, AreDue, AreToldJobs}
@@ -41,8 +41,7 @@ use Rattle.wsc_words.specs.Lines.{HasCommand}
 use Rattle.wsc_top.specs.Calls.{SourceCall, IsReply}
 use Rattle.wsc_top.proofs.Calling.Tasks.{OneLine, same_task_by}
 use Rattle.wsc_top.proofs.Calling.Calls.{IsOfText, yields_status, not_memory, not_write_fault, read_rose}
-use Rattle.wsc_top.proofs.Calling.Calls.{port_rose}
-use Rattle.wsc_top.proofs.Calling.Calls.{too_much, told_text}
+use Rattle.wsc_top.proofs.Calling.Calls.{port_rose, too_much, told_text}
 use Rattle.wsc_top.proofs.Reading.AnswersOnce.{RunsOnce, Reply, same_reply}
 use Rattle.wsc_top.proofs.Reading.AssembliesOnce.{WalksOnce}
 use Rattle.wsc_top.proofs.Told.RunsAlike.{runs_alike}
@@ -438,8 +437,8 @@ some_inputs text (x ∷ xs) inputs a e = omega (arith, ap length e)
 
 -- the reply of threads that were due
 module _ {E : Type 0} (words : List (List ℕ)) (reads : SourceCall) (handed back : List (Option Told))
-    (options : RunOptions) (images : List Image) (inputs : List (List ℕ))
-    (due : (xs : List Thread) × AreDue words reads.left reads.after options xs × (images_of xs ≡ images)
+    (options : RunOptions) (images seen : List Image) (same : images ≡ seen) (inputs : List (List ℕ))
+    (due : (xs : List Thread) × AreDue words reads.left reads.after options xs × (images_of xs ≡ seen)
     × (inputs_of xs ≡ inputs)) (known : (HasCommand words → ⊥) → ⊥) where
   pub threads_reply : (answer : Result (Status × List ℕ) E)
       → ((statuses : List Status) (out : List ℕ) → ThreadsDo (ExecutesAlone options) 1 due.0 handed statuses
@@ -449,10 +448,10 @@ module _ {E : Type 0} (words : List (List ℕ)) (reads : SourceCall) (handed bac
       → (statuses : List Status) × ThreadsDo (ExecutesAlone options) 1 xs handed statuses y.1 back
       × (y.0 ≡ status_of statuses))
       → OnErr answer ((xs : List Thread) → images_of xs ≡ images → inputs_of xs ≡ inputs
-      → HaveBegun xs handed back) → IsReply words reads handed answer None images back
-  threads_reply (Ok y) law h begun = let r = h due.0 due.2 due.3 in record {
+      → HaveBegun xs handed back) → IsReply words reads handed answer None seen back
+  threads_reply (Ok y) law h begun = let r = h due.0 (due.2 ∙ sym same) due.3 in record {
     answered = subst (λ (s : Status). Replies words reads.left reads.after reads.faults reads.counted handed s
-        y.1 None images back) (sym r.2)
+        y.1 None seen back) (sym r.2)
         (subst (λ (is : List Image). Replies words reads.left reads.after reads.faults reads.counted handed
         (status_of r.0) y.1 None is back) due.2 (law r.0 y.1 r.1));
     memory = tt;
@@ -461,7 +460,7 @@ module _ {E : Type 0} (words : List (List ℕ)) (reads : SourceCall) (handed bac
   threads_reply (Err x) law h begun = record {
     answered = tt;
     memory = subst (λ (is : List Image). Falls words reads.left reads.after handed None is back) due.2
-        (threads.Falls.together due.0 due.1 (begun due.0 due.2 due.3));
+        (threads.Falls.together due.0 due.1 (begun due.0 (due.2 ∙ sym same) due.3));
     known = λ h. absurd (known h);
   }
 

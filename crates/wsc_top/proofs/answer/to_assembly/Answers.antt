@@ -27,6 +27,6 @@ returns-in_err-assembly_yielded-in-Ok-clause-begun c =
     (c.words_and_trace.ensures.words _ c.split.ensures.input))
     c.in_err-assembly_yielded-in-Ok.ensures.begun)
 
-pub assembly_yielded-in-Ok-requires-clause-trace : goal.assembly_yielded-in-Ok-requires-clause-trace
-assembly_yielded-in-Ok-requires-clause-trace c is =
-    c.words_and_trace.ensures.trace _ c.split.ensures.input is
+pub assembly_yielded-requires-clause-trace : goal.assembly_yielded-requires-clause-trace
+assembly_yielded-requires-clause-trace c is =
+    c.words_and_trace.ensures.trace c.args.text.now c.split.ensures.input is

@@ -1,7 +1,7 @@
 use Rattle.std.proofs.Common.{ap, sym, ◌∙◌, codes, true}
 use Rattle.wsc_top.specs.Sections.{front_of, rest_of, input_of}
 use Rattle.wsc_top.specs.Answers.{assembly_text}
-use Rattle.wsc_top.proofs.Reading.BeforeTrace.{words_before, text_for}
+use Rattle.wsc_top.proofs.Reading.BeforeTrace.{words_before}
 use Rattle.wsc_top.proofs.answer.words_and_trace.Goals as goal
 
 pub returns-in-Replay-clause-words : goal.returns-in-Replay-clause-words

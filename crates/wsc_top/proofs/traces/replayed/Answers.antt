@@ -25,7 +25,7 @@ pub returns-in-Ok-made-clause-told : goal.returns-in-Ok-made-clause-told
 returns-in-Ok-made-clause-told c =
     let some = something_there c.args.text.now _ _ c.requires.section c.is_empty.ensures
     c.if-is_empty.false in
-    let events = section_events c.args.text.now _ _ _ _ c.split_at.ensures.before
+    let events = section_events c.args.text.now _ _ _ _ c.split_at.ensures.front
     c.requires.section c.after_line.ensures.after c.last_line-2.ensures.line in
     traces.IsReplayed.read c.in-Ok.trace (record { there = some; events = sym events ∙ c.in-Ok.ensures })
     c.in-Ok-made.ensures
@@ -39,7 +39,7 @@ pub returns-in-Err-Refused-clause-told : goal.returns-in-Err-Refused-clause-told
 returns-in-Err-Refused-clause-told c =
     let some = something_there c.args.text.now _ _ c.requires.section c.is_empty.ensures
     c.if-is_empty.false in
-    let events = section_events c.args.text.now _ _ _ _ c.split_at.ensures.before
+    let events = section_events c.args.text.now _ _ _ _ c.split_at.ensures.front
     c.requires.section c.after_line.ensures.after c.last_line-2.ensures.line in
     let kind = c.in-Err-Refused.kind in
     let line = c.in-Err-Refused.line in
@@ -55,6 +55,6 @@ pub returns-in-Ok-clause-begun : goal.returns-in-Ok-clause-begun
 returns-in-Ok-clause-begun c =
     let some = something_there c.args.text.now _ _ c.requires.section c.is_empty.ensures
     c.if-is_empty.false in
-    let events = section_events c.args.text.now _ _ _ _ c.split_at.ensures.before
+    let events = section_events c.args.text.now _ _ _ _ c.split_at.ensures.front
     c.requires.section c.after_line.ensures.after c.last_line-2.ensures.line in
     (refl, c.in-Ok.trace, record { there = some; events = sym events ∙ c.in-Ok.ensures })
