@@ -9,7 +9,7 @@ use Rattle.std.proofs.lemmas.List.{nil_from_length, take-append-drop}
 use Rattle.std.proofs.lemmas.Bool.{eqb-true, ltb-true, lt-ltb}
 use Rattle.ws_words.specs.Digits.{is_number, value_of}
 use Rattle.src_ast.specs.declared.lexeme.Place.{Place}
-use Rattle.src_ast.specs.Lexemes.{start, after, is_blank}
+use Rattle.src_ast.specs.Lexemes.{after, is_blank}
 use Rattle.src_ast.specs.Once.{ExactlyOne}
 use Rattle.wsc_top.specs.Sections.{program_of, input_of, place_below, input_place, IsItem, IsWordText}
 use Rattle.wsc_top.specs.Sections.{InputItems, stop, next, InputWords, InputFault, IsInputAnswer}

@@ -1,7 +1,6 @@
 -- The status of a run is what the walk of its image decides.
-use Rattle.std.specs.Prelude.{◌≡◌, ℕ, suc, ◌+◌, ◌≤◌, List, [], ◌∷◌, length, Option, Some, None, refl}
-use Rattle.std.specs.List.{AllByRecursion}
-use Rattle.std.proofs.Common.{sym, ap, ◌∙◌, subst}
+use Rattle.std.specs.Prelude.{◌≡◌, ℕ, suc, ◌+◌, ◌≤◌, List, length, Option, Some, refl}
+use Rattle.std.proofs.Common.{sym, subst}
 use Rattle.ws_io.specs.Streams.{Takes}
 use Rattle.src_ast.specs.Once.{ExactlyOne}
 use Rattle.src_ast.specs.Syntax.{Part}
@@ -18,8 +17,8 @@ use Rattle.wsc_top.specs.declared.task.JobTask.TheVariants.{Run}
 use Rattle.wsc_top.specs.declared.task.RunOptions.{RunOptions}
 use Rattle.wsc_top.specs.declared.task.BenchOptions.{BenchOptions}
 use Rattle.wsc_top.specs.Tasks.{AsksFor}
-use Rattle.wsc_top.specs.Job.{IsJob, IsTextAnswer, job_limit}
-use Rattle.wsc_top.specs.Jobs.{Jobs, Piece, ProgramAndInput, AreJobs}
+use Rattle.wsc_top.specs.Job.{IsJob, IsTextAnswer}
+use Rattle.wsc_top.specs.Jobs.{ProgramAndInput, AreJobs}
 use Rattle.wsc_top.specs.Executions.{EndsRun}
 use Rattle.wsc_top.specs.Answers as answers
 use Rattle.wsc_top.specs.Answers.{Yields, Answered, Answers, IsToldJob, limit_of}

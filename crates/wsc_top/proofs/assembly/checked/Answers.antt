@@ -1,6 +1,4 @@
-use Rattle.std.proofs.Common.{ap, sym, ◌∙◌}
 use Rattle.ws_isa.specs.View as view
-use Rattle.asm_text.specs.Reading.{read}
 use Rattle.wsc_top.proofs.Reading.Assemblies.{bad_of}
 use Rattle.wsc_top.proofs.assembly.checked.Goals as goal
 
