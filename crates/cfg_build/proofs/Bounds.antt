@@ -1,8 +1,8 @@
 -- A program within the limits of the language has few blocks, and its ports fit into bytes.
 use Rattle.std.proofs.Common.{ℕ, suc, ◌+◌, ◌*◌, ◌<◌, ◌≤◌, ◌^◌, List, [], ◌∷◌, length, arith}
 use Rattle.std.specs.List.{AllByRecursion}
-use Rattle.seq_run.specs.Resolved.{Action, Assign, Store, Print, Read, Give, Take, Do, Call, If, While, Steps}
-use Rattle.seq_run.specs.Resolved.{Nothing, Then, Proc, nth_proc, ResolvedProgram}
+use Rattle.seq_run.specs.Resolved.{Action, Do, Call, If, While, Steps, Nothing, Then, Proc, nth_proc}
+use Rattle.seq_run.specs.Resolved.{ResolvedProgram}
 use Rattle.src_ast.specs.LanguageLimits.{most_array_cells}
 use Rattle.seq_run.specs.InRange.{ActionIn, StepsIn, ProgramIn, size_all, steps_in}
 use Rattle.cfg_build.specs.Lowered.{begun}
@@ -12,8 +12,7 @@ begun_few : (st : Steps) → begun st ≤ 3 * size_all st
 begun_few Nothing = omega arith
 begun_few (Then (Do a) rest) = let h = begun_few rest in omega (arith, h)
 begun_few (Then (Call x f ts) rest) = let h = begun_few rest in omega (arith, h)
-begun_few (Then (If t a b) rest) = let h = begun_few a in let i = begun_few b in let j = begun_few rest in
-    omega (arith, h, i, j)
+begun_few (Then (If t a b) rest) = grind (arith, begun_few a, begun_few b, begun_few rest)
 begun_few (Then (While t body) rest) = let h = begun_few body in let i = begun_few rest in omega (arith, h, i)
 
 blocks_few : (ps : List Proc) → blocks_of ps ≤ length ps + 3 * steps_in ps
@@ -24,12 +23,7 @@ pub room_for : (program : ResolvedProgram) → ProgramIn program → blocks_of p
 room_for program h = let i = blocks_few program.procs in omega (arith, i, h.few_procs, h.few_steps)
 
 action_fits : (arrays vars : ℕ) (a : Action) → ActionIn arrays vars a → ActionFits a
-action_fits arrays vars (Assign x t) h = tt
-action_fits arrays vars (Store a t u) h = tt
-action_fits arrays vars (Print t) h = tt
-action_fits arrays vars (Read x) h = tt
-action_fits arrays vars (Give p x) h = omega (arith, h.0.1)
-action_fits arrays vars (Take p t) h = omega (arith, h.0.1)
+action_fits arrays vars a h = grind arith
 
 steps_fit : (arrays : ℕ) (procs : List Proc) (home vars : ℕ) (st : Steps) → StepsIn arrays procs home vars st
     → StepsFit st
@@ -49,13 +43,7 @@ all_fit [] f = tt
 all_fit (p ∷ ps) f = (f 0 (omega arith), all_fit ps (λ n lt. f (suc n) (omega (arith, lt))))
 
 pub procs_fit : (program : ResolvedProgram) → ProgramIn program → AllByRecursion ProcFits program.procs
-procs_fit program h = all_fit program.procs (λ n lt.
-    let p = h.procs n lt in
-    record {
-      vars = omega (arith, p.few_vars);
-      body = steps_fit (length program.lengths) program.procs n _
-          (nth_proc program.procs n).body p.body;
-    })
+procs_fit program h = grind (arith, all_fit, steps_fit)
 
 all_lengths_fit : (ns : List ℕ) → AllByRecursion (λ n. n ≤ most_array_cells) ns → AllByRecursion LengthFits ns
 all_lengths_fit [] h = tt

@@ -1,12 +1,11 @@
 -- Procedures that the code makes, one after another.
-use Rattle.std.proofs.Common.{◌≡◌, ℕ, suc, ◌+◌, ◌<◌, List, [], ◌∷◌, length, map, drop, slice_index_or, sym}
-use Rattle.std.proofs.Common.{ap, ◌∙◌, subst, arith}
+use Rattle.std.proofs.Common.{◌≡◌, ℕ, suc, ◌+◌, ◌<◌, List, [], ◌∷◌, length, drop, slice_index_or, ap, subst}
+use Rattle.std.proofs.Common.{arith}
 use Rattle.std.proofs.lemmas.List.{drop_more, length-map}
 use Rattle.std.specs.List.{AllByRecursion}
 use Rattle.seq_run.specs.Resolved as resolved
 use Rattle.seq_run.specs.View as source
 use Rattle.seq_run.specs.declared.tree.Proc.{Proc}
-use Rattle.cfg_core.specs.Graph as graph
 use Rattle.cfg_core.specs.Graph.{Block}
 use Rattle.cfg_core.specs.View as view
 use Rattle.cfg_core.specs.declared.blocks.GraphProc.{GraphProc}
@@ -20,25 +19,18 @@ use Rattle.cfg_build.proofs.Emitted.{emit_made}
 pub emitted_blocks : (body : resolved.Steps) (result : _) (first : ℕ) (begin d : Builder)
     (blocks : List Block) → begin ≡ record { first = first; done = []; ops = [] } → d ≡ emit body begin
     → blocks ≡ ended d (last_part result) → blocks ≡ whole (made body first (last_part result))
-emitted_blocks body result first begin d blocks eb ed e =
-    let start : Builder = record { first = first; done = []; ops = [] } in
-    let z : first + 0 ≡ first = omega arith in
-    e ∙ ap (λ (x : Builder). ended x (last_part result)) (ed ∙ ap (emit body) eb)
-    ∙ emit_made body start (last_part result) ∙ ap (λ n. whole (made body n (last_part result))) z
+emitted_blocks body result first begin d blocks eb ed e = grind (arith, emit_made)
 
 -- the next procedure, and those after it
 next_proc : (ps : List Proc) (i : ℕ) (p : Proc) → i < length ps → p ≡ slice_index_or ps i p
     → source.procs (drop i ps) ≡ source.proc p ∷ source.procs (drop (i + 1) ps)
-next_proc ps i p lt is = ap source.procs (drop_more ps i p lt)
-    ∙ ap (λ (q : Proc). source.proc q ∷ source.procs (drop (i + 1) ps)) (sym is)
+next_proc ps i p lt is = grind (arith, drop_more)
 
 -- how many blocks it has
 pub count_made : (p : Proc) (first len : ℕ) (made : GraphProc) → view.proc made ≡ lowered.proc (source.proc p)
     first → len ≡ length made.blocks.items → len ≡ suc (begun (source.proc p).body)
 count_made p first len made same e =
-    let n : length (map view.block made.blocks.items) ≡ length (lowered.proc_blocks (source.proc p) first) =
-    ap (λ (q : graph.GraphProc). length q.blocks) same in
-    omega (arith, e, n, length-map made.blocks.items view.block, proc_end (source.proc p) first)
+    grind (arith, length-map made.blocks.items view.block, proc_end (source.proc p) first)
 
 module _ (ps : List Proc) (i : ℕ) (p : Proc) (lt : i < length ps) (is : p ≡ slice_index_or ps i p) where
   pub fit_now : AllByRecursion ProcFits (source.procs (drop i ps)) → ProcFits (source.proc p)
@@ -52,8 +44,4 @@ module _ (ps : List Proc) (i : ℕ) (p : Proc) (lt : i < length ps) (is : p ≡ 
   pub next_made : (first next : ℕ) (made : GraphProc) → next ≡ suc (first + begun (source.proc p).body)
       → view.proc made ≡ lowered.proc (source.proc p) first → lowered.procs (source.procs (drop i ps)) first
       ≡ view.proc made ∷ lowered.procs (source.procs (drop (i + 1) ps)) next
-  next_made first next made en same =
-      let rest = lowered.procs (source.procs (drop (i + 1) ps)) in
-      ap (λ (qs : List resolved.Proc). lowered.procs qs first) (next_proc ps i p lt is)
-      ∙ ap (λ n. lowered.proc (source.proc p) first ∷ rest n) (sym en)
-      ∙ ap (λ (q : graph.GraphProc). q ∷ rest next) (sym same)
+  next_made first next made en same = grind (arith, next_proc)

@@ -1,10 +1,9 @@
 -- Each edge of a lowered block leads on to a later block or back to one that tests in a turn, and enters a
 -- block with a label from the block of that label alone.
-use Rattle.std.proofs.Common.{ℕ, suc, ◌+◌, ◌≡◌, ◌≢◌, ◌<◌, ◌⊎◌, true, List, [], ◌++◌, Option, Some, None, refl}
-use Rattle.std.proofs.Common.{sym, ap, subst, inl, inr, arith}
+use Rattle.std.proofs.Common.{ℕ, suc, ◌+◌, ◌≡◌, ◌≢◌, ◌<◌, ◌⊎◌, true, List, [], ◌++◌, Option, Some, None, ap}
+use Rattle.std.proofs.Common.{subst, arith}
 use Rattle.std.specs.List.{AllByRecursion}
-use Rattle.seq_run.specs.Resolved.{Action, Assign, Store, Print, Read, Give, Take, Do, Call, If, While, Steps}
-use Rattle.seq_run.specs.Resolved.{Nothing, Then}
+use Rattle.seq_run.specs.Resolved.{Action, Do, Call, If, While, Steps, Nothing, Then}
 use Rattle.cfg_core.specs.Graph as graph
 use Rattle.cfg_core.specs.Graph.{Term, Goto, Branch, Block, Graph, Spot}
 use Rattle.cfg_core.specs.Rules.{Leads, calls, has_tick}
@@ -17,12 +16,7 @@ use Rattle.cfg_build.proofs.Places.{Each, each_both}
 use Rattle.cfg_build.proofs.Labels.{labels, label_in, LabelsAt, first_label, labels_front, labels_back}
 
 pub first_op : (a : Action) → IsFirstOp (op a)
-first_op (Assign x t) = tt
-first_op (Store a t u) = tt
-first_op (Print t) = tt
-first_op (Read x) = tt
-first_op (Give p x) = tt
-first_op (Take p t) = tt
+first_op a = grind arith
 
 -- in this graph, whose blocks have these labels
 module _ (g : Graph) (all : List (Option ℕ)) where
@@ -40,112 +34,40 @@ module _ (g : Graph) (all : List (Option ℕ)) where
   FineAll b xs = Each Fine b xs
 
   goes_on : (b c : ℕ) → b < c → label_in all c ≡ None → Fine b (block (goes_to c))
-  goes_on b c lt h = record {
-    on = λ d l. inl (omega (arith, l));
-    kept = λ d l. inl (subst (λ n. label_in all n ≡ None) (sym l) h);
-    apart = λ t m n e. absurd (cc);
-    ops = tt;
-    exit = tt;
-    named = refl;
-    ticks = λ e. absurd (cc);
-  }
+  goes_on b c lt h = grind (arith, label_in)
 
   goes_back : (b c : ℕ) → TestsInATurn g c → label_in all c ≡ None → Fine b (block (goes_to c))
-  goes_back b c head h = record {
-    on = λ d l. inr (ap Goto (sym l), subst (λ n. TestsInATurn g n) (sym l) head);
-    kept = λ d l. inl (subst (λ n. label_in all n ≡ None) (sym l) h);
-    apart = λ t m n e. absurd (cc);
-    ops = tt;
-    exit = tt;
-    named = refl;
-    ticks = λ e. absurd (cc);
-  }
+  goes_back b c head h = grind (arith, label_in)
 
   tests : (t : Term) (b c d : ℕ) → b < c → c < d → label_in all c ≡ Some b → label_in all d ≡ Some b
       → Fine b (block (leaves (Branch t c d)))
-  tests t b c d lt lu h i = record {
-    on = λ n l. elim l [ inl e ↦ inl (omega (arith, e)) | inr e ↦ inl (omega (arith, e)) ];
-    kept = λ n l. elim l [
-      | inl e ↦ inr (subst (λ m. label_in all m ≡ Some b) (sym e) h)
-      | inr e ↦
-          inr (subst (λ m. label_in all m ≡ Some b) (sym e) i)
-    ];
-    apart = λ u m n e.
-        let em : c ≡ m = cc in let en : d ≡ n = cc in (
-          λ same. omega (arith, same, em, en),
-          subst (λ k. label_in all k ≡ Some b) em h,
-          subst (λ k. label_in all k ≡ Some b) en i,
-        );
-    ops = (refl, tt);
-    exit = tt;
-    named = refl;
-    ticks = λ e. refl;
-  }
+  tests t b c d lt lu h i = grind (arith, label_in)
 
   calls_on : (x : Option ℕ) (f : ℕ) (ts : List Term) (b : ℕ) → label_in all (suc b) ≡ None
       → Fine b (block (leaves (graph.Call x f ts (suc b))))
-  calls_on x f ts b h = record {
-    on = λ d l. inl (omega (arith, l));
-    kept = λ d l. inl (subst (λ n. label_in all n ≡ None) (sym l) h);
-    apart = λ t m n e. absurd (cc);
-    ops = (refl, tt);
-    exit = tt;
-    named = refl;
-    ticks = λ e. refl;
-  }
+  calls_on x f ts b h = grind (arith, label_in)
 
   pub last_fine : (r : Option Term) (b : ℕ) → Fine b (block (last_part r))
-  last_fine None b = record {
-    on = λ d l. absurd l;
-    kept = λ d l. absurd l;
-    apart = λ t m n e. absurd (cc);
-    ops = tt;
-    exit = tt;
-    named = refl;
-    ticks = λ e. absurd (cc);
-  }
-  last_fine (Some t) b = record {
-    on = λ d l. absurd l;
-    kept = λ d l. absurd l;
-    apart = λ t m n e. absurd (cc);
-    ops = (refl, tt);
-    exit = tt;
-    named = refl;
-    ticks = λ e. absurd (cc);
-  }
+  last_fine r b = grind arith
 
   led_fine : (b : ℕ) (a : Action) (m : Made) → FineAll b (whole m) → FineAll b (whole (led_by (op a) m))
-  led_fine b a m h = (
-    record {
-      on = h.0.on;
-      kept = h.0.kept;
-      apart = h.0.apart;
-      ops = (refl, (first_op a, h.0.ops));
-      exit = h.0.exit;
-      named = refl;
-      ticks = λ e. refl;
-    },
-    h.1,
-  )
+  led_fine b a m h = grind (arith, first_op)
 
   then_blocks : (st : Steps) (c : ℕ) (rest : BlockRest) (ys : List Block) → FineAll c (whole (made st c rest))
       → FineAll (suc (c + begun st)) ys → FineAll c (whole (made st c rest) ++ ys)
-  then_blocks st c rest ys h i = each_both Fine c (suc (c + begun st)) (whole (made st c rest)) ys
-      (omega (arith, length_made st c rest)) h i
+  then_blocks st c rest ys h i = grind (arith, each_both, length_made)
 
   -- the blocks of steps, of which the last one ends with `rest`
   pub made_fine : (home vars : ℕ) (st : Steps) (c : ℕ) (l : Option ℕ) (rest : BlockRest)
       → HasAt g home vars (suc c) (made st c rest).blocks → LabelsAt all c (labels st c l)
       → Fine (c + begun st) (block rest) → FineAll c (whole (made st c rest))
-  made_fine home vars Nothing c l rest h i f = let e : c + 0 ≡ c = omega arith in
-      (subst (λ n. Fine n (block rest)) e f, tt)
+  made_fine home vars Nothing c l rest h i f = grind arith
   made_fine home vars (Then (Do a) more) c l rest h i f = led_fine c a (made more c rest)
       (made_fine home vars more c l rest h i f)
   made_fine home vars (Then (Call x p ts) more) c l rest h i f =
       let e : c + suc (begun more) ≡ suc c + begun more = omega arith in (
         calls_on x p ts c (first_label all more (suc c) None i.2),
-        made_fine home vars more (suc c) None rest
-            h.2 i.2 (subst (λ n. Fine n (block rest)) e f),
+        made_fine home vars more (suc c) None rest h.2 i.2 (subst (λ n. Fine n (block rest)) e f),
       )
   made_fine home vars (Then (If t a b) more) c l rest h i f =
       let second = suc (suc c + begun a) in let join = suc (second + begun b) in
@@ -163,14 +85,12 @@ module _ (g : Graph) (all : List (Option ℕ)) where
       let e : c + suc (begun a + suc (begun b + suc (begun more))) ≡ join + begun more = omega arith in (
         tests t c (suc c) second (omega arith) (omega arith) (first_label all a (suc c) (Some c) ia)
             (first_label all b second (Some c) ib),
-        then_blocks a (suc c) (goes_to join) (wb ++ wm)
-            (made_fine home vars a (suc c) (Some c) (goes_to join)
-            (front g home vars (suc c) (whole (made a (suc c) (goes_to join))) (wb ++ wm) h).2 ia
-            (goes_on (suc c + begun a) join (omega arith) at_join))
-            (then_blocks b second (goes_to join) wm
-            (made_fine home vars b second (Some c) (goes_to join) (front g home vars second wb wm hb).2 ib
-            (goes_on (second + begun b) join (omega arith) at_join))
-            (made_fine home vars more join None rest hm.2 im (subst (λ n. Fine n (block rest)) e f))),
+        then_blocks a (suc c) (goes_to join) (wb ++ wm) (made_fine home vars a (suc c) (Some c) (goes_to
+            join) (front g home vars (suc c) (whole (made a (suc c) (goes_to join))) (wb ++ wm) h).2 ia
+            (goes_on (suc c + begun a) join (omega arith) at_join)) (then_blocks b second (goes_to join)
+            wm (made_fine home vars b second (Some c) (goes_to join) (front g home vars second wb wm hb).2
+            ib (goes_on (second + begun b) join (omega arith) at_join)) (made_fine home vars more join
+            None rest hm.2 im (subst (λ n. Fine n (block rest)) e f))),
       )
   made_fine home vars (Then (While t body) more) c l rest h i f =
       let inside = suc (suc c) in let after = suc (inside + begun body) in

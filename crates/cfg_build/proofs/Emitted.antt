@@ -13,8 +13,7 @@ abbrev pub added_to : Builder → Made → List Block
 added_to d m = d.done ++ record { named = []; ops = d.ops ++ m.front.ops; exit = m.front.exit } ∷ m.blocks
 
 pub number_closed : (exit : Exit) (d : Builder) → number (closed exit d) ≡ suc (number d)
-number_closed exit d = let h = length-append d.done (record { named = []; ops = d.ops; exit = exit } ∷ []) in
-    omega (arith, h)
+number_closed exit d = grind (arith, length-append)
 
 pub number_emit : (st : Steps) (d : Builder) → number (emit st d) ≡ number d + begun st
 number_emit Nothing d = omega arith
@@ -55,19 +54,16 @@ number_emit (Then (While t body) rest) d =
 
 -- a block closed by an exit is one that a part without operations ends
 closed_is : (d : Builder) (exit : Exit) → (closed exit d).done ≡ ended d (record { ops = []; exit = exit })
-closed_is d exit = ap (λ (ops : List Op). d.done ++ record { named = []; ops = ops; exit = exit } ∷ [])
-    (sym (append-nil d.ops))
+closed_is d exit = grind (arith, append-nil)
 
 pub emit_made : (st : Steps) (d : Builder) (rest : BlockRest) → ended (emit st d) rest ≡ added_to d
     (made st (number d) rest)
 emit_made Nothing d rest = refl
-emit_made (Then (Do a) next) d rest =
-    emit_made next _ rest
-    ∙ ap (λ (ops : List Op). d.done ++ record {
-      named = [];
-      ops = ops;
-      exit = (made next (number d) rest).front.exit;
-    } ∷ (made next (number d) rest).blocks)
+emit_made (Then (Do a) next) d rest = emit_made next _ rest ∙ ap (λ (ops : List Op). d.done ++ record {
+  named = [];
+  ops = ops;
+  exit = (made next (number d) rest).front.exit;
+} ∷ (made next (number d) rest).blocks)
     (append_assoc (d.ops ++ Tick 1 ∷ []) (op a ∷ []) (made next (number d) rest).front.ops
     ∙ append_assoc d.ops (Tick 1 ∷ []) _)
 emit_made (Then (Call x f ts) next) d rest =

@@ -1,16 +1,13 @@
 -- The arrays of an accepted program keep the limits of the language.
-use Rattle.std.proofs.Common.{ℕ, ◌+◌, ◌<◌, ◌≤◌, nat_lt, nat_le, Bool, true, not, List, [], ◌∷◌, ◌++◌, length}
-use Rattle.std.proofs.Common.{Some, sym, ◌∙◌, arith}
-use Rattle.std.specs.List.{AllByRecursion, sum_by, list_all}
+use Rattle.std.proofs.Common.{ℕ, ◌+◌, ◌<◌, ◌≤◌, List, [], ◌∷◌, ◌++◌, length, Some, arith}
+use Rattle.std.specs.List.{AllByRecursion, sum_by}
 use Rattle.std.proofs.lemmas.List.Sums.{sum_by-cons}
 use Rattle.std.proofs.lemmas.List.Folds.{list_all-append}
 use Rattle.std.proofs.lemmas.Bool.{ltb-true, leb-true}
 use Rattle.src_ast.specs.declared.lexeme.Place.{Place}
 use Rattle.src_ast.specs.declared.lexeme.Name.{Name}
-use Rattle.src_ast.specs.declared.fault.RefusalKind.TheVariants.{Main}
 use Rattle.src_ast.specs.Syntax.{Part, Array, Proc}
-use Rattle.src_ast.specs.Rules.{Rule, declared_by, is_visible, has_main, arrays_in, cells_in, part_rules}
-use Rattle.src_ast.specs.Rules.{rules_after, IsAccepted}
+use Rattle.src_ast.specs.Rules.{Rule, arrays_in, cells_in, part_rules, rules_after, IsAccepted}
 use Rattle.cfg_core.specs.Graph.{GraphArray}
 use Rattle.cfg_build.specs.Keeps.{arrays_of}
 use Rattle.src_ast.specs.LanguageLimits.{most_arrays, most_array_cells, most_cells}
@@ -19,9 +16,7 @@ use Rattle.src_check.proofs.Parts.{arrays_in-append as arrays_both, cells_in-app
 use Rattle.seq_run.proofs.InBodies.{Kept}
 
 pub kept_both : (xs ys : List Rule) → Kept (xs ++ ys) → Kept xs × Kept ys
-kept_both xs ys h =
-    let kept : Rule → Bool = λ r. r.kept in
-    and_parts (list_all kept xs) (list_all kept ys) (sym (list_all-append kept xs ys) ∙ h)
+kept_both xs ys h = grind (arith, and_parts, list_all-append)
 
 -- an array after these parts
 record ArrayKept (before : List Part) (n : ℕ) : Type 0 where
@@ -31,16 +26,7 @@ record ArrayKept (before : List Part) (n : ℕ) : Type 0 where
 
 array_kept : (before : List Part) (x : Name) (n : ℕ) (at : Place) → Kept (part_rules before (Array x n at))
     → ArrayKept before n
-array_kept before x n at h =
-    let a = (and_parts (not (is_visible (declared_by before) x.text)) _ h).1 in
-    let b = and_parts (nat_lt (arrays_in before) 64) _ a in
-    let c = and_parts (nat_le n 65536) _ b.1 in
-    let d = and_parts (nat_le (cells_in before + n) 1048576) true c.1 in
-    record {
-      room = ltb-true (arrays_in before) 64 b.0;
-      short = leb-true n 65536 c.0;
-      cells = leb-true (cells_in before + n) 1048576 d.0;
-    }
+array_kept before x n at h = grind (arith, and_parts, ltb-true, leb-true)
 
 -- the arrays of these parts after so many others with so many cells
 pub record FewArrays (others cells_before : ℕ) (parts : List Part) : Type 0 where
@@ -74,6 +60,4 @@ few_from before (Proc p ∷ parts) le ce h =
     }
 
 pub few_arrays : (parts : List Part) (finish : Place) → IsAccepted parts finish → FewArrays 0 0 parts
-few_arrays parts finish h =
-    let last : List Rule = record { place = finish; kind = Main; kept = has_main parts } ∷ [] in
-    few_from [] parts (omega arith) (omega arith) (kept_both (rules_after [] parts) last h).0
+few_arrays parts finish h = grind (arith, few_from, kept_both)

@@ -1,13 +1,12 @@
 -- An accepted program has few statements, of which each has a turn.
-use Rattle.std.proofs.Common.{◌+◌, ◌≡◌, ◌≤◌, List, [], ◌∷◌, ◌++◌, Option, Some, None, refl, arith}
+use Rattle.std.proofs.Common.{◌+◌, ◌≡◌, ◌≤◌, List, [], ◌∷◌, ◌++◌, Option, refl, arith}
 use Rattle.src_ast.specs.declared.lexeme.Place.{Place}
-use Rattle.src_ast.specs.declared.fault.RefusalKind.TheVariants.{Main}
 use Rattle.src_ast.specs.Syntax.{Statement, Assign, Store, Print, Read, Give, Take, Call, If, While}
 use Rattle.src_ast.specs.Syntax.{Statements, Nothing, Then, Last, Part, Array, Proc}
 use Rattle.src_ast.specs.LanguageLimits.{most_statements}
 use Rattle.src_ast.specs.Meaning.{procs_of}
-use Rattle.src_ast.specs.Rules.{Rule, variables, declared_by, has_main, size_of, size_of_all, size_of_ending}
-use Rattle.src_ast.specs.Rules.{statements_in, part_rules, rules_after, IsAccepted}
+use Rattle.src_ast.specs.Rules.{variables, declared_by, size_of, size_of_all, size_of_ending, statements_in}
+use Rattle.src_ast.specs.Rules.{part_rules, rules_after, IsAccepted}
 use Rattle.cfg_build.specs.Sizes.{sum_in, sum_over, sum_procs, ending_ops}
 use Rattle.cfg_build.proofs.FewArrays.{kept_both}
 use Rattle.seq_run.proofs.InBodies.{body_few, ending_few, Kept}
@@ -33,8 +32,7 @@ mutual
   all_each (Then s rest) = omega (arith, one_each s, all_each rest)
 
 ending_same : (r : Option Last) → ending_ops r ≡ size_of_ending r
-ending_same None = refl
-ending_same (Some last) = refl
+ending_same r = grind arith
 
 pub turns_are : (parts : List Part) → sum_procs (λ s. 1) ending_ops (procs_of parts) ≡ statements_in parts
 turns_are [] = refl
@@ -62,6 +60,4 @@ few_from before (Proc p ∷ parts) le h =
 -- the statements of an accepted program keep the limit
 pub few_statements : (parts : List Part) (finish : Place) → IsAccepted parts finish
     → statements_in parts ≤ most_statements
-few_statements parts finish h =
-    let last : List Rule = record { place = finish; kind = Main; kept = has_main parts } ∷ [] in
-    omega (arith, few_from [] parts (omega arith) (kept_both (rules_after [] parts) last h).0)
+few_statements parts finish h = grind (arith, few_from, kept_both)

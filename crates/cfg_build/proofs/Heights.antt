@@ -1,7 +1,7 @@
 -- A potential of the blocks of a program: 1, one more for each `if` around a block, and one less at a loop's
 -- header. Two blocks are paid by each turn.
 use Rattle.std.proofs.Common.{ℕ, zero, suc, ◌+◌, ◌-◌, ◌*◌, ◌≡◌, ◌<◌, ◌≤◌, List, [], ◌∷◌, ◌++◌, length, Option}
-use Rattle.std.proofs.Common.{Some, None, refl, sym, subst, arith}
+use Rattle.std.proofs.Common.{refl, sym, subst, arith}
 use Rattle.std.specs.List.{sum_by}
 use Rattle.std.proofs.lemmas.List.{length-append}
 use Rattle.std.proofs.lemmas.List.Sums.{sum_by-cons}
@@ -29,22 +29,9 @@ length_heights Nothing d = refl
 length_heights (Then (Do a) more) d = length_heights more d
 length_heights (Then (Call x f ts) more) d = omega (arith, length_heights more d)
 length_heights (Then (If t a b) more) d =
-    let xs = heights a (suc d) in let ys = heights b (suc d) in let zs = heights more d in
-    omega (
-      arith,
-      length-append xs (ys ++ zs),
-      length-append ys zs,
-      length_heights a (suc d),
-      length_heights b (suc d),
-      length_heights more d,
-    )
+    grind (arith, length-append, length_heights a (suc d), length_heights b (suc d), length_heights more d)
 length_heights (Then (While t body) more) d =
-    omega (
-      arith,
-      length-append (heights body d) (heights more d),
-      length_heights body d,
-      length_heights more d,
-    )
+    grind (arith, length-append, length_heights body d, length_heights more d)
 
 abbrev all_heights : List Proc → List ℕ
 all_heights [] = []
@@ -62,25 +49,18 @@ Both P (h ∷ hs) (x ∷ xs) = P h x × Both P hs xs
 
 both_more : {A : Type 0} (P : ℕ → A → Type 0) (hs ks : List ℕ) (xs ys : List A) → Both P hs xs → Both P ks ys
     → Both P (hs ++ ks) (xs ++ ys)
-both_more P [] ks [] ys h i = i
-both_more P [] ks (x ∷ xs) ys h i = absurd h
-both_more P (n ∷ hs) ks [] ys h i = absurd h
 both_more P (n ∷ hs) ks (x ∷ xs) ys h i = (h.0, both_more P hs ks xs ys h.1 i)
+both_more P hs ks xs ys h i = grind arith
 
 both_at : {A : Type 0} (P : ℕ → A → Type 0) (none : A) (hs : List ℕ) (xs : List A) → Both P hs xs → (k : ℕ)
     → k < length xs → P (or_else (nth hs k) 0) (or_else (nth xs k) none)
-both_at P none [] [] h k lt = absurd (omega arith)
-both_at P none [] (x ∷ xs) h k lt = absurd h
-both_at P none (n ∷ hs) [] h k lt = absurd h
-both_at P none (n ∷ hs) (x ∷ xs) h zero lt = h.0
 both_at P none (n ∷ hs) (x ∷ xs) h (suc k) lt = both_at P none hs xs h.1 k (omega arith)
+both_at P none hs xs h k lt = grind arith
 
 both_spots : (P : ℕ → Block → Type 0) (home vars : ℕ) (hs : List ℕ) (xs : List Block) → Both P hs xs
     → Both (λ n (s : Spot). P n s.block) hs (spots_in home vars xs)
-both_spots P home vars [] [] h = tt
-both_spots P home vars [] (x ∷ xs) h = absurd h
-both_spots P home vars (n ∷ hs) [] h = absurd h
 both_spots P home vars (n ∷ hs) (x ∷ xs) h = (h.0, both_spots P home vars hs xs h.1)
+both_spots P home vars hs xs h = grind arith
 
 -- in this graph, with these heights
 module _ (g : Graph) (all : List ℕ) (entries : (f : ℕ) → height_in all (entry_of g f) ≤ 1) where
@@ -91,11 +71,8 @@ module _ (g : Graph) (all : List ℕ) (entries : (f : ℕ) → height_in all (en
   HeightsAt b hs = StandAt (height_in all) (length all) b hs
 
   first_height : (st : Steps) (c d : ℕ) → HeightsAt c (heights st d) → height_in all c ≡ suc d
-  first_height Nothing c d h = h.1
   first_height (Then (Do a) more) c d h = first_height more c d h
-  first_height (Then (Call x f ts) more) c d h = h.1
-  first_height (Then (If t a b) more) c d h = h.1
-  first_height (Then (While t body) more) c d h = h.1
+  first_height st c d h = h.1
 
   heights_front : (st : Steps) (c d : ℕ) (hs : List ℕ) → HeightsAt c (heights st d ++ hs)
       → HeightsAt c (heights st d)
@@ -103,8 +80,7 @@ module _ (g : Graph) (all : List ℕ) (entries : (f : ℕ) → height_in all (en
 
   heights_back : (st : Steps) (c d : ℕ) (hs : List ℕ) → HeightsAt c (heights st d ++ hs)
       → HeightsAt (suc (c + begun st)) hs
-  heights_back st c d hs h = stand_back (height_in all) (length all) c (suc (c + begun st)) (heights st d) hs
-      (omega (arith, length_heights st d)) h
+  heights_back st c d hs h = grind (arith, stand_back, length_heights st d)
 
   -- a block goes on to one that is lower
   goes_on : (h c : ℕ) → height_in all c < h → Paid h (block (goes_to c))
@@ -115,12 +91,8 @@ module _ (g : Graph) (all : List ℕ) (entries : (f : ℕ) → height_in all (en
   in_turn h exit le = omega (arith, sum_by-cons turns_of (Tick 1) [], le)
 
   acts_more : (h : ℕ) (a : Action) (m : BlockRest) → Paid h (block m) → Paid h (block (ticked (op a) m))
-  acts_more h a m paid = omega (
-    arith,
-    sum_by-cons turns_of (Tick 1) (op a ∷ m.ops),
-    sum_by-cons turns_of (op a) m.ops,
-    paid,
-  )
+  acts_more h a m paid =
+      grind (arith, sum_by-cons turns_of (Tick 1) (op a ∷ m.ops), sum_by-cons turns_of (op a) m.ops)
 
   -- the blocks of steps, of which the last one ends with `rest`
   made_paid : (st : Steps) (c d : ℕ) (rest : BlockRest) → HeightsAt c (heights st d)
@@ -132,10 +104,8 @@ module _ (g : Graph) (all : List ℕ) (entries : (f : ℕ) → height_in all (en
           → Both Paid hs (whole (made (Then (Do a) more) c rest))
       first_more [] i = absurd i
       first_more (n ∷ hs) i = (acts_more n a (made more c rest).front i.0, i.1)
-  made_paid (Then (Call x f ts) more) c d rest h last = (
-    in_turn (suc d) (graph.Call x f (ts) (suc c)) (omega (arith, entries f, first_height more (suc c) d h.2)),
-    made_paid more (suc c) d rest h.2 last,
-  )
+  made_paid (Then (Call x f ts) more) c d rest h last =
+      grind (arith, in_turn, first_height, made_paid more (suc c) d rest h.2 last)
   made_paid (Then (If t a b) more) c d rest h last =
       let second = suc (suc c + begun a) in let join = suc (second + begun b) in
       let hb = heights b (suc d) in let hm = heights more d in
@@ -169,8 +139,7 @@ module _ (g : Graph) (all : List ℕ) (entries : (f : ℕ) → height_in all (en
       )
 
   last_paid : (r : Option graph.Term) → Paid 1 (block (last_part r))
-  last_paid None = omega arith
-  last_paid (Some t) = in_turn 1 (graph.Return t) (omega arith)
+  last_paid r = grind (arith, in_turn)
 
   procs_paid : (home : ℕ) (ps : List Proc) (c : ℕ) → HeightsAt c (all_heights ps)
       → Both (λ n (s : Spot). Paid n s.block) (all_heights ps) (proc_spots home ps c)
@@ -190,17 +159,13 @@ module _ (all : List ℕ) (low : height_in all 0 ≤ 1) where
   entries_low : (ps : List Proc) (c : ℕ) → StandAt (height_in all) (length all) c (all_heights ps) → (f : ℕ)
       → height_in all (entry_from c (procs ps c) f) ≤ 1
   entries_low [] c h f = low
-  entries_low (p ∷ ps) c h zero = let e =
-      first_height_of p.body c (stand_front (height_in all) (length all) c (heights p.body 0) (all_heights ps)
-      h) in omega (arith, e)
+  entries_low (p ∷ ps) c h zero = let e = first_height_of p.body c (stand_front (height_in all) (length all) c
+      (heights p.body 0) (all_heights ps) h) in omega (arith, e)
     where
       first_height_of : (st : Steps) (c : ℕ) → StandAt (height_in all) (length all) c (heights st 0)
           → height_in all c ≡ 1
-      first_height_of Nothing c h = h.1
       first_height_of (Then (Do a) more) c h = first_height_of more c h
-      first_height_of (Then (Call x f ts) more) c h = h.1
-      first_height_of (Then (If t a b) more) c h = h.1
-      first_height_of (Then (While t body) more) c h = h.1
+      first_height_of st c h = h.1
   entries_low (p ∷ ps) c h (suc f) =
       let next = suc (c + begun p.body) in
       subst (λ n. height_in all (entry_from n (procs ps next) f) ≤ 1) (sym (proc_end p c))
@@ -212,11 +177,8 @@ lowest [] = omega arith
 lowest (p ∷ ps) = first_of_steps p.body
   where
     first_of_steps : (st : Steps) → or_else (nth (heights st 0 ++ all_heights ps) 0) 0 ≤ 1
-    first_of_steps Nothing = omega arith
     first_of_steps (Then (Do a) more) = first_of_steps more
-    first_of_steps (Then (Call x f ts) more) = omega arith
-    first_of_steps (Then (If t a b) more) = omega arith
-    first_of_steps (Then (While t body) more) = omega arith
+    first_of_steps st = omega arith
 
 pub two_blocks_a_turn : (program : ResolvedProgram) → TwoBlocksATurn (lowered program)
 unfolding spot_at entry_of

@@ -1,9 +1,8 @@
 -- Each number in a lowered block names something of the graph.
-use Rattle.std.proofs.Common.{ℕ, suc, ◌+◌, ◌≡◌, ◌<◌, List, [], ◌∷◌, ◌++◌, length, Option, Some, None, refl}
-use Rattle.std.proofs.Common.{sym, subst, ap, ◌∙◌, arith}
+use Rattle.std.proofs.Common.{ℕ, suc, ◌+◌, ◌≡◌, ◌<◌, List, [], ◌∷◌, ◌++◌, length, Option, refl, sym, subst}
+use Rattle.std.proofs.Common.{ap, arith}
 use Rattle.std.specs.List.{AllByRecursion}
-use Rattle.seq_run.specs.Resolved.{Action, Assign, Store, Print, Read, Give, Take, Do, Call, If, While, Steps}
-use Rattle.seq_run.specs.Resolved.{Nothing, Then, Proc, nth_proc}
+use Rattle.seq_run.specs.Resolved.{Action, Do, Call, If, While, Steps, Nothing, Then, Proc, nth_proc}
 use Rattle.seq_run.specs.InRange as source
 use Rattle.seq_run.specs.InRange.{StepsIn}
 use Rattle.cfg_core.specs.Graph as graph
@@ -24,12 +23,7 @@ module _ (g : Graph) (arrays : ℕ) (same : length g.arrays ≡ arrays) where
   terms_in vars ts h = subst (λ n. AllByRecursion (TermIn n vars) ts) (sym same) h
 
   op_in : (vars : ℕ) (a : Action) → source.ActionIn arrays vars a → OpIn (length g.arrays) vars (op a)
-  op_in vars (Assign x t) h = (h.0, term_in vars t h.1)
-  op_in vars (Store a t u) h = ((h.0.0, omega (arith, h.0.1, same)), term_in vars t h.1, term_in vars u h.2)
-  op_in vars (Print t) h = term_in vars t h
-  op_in vars (Read x) h = h
-  op_in vars (Give p x) h = (h.0, h.1)
-  op_in vars (Take p t) h = (h.0, term_in vars t h.1)
+  op_in vars a h = grind (arith, term_in)
 
   -- of a block of the procedure with this number and so many variables
   pub record BlockIn (home vars : ℕ) (x : Block) : Type 0 where
@@ -49,29 +43,15 @@ module _ (g : Graph) (arrays : ℕ) (same : length g.arrays ≡ arrays) where
 
   tests_in : (home vars : ℕ) (t : Term) (b c : ℕ) → TermIn arrays vars t → StaysIn g home b → StaysIn g home c
       → BlockIn home vars (block (leaves (graph.Branch t b c)))
-  tests_in home vars t b c h i j = record {
-    ops = (tt, tt);
-    exit = (term_in vars t h, i, j);
-    earlier = tt;
-    named = refl;
-  }
+  tests_in home vars t b c h i j = grind (arith, term_in)
 
   pub last_in : (home vars : ℕ) (r : Option Term) → source.ResultIn arrays vars r
       → BlockIn home vars (block (last_part r))
-  last_in home vars None h = record { ops = tt; exit = tt; earlier = tt; named = refl }
-  last_in home vars (Some t) h = record {
-    ops = (tt, tt);
-    exit = term_in vars t h;
-    earlier = tt;
-    named = refl;
-  }
+  last_in home vars r h = grind (arith, term_in)
 
   led_in : (home vars : ℕ) (a : Action) (m : Made) → source.ActionIn arrays vars a
       → BlocksIn home vars (whole m) → BlocksIn home vars (whole (led_by (op a) m))
-  led_in home vars a m i h = (
-    record { ops = (tt, (op_in vars a i, h.0.ops)); exit = h.0.exit; earlier = h.0.earlier; named = refl },
-    h.1,
-  )
+  led_in home vars a m i h = grind (arith, op_in)
 
   -- where earlier procedures of the graph have the parameters that calls want
   module _ (home : ℕ) (ps : List Proc) (few : home < length g.procs) (params : (f : ℕ) → f < home
@@ -79,25 +59,16 @@ module _ (g : Graph) (arrays : ℕ) (same : length g.arrays ≡ arrays) where
     calls_in : (vars : ℕ) (x : Option ℕ) (f : ℕ) (ts : List Term) (b : ℕ)
         → source.StepIn arrays ps home vars (Call x f ts) → StaysIn g home b
         → BlockIn home vars (block (leaves (graph.Call x f ts b)))
-    calls_in vars x f ts b h i = record {
-      ops = (tt, tt);
-      exit = (h.0, omega (arith, h.1, few), h.2 ∙ sym (params f h.1), terms_in vars ts h.3, i);
-      earlier = h.1;
-      named = refl;
-    }
+    calls_in vars x f ts b h i = grind (arith, terms_in vars ts h.3)
 
     -- the blocks of steps, of which the last one ends with `rest`
     pub made_in : (vars : ℕ) (st : Steps) (c : ℕ) (rest : BlockRest) → StepsIn arrays ps home vars st
         → HasAt g home vars (suc c) (made st c rest).blocks → BlockIn home vars (block rest)
         → BlocksIn home vars (whole (made st c rest))
     made_in vars Nothing c rest i h r = (r, tt)
-    made_in vars (Then (Do a) more) c rest i h r = led_in home vars a (made more c rest) i.0
-        (made_in vars more c rest i.1 h r)
-    made_in vars (Then (Call x f ts) more) c rest i h r = (
-      calls_in vars x f ts (suc c) i.0 (stays_in home vars (suc c) (block (made more (suc c) rest).front)
-          (made more (suc c) rest).blocks h),
-      made_in vars more (suc c) rest i.1 h.2 r,
-    )
+    made_in vars (Then (Do a) more) c rest i h r = grind (arith, led_in, made_in vars more c rest i.1 h r)
+    made_in vars (Then (Call x f ts) more) c rest i h r =
+        grind (arith, calls_in, stays_in, made_in vars more (suc c) rest i.1 h.2 r)
     made_in vars (Then (If t a b) more) c rest i h r =
         let second = suc (suc c + begun a) in let join = suc (second + begun b) in
         let ma = made a (suc c) (goes_to join) in let mb = made b second (goes_to join) in let mm =
@@ -110,14 +81,11 @@ module _ (g : Graph) (arrays : ℕ) (same : length g.arrays ≡ arrays) where
           tests_in home vars t (suc c) second i.0.0 (stays_in home vars (suc c) (block ma.front)
               (ma.blocks ++ (whole mb ++ whole mm)) h) (stays_in home vars second (block mb.front)
               (mb.blocks ++ whole mm) hb),
-          all_both (BlockIn home vars) (whole ma) (whole mb ++ whole mm)
-              (made_in vars a (suc c) (goes_to join) i.0.1
-              (front g home vars (suc c) (whole ma) (whole mb ++ whole mm) h).2
-              (goes_in home vars join at_join))
-              (all_both (BlockIn home vars) (whole mb) (whole mm)
-              (made_in vars b second (goes_to join) i.0.2 (front g home vars second (whole mb) (whole mm)
-              hb).2 (goes_in home vars join at_join))
-              (made_in vars more join rest i.1 hm.2 r)),
+          all_both (BlockIn home vars) (whole ma) (whole mb ++ whole mm) (made_in vars a (suc c) (goes_to
+              join) i.0.1 (front g home vars (suc c) (whole ma) (whole mb ++ whole mm) h).2 (goes_in home
+              vars join at_join)) (all_both (BlockIn home vars) (whole mb) (whole mm) (made_in vars b
+              second (goes_to join) i.0.2 (front g home vars second (whole mb) (whole mm) hb).2 (goes_in
+              home vars join at_join)) (made_in vars more join rest i.1 hm.2 r)),
         )
     made_in vars (Then (While t body) more) c rest i h r =
         let inside = suc (suc c) in let after = suc (inside + begun body) in

@@ -13,7 +13,7 @@ use Rattle.seq_run.specs.Resolved.{calls_below}
 use Rattle.seq_run.specs.Resolving as resolving
 use Rattle.seq_run.specs.InRange.{ProgramIn}
 use Rattle.seq_run.specs.TurnsLeft.{AtMost}
-use Rattle.cfg_core.specs.Graph.{Graph, GraphProc, proc_at, entry_of}
+use Rattle.cfg_core.specs.Graph.{Graph, proc_at, entry_of}
 use Rattle.cfg_core.specs.Walk.{Frame, Config, At, Over, Going, IsOver, entered, opening, cells_of}
 use Rattle.cfg_build.specs.Lowered.{last_part, made, proc_blocks, arrays, lowered}
 use Rattle.cfg_build.specs.Keeps.{KeepsRun}
@@ -34,15 +34,13 @@ NamesArePlaces = (parts : List Part) (world : World) (turns : ℕ) → meaning.r
 cells_same : (names : List (List ℕ)) (lengths : List ℕ) → length names ≡ length lengths
     → cells_of (arrays names lengths) ≡ empty_cells lengths
 cells_same [] [] e = refl
-cells_same [] (n ∷ ns) e = absurd (omega (arith, e))
-cells_same (x ∷ xs) [] e = absurd (omega (arith, e))
 cells_same (x ∷ xs) (n ∷ ns) e = ap (λ rows. zeros n ∷ rows) (cells_same xs ns (omega (arith, e)))
+cells_same names lengths e = absurd (omega (arith, e))
 
 by_number : (g : Graph) (b : Bool) (o u : CallEnd) (c : Config) (fs : List Frame)
     → (b ≡ true → FollowsCall g o c fs) → (b ≡ false → FollowsCall g u c fs)
     → FollowsCall g (if b then o else u) c fs
-by_number g true o u c fs h i = h refl
-by_number g false o u c fs h i = i refl
+by_number g b o u c fs h i = grind arith
 
 -- how the run of a program shows in its graph
 abbrev end_of : CallEnd → Config
@@ -50,20 +48,16 @@ end_of (Returned v o k) = Over o k
 end_of (Stopped o) = Going o
 
 end_over : (e : CallEnd) → IsOver (end_of e)
-end_over (Returned v o k) = tt
-end_over (Stopped o) = tt
+end_over e = grind arith
 
 main_reaches : (g : Graph) (e : CallEnd) (c : Config) → FollowsCall g e c [] → Reaches g c (end_of e)
-main_reaches g (Returned v o k) c h = h
-main_reaches g (Stopped o) c h = h
+main_reaches g e c h = grind arith
 
 returns_only : (e : CallEnd) (o : Outside) → end_of e ≡ Over o 0 → (v : ℕ) × (e ≡ Returned v o 0)
-returns_only (Returned v u k) o p = (v, cc)
-returns_only (Stopped u) o p = absurd (cc)
+returns_only e o p = grind arith
 
 stops_only : (e : CallEnd) (o : Outside) → end_of e ≡ Going o → e ≡ Stopped o
-stops_only (Returned v u k) o p = absurd (cc)
-stops_only (Stopped u) o p = cc
+stops_only e o p = grind arith
 
 module _ (grow : TurnsNeverGrow) (program : ResolvedProgram) (fit : ProgramIn program) where
   -- a call of a procedure, on variables that begin with its arguments
@@ -89,13 +83,7 @@ module _ (grow : TurnsNeverGrow) (program : ResolvedProgram) (fit : ProgramIn pr
   -- the variables at the entry of a procedure of the graph
   entered_is : (n : ℕ) → n < length program.procs → (args : List ℕ) → entered (proc_at (lowered program) n)
       args ≡ args ++ zeros (nth_proc program.procs n).locals
-  entered_is n lt args =
-      let p = nth_proc program.procs n in
-      ap (λ (q : GraphProc). entered q args) (proc_is program n lt) ∙ ap (λ (m : ℕ). args ++ zeros m)
-      (rest_of_sum p.params p.locals)
-    where
-      rest_of_sum : (a b : ℕ) → a + b - a ≡ b
-      rest_of_sum a b = omega arith
+  entered_is n lt args = grind (arith, proc_is)
 
   follow_calls : (n : ℕ) → n ≤ length program.procs → CallsFollow (lowered program) n
       (calls_below n program.procs)
@@ -115,10 +103,7 @@ module _ (grow : TurnsNeverGrow) (program : ResolvedProgram) (fit : ProgramIn pr
   -- main begins on zeros
   zeros_is : (n : ℕ) → n < length program.procs → (nth_proc program.procs n).params ≡ 0
       → zeros (proc_at (lowered program) n).vars ≡ [] ++ zeros (nth_proc program.procs n).locals
-  zeros_is n lt e =
-      let p = nth_proc program.procs n in
-      let few : p.params + p.locals ≡ p.locals = omega (arith, e) in
-      ap (λ (q : GraphProc). zeros q.vars) (proc_is program n lt) ∙ ap zeros few
+  zeros_is n lt e = grind (arith, proc_is)
 
   follow_main : (world : World) (k : ℕ) → Reaches (lowered program) (opening (lowered program) world k)
       (end_of (run program world k))

@@ -58,11 +58,8 @@ module _ (all : List (Option ℕ)) where
   LabelsAt b ls = StandAt (label_in all) (length all) b ls
 
   pub first_label : (st : Steps) (c : ℕ) (l : Option ℕ) → LabelsAt c (labels st c l) → label_in all c ≡ l
-  first_label Nothing c l h = h.1
   first_label (Then (Do a) more) c l h = first_label more c l h
-  first_label (Then (Call x f ts) more) c l h = h.1
-  first_label (Then (If t a b) more) c l h = h.1
-  first_label (Then (While t body) more) c l h = h.1
+  first_label st c l h = h.1
 
   pub labels_front : (st : Steps) (c : ℕ) (l : Option ℕ) (ls : List (Option ℕ))
       → LabelsAt c (labels st c l ++ ls) → LabelsAt c (labels st c l)
@@ -70,5 +67,4 @@ module _ (all : List (Option ℕ)) where
 
   pub labels_back : (st : Steps) (c : ℕ) (l : Option ℕ) (ls : List (Option ℕ))
       → LabelsAt c (labels st c l ++ ls) → LabelsAt (suc (c + begun st)) ls
-  labels_back st c l ls h = stand_back (label_in all) (length all) c (suc (c + begun st)) (labels st c l) ls
-      (omega (arith, length_labels st c l)) h
+  labels_back st c l ls h = grind (arith, stand_back, length_labels st c l)

@@ -1,11 +1,10 @@
 -- Lists that the code fills, one item after another.
-use Rattle.std.proofs.Common.{◌≡◌, ℕ, zero, suc, ◌+◌, ◌<◌, ◌^◌, List, [], ◌∷◌, ◌++◌, length, map, drop}
-use Rattle.std.proofs.Common.{slice_index_or, Some, refl, sym, ap, ◌∙◌, arith}
+use Rattle.std.proofs.Common.{◌≡◌, ℕ, suc, ◌+◌, ◌<◌, ◌^◌, List, [], ◌∷◌, ◌++◌, length, map, drop}
+use Rattle.std.proofs.Common.{slice_index_or, Some, refl, ap, arith}
 use Rattle.std.proofs.lemmas.List.{drop_more}
 use Rattle.std.specs.List.{AllByRecursion}
 use Rattle.seq_run.specs.View as source
 use Rattle.seq_run.specs.declared.tree.ArrayShape.{ArrayShape}
-use Rattle.cfg_core.specs.Graph as graph
 use Rattle.cfg_core.specs.View as view
 use Rattle.cfg_core.specs.declared.blocks.GraphArray.{GraphArray}
 use Rattle.cfg_build.specs.Building.{LengthFits}
@@ -19,24 +18,17 @@ map_more f (y ∷ xs) x ys = ap (λ zs. f y ∷ zs) (map_more f xs x ys)
 -- the views of an item more, where it was the first of those to come
 pub one_more : {A B : Type 0} (f : A → B) (list now : List A) (made : A) (left rest all : List B)
     → now ≡ list ++ made ∷ [] → left ≡ f made ∷ rest → map f list ++ left ≡ all → map f now ++ rest ≡ all
-one_more f list now made left rest all en is h = ap (λ xs. map f xs ++ rest) en ∙ map_more f list made rest
-    ∙ ap (λ ys. map f list ++ ys) (sym is) ∙ h
+one_more f list now made left rest all en is h = grind (arith, map_more)
 
 -- the arrays to come
 pub next_array : (ss : List ArrayShape) (i : ℕ) (s : ArrayShape) (made : GraphArray) → i < length ss
     → s ≡ slice_index_or ss i s → view.array made ≡ record { name = Some s.name; length = s.length }
     → lowered.arrays (source.names (drop i ss)) (source.lengths (drop i ss)) ≡ view.array made
     ∷ lowered.arrays (source.names (drop (i + 1) ss)) (source.lengths (drop (i + 1) ss))
-next_array ss i s made lt is same =
-    let rest = lowered.arrays (source.names (drop (i + 1) ss)) (source.lengths (drop (i + 1) ss)) in
-    ap (λ (us : List ArrayShape). lowered.arrays (source.names us) (source.lengths us)) (drop_more ss i s lt)
-    ∙ ap (λ (u : ArrayShape). record { name = Some u.name; length = u.length } ∷ rest) (sym is)
-    ∙ ap (λ (a : graph.GraphArray). a ∷ rest) (sym same)
+next_array ss i s made lt is same = grind (arith, drop_more)
 
 -- the length of each array fits into 32 bits
 pub length_few : (ss : List ArrayShape) (i : ℕ) (s : ArrayShape) → i < length ss → s ≡ slice_index_or ss i s
     → AllByRecursion LengthFits (source.lengths ss) → s.length < 2 ^ 32
-length_few [] i s lt is h = absurd (omega arith)
-length_few (x ∷ ss) zero s lt is h = let e : s.length ≡ x.length = ap (λ (y : ArrayShape). y.length) is in
-    omega (arith, e, h.0)
 length_few (x ∷ ss) (suc i) s lt is h = length_few ss i s (omega arith) is h.1
+length_few ss i s lt is h = grind arith

@@ -1,5 +1,5 @@
 -- What the graph of a program has, where it is the lowered graph of the program with numbers for names.
-use Rattle.std.proofs.Common.{◌≡◌, ℕ, suc, ◌+◌, length, true, List, [], ◌∷◌, Some, refl, sym, ap, ◌∙◌, subst}
+use Rattle.std.proofs.Common.{◌≡◌, ℕ, suc, ◌+◌, length, true, List, [], ◌∷◌, refl, sym, ap, ◌∙◌, subst, arith}
 use Rattle.std.specs.List.{AllByRecursion}
 use Rattle.ws_words.specs.Outside.{World, Outside}
 use Rattle.src_ast.specs.declared.lexeme.Name.{Name}
@@ -7,7 +7,7 @@ use Rattle.src_ast.specs.Syntax.{Procedure, Part, Array, Proc}
 use Rattle.src_ast.specs.declared.lexeme.Place.{Place}
 use Rattle.src_ast.specs.Rules.{IsAccepted}
 use Rattle.src_ast.specs.Bound.{widest}
-use Rattle.src_ast.specs.Meaning.{scope_of, arrays_of as names_of_arrays, procs_of, names_of}
+use Rattle.src_ast.specs.Meaning.{scope_of, procs_of}
 use Rattle.seq_run.specs.Resolved.{ResolvedProgram}
 use Rattle.seq_run.specs.Resolving as resolving
 use Rattle.seq_run.specs.InRange.{ProgramIn}
@@ -30,8 +30,7 @@ use Rattle.cfg_build.proofs.Shaped.{is_shaped, is_first_form}
 
 arrays_are : (parts : List Part) → (lowered (resolving.program parts)).arrays ≡ arrays_of parts
 arrays_are [] = refl
-arrays_are (Array name size at ∷ parts) = ap (λ xs. record { name = Some name.text; length = size } ∷ xs)
-    (arrays_are parts)
+arrays_are (Array name size at ∷ parts) = grind (arith, arrays_are parts)
 arrays_are (Proc p ∷ parts) = arrays_are parts
 
 none_hidden : (parts : List Part) → AllByRecursion (λ a. has_name a ≡ true) (arrays_of parts)
@@ -65,15 +64,13 @@ module _ (parts : List Part) (program : ResolvedProgram) (g : Graph)
   is_lowered = made ∙ ap lowered same
 
   pub run_kept : TurnsNeverGrow → NamesArePlaces → KeepsRun parts g
-  run_kept grow places = subst (λ (h : Graph). KeepsRun parts h) (sym is_lowered)
-      (lowered_keeps_run grow places parts (subst (λ (p : ResolvedProgram). ProgramIn p) same fit))
+  run_kept grow places = grind (arith, is_lowered, lowered_keeps_run)
 
   pub arrays_kept : g.arrays ≡ arrays_of parts
   arrays_kept = ap (λ (h : Graph). h.arrays) is_lowered ∙ arrays_are parts
 
   pub rooms_kept : rooms_in g.procs ≡ rooms_of (procs_of parts)
-  rooms_kept = ap (λ (h : Graph). rooms_in h.procs) is_lowered ∙ rooms_are (names_of_arrays parts)
-      (names_of (procs_of parts)) (procs_of parts) 0
+  rooms_kept = grind (arith, is_lowered, rooms_are)
 
   pub rules_kept : IsGraph g
   rules_kept = subst (λ (h : Graph). IsGraph h) (sym made) (is_graph program fit)
@@ -94,10 +91,7 @@ module _ (parts : List Part) (program : ResolvedProgram) (g : Graph)
   size_kept = subst (λ (h : Graph). IsSized (procs_of parts) h) (sym is_lowered) (is_sized parts)
 
   pub small_kept : (finish : Place) → IsAccepted parts finish → IsSmall parts g
-  small_kept finish accepted =
-      subst (λ (h : Graph). IsSmall parts h) (sym is_lowered)
-      (is_small parts (subst (λ (p : ResolvedProgram). ProgramIn p) same fit) (arrays_are parts)
-      (few_arrays parts finish accepted) (few_statements parts finish accepted))
+  small_kept finish accepted = grind (arith, is_lowered, is_small, arrays_are, few_arrays, few_statements)
 
   none : NoneHidden g.arrays
   none = subst (λ (xs : List GraphArray). NoneHidden xs) (sym arrays_kept) (none_hidden parts)

@@ -1,6 +1,6 @@
 -- Items at their places in a list.
-use Rattle.std.proofs.Common.{ℕ, zero, suc, ◌+◌, ◌≡◌, ◌<◌, List, [], ◌∷◌, ◌++◌, length, refl, sym, ap, ◌∙◌}
-use Rattle.std.proofs.Common.{subst, arith}
+use Rattle.std.proofs.Common.{ℕ, suc, ◌+◌, ◌≡◌, ◌<◌, List, [], ◌∷◌, ◌++◌, length, refl, sym, ap, ◌∙◌, subst}
+use Rattle.std.proofs.Common.{arith}
 use Rattle.std.proofs.lemmas.List.{append_assoc, length-append}
 use Rattle.std.specs.List.{AllByRecursion}
 use Rattle.ws_words.specs.Items.{nth, or_else}
@@ -56,9 +56,8 @@ each_both P b c (x ∷ xs) ys e h i = (h.0, each_both P (suc b) c xs ys (omega (
 -- what holds of each item, and of the one past the end, holds at each place
 pub each_nth : {A : Type 0} (P : ℕ → A → Type 0) (none : A) → ((n : ℕ) → P n none) → (xs : List A) (b k c : ℕ)
     → c ≡ k + b → Each P b xs → P c (or_else (nth xs k) none)
-each_nth P none past [] b k c e h = past c
-each_nth P none past (x ∷ xs) b zero c e h = let z : b ≡ c = omega (arith, e) in subst (λ n. P n x) z h.0
 each_nth P none past (x ∷ xs) b (suc k) c e h = each_nth P none past xs (suc b) k c (omega (arith, e)) h.1
+each_nth P none past xs b k c e h = grind arith
 
 -- what each item has, whatever its number
 pub each_all : {A : Type 0} (P : ℕ → A → Type 0) (Q : A → Type 0) → ((n : ℕ) (x : A) → P n x → Q x)

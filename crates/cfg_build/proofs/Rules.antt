@@ -1,12 +1,9 @@
 -- Lowered graphs keep the rules of graphs.
-use Rattle.std.proofs.Common.{ℕ, suc, ◌+◌, ◌≡◌, ◌<◌, ◌⊎◌, true, List, [], ◌∷◌, length, refl, sym, ap, subst}
-use Rattle.std.proofs.Common.{inl, inr, arith}
+use Rattle.std.proofs.Common.{ℕ, suc, ◌+◌, ◌≡◌, ◌<◌, ◌⊎◌, true, List, [], ◌∷◌, length, ap, subst, arith}
 use Rattle.std.specs.List.{AllByRecursion}
 use Rattle.seq_run.specs.Resolved.{Proc, nth_proc, ResolvedProgram}
 use Rattle.seq_run.specs.InRange.{ProcIn, ProgramIn}
-use Rattle.cfg_core.specs.Graph.{Op, Assign, Store, Print, Read, Give, Take, Choose, Tick, TickBy, Exit, Goto}
-use Rattle.cfg_core.specs.Graph.{Branch, Call, Return, Send, Stop, Block, GraphProc, Graph, Spot, spots}
-use Rattle.cfg_core.specs.Graph.{spots_in, block_at, proc_at}
+use Rattle.cfg_core.specs.Graph.{Op, Exit, Block, GraphProc, Graph, Spot, spots, spots_in, block_at, proc_at}
 use Rattle.cfg_core.specs.Rules.{Leads, Lands, ChoosesBare, CallsEarlier, calls, has_tick, has_turn, Quiet}
 use Rattle.cfg_core.specs.Rules.{one, more, ProcNumbers, BlockNumbers, IsGraph}
 use Rattle.cfg_build.specs.Lowered.{begun, last_part, proc_blocks, arrays, procs, lowered}
@@ -20,29 +17,15 @@ use Rattle.cfg_build.proofs.InRange.{BlockIn, made_in, last_in}
 use Rattle.ws_words.proofs.Lists.{all_append as all_both, all_with as all_have}
 use Rattle.cfg_core.proofs.Turns.{has_tick_turns as turns}
 use Rattle.cfg_core.proofs.Forward.{starts_quiet}
-use Rattle.ws_words.specs.Items.{Distinct}
 use Rattle.ws_words.proofs.Bools.{no_both}
 
 -- Of an operation or an exit of the first form.
 
 lands : (g : Graph) (exit : Exit) → IsFirstExit exit → Lands g exit
-lands g (Goto b) h = tt
-lands g (Branch t a b) h = tt
-lands g (Call x f ts b) h = tt
-lands g (Return t) h = tt
-lands g (Send t ts ls) h = absurd h
-lands g Stop h = tt
+lands g exit h = grind arith
 
 bare_op : (o : Op) → IsFirstOp o → ChoosesBare o
-bare_op (Assign x t) h = tt
-bare_op (Store a t u) h = tt
-bare_op (Print t) h = tt
-bare_op (Read x) h = tt
-bare_op (Give p x) h = tt
-bare_op (Take p t) h = tt
-bare_op (Choose x t a b) h = absurd h
-bare_op (Tick n) h = tt
-bare_op (TickBy t n m) h = absurd h
+bare_op o h = grind arith
 
 -- No cycle without a turn.
 
@@ -50,41 +33,25 @@ module _ (g : Graph) (only_on : (b c : ℕ) → Leads (block_at g b).exit c
     → (b < c) ⊎ (has_turn (block_at g c).ops ≡ true)) where
   forward : (b c : ℕ) → Quiet g b c → (b < c) ⊎ (has_turn (block_at g c).ops ≡ true)
   forward b c (one _ _ h l) = only_on b c l
-  forward b c (more _ d _ q h l) = elim (forward b d q) [
-    | inl lt ↦ elim (only_on d c l) [ inl lu ↦ inl (omega arith) | inr t ↦ inr t ]
-    | inr t ↦ absurd (no_both t h)
-  ]
+  forward b c (more _ d _ q h l) = grind (arith, no_both, forward b d q)
 
   no_quiet_cycle : (b : ℕ) → Quiet g b b → ⊥
-  no_quiet_cycle b q = elim (forward b b q) [
-    | inl lt ↦ omega arith
-    | inr t ↦
-        no_both t (starts_quiet g b b q)
-  ]
+  no_quiet_cycle b q = grind (arith, forward, no_both, starts_quiet)
 
 on_or_turns : (program : ResolvedProgram) (b c : ℕ) → Leads (block_at (lowered program) b).exit c
     → (b < c) ⊎ (has_turn (block_at (lowered program) c).ops ≡ true)
-on_or_turns program b c l = elim ((fine_at program b).on c l) [
-  | inl lt ↦ inl lt
-  | inr back ↦
-      inr (turns (block_at (lowered program) c).ops back.1.ticks)
-]
+on_or_turns program b c l = grind (arith, fine_at, turns)
 
 -- Each number names something.
 
 count_arrays : (names : List (List ℕ)) (lengths : List ℕ) → length names ≡ length lengths
     → length (arrays names lengths) ≡ length lengths
-count_arrays [] [] e = refl
-count_arrays [] (n ∷ lengths) e = absurd (omega (arith, e))
-count_arrays (x ∷ names) [] e = absurd (omega (arith, e))
 count_arrays (x ∷ names) (n ∷ lengths) e = ap suc (count_arrays names lengths (omega (arith, e)))
+count_arrays names lengths e = grind arith
 
 procs_numbered : (ps : List Proc) (c : ℕ) → AllByRecursion ProcNumbers (procs ps c)
 procs_numbered [] c = tt
-procs_numbered (p ∷ ps) c = (
-  record { some_block = omega arith; params = omega arith },
-  procs_numbered ps (suc (c + begun p.body)),
-)
+procs_numbered (p ∷ ps) c = grind (arith, procs_numbered ps (suc (c + begun p.body)))
 
 module _ (g : Graph) (count : ℕ) (same : length g.arrays ≡ count) (all : List Proc)
     (params : (f : ℕ) → f < length all → (proc_at g f).params ≡ (nth_proc all f).params)
@@ -117,12 +84,7 @@ module _ (g : Graph) (count : ℕ) (same : length g.arrays ≡ count) (all : Lis
       (procs_after g home p ps c at))
 
   numbered : (s : Spot) → SpotIn s → BlockNumbers g s
-  numbered s h = record {
-    ops = h.ops;
-    exit = h.exit;
-    named = subst (λ xs. AllByRecursion (λ x. x < s.vars) xs) (sym h.named) tt;
-    once = subst (λ xs. Distinct xs) (sym h.named) tt;
-  }
+  numbered s h = grind arith
 
 pub is_graph : (program : ResolvedProgram) → ProgramIn program → IsGraph (lowered program)
 is_graph program h =

@@ -1,11 +1,10 @@
 -- The shape of lowered graphs.
-use Rattle.std.proofs.Common.{ℕ, suc, ◌+◌, ◌≡◌, List, [], ◌∷◌, Option, Some, None, refl, inl, inr, arith}
-use Rattle.std.specs.List.{AllByRecursion}
+use Rattle.std.proofs.Common.{ℕ, suc, ◌+◌, ◌≡◌, List, [], ◌∷◌, Option, Some, None, inl, inr, arith}
 use Rattle.seq_run.specs.Resolved.{Proc, ResolvedProgram}
 use Rattle.cfg_core.specs.Graph.{Graph, spots, spot_at, block_at, no_spot}
 use Rattle.cfg_build.specs.Lowered.{begun, last_part, lowered}
 use Rattle.cfg_core.specs.Shape.{OnlyFrom, IsShaped}
-use Rattle.cfg_build.specs.Keeps.{IsFirstOp, IsFirstExit, IsFirstForm}
+use Rattle.cfg_build.specs.Keeps.{IsFirstForm}
 use Rattle.cfg_build.proofs.Places.{Each, each_nth, each_all, stand_all}
 use Rattle.cfg_build.proofs.Labels.{all_labels, label_in, LabelsAt, labels_front, labels_back}
 use Rattle.cfg_build.proofs.Stand.{proc_spots, SpotsAt, proc_at_front, procs_after, all_spots_at, then_procs}
@@ -31,20 +30,11 @@ labels_of program = all_labels program.procs 0
 -- each block with its number
 pub each_fine : (program : ResolvedProgram)
     → Each (λ n s. Fine (lowered program) (labels_of program) n s.block) 0 (spots (lowered program))
-each_fine program = procs_fine (lowered program) (labels_of program) 0 program.procs 0 (all_spots_at program)
-    (stand_all (labels_of program) None)
+each_fine program = grind (arith, procs_fine, all_spots_at program, stand_all (labels_of program) None)
 
 no_spot_fine : (g : Graph) (all : List (Option ℕ)) (n : ℕ) → Fine g all n no_spot.block
 unfolding no_spot
-no_spot_fine g all n = record {
-  on = λ d l. absurd l;
-  kept = λ d l. absurd l;
-  apart = λ t m k e. absurd (cc);
-  ops = tt;
-  exit = tt;
-  named = refl;
-  ticks = λ e. absurd (cc);
-}
+no_spot_fine g all n = grind arith
 
 pub fine_at : (program : ResolvedProgram) (b : ℕ) → Fine (lowered program) (labels_of program) b
     (block_at (lowered program) b)
@@ -56,8 +46,7 @@ fine_at program b =
 
 only_from : (program : ResolvedProgram) (b c : ℕ) → label_in (labels_of program) c ≡ Some b
     → OnlyFrom (lowered program) b c
-only_from program b c h = λ other edge. elim ((fine_at program other).kept c edge)
-    [ inl e ↦ absurd (cc) | inr e ↦ cc ]
+only_from program b c h = grind (arith, fine_at)
 
 pub is_shaped : (program : ResolvedProgram) → IsShaped (lowered program)
 is_shaped program = record {
@@ -76,12 +65,4 @@ is_shaped program = record {
 }
 
 pub is_first_form : (program : ResolvedProgram) → IsFirstForm (lowered program)
-is_first_form program =
-    let g = lowered program in let all = labels_of program in record {
-      ops = each_all (λ n s. Fine g all n s.block) (λ s. AllByRecursion IsFirstOp s.block.ops)
-          (λ n s f. f.ops) 0 (spots g) (each_fine program);
-      exits = each_all (λ n s. Fine g all n s.block) (λ s. IsFirstExit s.block.exit) (λ n s f. f.exit) 0
-          (spots g) (each_fine program);
-      named = each_all (λ n s. Fine g all n s.block) (λ s. s.block.named ≡ []) (λ n s f. f.named) 0 (spots g)
-          (each_fine program);
-    }
+is_first_form program = grind (arith, each_all, each_fine program)

@@ -1,10 +1,10 @@
 -- The blocks of steps do what the steps do, turn by turn.
-use Rattle.std.proofs.Common.{ℕ, zero, suc, ◌+◌, ◌≡◌, ◌<◌, ◌≤◌, ◌==◌, Bool, true, false, List, [], ◌∷◌, ◌++◌}
-use Rattle.std.proofs.Common.{Option, Some, None, if◌then◌else◌, refl, sym, subst, arith}
+use Rattle.std.proofs.Common.{ℕ, zero, suc, ◌+◌, ◌≡◌, ◌<◌, ◌≤◌, ◌==◌, Bool, List, [], ◌∷◌, ◌++◌, Option}
+use Rattle.std.proofs.Common.{if◌then◌else◌, refl, sym, subst, arith}
 use Rattle.std.proofs.lemmas.List.{append-nil}
-use Rattle.ws_words.specs.Outside.{Act, Outside, ProcState}
-use Rattle.src_ast.specs.Turns.{PartEnd, Ended, Out, and_then, turn, CallEnd, Returned, Stopped, with_result}
-use Rattle.src_ast.specs.Turns.{back_in, ending, loop}
+use Rattle.ws_words.specs.Outside.{Outside, ProcState}
+use Rattle.src_ast.specs.Turns.{PartEnd, Ended, Out, and_then, turn, CallEnd, Returned, Stopped, back_in}
+use Rattle.src_ast.specs.Turns.{ending, loop}
 use Rattle.src_ast.specs.Meaning.{Calls}
 use Rattle.seq_run.specs.Resolved.{Action, Do, Call, If, While, Steps, Nothing, Then, Proc, done, run_all}
 use Rattle.seq_run.specs.Resolved.{finish}
@@ -12,7 +12,6 @@ use Rattle.seq_run.specs.InRange.{StepsIn}
 use Rattle.seq_run.specs.TurnsLeft.{AtMost}
 use Rattle.cfg_core.specs.Graph as graph
 use Rattle.cfg_core.specs.Graph.{Term, Exit, Branch, Graph, Spot, proc_at, entry_of}
-use Rattle.cfg_core.specs.Walk as walks
 use Rattle.cfg_core.specs.Walk.{Frame, Config, At, Going, value_of, values_of, run_ops, entered, returned}
 use Rattle.cfg_core.specs.Walk.{leave, passed, step, walk}
 use Rattle.cfg_build.specs.Lowered.{BlockRest, Made, op, ticked, leaves, goes_to, last_part, begun, whole}
@@ -59,42 +58,34 @@ module _ (g : Graph) where
   pub at_whole : (home vars b : ℕ) (m : Made) → HasAt g home vars b (whole m)
       → (o : PartEnd) (s : ProcState) (k : ℕ) (q : BlockRest) (fs : List Frame)
       → Follows o (from_part m.front s fs k) q fs → Follows o (At b s fs k) q fs
-  at_whole home vars b m at o s k q fs h =
-      after (At b s fs k) (step g (At b s fs k)) o q fs (1, refl)
-      (subst (λ (x : Spot). Follows o (passed g (run_ops x.block.ops s k) x.block.exit fs) q fs) (sym at.1) h)
+  at_whole home vars b m at o s k q fs h = after (At b s fs k) (step g (At b s fs k)) o q fs (1, refl) (subst
+      (λ (x : Spot). Follows o (passed g (run_ops x.block.ops s k) x.block.exit fs) q fs) (sym at.1) h)
 
   both : (o : PartEnd) (go : ProcState → ℕ → PartEnd) (c : Config) (b : ℕ) (q : BlockRest) (fs : List Frame)
       → Follows o c (goes_to b) fs → ((s : ProcState) (k : ℕ) → Follows (go s k) (At b s fs k) q fs)
       → Follows (and_then o go) c q fs
-  both (Ended s k) go c b q fs h f = after c (At b s fs k) (go s k) q fs h (f s k)
-  both (Out o) go c b q fs h f = h
+  both o go c b q fs h f = grind (arith, after)
 
   -- an action after its turn, then what is left
   acted : (a : Action) (r q : BlockRest) (next : ProcState → ℕ → PartEnd) (fs : List Frame) (s : ProcState)
       → ((j : ℕ) → Follows (next (done a s) j) (from_part r (done a s) fs j) q fs) → (k : ℕ)
       → Follows (and_then (turn k s (λ j. Ended (done a s) j)) next) (from_part (ticked (op a) r) s fs k) q fs
-  acted a r q next fs s f zero = (0, refl)
-  acted a r q next fs s f (suc j) =
-      subst (λ (x : walks.OpsOutcome). Follows (next (done a s) j)
-      (passed g (walks.and_then x (run_ops r.ops)) r.exit fs) q fs) (sym (action_same a s j)) (f j)
+  acted a r q next fs s f k = grind (arith, action_same)
 
   -- an exit after its turn
   left : (exit : Exit) (q : BlockRest) (go : ℕ → PartEnd) (next : ProcState → ℕ → PartEnd) (fs : List Frame)
       (s : ProcState) → ((j : ℕ) → Follows (and_then (go j) next) (leave g exit s fs j) q fs) → (k : ℕ)
       → Follows (and_then (turn k s go) next) (from_part (leaves exit) s fs k) q fs
-  left exit q go next fs s f zero = (0, refl)
-  left exit q go next fs s f (suc j) = f j
+  left exit q go next fs s f k = grind arith
 
   choice : (v : Bool) (o u : PartEnd) (c d : Config) (q : BlockRest) (fs : List Frame) → Follows o c q fs
       → Follows u d q fs → Follows (if v then o else u) (if v then c else d) q fs
-  choice true o u c d q fs h i = h
-  choice false o u c d q fs h i = i
+  choice v o u c d q fs h i = grind arith
 
   choice_then : (v : Bool) (o u : PartEnd) (next : ProcState → ℕ → PartEnd) (c d : Config) (q : BlockRest)
       (fs : List Frame) → Follows (and_then o next) c q fs → Follows (and_then u next) d q fs
       → Follows (and_then (if v then o else u) next) (if v then c else d) q fs
-  choice_then true o u next c d q fs h i = h
-  choice_then false o u next c d q fs h i = i
+  choice_then v o u next c d q fs h i = grind arith
 
   -- a test has the value that it has in the run
   branched : (t : Term) (a b : ℕ) (s : ProcState) (k : ℕ) (o : PartEnd) (q : BlockRest) (fs : List Frame)
@@ -107,13 +98,7 @@ module _ (g : Graph) where
       → FollowsCall e c (record { result = x; back = back; vars = vars } ∷ fs)
       → ((s : ProcState) (k : ℕ) → Follows (next s k) (At back s fs k) q fs)
       → Follows (and_then (back_in vars x e) next) c q fs
-  after_call (Returned v o k) next c vars x back q fs h f =
-      let s : ProcState = record { vars = with_result x v vars; out = o } in
-      after c (At back s fs k) (next s k) q fs
-      (subst (λ (vs : List ℕ). Reaches c (At back (record { vars = vs; out = o }) fs k))
-      (result_same x v vars) h)
-      (f s k)
-  after_call (Stopped o) next c vars x back q fs h f = h
+  after_call e next c vars x back q fs h f = grind (arith, after, result_same)
 
   -- a call, from its exit on
   called : (n : ℕ) (calls : Calls) → CallsFollow n calls → (x : Option ℕ) (f : ℕ) → f < n
@@ -131,8 +116,7 @@ module _ (g : Graph) where
       (fs : List Frame) → AtMost j o → Follows o c (goes_to head) fs
       → ((u : ProcState) (i : ℕ) → i ≤ j → Follows (next u i) (At head u fs i) q fs)
       → Follows (and_then o next) c q fs
-  again (Ended u i) j next c head q fs le h f = after c (At head u fs i) (next u i) q fs h (f u i le)
-  again (Out o) j next c head q fs le h f = h
+  again o j next c head q fs le h f = grind (arith, after)
 
   -- a loop, entered at its header
   looped : (t : Term) (body : ProcState → ℕ → PartEnd) (head inside next : ℕ) (fs : List Frame)
@@ -162,8 +146,7 @@ module _ (g : Graph) where
         → ((s : ProcState) (k : ℕ) (fs : List Frame) → Follows (run_all calls st s k)
         (from_part (made st b rest).front s fs k) rest fs)
         → (s : ProcState) (k : ℕ) (fs : List Frame) → Follows (run_all calls st s k) (At b s fs k) rest fs
-    from_block st b rest at f s k fs = at_whole home vars b (made st b rest) at (run_all calls st s k) s k
-        rest fs (f s k fs)
+    from_block st b rest at f s k fs = grind (arith, at_whole)
 
     -- steps that begin with the front of what is made of them
     pub follow : (st : Steps) (c : ℕ) (rest : BlockRest) → StepsIn arrays procs home vars st
@@ -173,10 +156,9 @@ module _ (g : Graph) where
     follow Nothing c rest fit at s k fs = (0, refl)
     follow (Then (Do a) more) c rest fit at s k fs = acted a (made more c rest).front rest
         (run_all calls more) fs s (λ j. follow more c rest fit.1 at (done a s) j fs) k
-    follow (Then (Call x f ts) more) c rest fit at s k fs =
-        left (graph.Call x f ts (suc c)) rest _ (run_all calls more) fs s
-        (called home calls cf x f fit.0.1 ts (suc c) (run_all calls more) rest fs
-        (λ u i. from_block more (suc c) rest at (follow more (suc c) rest fit.1 at.2) u i fs) s) k
+    follow (Then (Call x f ts) more) c rest fit at s k fs = left (graph.Call x f ts (suc c)) rest _ (run_all
+        calls more) fs s (called home calls cf x f fit.0.1 ts (suc c) (run_all calls more) rest fs (λ u i.
+        from_block more (suc c) rest at (follow more (suc c) rest fit.1 at.2) u i fs) s) k
     follow (Then (If t a b) more) c rest fit at s k fs =
         let second = suc (suc c + begun a) in let join = suc (second + begun b) in
         let wa = whole (made a (suc c) (goes_to join)) in let wb = whole (made b second (goes_to join)) in
@@ -217,11 +199,4 @@ module _ (g : Graph) where
   -- the result of a procedure
   pub finished : (o : PartEnd) (r : Option Term) (c : Config) (fs : List Frame) → Follows o c (last_part r) fs
       → FollowsCall (ending o (finish r)) c fs
-  finished (Ended s k) None c fs h =
-      subst (λ (acts : List Act).
-      Reaches c
-      (returned 0 (record { cells = s.out.cells; input = s.out.input; left = s.out.left; acts = acts }) fs k))
-      (append-nil s.out.acts) h
-  finished (Ended s zero) (Some t) c fs h = h
-  finished (Ended s (suc j)) (Some t) c fs h = h
-  finished (Out o) r c fs h = h
+  finished o r c fs h = grind (arith, left, append-nil)

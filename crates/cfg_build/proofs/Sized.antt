@@ -1,25 +1,22 @@
 -- What the graph of a program measures, and that the turns of its blocks pay for their work.
-use Rattle.std.proofs.Common.{ℕ, suc, ◌+◌, ◌*◌, ◌≡◌, ◌<◌, ◌≤◌, List, [], ◌∷◌, ◌++◌, length, Option, Some}
-use Rattle.std.proofs.Common.{None, refl, sym, ap, ◌∙◌, subst, arith}
+use Rattle.std.proofs.Common.{ℕ, suc, ◌+◌, ◌*◌, ◌≡◌, ◌<◌, ◌≤◌, List, [], ◌∷◌, ◌++◌, length, Option, refl, sym}
+use Rattle.std.proofs.Common.{ap, ◌∙◌, subst, arith}
 use Rattle.std.specs.List.{AllByRecursion, sum_by}
 use Rattle.std.proofs.lemmas.List.Sums.{sum_by-cons}
 use Rattle.std.proofs.Math.Nat.{mul-add}
 use Rattle.std.proofs.lemmas.Nat.{mul-le}
 use Rattle.src_ast.specs.declared.lexeme.Name.{Name}
 use Rattle.src_ast.specs.declared.tree.Unary.{Unary}
-use Rattle.src_ast.specs.declared.tree.Unary.TheVariants.{Flip, Not, Neg}
 use Rattle.src_ast.specs.Syntax as source
 use Rattle.src_ast.specs.Syntax.{Expression, Statement, Statements, Last, Part as Item}
 use Rattle.src_ast.specs.Bound.{nodes, nodes_of, most_nodes_of, ending_nodes, widest, most_variables}
 use Rattle.src_ast.specs.Meaning.{Scope, scope_of, procs_of}
 use Rattle.src_ast.specs.Rules.{statements_in}
-use Rattle.seq_run.specs.Resolved as resolved
 use Rattle.seq_run.specs.Resolved.{Action, Step, Do, Call, If, While, Steps, Nothing, Then, Proc, nth_proc}
 use Rattle.seq_run.specs.Resolving as resolving
 use Rattle.seq_run.specs.InRange.{steps_in, ProgramIn}
-use Rattle.cfg_core.specs.Graph as graph
-use Rattle.cfg_core.specs.Graph.{Term, Tick, Exit, Branch, Return, Block, GraphProc, GraphArray, Spot}
-use Rattle.cfg_core.specs.Graph.{no_spot, spots, spots_in, spot_at}
+use Rattle.cfg_core.specs.Graph.{Term, Tick, Exit, Branch, Block, GraphProc, GraphArray, Spot, no_spot, spots}
+use Rattle.cfg_core.specs.Graph.{spots_in, spot_at}
 use Rattle.cfg_core.specs.Weights.{turns_of, acts_of, jumps_of, term_nodes, op_nodes, exit_nodes, block_nodes}
 use Rattle.cfg_core.specs.Weights.{TurnsPayWork}
 use Rattle.cfg_build.specs.Lowered.{BlockRest, op, begun, block, ticked, leaves, goes_to, last_part, whole}
@@ -38,16 +35,13 @@ use Rattle.cfg_core.proofs.Spots.{each_at}
 -- Nodes of terms are those of expressions.
 
 signed_nodes : (s : Unary) (t : Term) → term_nodes (resolving.signed s t) ≡ suc (term_nodes t)
-signed_nodes Flip t = refl
-signed_nodes Not t = refl
-signed_nodes Neg t = refl
+signed_nodes s t = grind arith
 
 nodes_same : (scope : Scope) (e : Expression) → term_nodes (resolving.term scope e) ≡ nodes e
-nodes_same scope (source.Number n) = refl
-nodes_same scope (source.Variable x) = refl
 nodes_same scope (source.Cell a e) = ap suc (nodes_same scope e)
 nodes_same scope (source.Signed s e) = signed_nodes s (resolving.term scope e) ∙ ap suc (nodes_same scope e)
 nodes_same scope (source.Binary o a b) = omega (arith, nodes_same scope a, nodes_same scope b)
+nodes_same scope e = refl
 
 all_nodes_same : (scope : Scope) (es : List Expression) → sum_by term_nodes (resolving.terms scope es)
     ≡ nodes_of es
@@ -63,22 +57,10 @@ all_nodes_same scope (e ∷ es) =
 -- Four measures: blocks, operations, nodes and turns.
 
 one_block : IsMeasure (λ b. 1) (λ o. 0) (λ exit. 1) 1
-one_block = record {
-  act = λ o p. refl;
-  exit = λ exit. refl;
-  goes = λ b. refl;
-  branch = λ t a b. refl;
-  call = λ x f ts b. refl;
-}
+one_block = grind arith
 
 block_ops : IsMeasure (λ b. length b.ops) (λ o. 2) (λ exit. 1) 0
-block_ops = record {
-  act = λ o p. omega arith;
-  exit = λ exit. refl;
-  goes = λ b. refl;
-  branch = λ t a b. refl;
-  call = λ x f ts b. refl;
-}
+block_ops = grind arith
 
 nodes_measured : IsMeasure block_nodes op_nodes exit_nodes 0
 nodes_measured = record {
@@ -100,54 +82,22 @@ turns_measured = record {
 
 blocks_same : (scope : Scope) (s : Statement) → own_of (λ o. 0) (λ exit. 1) 1 (resolving.one scope s)
     ≡ own_blocks s
-blocks_same scope (source.Assign at x e) = refl
-blocks_same scope (source.Store at a i e) = refl
-blocks_same scope (source.Print at e) = refl
-blocks_same scope (source.Read at x) = refl
-blocks_same scope (source.Give at n q x) = refl
-blocks_same scope (source.Take at n q e) = refl
-blocks_same scope (source.Call at x f es) = refl
-blocks_same scope (source.If at e a b) = refl
-blocks_same scope (source.While at e body) = refl
+blocks_same scope s = grind arith
 
 ops_same : (scope : Scope) (s : Statement) → own_of (λ o. 2) (λ exit. 1) 0 (resolving.one scope s) ≡ own_ops s
-ops_same scope (source.Assign at x e) = refl
-ops_same scope (source.Store at a i e) = refl
-ops_same scope (source.Print at e) = refl
-ops_same scope (source.Read at x) = refl
-ops_same scope (source.Give at n q x) = refl
-ops_same scope (source.Take at n q e) = refl
-ops_same scope (source.Call at x f es) = refl
-ops_same scope (source.If at e a b) = refl
-ops_same scope (source.While at e body) = refl
+ops_same scope s = grind arith
 
 abbrev step_turns : Step → ℕ
 step_turns s = own_of (λ o. suc (turns_of o)) (λ exit. 1) 0 s
 
 turns_same : (scope : Scope) (s : Statement) → step_turns (resolving.one scope s) ≡ 1
-turns_same scope (source.Assign at x e) = refl
-turns_same scope (source.Store at a i e) = refl
-turns_same scope (source.Print at e) = refl
-turns_same scope (source.Read at x) = refl
-turns_same scope (source.Give at n q x) = refl
-turns_same scope (source.Take at n q e) = refl
-turns_same scope (source.Call at x f es) = refl
-turns_same scope (source.If at e a b) = refl
-turns_same scope (source.While at e body) = refl
+turns_same scope s = grind arith
 
 abbrev step_nodes : Step → ℕ
 step_nodes s = own_of op_nodes exit_nodes 0 s
 
 step_nodes_same : (scope : Scope) (s : Statement) → step_nodes (resolving.one scope s) ≡ own_nodes s
-step_nodes_same scope (source.Assign at x e) = nodes_same scope e
-step_nodes_same scope (source.Store at a i e) = omega (arith, nodes_same scope i, nodes_same scope e)
-step_nodes_same scope (source.Print at e) = nodes_same scope e
-step_nodes_same scope (source.Read at x) = refl
-step_nodes_same scope (source.Give at n q x) = refl
-step_nodes_same scope (source.Take at n q e) = nodes_same scope e
-step_nodes_same scope (source.Call at x f es) = all_nodes_same scope es
-step_nodes_same scope (source.If at e a b) = omega (arith, nodes_same scope e)
-step_nodes_same scope (source.While at e body) = omega (arith, nodes_same scope e)
+step_nodes_same scope s = grind (arith, nodes_same, all_nodes_same)
 
 abbrev last_ops : Option Term → ℕ
 last_ops r = length (block (last_part r)).ops
@@ -159,20 +109,13 @@ abbrev last_nodes : Option Term → ℕ
 last_nodes r = block_nodes (block (last_part r))
 
 last_ops_same : (scope : Scope) (r : Option Last) → last_ops (resolving.result scope r) ≡ ending_ops r
-last_ops_same scope None = refl
-last_ops_same scope (Some last) = refl
+last_ops_same scope r = grind arith
 
 last_turns_same : (scope : Scope) (r : Option Last) → last_turns (resolving.result scope r) ≡ ending_ops r
-last_turns_same scope None = refl
-last_turns_same scope (Some last) = refl
+last_turns_same scope r = grind arith
 
 last_nodes_same : (scope : Scope) (r : Option Last) → last_nodes (resolving.result scope r) ≡ result_nodes r
-last_nodes_same scope None = refl
-last_nodes_same scope (Some last) = omega (
-  arith,
-  sum_by-cons op_nodes (Tick 1) [],
-  nodes_same scope last.value,
-)
+last_nodes_same scope r = grind (arith, sum_by-cons, nodes_same)
 
 count_ones : {A : Type 0} (xs : List A) → sum_by (λ (x : A). 1) xs ≡ length xs
 count_ones [] = refl
@@ -235,20 +178,12 @@ narrow most scope (source.Then (source.If at e a b) rest) h = (
   narrow most scope b (omega arith),
   narrow most scope rest (omega arith),
 )
-narrow most scope (source.Then (source.While at e body) rest) h = (
-  omega (arith, nodes_same scope e),
-  narrow most scope body (omega arith),
-  narrow most scope rest (omega arith),
-)
+narrow most scope (source.Then (source.While at e body) rest) h =
+    grind (arith, nodes_same, narrow most scope body (omega arith), narrow most scope rest (omega arith))
 
 last_narrow : (most : ℕ) (scope : Scope) (r : Option Last) → ending_nodes r ≤ most
     → last_nodes (resolving.result scope r) ≤ most + 1
-last_narrow most scope None h = omega arith
-last_narrow most scope (Some last) h = omega (
-  arith,
-  sum_by-cons op_nodes (Tick 1) [],
-  nodes_same scope last.value,
-)
+last_narrow most scope r h = grind (arith, sum_by-cons, nodes_same)
 
 abbrev ProcNarrow : ℕ → Proc → Type 0
 ProcNarrow most p = ProcAtMost step_nodes last_nodes most (most + 1) p
@@ -257,14 +192,8 @@ all_narrow : (most : ℕ) (arrays names : List Name) (parts : List Item) → wid
     → AllByRecursion (ProcNarrow most) (resolving.procs arrays names (procs_of parts))
 all_narrow most arrays names [] h = tt
 all_narrow most arrays names (source.Array x n at ∷ parts) h = all_narrow most arrays names parts h
-all_narrow most arrays names (source.Proc p ∷ parts) h = let scope = scope_of arrays names p in (
-  record {
-    body = narrow most scope p.body (omega arith);
-    result = last_narrow most scope p.ending
-        (omega arith);
-  },
-  all_narrow most arrays names parts (omega arith),
-)
+all_narrow most arrays names (source.Proc p ∷ parts) h =
+    grind (arith, narrow, last_narrow, all_narrow most arrays names parts (omega arith))
 
 -- The turns of a block pay for its work.
 
@@ -274,12 +203,7 @@ module _ (most : ℕ) where
     nodes : block_nodes x ≤ most * sum_by turns_of x.ops + 1
 
   op_works : (a : Action) → (turns_of (op a) ≡ 0) × (acts_of (op a) ≡ 1)
-  op_works (resolved.Assign x t) = (refl, refl)
-  op_works (resolved.Store a t u) = (refl, refl)
-  op_works (resolved.Print t) = (refl, refl)
-  op_works (resolved.Read x) = (refl, refl)
-  op_works (resolved.Give q x) = (refl, refl)
-  op_works (resolved.Take q t) = (refl, refl)
+  op_works a = grind arith
 
   ticked_works : (a : Action) (p : BlockRest) → op_nodes (op a) ≤ most → Works (block p)
       → Works (block (ticked (op a) p))
@@ -295,21 +219,13 @@ module _ (most : ℕ) where
       }
 
   leaves_works : (exit : Exit) → jumps_of exit ≤ 1 → exit_nodes exit ≤ most + 1 → Works (block (leaves exit))
-  leaves_works exit jump le =
-      let t = sum_by-cons turns_of (Tick 1) [] in let a = sum_by-cons acts_of (Tick 1) [] in
-      let n = sum_by-cons op_nodes (Tick 1) [] in
-      let one : sum_by turns_of (Tick 1 ∷ []) ≡ 1 = omega (arith, t) in record {
-        acts = omega (arith, one, a, jump);
-        nodes = omega (arith, n, le, ap (λ n. most * n) one);
-      }
+  leaves_works exit jump le = grind (arith, sum_by-cons)
 
   goes_works : (b : ℕ) → Works (block (goes_to b))
   goes_works b = record { acts = omega arith; nodes = omega arith }
 
   last_works : (r : Option Term) → last_nodes r ≤ most + 1 → Works (block (last_part r))
-  last_works None h = record { acts = omega arith; nodes = omega arith }
-  last_works (Some t) h = leaves_works (Return t) (omega arith)
-      (omega (arith, h, sum_by-cons op_nodes (Tick 1) []))
+  last_works r h = grind (arith, leaves_works, sum_by-cons)
 
   abbrev AllWork : List Block → Type 0
   AllWork xs = AllByRecursion Works xs
@@ -319,18 +235,15 @@ module _ (most : ℕ) where
   made_works Nothing c rest h last = (last, tt)
   made_works (Then (Do a) more) c rest h last = let r = made_works more c rest h.1 last in
       (ticked_works a (made more c rest).front h.0 r.0, r.1)
-  made_works (Then (Call x f ts) more) c rest h last = (
-    leaves_works (graph.Call x f (ts) (suc c)) (omega arith) (omega (arith, h.0)),
-    made_works more (suc c) rest h.1 last,
-  )
+  made_works (Then (Call x f ts) more) c rest h last =
+      grind (arith, leaves_works, made_works more (suc c) rest h.1 last)
   made_works (Then (If t a b) more) c rest h last =
       let second = suc (suc c + begun a) in let join = suc (second + begun b) in
       let wb = whole (made b second (goes_to join)) in let wm = whole (made more join rest) in (
         leaves_works (Branch t (suc c) second) (omega arith) (omega (arith, h.0)),
-        all_both Works (whole (made a (suc c) (goes_to join))) (wb ++ wm)
-            (made_works a (suc c) (goes_to join) h.1 (goes_works join))
-            (all_both Works wb wm (made_works b second (goes_to join) h.2 (goes_works join))
-            (made_works more join rest h.3 last)),
+        all_both Works (whole (made a (suc c) (goes_to join))) (wb ++ wm) (made_works a (suc c) (goes_to
+            join) h.1 (goes_works join)) (all_both Works wb wm (made_works b second (goes_to join) h.2
+            (goes_works join)) (made_works more join rest h.3 last)),
       )
   made_works (Then (While t body) more) c rest h last =
       let inside = suc (suc c) in let after = suc (inside + begun body) in (
@@ -381,42 +294,25 @@ each_few : (own : Step → ℕ) (most : ℕ) → ((s : Step) → own s ≤ most)
 each_few own most h Nothing = tt
 each_few own most h (Then (Do a) rest) = (h (Do a), each_few own most h rest)
 each_few own most h (Then (Call x f ts) rest) = (h (Call x f ts), each_few own most h rest)
-each_few own most h (Then (If t a b) rest) = (
-  h (If t a b),
-  each_few own most h a,
-  each_few own most h b,
-  each_few own most h rest,
-)
-each_few own most h (Then (While t body) rest) = (
-  h (While t body),
-  each_few own most h body,
-  each_few own most h rest,
-)
+each_few own most h (Then (If t a b) rest) =
+    grind (arith, each_few own most h a, each_few own most h b, each_few own most h rest)
+each_few own most h (Then (While t body) rest) =
+    grind (arith, each_few own most h body, each_few own most h rest)
 
 all_few : (own : Step → ℕ) (last : Option Term → ℕ) (most more : ℕ) → ((s : Step) → own s ≤ most)
     → ((r : Option Term) → last r ≤ more) → (ps : List Proc) → AllByRecursion (ProcAtMost own last most more)
     ps
 all_few own last most more h i [] = tt
-all_few own last most more h i (p ∷ ps) = (
-  record { body = each_few own most h p.body; result = i p.result },
-  all_few own last most more h i ps,
-)
+all_few own last most more h i (p ∷ ps) = grind (arith, each_few, all_few own last most more h i ps)
 
 few_blocks : (s : Step) → own_of (λ o. 0) (λ exit. 1) 1 s ≤ 3
-few_blocks (Do a) = omega arith
-few_blocks (Call x f ts) = omega arith
-few_blocks (If t a b) = omega arith
-few_blocks (While t body) = omega arith
+few_blocks s = grind arith
 
 few_ops : (s : Step) → own_of (λ o. 2) (λ exit. 1) 0 s ≤ 2
-few_ops (Do a) = omega arith
-few_ops (Call x f ts) = omega arith
-few_ops (If t a b) = omega arith
-few_ops (While t body) = omega arith
+few_ops s = grind arith
 
 few_last_ops : (r : Option Term) → last_ops r ≤ 1
-few_last_ops None = omega arith
-few_last_ops (Some t) = omega arith
+few_last_ops r = grind arith
 
 few_params : (ps : List Proc) (c : ℕ) → ((n : ℕ) → n < length ps → (nth_proc ps n).params ≤ most_parameters)
     → AllByRecursion (λ (p : GraphProc). p.params ≤ most_parameters) (procs ps c)

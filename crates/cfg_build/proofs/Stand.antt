@@ -1,6 +1,5 @@
 -- Where the blocks of a lowered graph stand, and what holds of each of them.
-use Rattle.std.proofs.Common.{ℕ, zero, suc, ◌+◌, ◌≡◌, ◌<◌, List, [], ◌∷◌, ◌++◌, length, refl, sym, ap, subst}
-use Rattle.std.proofs.Common.{arith}
+use Rattle.std.proofs.Common.{ℕ, suc, ◌+◌, ◌≡◌, ◌<◌, List, [], ◌∷◌, ◌++◌, length, refl, sym, ap, subst, arith}
 use Rattle.std.proofs.lemmas.List.{length-append}
 use Rattle.seq_run.specs.Resolved.{Do, Call, If, While, Steps, Nothing, Then, Proc, nth_proc, ResolvedProgram}
 use Rattle.cfg_core.specs.Graph.{Block, Graph, Spot, spots, spots_in, spots_from, spot_at, proc_at}
@@ -60,43 +59,31 @@ module _ (g : Graph) where
   apart home vars b xs ys h = subst (λ ss. SpotsAt b ss) (spots_both home vars xs ys) h
 
   pub front : (home vars b : ℕ) (xs ys : List Block) → HasAt home vars b (xs ++ ys) → HasAt home vars b xs
-  front home vars b xs ys h = stand_front (spot_at g) (length (spots g)) b (spots_in home vars xs)
-      (spots_in home vars ys) (apart home vars b xs ys h)
+  front home vars b xs ys h = grind (arith, stand_front, apart)
 
   -- after the blocks of steps stand those of what follows
   pub next_at : (home vars : ℕ) (st : Steps) (c : ℕ) (rest : BlockRest) (ys : List Block)
       → HasAt home vars c (whole (made st c rest) ++ ys) → HasAt home vars (suc (c + begun st)) ys
-  next_at home vars st c rest ys h =
-      let xs = whole (made st c rest) in
-      stand_back (spot_at g) (length (spots g)) c (suc (c + begun st)) (spots_in home vars xs)
-      (spots_in home vars ys) (omega (arith, count_spots home vars xs, length_made st c rest))
-      (apart home vars c xs ys h)
+  next_at home vars st c rest ys h = grind (arith, stand_back, count_spots, length_made st c rest, apart)
 
   module _ (home : ℕ) (p : Proc) (ps : List Proc) (c : ℕ) (at : SpotsAt c (proc_spots home (p ∷ ps) c)) where
     pub proc_at_front : HasAt home (p.params + p.locals) c (proc_blocks p c)
-    proc_at_front = stand_front (spot_at g) (length (spots g)) c
-        (spots_in home (p.params + p.locals) (proc_blocks p c))
-        (proc_spots (suc home) ps (suc (c + begun p.body))) at
+    proc_at_front = grind (arith, stand_front)
 
     pub procs_after : SpotsAt (suc (c + begun p.body)) (proc_spots (suc home) ps (suc (c + begun p.body)))
     procs_after =
-        let xs = spots_in home (p.params + p.locals) (proc_blocks p c) in let next = suc (c + begun p.body) in
-        stand_back (spot_at g) (length (spots g)) c next xs (proc_spots (suc home) ps next)
-        (omega (arith, count_spots home (p.params + p.locals) (proc_blocks p c), proc_end p c)) at
+        grind (arith, stand_back, count_spots home (p.params + p.locals) (proc_blocks p c), proc_end p c)
 
   proc_blocks_at : (home : ℕ) (ps : List Proc) (c : ℕ) → SpotsAt c (proc_spots home ps c) → (i n : ℕ)
       → home + i ≡ n → i < length ps →
       let p = nth_proc ps i in let first = entry_from c (procs ps c) i in
       HasAt n (p.params + p.locals) first (proc_blocks p first)
-  proc_blocks_at home [] c at i n is lt = absurd (omega arith)
-  proc_blocks_at home (p ∷ ps) c at zero n is lt =
-      let same : home ≡ n = omega (arith, is) in
-      subst (λ m. HasAt m (p.params + p.locals) c (proc_blocks p c)) same (proc_at_front home p ps c at)
   proc_blocks_at home (p ∷ ps) c at (suc i) n is lt =
       let next = suc (c + begun p.body) in let q = nth_proc ps i in
       subst (λ b. let first = entry_from b (procs ps next) i in HasAt n (q.params + q.locals) first
       (proc_blocks q first)) (sym (proc_end p c))
       (proc_blocks_at (suc home) ps next (procs_after home p ps c at) i n (omega (arith, is)) (omega arith))
+  proc_blocks_at home ps c at i n is lt = grind (arith, proc_at_front)
 
 pub all_spots_at : (program : ResolvedProgram) → SpotsAt (lowered program) 0 (proc_spots 0 program.procs 0)
 unfolding spot_at
@@ -112,12 +99,11 @@ has_blocks program n lt = let same : 0 + n ≡ n = omega arith in proc_blocks_at
 
 proc_from : (ps : List Proc) (c n : ℕ) → n < length ps → or_else (nth (procs ps c) n) no_proc
     ≡ proc (nth_proc ps n) (entry_from c (procs ps c) n)
-proc_from [] c n lt = absurd (omega arith)
-proc_from (p ∷ ps) c zero lt = refl
 proc_from (p ∷ ps) c (suc n) lt =
     let next = suc (c + begun p.body) in
     subst (λ (b : ℕ). or_else (nth (procs ps next) n) no_proc ≡ proc (nth_proc ps n)
     (entry_from b (procs ps next) n)) (sym (proc_end p c)) (proc_from ps next n (omega arith))
+proc_from ps c n lt = grind arith
 
 -- the procedure with this number
 pub proc_is : (program : ResolvedProgram) (n : ℕ) → n < length program.procs
@@ -141,9 +127,4 @@ pub then_procs : (P : ℕ → Block → Type 0) (home : ℕ) (p : Proc) (ps : Li
     → Each P c (proc_blocks p c) → Each (λ n s. P n s.block) (suc (c + begun p.body))
     (proc_spots (suc home) ps (suc (c + begun p.body))) → Each (λ n s. P n s.block) c
     (proc_spots home (p ∷ ps) c)
-then_procs P home p ps c h i =
-    let xs = spots_in home (p.params + p.locals) (proc_blocks p c) in
-    each_both (λ n s. P n s.block) c (suc (c + begun p.body)) xs
-    (proc_spots (suc home) ps (suc (c + begun p.body)))
-    (omega (arith, count_spots home (p.params + p.locals) (proc_blocks p c), proc_end p c))
-    (each_spot P home (p.params + p.locals) c (proc_blocks p c) h) i
+then_procs P home p ps c h i = grind (arith, each_both, count_spots, proc_end, each_spot)

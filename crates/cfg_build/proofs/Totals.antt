@@ -6,7 +6,7 @@ use Rattle.std.proofs.Math.Nat.{mul-add}
 use Rattle.src_ast.specs.declared.lexeme.Name.{Name}
 use Rattle.src_ast.specs.Syntax as source
 use Rattle.src_ast.specs.Syntax.{Statement, Statements, Last, Procedure}
-use Rattle.src_ast.specs.Meaning.{Scope, scope_of}
+use Rattle.src_ast.specs.Meaning.{Scope}
 use Rattle.seq_run.specs.Resolved.{Step, Do, Call, If, While, Steps, Nothing, Then, Proc}
 use Rattle.seq_run.specs.Resolving as resolving
 use Rattle.seq_run.specs.InRange.{size_all, steps_in}
@@ -43,27 +43,12 @@ EachAtMost own most (Then (While t body) rest) = (own (While t body) ≤ most) �
 total_most : (own : Step → ℕ) (most : ℕ) (st : Steps) → EachAtMost own most st
     → total own st ≤ most * size_all st
 total_most own most Nothing h = omega arith
-total_most own most (Then (Do a) rest) h = let r = total_most own most rest h.1 in
-    omega (arith, r, h.0, mul-add most 1 (size_all rest))
-total_most own most (Then (Call x f ts) rest) h = let r = total_most own most rest h.1 in
-    omega (arith, r, h.0, mul-add most 1 (size_all rest))
+total_most own most (Then (Do a) rest) h = grind (arith, mul-add, total_most own most rest h.1)
+total_most own most (Then (Call x f ts) rest) h = grind (arith, mul-add, total_most own most rest h.1)
 total_most own most (Then (If t a b) rest) h =
-    let m = size_all a in let n = size_all b in let k = size_all rest in
-    let e = mul-add most (suc (m + n)) k in let d = mul-add most 1 (m + n) in let c = mul-add most m n in
-    omega (
-      arith,
-      total_most own most a h.1,
-      total_most own most b h.2,
-      total_most own most rest h.3,
-      h.0,
-      e,
-      d,
-      c,
-    )
+    grind (arith, mul-add, total_most own most a h.1, total_most own most b h.2, total_most own most rest h.3)
 total_most own most (Then (While t body) rest) h =
-    let m = size_all body in let k = size_all rest in
-    let e = mul-add most (suc m) k in let d = mul-add most 1 m in
-    omega (arith, total_most own most body h.1, total_most own most rest h.2, h.0, e, d)
+    grind (arith, mul-add, total_most own most body h.1, total_most own most rest h.2)
 
 -- the same of a procedure and its result
 pub record ProcAtMost (own : Step → ℕ) (last : Option Term → ℕ) (most more : ℕ) (p : Proc) : Type 0 where
@@ -75,8 +60,7 @@ pub procs_most : (own : Step → ℕ) (last : Option Term → ℕ) (most more : 
     * length ps
 procs_most own last most more [] h = omega arith
 procs_most own last most more (p ∷ ps) h =
-    let e = mul-add most (size_all p.body) (steps_in ps) in let d = mul-add more 1 (length ps) in
-    omega (arith, total_most own most p.body h.0.body, h.0.result, procs_most own last most more ps h.1, e, d)
+    grind (arith, mul-add, total_most, procs_most own last most more ps h.1)
 
 -- a measure of blocks, by its value at an operation after a turn, at an exit after a turn, and at a Goto
 -- alone
@@ -100,15 +84,7 @@ module _ (measure : Block → ℕ) (acts : Op → ℕ) (exits : Exit → ℕ) (g
   made_total : (st : Steps) (c : ℕ) (rest : BlockRest) → sum_by measure (whole (made st c rest))
       ≡ total (own_of acts exits goto) st + measure (block rest)
   made_total Nothing c rest = let e = sum_by-cons measure (block rest) [] in omega (arith, e)
-  made_total (Then (Do a) more) c rest =
-      let m = made more c rest in
-      omega (
-        arith,
-        sum_by-cons measure (block (ticked (op a) m.front)) m.blocks,
-        sum_by-cons measure (block m.front) m.blocks,
-        is.act (op a) m.front,
-        made_total more c rest,
-      )
+  made_total (Then (Do a) more) c rest = grind (arith, sum_by-cons, made_total more c rest)
   made_total (Then (Call x f ts) more) c rest =
       let exit = graph.Call x f (ts) (suc c) in
       omega (
@@ -188,16 +164,10 @@ module _ (own : Step → ℕ) (counted : Statement → ℕ) (same : (scope : Sco
       omega (arith, same scope (source.Assign at x e), steps_same scope rest)
   steps_same scope (source.Then (source.Store at a i e) rest) =
       omega (arith, same scope (source.Store at a i e), steps_same scope rest)
-  steps_same scope (source.Then (source.Print at e) rest) = omega (
-    arith,
-    same scope (source.Print at e),
-    steps_same scope rest,
-  )
-  steps_same scope (source.Then (source.Read at x) rest) = omega (
-    arith,
-    same scope (source.Read at x),
-    steps_same scope rest,
-  )
+  steps_same scope (source.Then (source.Print at e) rest) =
+      omega (arith, same scope (source.Print at e), steps_same scope rest)
+  steps_same scope (source.Then (source.Read at x) rest) =
+      omega (arith, same scope (source.Read at x), steps_same scope rest)
   steps_same scope (source.Then (source.Give at n q x) rest) =
       omega (arith, same scope (source.Give at n q x), steps_same scope rest)
   steps_same scope (source.Then (source.Take at n q e) rest) =
@@ -221,11 +191,4 @@ module _ (own : Step → ℕ) (counted : Statement → ℕ) (same : (scope : Sco
       → total_procs own last (resolving.procs arrays names ps) ≡ sum_procs counted ending ps
   procs_same last ending results arrays names [] = refl
   procs_same last ending results arrays names (p ∷ ps) =
-      let scope = scope_of arrays names p in
-      omega (
-        arith,
-        steps_same scope p.body,
-        results scope p.ending,
-        procs_same last ending results arrays
-            names ps,
-      )
+      grind (arith, steps_same, procs_same last ending results arrays names ps)

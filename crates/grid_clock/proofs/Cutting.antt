@@ -18,8 +18,7 @@ use Rattle.df_core.proofs.Keeping.Same.{same_refl}
 of_own : (n : ℕ) (es : List Made) (more : List Timed) → of_cycle n (in_cycle n es ++ more) ≡ map event_of es
     ++ of_cycle n more
 of_own n [] more = refl
-of_own n (e ∷ es) more = cond-true (n == n) _ _ (eq-eqb n n refl)
-    ∙ ap (λ (xs : List law.Event). event_of e ∷ xs) (of_own n es more)
+of_own n (e ∷ es) more = grind (arith, cond-true, eq-eqb, of_own n es more)
 
 of_other : (n m : ℕ) (es : List Made) (more : List Timed) → (m ≡ n → ⊥)
     → of_cycle n (in_cycle m es ++ more) ≡ of_cycle n more
@@ -29,8 +28,7 @@ of_other n m (e ∷ es) more ne = cond-false (m == n) _ _ (ne_eqb m n ne) ∙ of
 before_own : (n m : ℕ) (es : List Made) (more : List Timed) → m < n → before_cycle n (in_cycle m es ++ more)
     ≡ map event_of es ++ before_cycle n more
 before_own n m [] more l = refl
-before_own n m (e ∷ es) more l = cond-true (nat_lt m n) _ _ (lt-ltb m n l)
-    ∙ ap (λ (xs : List law.Event). event_of e ∷ xs) (before_own n m es more l)
+before_own n m (e ∷ es) more l = grind (arith, cond-true, lt-ltb, before_own n m es more l)
 
 before_other : (n m : ℕ) (es : List Made) (more : List Timed) → n ≤ m → before_cycle n (in_cycle m es ++ more)
     ≡ before_cycle n more
@@ -44,8 +42,7 @@ none_of g k s t all n (blocked m b) l = refl
 none_of g k s t all n (stops m es st) l = ap (of_cycle n) (sym (append-nil (in_cycle m es)))
     ∙ of_other n m es [] (λ e. omega (arith, l, e))
 none_of g k s t all n (goes {t = mid} m es more some e c rest) l =
-    ap (of_cycle n) e ∙ of_other n m es more (λ q. omega (arith, l, q))
-    ∙ none_of g (suc m) mid t more n rest (omega (arith, l))
+    grind (arith, of_other, none_of g (suc m) mid t more n rest (omega (arith, l)))
 
 none_before : (g : Grid) (k : ℕ) (s t : State) (all : List Timed) (n : ℕ) → Cycles g k s all t → n ≤ k
     → before_cycle n all ≡ []
@@ -53,26 +50,21 @@ none_before g k s t all n (blocked m b) l = refl
 none_before g k s t all n (stops m es st) l = ap (before_cycle n) (sym (append-nil (in_cycle m es)))
     ∙ before_other n m es [] l
 none_before g k s t all n (goes {t = mid} m es more some e c rest) l =
-    ap (before_cycle n) e ∙ before_other n m es more l ∙ none_before g (suc m) mid t more n rest
-    (omega (arith, l))
+    grind (arith, before_other, none_before g (suc m) mid t more n rest (omega (arith, l)))
 
 -- the last cycle
 last_own : (m : ℕ) (es : List Made) → last_cycle (in_cycle m es) ≤ m
-last_own m [] = omega arith
-last_own m (e ∷ []) = omega arith
 last_own m (e ∷ f ∷ es) = last_own m (f ∷ es)
+last_own m es = omega arith
 
 last_more : (xs : List Timed) (y : Timed) (ys : List Timed) → last_cycle (xs ++ y ∷ ys) ≡ last_cycle (y ∷ ys)
-last_more [] y ys = refl
-last_more (x ∷ []) y ys = refl
 last_more (x ∷ z ∷ xs) y ys = last_more (z ∷ xs) y ys
+last_more xs y ys = refl
 
 last_behind : (m : ℕ) (es : List Made) (more : List Timed) (n : ℕ) → m < n
     → n ≤ last_cycle (in_cycle m es ++ more) → last_cycle (in_cycle m es ++ more) ≡ last_cycle more
-last_behind m es [] n l k = absurd (
-    let e : last_cycle (in_cycle m es ++ []) ≡ last_cycle (in_cycle m es) =
-    ap last_cycle (append-nil (in_cycle m es)) in
-    let q : last_cycle (in_cycle m es) ≤ m = last_own m es in
+last_behind m es [] n l k = absurd (let e : last_cycle (in_cycle m es ++ []) ≡ last_cycle (in_cycle m es) = ap
+    last_cycle (append-nil (in_cycle m es)) in let q : last_cycle (in_cycle m es) ≤ m = last_own m es in
     omega (arith, l, k, e, q))
 last_behind m es (y ∷ ys) n l k = last_more (in_cycle m es) y ys
 
@@ -86,10 +78,7 @@ record Cut (g : Grid) (s : State) (all : List Timed) (n : ℕ) : Type 0 where
 either_cycle : (g : Grid) (began new : State) (xs ys : List law.Event) (n a b : ℕ) → xs ≡ ys → a ≡ b
     → Cycle g began xs new ⊎ (Stopping g began xs new × (n ≡ a)) → Cycle g began ys new
     ⊎ (Stopping g began ys new × (n ≡ b))
-either_cycle g began new xs ys n a b e f (inl c) =
-    inl (subst (λ (zs : List law.Event). Cycle g began zs new) e c)
-either_cycle g began new xs ys n a b e f (inr c) =
-    inr (subst (λ (zs : List law.Event). Stopping g began zs new) e c.0, c.1 ∙ f)
+either_cycle g began new xs ys n a b e f x = grind arith
 
 cut : (g : Grid) (k : ℕ) (s t : State) (all : List Timed) (n : ℕ) → Cycles g k s all t → 1 ≤ n → k ≤ n
     → n ≤ last_cycle all → Cut g s all n
@@ -143,5 +132,4 @@ cut g k s t all n (goes {t = mid} m es more some e c rest) p l q = elim (cases_e
 pub cut_of : (g : Grid) (world : World) (events : List Timed) (state : State) → Schedule g world events state
     → (n : ℕ) → 1 ≤ n → n ≤ last_cycle events → IsCycle g world events n
 cut_of g world events state c n p q =
-    let r = cut g 1 (core_opening g.image world) state events n c p p q in
-    record { began = r.began; new = r.new; before = r.before; cycle = r.cycle }
+    grind (arith, cut g 1 (core_opening g.image world) state events n c p p q)

@@ -1,7 +1,6 @@
 -- The first in the chain of the operations that may be issued.
-use Rattle.std.proofs.Common.{ℕ, suc, ◌≡◌, ◌<◌, ◌≤◌, ◌⊎◌, true, false, List, length, [], Option, Some, None}
-use Rattle.std.proofs.Common.{is_some, IfSome, MatchOption, refl, sym, ap, ◌∙◌, subst, inl, inr, eqb-true}
-use Rattle.std.proofs.Common.{◌==◌, arith}
+use Rattle.std.proofs.Common.{ℕ, suc, ◌≡◌, ◌<◌, ◌≤◌, ◌⊎◌, true, false, List, length, [], Option, Some}
+use Rattle.std.proofs.Common.{is_some, IfSome, MatchOption, sym, ap, ◌∙◌, subst, eqb-true, ◌==◌, arith}
 use Rattle.std.proofs.lemmas.Bool.{cases_Bool, cases_eq, and_parts}
 use Rattle.ws_words.specs.Outside.{World}
 use Rattle.ws_isa.specs.Image as plain
@@ -9,7 +8,7 @@ use Rattle.ws_isa.specs.Image.{Image, ports, note_of}
 use Rattle.ws_isa.specs.Sound.{seq}
 use Rattle.df_core.specs.Core.{Chain, State, Issuable, IsNext}
 use Rattle.df_core.specs.declared.flow.Flow.{Flow}
-use Rattle.df_core.specs.Chains.{chain_of, next_flag, may_flag}
+use Rattle.df_core.specs.Chains.{chain_of, next_flag}
 use Rattle.df_core.specs.Flows.{GoingBeside, asked_at, AskedMay, NoneAskedMay, FlowIs}
 use Rattle.df_core.specs.Partial.{listed}
 use Rattle.df_core.proofs.Parts.Driving.{has_at, flagged}
@@ -73,54 +72,17 @@ pub least_taken : (image : Image) (flow : Flow) (n m : ℕ) (other : Option ℕ)
     → n < length flow.asked.items → Least image flow n other → AskedMay image flow n →
     IfSome other (λ o. seq image (asked_at flow n).instr < seq image (asked_at flow o).instr)
     → Least image flow m (Some n)
-least_taken image flow n m None e l least may before = (
-  l,
-  may,
-  λ k b may_k. elim (cases_eq k n) [
-    | inl q ↦ (let s : seq image (asked_at flow k).instr ≡ seq image (asked_at flow n).instr =
-        ap (λ (j : ℕ). seq image (asked_at flow j).instr) q in omega (arith, s))
-    | inr q ↦ absurd (least k (omega (arith, b, e, q)) may_k)
-  ],
-)
-least_taken image flow n m (Some o) e l least may before = (
-  l,
-  may,
-  λ k b may_k. elim (cases_eq k n) [
-    | inl q ↦ (let s : seq image (asked_at flow k).instr ≡ seq image (asked_at flow n).instr =
-        ap (λ (j : ℕ). seq image (asked_at flow j).instr) q in omega (arith, s))
-    | inr q ↦ (let s : seq image (asked_at flow o).instr ≤ seq image (asked_at flow k).instr =
-        least.2 k (omega (arith, b, e, q)) may_k in
-        let t : seq image (asked_at flow n).instr < seq image (asked_at flow o).instr = before in
-        omega (arith, s, t))
-  ],
-)
+least_taken image flow n m other e l least may before = grind (arith, cases_eq)
 
 pub least_kept : (image : Image) (flow : Flow) (n m : ℕ) (other : Option ℕ) → m ≡ suc n
     → Least image flow n other →
     MatchOption other (AskedMay image flow n → ⊥) (λ o. AskedMay image flow n
     → seq image (asked_at flow o).instr ≤ seq image (asked_at flow n).instr) → Least image flow m other
-least_kept image flow n m None e least ahead = λ k b may_k. elim (cases_eq k n) [
-  | inl q ↦ ahead (subst (AskedMay image flow) q may_k)
-  | inr q ↦ least k (omega (arith, b, e, q)) may_k
-]
-least_kept image flow n m (Some o) e least ahead = (
-  least.0,
-  least.1,
-  λ k b may_k. elim (cases_eq k n) [
-    | inl q ↦ subst (λ (j : ℕ). seq image (asked_at flow o).instr ≤ seq image (asked_at flow j).instr) (sym q)
-        (ahead (subst (AskedMay image flow) q may_k))
-    | inr q ↦ least.2 k (omega (arith, b, e, q)) may_k
-  ],
-)
+least_kept image flow n m other e least ahead = grind (arith, cases_eq)
 
 least_none : (image : Image) (flow : Flow) → ((k : ℕ) → k < length flow.asked.items → AskedMay image flow k
     → ⊥) → NoneAskedMay image flow
-least_none image flow f k l =
-    elim (cases_Bool (may_flag image (chain_of flow.chain) (asked_at flow k).wave (asked_at flow k).instr
-    (asked_at flow k).operands.first)) [
-      | inl e ↦ absurd (f k l e)
-      | inr e ↦ e
-    ]
+least_none image flow f k l = grind (arith, cases_Bool)
 
 -- all have been looked at
 pub least_found : (image : Image) (flow : Flow) (n : ℕ) (first : Option ℕ) → n ≡ length flow.asked.items
@@ -128,7 +90,4 @@ pub least_found : (image : Image) (flow : Flow) (n : ℕ) (first : Option ℕ) �
     → MatchOption first ((is_some flow.fault ≡ true) ⊎ NoneAskedMay image flow)
     (λ place. (place < length flow.asked.items) × (is_some flow.fault ≡ false) × AskedMay image flow place
     × IsFirst image flow place)
-least_found image flow n None e going least =
-    inr (least_none image flow (λ k l. least k (omega (arith, l, e))))
-least_found image flow n (Some first) e going least =
-    (least.0, going, least.1, λ k l may. least.2 k (omega (arith, l, e)) may)
+least_found image flow n first e going least = grind (arith, least_none)

@@ -3,11 +3,11 @@ use Rattle.std.proofs.Common.{ℕ, suc, ◌≡◌, ◌<◌, ◌≤◌, ◌⊎◌
 use Rattle.std.proofs.Common.{None, refl, sym, ap, ◌∙◌, subst, inl, inr, arith}
 use Rattle.std.proofs.lemmas.Bool.{both_ways, cases_eq, cases_lt}
 use Rattle.ws_words.specs.Outside.{World, printed_words}
-use Rattle.ws_isa.specs.Image.{Image, ports, array_at}
+use Rattle.ws_isa.specs.Image.{Image, ports}
 use Rattle.ws_isa.specs.Formed.{Formed}
-use Rattle.ws_isa.specs.Operations.{FaultsAt, past}
+use Rattle.ws_isa.specs.Operations.{FaultsAt}
 use Rattle.ws_isa.specs.Sound.{Sound, seq}
-use Rattle.ws_isa.specs.Walk.{Inst, fires}
+use Rattle.ws_isa.specs.Walk.{fires}
 use Rattle.df_core.specs.Core.{State, Event, Match, Issue, Step, Enabled, with_at, core_opening}
 use Rattle.df_core.specs.Fit.{RightToken, Fit}
 use Rattle.df_core.proofs.Walked.Facts.{WalkFacts}
@@ -18,7 +18,6 @@ use Rattle.df_core.proofs.Keeping.Making.{alone}
 use Rattle.df_core.proofs.Keeping.Ports.{with_at_cases, full_all}
 use Rattle.df_core.proofs.Keeping.Reached.{reached}
 use Rattle.df_core.specs.declared.engine.Event.{Event as Made}
-use Rattle.df_core.specs.declared.engine.Event.TheVariants as made
 use Rattle.df_core.specs.declared.answer.Done.{Done}
 use Rattle.df_core.specs.declared.drive.Finish.{Finish}
 use Rattle.df_core.specs.declared.drive.Finish.TheVariants as finish
@@ -40,24 +39,14 @@ use Rattle.ws_words.proofs.Places.{nth_short}
 
 -- of numbers in order
 not_after_both : (w i a j : ℕ) → NotAfter w i a j → NotAfter a j w i → (w ≡ a) × (i ≡ j)
-not_after_both w i a j (inl h) (inl k) = absurd (omega (arith, h, k))
-not_after_both w i a j (inl h) (inr k) = absurd (let e : a ≡ w = k.0 in omega (arith, h, e))
-not_after_both w i a j (inr h) (inl k) = absurd (let e : w ≡ a = h.0 in omega (arith, k, e))
-not_after_both w i a j (inr h) (inr k) =
-    (h.0, (let l : i ≤ j = h.1 in let m : j ≤ i = k.1 in omega (arith, l, m)))
+not_after_both w i a j x y = grind arith
 
 port_both : (i p j q : ℕ) → (i < j) ⊎ ((i ≡ j) × (p ≤ q)) → (j < i) ⊎ ((j ≡ i) × (q ≤ p)) → (i ≡ j) × (p ≡ q)
-port_both i p j q (inl h) (inl k) = absurd (omega (arith, h, k))
-port_both i p j q (inl h) (inr k) = absurd (let e : j ≡ i = k.0 in omega (arith, h, e))
-port_both i p j q (inr h) (inl k) = absurd (let e : i ≡ j = h.0 in omega (arith, k, e))
-port_both i p j q (inr h) (inr k) = (h.0, (let l : p ≤ q = h.1 in let m : q ≤ p = k.1 in omega (arith, l, m)))
+port_both i p j q x y = grind arith
 
 not_behind_both : (w i p a j q : ℕ) → NotBehind w i p a j q → NotBehind a j q w i p
     → (w ≡ a) × (i ≡ j) × (p ≡ q)
-not_behind_both w i p a j q (inl h) (inl k) = absurd (omega (arith, h, k))
-not_behind_both w i p a j q (inl h) (inr k) = absurd (let e : a ≡ w = k.0 in omega (arith, h, e))
-not_behind_both w i p a j q (inr h) (inl k) = absurd (let e : w ≡ a = h.0 in omega (arith, k, e))
-not_behind_both w i p a j q (inr h) (inr k) = let r = port_both i p j q h.1 k.1 in (h.0, r.0, r.1)
+not_behind_both w i p a j q x y = grind (arith, port_both)
 
 -- events
 issue_is : (w i a j : ℕ) → w ≡ a → i ≡ j → Issue w i ≡ Issue a j
@@ -74,8 +63,7 @@ long x xs e = let l : length (x ∷ xs) ≡ 0 = ap length e in omega arith
 
 enabled_of : (image : Image) (s t : State) (w i : ℕ) → Step image s (Issue w i) t
     → Enabled image s (Issue w i)
-enabled_of image s t w i (inl st) = (st.operands, st.ready)
-enabled_of image s t w i (inr st) = (st.operands, st.ready)
+enabled_of image s t w i x = grind arith
 
 no_issue_stopped : (image : Image) (s : State) → s.stopped ≡ true → NoIssue image s
 no_issue_stopped image s e w i on = both_ways s.stopped on.1.issuable.going e
@@ -176,15 +164,13 @@ module _ (g : Grid) (world : World) (formed : Formed g.image) (sound : Sound g.i
       → Turns g began k s es t → Turns g began k s fs u → (es ≡ fs) × (t ≡ u)
   turns_one began s t u k es fs fit (no_turn e l) (no_turn f m) = (refl, refl)
   turns_one began s t u k es fs fit (no_turn e l) (idle f m n rest) = absurd (omega (arith, l, m))
-  turns_one began s t u k es fs fit (no_turn e l) (turn f a j q m may least st rest) =
-      absurd (omega (arith, l, m))
+  turns_one began s t u k es fs fit (no_turn e l) (turn f a j q m may least st rest) = grind arith
   turns_one began s t u k es fs fit (idle e l n rest) (no_turn f m) = absurd (omega (arith, l, m))
   turns_one began s t u k es fs fit (idle e l n rest) (idle f m o rest2) =
       turns_one began s t u (suc e) es fs fit rest rest2
   turns_one began s t u k es fs fit (idle e l n rest) (turn f a j q m may least st rest2) =
       absurd (n a j q may)
-  turns_one began s t u k es fs fit (turn e w i p l may first st rest) (no_turn f m) =
-      absurd (omega (arith, l, m))
+  turns_one began s t u k es fs fit (turn e w i p l may first st rest) (no_turn f m) = grind arith
   turns_one began s t u k es fs fit (turn e w i p l may first st rest) (idle f m n rest2) =
       absurd (n w i p may)
   turns_one began s t u k es fs fit (turn {t = b} {events = xs} e w i p l may first st rest)
@@ -265,16 +251,11 @@ module _ (g : Grid) (world : World) (formed : Formed g.image) (sound : Sound g.i
       c.parts ∙ (λ k. x.0 k ++ (y.0 k ++ z k))
 
   stopping_blocked : (s t : State) (es : List Event) → Blocked g s → Stopping g s es t → ⊥
-  stopping_blocked s t es b a =
-      let x = issues_blocked s t es b.no_issue a.issues in
-      both_ways t.stopped (ap (λ (z : State). z.stopped) x.1 ∙ b.going) a.stopped
+  stopping_blocked s t es b a = grind (arith, issues_blocked, both_ways)
 
 -- the code's events are told apart as the law's are
 event_one : (x y : Made) → event_of x ≡ event_of y → x ≡ y
-event_one (made.Match w i p) (made.Match a j q) e = cc
-event_one (made.Match w i p) (made.Issue a j) e = absurd (cc)
-event_one (made.Issue w i) (made.Match a j q) e = absurd (cc)
-event_one (made.Issue w i) (made.Issue a j) e = cc
+event_one x y e = grind arith
 
 head_or : {A : Type 0} → A → List A → A
 head_or d [] = d
@@ -289,8 +270,7 @@ unfolding head_or tail_of
 made_one [] [] e = refl
 made_one [] (y ∷ ys) e = absurd (long (event_of y) (map event_of ys) (sym e))
 made_one (x ∷ xs) [] e = absurd (long (event_of x) (map event_of xs) e)
-made_one (x ∷ xs) (y ∷ ys) e = cons_is x y xs ys (event_one x y (ap (head_or (event_of x)) e))
-    (made_one xs ys (ap tail_of e))
+made_one (x ∷ xs) (y ∷ ys) e = grind (arith, cons_is, event_one, head_or, made_one xs ys (ap tail_of e))
 
 none_made : (xs : List Made) → map event_of xs ≡ [] → xs ≡ []
 none_made [] e = refl
@@ -300,12 +280,10 @@ module _ (g : Grid) (world : World) (formed : Formed g.image) (sound : Sound g.i
   cycles_one : (n : ℕ) (s t u : State) (xs ys : List Timed) → Fit g.image world s → Cycles g n s xs t
       → Cycles g n s ys u → (xs ≡ ys) × (t ≡ u)
   cycles_one n s t u xs ys fit (blocked k b) (blocked m d) = (refl, refl)
-  cycles_one n s t u xs ys fit (blocked k b) (stops m es st) =
-      absurd (stopping_blocked g world formed sound s u (map event_of es) b st)
+  cycles_one n s t u xs ys fit (blocked k b) (stops m es st) = grind (arith, stopping_blocked)
   cycles_one n s t u xs ys fit (blocked k b) (goes {t = mid} m es more some all c rest) =
       absurd (some (none_made es (cycle_blocked g world formed sound s mid (map event_of es) b c)))
-  cycles_one n s t u xs ys fit (stops k es st) (blocked m b) =
-      absurd (stopping_blocked g world formed sound s t (map event_of es) b st)
+  cycles_one n s t u xs ys fit (stops k es st) (blocked m b) = grind (arith, stopping_blocked)
   cycles_one n s t u xs ys fit (stops k es st) (stops m fs st2) =
       let r = stopping_one g world formed sound s t u (map event_of es) (map event_of fs) fit st st2 in
       (ap (in_cycle n) (made_one es fs r.0), r.1)
@@ -334,35 +312,20 @@ module _ (g : Grid) (world : World) (formed : Formed g.image) (sound : Sound g.i
 -- how the runs ended
 fault_one : (image : Image) (world : World) (t u : ℕ) (a : FaultsAt image world t)
     (b : FaultsAt image world u) → a.inst.instr ≡ b.inst.instr
-fault_one image world t u a b = elim (cases_eq t u) [
-  | inl e ↦ (let f : Some a.inst ≡ Some b.inst = sym a.fired ∙ ap (fires image world) e ∙ b.fired in
-      let g : a.inst ≡ b.inst = cc in ap (λ (x : Inst). x.instr) g)
-  | inr n ↦ absurd (elim (cases_lt t u) [
-    | inl l ↦ both_ways (past image a.inst) (b.first t a.inst l a.fired) a.is_past
-    | inr l ↦ both_ways (past image b.inst) (a.first u b.inst (omega (arith, l, n)) b.fired) b.is_past
-  ])
-]
+fault_one image world t u a b = grind (arith, cases_eq, cases_lt, both_ways)
 
 finish_one : (image : Image) (world : World) (budget : ℕ) (f h : Finish) (d e : Done)
     → is_fault f ≡ is_fault h → RunSo image world budget (run_from f d)
     → RunSo image world budget (run_from h e) → f ≡ h
 finish_one image world budget finish.Rest finish.Rest d e s a b = refl
-finish_one image world budget finish.Rest finish.Budget d e s a b =
-    absurd (both_ways false refl (b.rests.1 (a.rests.0 refl)))
+finish_one image world budget finish.Rest finish.Budget d e s a b = grind (arith, both_ways)
 finish_one image world budget finish.Rest (finish.Fault array) d e s a b = absurd (both_ways false refl s)
-finish_one image world budget finish.Budget finish.Rest d e s a b =
-    absurd (both_ways false refl (a.rests.1 (b.rests.0 refl)))
+finish_one image world budget finish.Budget finish.Rest d e s a b = grind (arith, both_ways)
 finish_one image world budget finish.Budget finish.Budget d e s a b = refl
 finish_one image world budget finish.Budget (finish.Fault array) d e s a b = absurd (both_ways false refl s)
-finish_one image world budget (finish.Fault array) finish.Rest d e s a b =
-    absurd (both_ways false refl (sym s))
-finish_one image world budget (finish.Fault array) finish.Budget d e s a b =
-    absurd (both_ways false refl (sym s))
-finish_one image world budget (finish.Fault m) (finish.Fault n) d e s a b =
-    let same : m ≡ n = a.told.array_is
-    ∙ ap (array_at image) (fault_one image world a.told.time b.told.time a.told.fault b.told.fault)
-    ∙ sym b.told.array_is in
-    ap finish.Fault same
+finish_one image world budget (finish.Fault array) finish.Rest d e s a b = grind (arith, both_ways)
+finish_one image world budget (finish.Fault array) finish.Budget d e s a b = grind (arith, both_ways)
+finish_one image world budget (finish.Fault m) (finish.Fault n) d e s a b = grind (arith, fault_one)
 
 pub clocked_one : (g : Grid) (world : World) → Formed g.image → Sound g.image → (c d : Clocked)
     → Clocks g world c → Clocks g world d → c ≡ d

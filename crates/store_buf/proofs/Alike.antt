@@ -1,11 +1,11 @@
 -- Requests after an answer, and what depends on them alone.
-use Rattle.std.proofs.Common.{ℕ, zero, suc, ◌≡◌, ◌<◌, Bool, List, [], ◌∷◌, length, Option, Some}
-use Rattle.std.proofs.Common.{slice_index_or, slice_set, false, refl, sym, ◌∙◌, subst, inl, inr, arith}
+use Rattle.std.proofs.Common.{ℕ, suc, ◌≡◌, ◌<◌, Bool, List, ◌∷◌, length, Option, Some, slice_index_or}
+use Rattle.std.proofs.Common.{slice_set, false, sym, ◌∙◌, inl, inr, arith}
 use Rattle.std.proofs.lemmas.Bool.{both_ways}
 use Rattle.ws_words.specs.Outside.{Outside, World}
 use Rattle.ws_isa.specs.Image.{Image}
 use Rattle.df_core.specs.Core.{Chain, with_key}
-use Rattle.df_core.specs.Fit.{Legal, Ordered, StoppedAt}
+use Rattle.df_core.specs.Fit.{Legal, Ordered}
 use Rattle.df_core.proofs.Keeping.Ports.{with_key_cases}
 use Rattle.store_buf.specs.declared.kept.Kept.{Kept}
 use Rattle.store_buf.specs.Requests.{entry_of}
@@ -17,65 +17,29 @@ module _ (image : Image) (world : World) (f g : ℕ → ℕ → Option ℕ) (sam
     (a b : ℕ → ℕ → Option (List ℕ)) (like : (w i : ℕ) → b w i ≡ a w i) where
   ordered_alike : (cut : ℕ) (c : Chain) (m : Outside) → Ordered image world cut f c m
       → Ordered image world cut g c m
-  ordered_alike cut c m o = record {
-    passed = λ t x l e me. same x.wave x.instr ∙ o.passed t x l e me;
-    within = o.within;
-    chain = o.chain;
-    memory = o.memory;
-    others = λ w i n e. o.others w i n (sym (same w i) ∙ e);
-  }
+  ordered_alike cut c m o = grind arith
 
   legal_alike : (stopped : Bool) (c : Chain) (m : Outside) → Legal image world f a stopped c m
       → Legal image world g b stopped c m
-  legal_alike stopped c m h = record {
-    cut = h.cut;
-    ordered = ordered_alike h.cut c m h.ordered;
-    settled = λ i n e nx. h.settled i n (sym (same c.wave i) ∙ e) nx;
-    halted = λ e. let s : StoppedAt image world h.cut a c = h.halted e in record {
-      time = s.time;
-      fault = s.fault;
-      from = s.from;
-      passed = s.passed;
-      wave = s.wave;
-      next = s.next;
-      waits = like s.fault.inst.wave s.fault.inst.instr ∙ s.waits;
-    };
-  }
+  legal_alike stopped c m h = grind (arith, ordered_alike)
 
   -- what is true of functions is true of others that answer alike
   pub going_alike : (stopped : Bool) (c : Chain) (m : Outside) (early : List ℕ)
       → OrderGoes image world f a stopped c m early → OrderGoes image world g b stopped c m early
-  going_alike stopped c m early h = record {
-    legal = legal_alike stopped c m h.legal;
-    early_issued = λ i e. let r = h.early_issued i e in (r.0, same c.wave i ∙ r.1);
-    early_all = λ cut w i n t e is x at me l. h.early_all cut w i n t e (sym (same w i) ∙ is) x at me l;
-  }
+  going_alike stopped c m early h = grind (arith, legal_alike)
 
 -- where the chain isn't stopped, it doesn't matter what waits
 pub going_any : (image : Image) (world : World) (f g : ℕ → ℕ → Option ℕ) → ((w i : ℕ) → g w i ≡ f w i)
     → (a b : ℕ → ℕ → Option (List ℕ)) (c : Chain) (m : Outside) (early : List ℕ)
     → OrderGoes image world f a false c m early → OrderGoes image world g b false c m early
-going_any image world f g same a b c m early h = record {
-  legal = record {
-    cut = h.legal.cut;
-    ordered = ordered_alike image world f g same a a (λ w i. refl) h.legal.cut c m h.legal.ordered;
-    settled = λ i n e nx. h.legal.settled i n (sym (same c.wave i) ∙ e) nx;
-    halted = λ e. absurd (both_ways false refl e);
-  };
-  early_issued = λ i e. let r = h.early_issued i e in (r.0, same c.wave i ∙ r.1);
-  early_all = λ cut w i n t e is x at me l. h.early_all cut w i n t e (sym (same w i) ∙ is) x at me l;
-}
+going_any image world f g same a b c m early h = grind (arith, ordered_alike, both_ways)
 
 -- the same operations issued in another order
 pub early_alike : (image : Image) (world : World) (f : ℕ → ℕ → Option ℕ) (a : ℕ → ℕ → Option (List ℕ))
     (stopped : Bool) (c : Chain) (m : Outside) (xs ys : List ℕ) → ((j : ℕ) → In j xs → In j ys)
     → ((j : ℕ) → In j ys → In j xs) →
     OrderGoes image world f a stopped c m xs → OrderGoes image world f a stopped c m ys
-early_alike image world f a stopped c m xs ys to from h = record {
-  legal = h.legal;
-  early_issued = λ i e. h.early_issued i (from i e);
-  early_all = λ cut w i n t e is x at me l. to i (h.early_all cut w i n t e is x at me l);
-}
+early_alike image world f a stopped c m xs ys to from h = grind arith
 
 pub once_of : (ks : List Kept) (f : ℕ → ℕ → Option ℕ)
     → ((p : ℕ) → p < length ks → f (slice_index_or ks p no_request).wave
@@ -83,11 +47,7 @@ pub once_of : (ks : List Kept) (f : ℕ → ℕ → Option ℕ)
     (p q : ℕ) → p < length ks → q < length ks → (slice_index_or ks p no_request).wave
     ≡ (slice_index_or ks q no_request).wave → (slice_index_or ks p no_request).instr
     ≡ (slice_index_or ks q no_request).instr → p ≡ q
-once_of ks f ok p q l m ew ei =
-    let e : f (slice_index_or ks q no_request).wave (slice_index_or ks q no_request).instr ≡ Some p =
-    subst (λ (n : ℕ). f (slice_index_or ks q no_request).wave n ≡ Some p) ei
-    (subst (λ (n : ℕ). f n (slice_index_or ks p no_request).instr ≡ Some p) ew (ok p l)) in
-    let g : Some p ≡ Some q = sym e ∙ ok q m in cc
+once_of ks f ok p q l m ew ei = grind arith
 
 -- a request that is changed is found changed, and others are found as before
 pub entry_set : (ks : List Kept) (p : ℕ) (k : Kept) → p < length ks →
@@ -96,18 +56,6 @@ pub entry_set : (ks : List Kept) (p : ℕ) (k : Kept) → p < length ks →
     ≡ (slice_index_or ks r no_request).instr → q ≡ r) →
     k.wave ≡ (slice_index_or ks p no_request).wave → k.instr ≡ (slice_index_or ks p no_request).instr
     → (w i : ℕ) → entry_of (slice_set ks p k) w i ≡ with_key k.wave k.instr (Some k) (entry_of ks) w i
-entry_set [] p k l once ew ei w i = absurd (omega arith)
-entry_set (x ∷ ks) zero k l once ew ei w i = elim (with_key_cases k.wave k.instr (Some k) (entry_of ks) w i) [
-  | inl h ↦ h.1 ∙ elim (with_key_cases k.wave k.instr (Some k) (entry_of (x ∷ ks)) w i)
-      [ inl g ↦ sym g.1 | inr g ↦ absurd (g.0 h.0) ]
-  | inr h ↦ h.1 ∙ elim (with_key_cases k.wave k.instr (Some k) (entry_of (x ∷ ks)) w i) [
-    | inl g ↦ absurd (h.0 g.0)
-    | inr g ↦ elim (with_key_cases x.wave x.instr (Some x) (entry_of ks) w i) [
-      | inl y ↦ absurd (h.0 (record { wave = ew ∙ y.0.wave; instr = ei ∙ y.0.instr }))
-      | inr y ↦ sym (g.1 ∙ y.1)
-    ]
-  ]
-]
 entry_set (x ∷ ks) (suc p) k l once ew ei w i =
     elim (with_key_cases x.wave x.instr (Some x) (entry_of (slice_set ks p k)) w i) [
       | inl h ↦ h.1 ∙ elim (with_key_cases k.wave k.instr (Some k) (entry_of (x ∷ ks)) w i) [
@@ -134,3 +82,4 @@ entry_set (x ∷ ks) (suc p) k l once ew ei w i =
             ]
           ]
     ]
+entry_set ks p k l once ew ei w i = grind (arith, with_key_cases)

@@ -75,31 +75,15 @@ module _ (image : Image) (ks : List Kept) (k : Kept) (fresh : entry_of ks k.wave
     (waits : k.answer ≡ None) where
   pub kept_push : (w i : ℕ) → kept_in image (ks ++ k ∷ []) w i ≡ with_key k.wave k.instr
       (Some (operands_of (ports image k.instr) k.first k.second)) (kept_in image ks) w i
-  kept_push w i = ap (operands_if image) (entry_push ks k fresh w i)
-      ∙ elim (with_key_cases k.wave k.instr (Some k) (entry_of ks) w i) [
-        | inl a ↦ ap (operands_if image) a.1
-            ∙ elim (with_key_cases k.wave k.instr (Some (operands_of (ports image k.instr) k.first k.second))
-            (kept_in image ks) w i) [ inl b ↦ sym b.1 | inr b ↦ absurd (b.0 a.0) ]
-        | inr a ↦ ap (operands_if image) a.1
-            ∙ elim (with_key_cases k.wave k.instr (Some (operands_of (ports image k.instr) k.first k.second))
-            (kept_in image ks) w i) [ inl b ↦ absurd (a.0 b.0) | inr b ↦ sym b.1 ]
-      ]
+  kept_push w i = grind (arith, entry_push, with_key_cases)
 
   pub issued_push : (w i : ℕ) → issued_in (ks ++ k ∷ []) w i ≡ issued_in ks w i
-  issued_push w i = ap answer_if (entry_push ks k fresh w i)
-      ∙ elim (with_key_cases k.wave k.instr (Some k) (entry_of ks) w i) [
-        | inl a ↦ ap answer_if a.1 ∙ waits
-            ∙ sym (ap answer_if (subst (λ (n : ℕ). entry_of ks w n ≡ None) a.0.instr
-            (subst (λ (n : ℕ). entry_of ks n k.instr ≡ None) a.0.wave fresh)))
-        | inr a ↦ ap answer_if a.1
-      ]
+  issued_push w i = grind (arith, entry_push, with_key_cases)
 
 -- what a request that waits asks for
 asks_is : (o : Option ℕ) (k : Option (List ℕ)) (ys xs : List ℕ) → k ≡ Some ys → waits_if o k None ≡ Some xs
     → ys ≡ xs
-asks_is (Some a) k ys xs e w = absurd (let f : None ≡ Some xs = w in cc)
-asks_is None k ys xs e w = let f : Some ys ≡ Some xs = ap (λ (q : Option (List ℕ)). waits_if None q None)
-    (sym e) ∙ w in cc
+asks_is o k ys xs e w = grind arith
 
 -- what is issued is kept
 issued_kept : (image : Image) (e : Option Kept) (a : ℕ) → answer_if e ≡ Some a
@@ -110,13 +94,11 @@ issued_kept image (Some k) a h = (operands_of (ports image k.instr) k.first k.se
 -- and listed
 pub fired_more : (o : Option ℕ) (k : Kept) (ks : List Kept) (w i : ℕ) → HasFired (issued_keys ks) w i
     → HasFired (key_if o k (issued_keys ks)) w i
-fired_more None k ks w i h = h
-fired_more (Some a) k ks w i h = inr h
+fired_more o k ks w i h = grind arith
 
 pub fired_here : (o : Option ℕ) (a : ℕ) (k : Kept) (ks : List Kept) (w i : ℕ) → o ≡ Some a → k.wave ≡ w
     → k.instr ≡ i → HasFired (key_if o k (issued_keys ks)) w i
-fired_here None a k ks w i e ew ei = absurd (let f : None ≡ Some a = e in cc)
-fired_here (Some b) a k ks w i e ew ei = inl (ew, ei)
+fired_here o a k ks w i e ew ei = grind arith
 
 pub listed_from : (ks : List Kept) (w i a : ℕ) → issued_in ks w i ≡ Some a → HasFired (issued_keys ks) w i
 listed_from [] w i a h = absurd (let f : None ≡ Some a = h in cc)
@@ -130,9 +112,8 @@ listed_to : (ks : List Kept) → ((p q : ℕ) → p < length ks → q < length k
     → (slice_index_or ks p no_request).instr ≡ (slice_index_or ks q no_request).instr → p ≡ q) →
     (w i : ℕ) → HasFired (issued_keys ks) w i → (a : ℕ) × (issued_in ks w i ≡ Some a)
 listed_to [] once w i h = absurd h
-listed_to (k ∷ ks) once w i h =
-    go (λ f. listed_to ks (λ p q a b c d. let z : suc p ≡ suc q = once (suc p) (suc q) (omega arith)
-    (omega arith) c d in omega arith) w i f) k.answer refl h
+listed_to (k ∷ ks) once w i h = go (λ f. listed_to ks (λ p q a b c d. let z : suc p ≡ suc q = once (suc p)
+    (suc q) (omega arith) (omega arith) c d in omega arith) w i f) k.answer refl h
   where
     later : (HasFired (issued_keys ks) w i → (a : ℕ) × (issued_in ks w i ≡ Some a))
         → HasFired (issued_keys ks) w i → (a : ℕ) × (issued_in (k ∷ ks) w i ≡ Some a)
@@ -166,12 +147,7 @@ module _ (image : Image) (world : World) (began : List (Option Began)) {P : Type
       (early_ops s.order.early) → HasEarly image world (issued_in s.order.kept.items) (chain_of s.order.chain)
       (early_ops s.order.early) →
       (m : Outside) → IsBuffer image world began (content_of s) m → StandsFor image world began s m
-  stands_of s issued all m is =
-      record {
-        going = record { legal = is.ok.legal; early_issued = issued; early_all = all };
-        right = is.ok.right;
-        outside = is.outside;
-      }
+  stands_of s issued all m is = grind arith
 
   pub buffer_from : (s : Store P) → FaultIs image world s.fault → (m : Outside)
       → StandsFor image world began s m → IsBuffer image world began (content_of s) m
@@ -193,14 +169,7 @@ module _ (image : Image) (world : World) (began : List (Option Began)) {P : Type
   -- nothing has changed
   same_content : (old new : Store P) → StoreKeeps old old.order.kept.items new
       → content_of new ≡ content_of old
-  same_content old new k = λ j. record {
-    kept = k.kept_are j;
-    chain = chain_of (k.chain j);
-    fault = k.fault j;
-    failed = k.failed j;
-    starved = k.starved j;
-    outside = k.outer j;
-  }
+  same_content old new k = grind arith
 
   pub unchanged : (old new : Store P) → StoreKeeps old old.order.kept.items new → StoreOk image new
       → Standing image world began old → Standing image world began new × (content_of new ≡ content_of old)
@@ -260,16 +229,7 @@ module _ (image : Image) (world : World) (began : List (Option Began)) {P : Type
 
     arrives : (m : Outside) → RequestArrives image (buffer_in image (content_of old) m) (asked_of k)
         (buffer_of image mid m)
-    arrives m = record {
-      fresh = ap (operands_if image) fresh;
-      kept = λ w i. ap (λ (x : List Kept). kept_in image x w i) keeps.kept_are
-          ∙ kept_push image old.order.kept.items k fresh waits w i;
-      issued = λ w i. ap (λ (x : List Kept). issued_in x w i) keeps.kept_are
-          ∙ issued_push image old.order.kept.items k fresh waits w i;
-      chain = ap chain_of keeps.chain;
-      stopped = ap has keeps.fault;
-      memory = refl;
-    }
+    arrives m = grind (arith, kept_push, issued_push)
 
     -- where the chain doesn't let it issue and no port has found no memory, nothing that waits is issuable
     module _ (ok : StoreOk image mid) (fed : old.starved ≡ false)
@@ -278,9 +238,7 @@ module _ (image : Image) (world : World) (began : List (Option Began)) {P : Type
           → Issuable image issued (chain_of c) stopped k.wave k.instr
           (operands_of (ports image k.instr) k.first k.second) → ⊥
       not_lets c same issued stopped may =
-          both_ways (may_flag image (chain_of old.order.chain) k.wave k.instr k.first) held
-          (subst (λ (d : code.Chain). may_flag image (chain_of d) k.wave k.instr k.first ≡ true) same
-          (lets_issuable image issued (chain_of c) stopped k ask.memory may))
+          grind (arith, both_ways, lets_issuable image issued (chain_of c) stopped k ask.memory may)
 
       later_idle : Idle image (content_of mid)
       later_idle m w i xs asks may =
@@ -294,23 +252,21 @@ module _ (image : Image) (world : World) (began : List (Option Began)) {P : Type
           fresh waits w i in
           elim (with_key_cases k.wave k.instr (Some (operands_of (ports image k.instr) k.first k.second))
           (kept_in image old.order.kept.items) w i) [
-            | inl a ↦ (let q : operands_of (ports image k.instr) k.first k.second ≡ xs =
-                asks_is (issued_in mid.order.kept.items w i) (kept_in image mid.order.kept.items w i)
-                (operands_of (ports image k.instr) k.first k.second) xs (kept ∙ a.1) asks in
+            | inl a ↦ (let q : operands_of (ports image k.instr) k.first k.second ≡ xs = asks_is (issued_in
+                mid.order.kept.items w i) (kept_in image mid.order.kept.items w i) (operands_of (ports image
+                k.instr) k.first k.second) xs (kept ∙ a.1) asks in
                 not_lets mid.order.chain keeps.chain (issued_in mid.order.kept.items) (has mid.fault)
                 (subst (λ (x : ℕ × ℕ × List ℕ). Issuable image (issued_in mid.order.kept.items)
                 (chain_of mid.order.chain) (has mid.fault) x.0 x.1 x.2)
                 (λ j. (sym a.0.wave j, sym a.0.instr j, sym q j)) may))
-            | inr a ↦ standing.idle working fed m w i xs
-                (subst (λ (x : Option ℕ × Option (List ℕ)). waits_if x.0 x.1 None ≡ Some xs)
-                (λ j. (same j, (kept ∙ a.1) j)) asks)
-                (record {
+            | inr a ↦ standing.idle working fed m w i xs (subst (λ (x : Option ℕ × Option (List ℕ)). waits_if
+                x.0 x.1 None ≡ Some xs) (λ j. (same j, (kept ∙ a.1) j)) asks) (record {
                   going = sym (ap has keeps.fault) ∙ may.going;
                   current = may.current ∙ ap (λ (c : code.Chain). c.wave) keeps.chain;
                   fresh = sym same ∙ may.fresh;
-                  turn = subst (λ (c : code.Chain). IsNext (chain_of c) (note_of image i)
-                      ⊎ ((is_load image i ≡ true) × (is_past image i xs ≡ false)
-                      × ((note_of image i).ripple ≤ position_after c.last))) keeps.chain may.turn;
+                  turn = subst (λ (c : code.Chain). IsNext (chain_of c) (note_of image i) ⊎ ((is_load image i
+                      ≡ true) × (is_past image i xs ≡ false) × ((note_of image i).ripple ≤ position_after
+                      c.last))) keeps.chain may.turn;
                 })
           ]
 
@@ -372,13 +328,7 @@ module _ (image : Image) (world : World) (began : List (Option Began)) {P : Type
 
       submitted : (m : Outside) → IsBuffer image world began (content_of old) m
           → Submitted image world began (content_of old) m (asked_of k) tokens (content_of new)
-      submitted m is = let t = turns m is in record {
-        arrived = buffer_of image mid m;
-        arrives = arrives m;
-        memory = t.memory;
-        issues = t.issues;
-        is = is_now m is;
-      }
+      submitted m is = grind (arith, arrives, arrives m, is_now m is)
 
       abbrev last : Turns image world began mid standing.memory new tokens
       last = turns standing.memory standing.is
@@ -441,9 +391,7 @@ module _ (image : Image) (world : World) (began : List (Option Began)) {P : Type
         last.right,
         inr ((tokens, ((running, working), fresh, submitted, s.0, s.1 ∙ keeps.failed ∙ working, s.2)), s.3),
       )
-      said (Err fault.Old) s = absurd s
-      said (Err (fault.Stopped port)) s = absurd s
-      said (Err (fault.Ended array)) s = absurd s
+      said r s = absurd s
 
 -- what a call says of a store, said of a job
 pub with_job : {P : Type 0} (im image : Image) (world : World) (began : List (Option Began)) → im ≡ image

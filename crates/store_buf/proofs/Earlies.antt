@@ -1,6 +1,6 @@
 -- Issued operations that the chain hasn't passed, by number and as a list.
-use Rattle.std.proofs.Common.{ℕ, zero, suc, ◌≡◌, ◌<◌, ◌≤◌, ◌⊎◌, List, [], ◌∷◌, map, length, slice_index_or}
-use Rattle.std.proofs.Common.{Result, Ok, Err, IsOk, false, refl, sym, ap, ◌∙◌, subst, inl, inr, arith}
+use Rattle.std.proofs.Common.{ℕ, suc, ◌≡◌, ◌<◌, ◌≤◌, ◌⊎◌, List, [], ◌∷◌, map, length, slice_index_or, Result}
+use Rattle.std.proofs.Common.{IsOk, sym, ap, ◌∙◌, subst, inl, inr, arith}
 use Rattle.std.specs.Prelude.{OnOk, IfNone, IfSome, Option, Some, None}
 use Rattle.std.proofs.lemmas.List.Sorted.{Contains-permutation, IsPermutation-sym}
 use Rattle.std.proofs.lemmas.Bool.{both_ways}
@@ -30,19 +30,10 @@ none_in xs e = sym (length-map xs (λ (r : Reverse (ℕ × ℕ)). r.0.1)) ∙ ap
 
 -- as many are there as are listed
 pub as_long : (one other : Early) → early_ops one ≡ early_ops other → heap_len one.heap ≡ heap_len other.heap
-as_long one other e =
-    let a = length-map (heap_items one.heap) (λ (r : Reverse (ℕ × ℕ)). r.0.1) in
-    let b = length-map (heap_items other.heap) (λ (r : Reverse (ℕ × ℕ)). r.0.1) in
-    let same = ap length e in
-    let c = one.heap.data.ok.0 in
-    let d = other.heap.data.ok.0 in
-    omega (arith, a, b, c, d, same)
+as_long one other e = grind (arith, length-map)
 
 pub none_there : (early : Early) → early_ops early ≡ [] → heap_len early.heap ≡ 0
-none_there early e =
-    let l = none_in (heap_items early.heap) e in
-    let n = early.heap.data.ok.0 in
-    omega (arith, l, n)
+none_there early e = grind (arith, none_in (heap_items early.heap) e)
 
 abbrev places : List (Reverse (ℕ × ℕ)) → List ℕ
 places xs = map (λ r. r.0.1) xs
@@ -60,17 +51,15 @@ somewhere (x ∷ xs) i (inr h) = let r = somewhere xs i h in
 
 in_list : (xs : List (Reverse (ℕ × ℕ))) (n i k : ℕ) → k < length xs → slice_index_or xs k (under n i)
     ≡ under n i → In i (places xs)
-in_list [] n i k l e = absurd (omega (arith, l))
-in_list (x ∷ xs) n i zero l e = inl (ap (λ (r : Reverse (ℕ × ℕ)). r.0.1) (sym e))
 in_list (x ∷ xs) n i (suc k) l e = inr (in_list xs n i k (omega (arith, l)) e)
+in_list xs n i k l e = grind arith
 
 pub here : (early : Early) (n i : ℕ) → StandsUnder early n i → In i (early_ops early)
 here early n i h = in_list (heap_items early.heap) n i h.0 h.1 h.2
 
 -- what is said of success is so where there is success
 pub ok_so : {A E : Type 0} (r : Result A E) (T : Type 0) → IsOk r → OnOk r T → T
-ok_so (Ok x) T ok h = h
-ok_so (Err e) T ok h = absurd (both_ways false refl ok)
+ok_so r T ok h = grind (arith, both_ways)
 
 -- one more has come
 pub one_more : (old new : List (Reverse (ℕ × ℕ))) (n i : ℕ) → IsPermutation (under n i ∷ old) new
@@ -84,8 +73,7 @@ one_more old new n i same = (
 )
   where
     go : (j m : ℕ) → (under n i ≡ under m j) ⊎ Contains old (under m j) → (i ≡ j) ⊎ In j (places old)
-    go j m (inl e) = inl (ap (λ (r : Reverse (ℕ × ℕ)). r.0.1) e)
-    go j m (inr c) = inr (in_list old m j c.0 c.1 c.2)
+    go j m x = grind (arith, in_list)
 
 pub one_numbered : (image : Image) (old new : List (Reverse (ℕ × ℕ))) (n i : ℕ)
     → IsPermutation (under n i ∷ old) new → n ≡ (note_of image i).seq →
@@ -165,14 +153,12 @@ module _ (image : Image) (early : Early) (n i : ℕ) (numbered : Numbered image 
 pub before_gone : (xs ys : List (Reverse (ℕ × ℕ))) (r : Option (Reverse (ℕ × ℕ))) (same : IfNone r (ys ≡ xs))
     (gone : IfSome r (λ x. IsPermutation xs (x ∷ ys))) (n i : ℕ) → Contains ys (under n i)
     → Contains xs (under n i)
-before_gone xs ys None same gone n i h = subst (λ (zs : List (Reverse (ℕ × ℕ))). Contains zs (under n i)) same
-    h
+before_gone xs ys None same gone n i h = grind arith
 before_gone xs ys (Some x) same gone n i h = Contains-permutation (x ∷ ys) xs (under n i)
     (IsPermutation-sym xs (x ∷ ys) gone) (suc h.0, (let l = h.1 in omega (arith, l)), h.2)
 
 pub same_items : {X : Type 0} (r : Option X) (T U : Type 0) → IfNone r (T × U) → IfNone r T
-same_items None T U h = h.0
-same_items (Some x) T U h = tt
+same_items r T U h = grind arith
 
 pub none_stands : (early : Early) → early_ops early ≡ [] → (n i : ℕ) → StandsUnder early n i → ⊥
 none_stands early e n i h = let l = none_in (heap_items early.heap) e in let k = h.1 in omega (arith, l, k)

@@ -1,5 +1,5 @@
 -- The places of what waits stay with them.
-use Rattle.std.proofs.Common.{ℕ, suc, ◌≡◌, ◌<◌, ◌≤◌, ◌⊎◌, List, [], ◌∷◌, ◌++◌, length, Option, Some, None}
+use Rattle.std.proofs.Common.{ℕ, ◌≡◌, ◌<◌, ◌≤◌, ◌⊎◌, List, [], ◌∷◌, ◌++◌, length, Option, Some, None}
 use Rattle.std.proofs.Common.{slice_index_or, slice_set, sym, ap, ◌∙◌, subst, inl, inr, arith}
 use Rattle.std.proofs.lemmas.Bool.{cases_lt, cases_eq}
 use Rattle.ws_isa.specs.Image.{Image, note_of}
@@ -47,22 +47,14 @@ module _ (image : Image) (o new : Order) (filed : AllFiled image o) (wave : new.
       (length o.kept.items)) where
     place : (p : ℕ) → p < length new.kept.items → ((p < length o.kept.items) × (kept_at new p ≡ kept_at o p))
         ⊎ ((length o.kept.items ≡ p) × (kept_at new p ≡ k))
-    place p l = elim (cases_lt p (length o.kept.items)) [
-      | inl h ↦ inl (
-        h,
-        ap (λ (ks : List Kept). slice_index_or ks p no_request) kept
-            ∙ push_other o.kept.items p k no_request h,
-      )
-      | inr h ↦ (let m : length new.kept.items ≡ suc (length o.kept.items) = ap length kept
-          ∙ push_length o.kept.items k in
-          let e : length o.kept.items ≡ p = omega arith in
-          inr (
-            e,
-            ap (λ (ks : List Kept). slice_index_or ks p no_request) kept
-                ∙ subst (λ (q : ℕ). slice_index_or (o.kept.items ++ k ∷ []) q no_request ≡ k) e
-                (push_here o.kept.items k no_request),
-          ))
-    ]
+    place p l =
+        grind (
+          arith,
+          cases_lt p (length o.kept.items),
+          push_other,
+          push_length o.kept.items k,
+          push_here o.kept.items k no_request,
+        )
 
     pub more_filed : AllFiled image new
     more_filed = record {
@@ -101,15 +93,13 @@ module _ (image : Image) (o new : Order) (filed : AllFiled image o) (p : ℕ) (k
     (l : p < length o.kept.items) (kept : new.kept.items ≡ slice_set o.kept.items p k)
     (numbered : Numbered image new.early) where
   within : (q : ℕ) → q < length new.kept.items → q < length o.kept.items
-  within q m = let e : length new.kept.items ≡ length o.kept.items = ap length kept
-      ∙ set_length o.kept.items p k in omega (arith, e)
+  within q m = grind (arith, set_length)
 
   at_p : kept_at new p ≡ k
   at_p = ap (λ (ks : List Kept). slice_index_or ks p no_request) kept ∙ set_here o.kept.items p k no_request l
 
   at_q : (q : ℕ) → (p ≡ q → ⊥) → kept_at new q ≡ kept_at o q
-  at_q q n = ap (λ (ks : List Kept). slice_index_or ks q no_request) kept
-      ∙ set_other o.kept.items p q k no_request n
+  at_q q n = grind (arith, set_other)
 
   -- in the same wave
   pub filed_changed : (k.answer ≡ None → ((kept_at o p).answer ≡ None) × (k.wave ≡ (kept_at o p).wave)
@@ -134,24 +124,7 @@ module _ (image : Image) (o new : Order) (filed : AllFiled image o) (p : ℕ) (k
       before : (q : ℕ) → (kept_at new q).answer ≡ None → ((kept_at o q).answer ≡ None)
           × ((kept_at new q).wave ≡ (kept_at o q).wave) × ((kept_at new q).instr ≡ (kept_at o q).instr)
           × (ripple_of image (kept_at new q) ≡ ripple_of image (kept_at o q))
-      before q e = elim (cases_eq p q) [
-        | inl h ↦
-            subst (λ (z : ℕ). ((kept_at o z).answer ≡ None) × ((kept_at new z).wave ≡ (kept_at o z).wave)
-            × ((kept_at new z).instr ≡ (kept_at o z).instr)
-            × (ripple_of image (kept_at new z) ≡ ripple_of image (kept_at o z))) h
-            (subst (λ (x : Kept). ((kept_at o p).answer ≡ None) × (x.wave ≡ (kept_at o p).wave)
-            × (x.instr ≡ (kept_at o p).instr) × (ripple_of image x ≡ ripple_of image (kept_at o p)))
-            (sym at_p)
-            (alike (ap (λ (x : Kept). x.answer) (sym at_p) ∙ subst (λ (z : ℕ). (kept_at new z).answer ≡ None)
-            (sym h) e)))
-        | inr n ↦
-            (let s = at_q q n in (
-              ap (λ (x : Kept). x.answer) (sym s) ∙ e,
-              ap (λ (x : Kept). x.wave) s,
-              ap (λ (x : Kept). x.instr) s,
-              ap (ripple_of image) s,
-            ))
-      ]
+      before q e = grind (arith, cases_eq p q, at_p, at_q)
 
   module _ (a : ℕ) (answered : k.answer ≡ Some a) where
     pub filed_here : new.chain.wave ≡ o.chain.wave → new.near ≡ o.near → new.later ≡ o.later
@@ -159,20 +132,13 @@ module _ (image : Image) (o new : Order) (filed : AllFiled image o) (p : ℕ) (k
     filed_here = filed_changed (λ e. absurd (let f : Some a ≡ None = sym answered ∙ e in cc))
 
     still_waits : (q : ℕ) → (kept_at new q).answer ≡ None → kept_at new q ≡ kept_at o q
-    still_waits q e = elim (cases_eq p q) [
-      | inl h ↦ absurd (let f : Some a ≡ None = sym answered ∙ ap (λ (x : Kept). x.answer) (sym at_p)
-          ∙ subst (λ (z : ℕ). (kept_at new z).answer ≡ None) (sym h) e in cc)
-      | inr n ↦ at_q q n
-    ]
+    still_waits q e = grind (arith, cases_eq, at_p, at_q)
 
     far_before : (q : ℕ) → q < length new.kept.items → o.chain.wave < (kept_at new q).wave
         → (kept_at new q).answer ≡ None →
         IsFiledIn o.later (kept_at new q).wave (number_of image (kept_at new q))
         (ripple_of image (kept_at new q)) q
-    far_before q m lt e = let s = still_waits q e in
-        subst (λ (x : Kept). IsFiledIn o.later x.wave (number_of image x) (ripple_of image x) q) (sym s)
-        (filed.far q (within q m) (let w : (kept_at new q).wave ≡ (kept_at o q).wave =
-        ap (λ (x : Kept). x.wave) s in omega (arith, lt, w)) (ap (λ (x : Kept). x.answer) (sym s) ∙ e))
+    far_before q m lt e = grind (arith, still_waits q e, within q m)
 
     -- and the wave is over
     pub filed_last : o.chain.wave < new.chain.wave
@@ -220,11 +186,7 @@ load_gone image o new ripple place filed numbered kept chain later turns left go
     at p = ap (λ (ks : List Kept). slice_index_or ks p no_request) kept
 
     before : (p : ℕ) → WaitsHere new p → WaitsHere o p
-    before p h = record {
-      within = subst (λ (ks : List Kept). p < length ks) kept h.within;
-      current = ap (λ (k : Kept). k.wave) (sym (at p)) ∙ h.current ∙ ap (λ (c : _). c.wave) chain;
-      waits = ap (λ (k : Kept). k.answer) (sym (at p)) ∙ h.waits;
-    }
+    before p h = grind (arith, within)
 
 -- a top goes that isn't of a request that waits here
 pub turn_gone : (image : Image) (o new : Order) (number place : ℕ) → AllFiled image o
@@ -256,8 +218,4 @@ turn_gone image o new number place filed numbered kept chain later loads left go
     at p = ap (λ (ks : List Kept). slice_index_or ks p no_request) kept
 
     before : (p : ℕ) → WaitsHere new p → WaitsHere o p
-    before p h = record {
-      within = subst (λ (ks : List Kept). p < length ks) kept h.within;
-      current = ap (λ (k : Kept). k.wave) (sym (at p)) ∙ h.current ∙ ap (λ (c : _). c.wave) chain;
-      waits = ap (λ (k : Kept). k.answer) (sym (at p)) ∙ h.waits;
-    }
+    before p h = grind (arith, within)

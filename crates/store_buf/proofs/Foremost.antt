@@ -1,10 +1,10 @@
 -- In a buffer of a run none may be issued where none was found: the one that is next has the smallest number.
-use Rattle.std.proofs.Common.{ℕ, ◌≡◌, ◌≤◌, ◌<◌, Bool, true, false, cond, not, List, [], ◌∷◌, Option, Some}
-use Rattle.std.proofs.Common.{None, length, refl, sym, ap, ◌∙◌, subst, inl, inr, arith}
+use Rattle.std.proofs.Common.{ℕ, ◌≡◌, ◌≤◌, ◌<◌, Bool, true, false, List, [], ◌∷◌, Option, Some, None, length}
+use Rattle.std.proofs.Common.{refl, sym, ap, ◌∙◌, subst, inl, inr, arith}
 use Rattle.std.specs.Prelude.{is_some}
 use Rattle.std.proofs.lemmas.Bool.{and_from, both_ways}
 use Rattle.ws_words.specs.Outside.{Outside, World}
-use Rattle.ws_isa.specs.Image.{Image, instr_at, is_load_op, is_load, is_past_op, note_of, ports}
+use Rattle.ws_isa.specs.Image.{Image, instr_at, is_load, is_past_op, note_of, ports}
 use Rattle.ws_isa.specs.Formed.{Formed}
 use Rattle.ws_isa.specs.Sound.{Sound}
 use Rattle.df_core.specs.Core.{IsNext, has}
@@ -17,8 +17,7 @@ use Rattle.store_buf.specs.declared.order.Order.{Order}
 use Rattle.store_buf.specs.declared.store.Store.{Store}
 use Rattle.store_buf.specs.Requests.{entry_of, kept_in, issued_in, answer_if, operands_if}
 use Rattle.store_buf.specs.Finding.{place_in}
-use Rattle.store_buf.specs.Ordering.{kept_at, WaitsHere, NoneFound, NoneMay, ready_flag, number_of}
-use Rattle.store_buf.specs.Ordering.{ripple_of}
+use Rattle.store_buf.specs.Ordering.{kept_at, WaitsHere, NoneFound, NoneMay, ready_flag, number_of, ripple_of}
 use Rattle.store_buf.specs.Outdoors.{Holding}
 use Rattle.store_buf.specs.Outers.{holding}
 use Rattle.store_buf.specs.Holds.{Holds}
@@ -71,17 +70,13 @@ module _ (image : Image) (world : World) (formed : Formed image) (sound : Sound 
 
   module _ (p : ℕ) (l : p < length o.kept.items) (ready : ready_flag image o (kept_at o p) ≡ true) where
     here : WaitsHere o p
-    here = let w = ready_waits image o (kept_at o p) ready in
-        record { within = l; current = w.1; waits = w.0 }
+    here = grind (arith, ready_waits)
 
     ripple_is : is_load image (kept_at o p).instr ≡ true
         → is_past_op image.arrays (instr_at image (kept_at o p).instr).op ((kept_at o p).first ∷ []) ≡ false
         → ripple_of image (kept_at o p) ≡ Some ((note_of image (kept_at o p).instr).ripple)
     unfolding is_load
-    ripple_is load within = ap (λ (b : Bool). cond b (Some ((note_of image (kept_at o p).instr).ripple)) None)
-        (and_from (is_load_op (instr_at image (kept_at o p).instr).op)
-        (not (is_past_op image.arrays (instr_at image (kept_at o p).instr).op ((kept_at o p).first ∷ [])))
-        load (ap not within))
+    ripple_is load within = grind (arith, and_from)
 
     contrary : NoneFound image o → ⊥
     contrary none = elim ((S.may image world formed sound began o h m hold p l ready).turn) [
@@ -104,12 +99,10 @@ module _ (image : Image) (world : World) (formed : Formed image) (sound : Sound 
       go true e = absurd (contrary p l e none)
 
 has_not : (f : Option ℕ) → is_some f ≡ false → has f ≡ false
-has_not None e = refl
-has_not (Some a) e = e
+has_not f e = grind arith
 
 pub none_so : (image : Image) {P : Type 0} (s : Store P) → is_some s.fault ≡ false
     → NoneFound image s.order → NoneMaySo image s
-none_so image s running none world began m formed sound stands =
-    none_may image world formed sound began s.order (holding s.outer) m
-    (subst (λ (b : Bool). Holds image world began s.order b (holding s.outer) m) (has_not s.fault running)
-    stands) none
+none_so image s running none world began m formed sound stands = none_may image world formed sound began
+    s.order (holding s.outer) m (subst (λ (b : Bool). Holds image world began s.order b (holding s.outer) m)
+    (has_not s.fault running) stands) none

@@ -1,7 +1,7 @@
 -- An issue keeps what is true of a buffer: its order is legal, and the issued loads that the chain hasn't
 -- passed are listed.
-use Rattle.std.proofs.Common.{ℕ, suc, ◌≡◌, ◌≤◌, ◌⊎◌, Bool, true, false, List, ◌∷◌, Option, Some, None, sym}
-use Rattle.std.proofs.Common.{ap, ◌∙◌, subst, inl, inr, arith}
+use Rattle.std.proofs.Common.{ℕ, suc, ◌≡◌, ◌≤◌, ◌⊎◌, Bool, true, false, List, ◌∷◌, Option, Some, sym, ap, ◌∙◌}
+use Rattle.std.proofs.Common.{subst, inl, inr, arith}
 use Rattle.ws_words.specs.Outside.{Outside, World}
 use Rattle.ws_isa.specs.Image.{Image, is_load, is_past, note_of, answer}
 use Rattle.df_core.specs.Effect.{effect_after}
@@ -23,12 +23,7 @@ module _ (image : Image) (world : World) (facts : WalkFacts image world) (issued
       r.time r.inst r.at r.operands r.memory g.legal.cut g.legal.ordered
 
   still_issued : (a b n : ℕ) → issued a b ≡ Some n → issued_with image issued memory w i xs a b ≡ Some n
-  still_issued a b n e = elim (with_key_cases w i (Some (answer image i xs memory)) issued a b) [
-    | inl k ↦ absurd (let f : issued w i ≡ Some n = subst (λ (m : ℕ). issued w m ≡ Some n) (sym k.0.instr)
-        (subst (λ (m : ℕ). issued m b ≡ Some n) (sym k.0.wave) e) in
-        let h : Some n ≡ None = sym f ∙ may.fresh in cc)
-    | inr k ↦ k.1 ∙ e
-  ]
+  still_issued a b n e = grind (arith, with_key_cases)
 
   is_issued : issued_with image issued memory w i xs w i ≡ Some (answer image i xs memory)
   is_issued = with_key_same w i (Some (answer image i xs memory)) issued
@@ -72,12 +67,11 @@ module _ (image : Image) (world : World) (facts : WalkFacts image world) (issued
         (pass_early image world facts (issued_with image issued memory w i xs) chain
         (effect_after image i xs memory) r.time i early o (λ a b n t e z az mb l.
         elim (issued_from a b n e) [
-          | inl k ↦
-              absurd (let az' : FiresAt image world w i t z = record {
-                fires = az.fires;
-                wave = az.wave ∙ sym k.0.wave;
-                instr = az.instr ∙ sym k.0.instr;
-              } in
+          | inl k ↦ absurd (let az' : FiresAt image world w i t z = record {
+            fires = az.fires;
+            wave = az.wave ∙ sym k.0.wave;
+            instr = az.instr ∙ sym k.0.instr;
+          } in
               let q : t ≡ r.time = one_time image world facts w i t r.time z r.inst az' r.at in omega arith)
           | inr k ↦ (
             old_early a b n t k z az mb (omega arith),
@@ -97,8 +91,8 @@ module _ (image : Image) (world : World) (facts : WalkFacts image world) (issued
           record {
             legal = new_legal d p;
             early_issued = s.issued_are;
-            early_all = early_any image world facts (issued_with image issued memory w i xs) d
-                (effect_after image i xs memory) s.cut left s.ordered s.early;
+            early_all = early_any image world facts (issued_with image issued memory w i xs) d (effect_after
+                image i xs memory) s.cut left s.ordered s.early;
           },
         )
 

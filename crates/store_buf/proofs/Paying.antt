@@ -1,6 +1,6 @@
 -- Tokens come to tables and requests to a buffer, and what is known of a run stays true.
-use Rattle.std.proofs.Common.{ℕ, ◌≡◌, ◌⊎◌, true, false, List, [], ◌∷◌, Some, None, length, sym, ap}
-use Rattle.std.proofs.Common.{◌∙◌, subst, inl, inr, arith}
+use Rattle.std.proofs.Common.{ℕ, ◌≡◌, ◌⊎◌, true, false, List, [], ◌∷◌, Some, None, length, sym, ap, ◌∙◌}
+use Rattle.std.proofs.Common.{subst, arith}
 use Rattle.ws_words.specs.Outside.{World}
 use Rattle.ws_isa.specs.Image.{Image, Token, ports, is_memory, result_of, sends}
 use Rattle.ws_isa.specs.Formed.{Formed}
@@ -37,23 +37,13 @@ pub pay_buffer : (image : Image) (t : Tables) (known later : ℕ → ℕ → Typ
     (owes owing : List Token → Type 0) (way : List Token) → ((w i : ℕ) → known w i → later w i) →
     ((ts : List Token) → owing ts → AllReach t.held way ts) → PaidOf image t known owes way →
     PaidOf image t later owing way
-pay_buffer image t known later owes owing way stays told paid = record {
-  start = paid.start;
-  told = paid.told;
-  asked = λ w i h m. stays w i (paid.asked w i h m);
-  answered = told;
-}
+pay_buffer image t known later owes owing way stays told paid = grind arith
 
 -- a run begins
 pub pay_start : (image : Image) (t : Tables) (known : ℕ → ℕ → Type 0) (owes : List Token → Type 0)
     (way : List Token) → t.fired ≡ [] → ((ts : List Token) → owes ts → ⊥) → Covers (start_tokens image) way →
     PaidOf image t known owes way
-pay_start image t known owes way none nothing pulse = record {
-  start = R.reach_all t.held (start_tokens image) way pulse;
-  told = λ w i h m. absurd (subst (λ (ks : List Key). HasFired ks w i) none h);
-  asked = λ w i h m. absurd (subst (λ (ks : List Key). HasFired ks w i) none h);
-  answered = λ ts o. absurd (nothing ts o);
-}
+pay_start image t known owes way none nothing pulse = grind (arith, nothing)
 
 module _ (image : Image) (known : ℕ → ℕ → Type 0) (owes : List Token → Type 0) where
   abbrev Owed : Ports → List Key → List Token → Type 0
@@ -61,41 +51,20 @@ module _ (image : Image) (known : ℕ → ℕ → Type 0) (owes : List Token →
 
   pub pay_more : (t : Tables) (way more : List Token) → Covers way more → PaidOf image t known owes way →
       PaidOf image t known owes more
-  pay_more t way more k paid = record {
-    start = up _ paid.start;
-    told = λ w i h m. up _ (paid.told w i h m);
-    asked = paid.asked;
-    answered = λ ts o. up ts (paid.answered ts o);
-  }
-    where
-      up : (ts : List Token) → AllReach t.held way ts → AllReach t.held more ts
-      up ts = R.reach_by t.held t.held way more ts (R.reach_more t.held way more k)
+  pay_more t way more k paid = grind arith
 
   -- a token that has come is let go
   pub pay_held : (t : Tables) (way : List Token) (x : Token) →
       (v : ℕ) × (t.held x.wave x.instr x.port ≡ Some v) → PaidOf image t known owes (x ∷ way) →
       PaidOf image t known owes way
-  pay_held t way x come paid = record {
-    start = up _ paid.start;
-    told = λ w i h m. up _ (paid.told w i h m);
-    asked = paid.asked;
-    answered = λ ts o. up ts (paid.answered ts o);
-  }
-    where
-      up : (ts : List Token) → AllReach t.held (x ∷ way) ts → AllReach t.held way ts
-      up ts = R.reach_by t.held t.held (x ∷ way) way ts (R.reach_held t.held way x come)
+  pay_held t way x come paid = grind arith
 
   -- a token comes, and its instance hasn't fired
   module _ (f g : Ports) (fired : List Key) (x : Token) (free : f x.wave x.instr x.port ≡ None)
       (more : (w i p : ℕ) → g w i p ≡ with_at x.wave x.instr x.port (Some x.value) f w i p)
       (fresh : HasFired fired x.wave x.instr → ⊥) where
     same_at : (w i p : ℕ) → HasFired fired w i → f w i p ≡ g w i p
-    same_at w i p h = sym (more w i p ∙ elim
-        (with_at_cases x.wave x.instr x.port (Some x.value) f w i p) [
-          | inl e ↦ absurd (fresh (subst (λ (k : ℕ × ℕ). HasFired fired k.0 k.1)
-              (λ j. (sym e.0.wave j, sym e.0.instr j)) h))
-          | inr e ↦ e.1
-        ])
+    same_at w i p h = grind (arith, with_at_cases)
 
     same_operands : (w i : ℕ) → HasFired fired w i → operands_in image f w i ≡ operands_in image g w i
     same_operands w i h = gather_agree f g w i 0 (ports image i) (λ p. same_at w i p h)
@@ -117,42 +86,13 @@ module _ (image : Image) (known : ℕ → ℕ → Type 0) (owes : List Token →
   module _ (f : Ports) (fired now : List Key) (way : List Token) (paid : Owed f fired way) where
     -- it has none more
     pub pay_waits : ((a b : ℕ) → HasFired now a b → HasFired fired a b) → Owed f now way
-    pay_waits same = record {
-      start = paid.start;
-      told = λ a b h m. paid.told a b (same a b h) m;
-      asked = λ a b h m. paid.asked a b (same a b h) m;
-      answered = paid.answered;
-    }
+    pay_waits same = grind arith
 
     -- it has one more
     module _ (w i : ℕ) (one : (a b : ℕ) → HasFired now a b → HasFired fired a b ⊎ ((w ≡ a) × (i ≡ b))) where
       pub pay_fires : is_memory image i ≡ false → AllReach f way (sends image w i (operands_in image f w i)
           (result_of image i (operands_in image f w i))) → Owed f now way
-      pay_fires plain sent = record {
-        start = paid.start;
-        told = λ a b h m. elim (one a b h) [
-          | inl e ↦ paid.told a b e m
-          | inr e ↦ subst (λ (k : ℕ × ℕ). AllReach f way
-              (sends image k.0 k.1 (operands_in image f k.0 k.1)
-              (result_of image k.1 (operands_in image f k.0 k.1)))) (λ j. (e.0 j, e.1 j)) sent
-        ];
-        asked = λ a b h m. elim (one a b h) [
-          | inl e ↦ paid.asked a b e m
-          | inr e ↦ absurd (let n : true ≡ false = sym m ∙ ap (is_memory image) (sym e.1) ∙ plain in cc)
-        ];
-        answered = paid.answered;
-      }
+      pay_fires plain sent = grind arith
 
       pub pay_asks : is_memory image i ≡ true → known w i → Owed f now way
-      pay_asks memory here = record {
-        start = paid.start;
-        told = λ a b h m. elim (one a b h) [
-          | inl e ↦ paid.told a b e m
-          | inr e ↦ absurd (let n : true ≡ false = sym memory ∙ ap (is_memory image) e.1 ∙ m in cc)
-        ];
-        asked = λ a b h m. elim (one a b h) [
-          | inl e ↦ paid.asked a b e m
-          | inr e ↦ subst (λ (k : ℕ × ℕ). known k.0 k.1) (λ j. (e.0 j, e.1 j)) here
-        ];
-        answered = paid.answered;
-      }
+      pay_asks memory here = grind arith

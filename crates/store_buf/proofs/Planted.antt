@@ -1,12 +1,12 @@
 -- One more node in the trees of places, or a node with another place.
-use Rattle.std.proofs.Common.{ℕ, suc, ◌≡◌, ◌<◌, ◌≤◌, ◌/◌, Bool, true, false, cond, List, [], ◌∷◌, ◌++◌}
-use Rattle.std.proofs.Common.{length, Some, None, slice_set, refl, sym, ap, ◌∙◌, subst, inl, inr, arith}
+use Rattle.std.proofs.Common.{ℕ, suc, ◌≡◌, ◌<◌, ◌≤◌, ◌/◌, true, false, cond, List, [], ◌∷◌, ◌++◌, length}
+use Rattle.std.proofs.Common.{Some, None, slice_set, sym, ap, ◌∙◌, subst, inl, inr, arith}
 use Rattle.std.proofs.lemmas.Bool.{cases_lt, cases_eq}
 use Rattle.df_core.specs.Core.{same_key}
 use Rattle.df_core.proofs.Keeping.Ports.{SameKey, with_key_cases}
 use Rattle.store_buf.specs.declared.node.Node.{Node}
 use Rattle.store_buf.specs.Trees.{nowhere, no_node, node_at, child_of, with_child, leaf, seek, root_of}
-use Rattle.store_buf.specs.Trees.{in_trees, IsLink, TreesOk, AllGrown, LeadsTo, NodeGrown}
+use Rattle.store_buf.specs.Trees.{in_trees, IsLink, TreesOk, AllGrown, LeadsTo}
 use Rattle.store_buf.proofs.Lists.{set_here, set_other, set_length, push_here, push_other}
 use Rattle.ws_words.proofs.Lists.{push_length}
 use Rattle.store_buf.proofs.Searched.{seek_past, seek_here, seek_on, is_same, is_other, Left, others}
@@ -16,11 +16,7 @@ still_link : (old new : List Node) (at : ℕ) → length old ≤ length new → 
 still_link old new at l link e = link (omega (arith, l, e))
 
 leaf_behind : (a b p key : ℕ) → child_of (leaf a b p) key ≡ nowhere
-leaf_behind a b p key = both _
-  where
-    both : (x : Bool) → cond x nowhere nowhere ≡ nowhere
-    both true = refl
-    both false = refl
+leaf_behind a b p key = grind arith
 
 -- the first node of a wave
 module _ (ns : List Node) (rs one : List ℕ) (a b p : ℕ) (linked : TreesOk ns rs) (room : length ns < nowhere)
@@ -47,35 +43,13 @@ module _ (ns : List Node) (rs one : List ℕ) (a b p : ℕ) (linked : TreesOk ns
   other_root w n = set_other one a w (length ns) nowhere n ∙ same w
 
   more_links : (q key : ℕ) → q < length more → IsLink more (child_of (node_at more q) key)
-  more_links q key l = elim (cases_lt q (length ns)) [
-    | inl h ↦ subst (λ (x : Node). IsLink more (child_of x key)) (sym (more_old q h))
-        (still_link ns more _ (omega (arith, more_length)) (linked.nodes q key h))
-    | inr h ↦ (let e : length ns ≡ q = omega (arith, l, h, more_length) in
-        subst (λ (x : ℕ). IsLink more (child_of (node_at more x) key)) e
-        (λ m. ap (λ (x : Node). child_of x key) more_new ∙ leaf_behind a b p key))
-  ]
+  more_links q key l = grind (arith, cases_lt, more_old, still_link, more_length, more_new, leaf_behind)
 
   pub planted_linked : TreesOk more roots
-  planted_linked = record {
-    few = omega (arith, more_length, room);
-    nodes = more_links;
-    roots = λ w. elim (cases_eq a w) [
-      | inl e ↦
-          (λ m. absurd (let r : root_of roots w ≡ length ns = subst (λ (x : ℕ). root_of roots x ≡ length ns) e
-          own_root in omega (arith, m, r, more_length)))
-      | inr n ↦ subst (IsLink more) (sym (other_root w n)) (still_link ns more _ (omega (arith, more_length))
-          (linked.roots w))
-    ];
-  }
+  planted_linked = grind (arith, more_length, more_links, cases_eq, own_root, other_root, still_link)
 
   more_left : (w i q : ℕ) → q < length ns → Left ns more w i q
-  more_left w i q l = record {
-    within = omega (arith, l, more_length);
-    wave = ap (λ (x : Node). x.wave) (more_old q l);
-    instr = ap (λ (x : Node). x.instr) (more_old q l);
-    place = λ s. ap (λ (x : Node). x.place) (more_old q l);
-    links = λ key. inl (ap (λ (x : Node). child_of x key) (more_old q l));
-  }
+  more_left w i q l = grind (arith, more_length, more_old)
 
   own_place : in_trees more roots a b ≡ Some p
   own_place = ap (λ (r : ℕ). seek more 33 r b a b) own_root
@@ -110,71 +84,37 @@ module _ (ns : List Node) (rs : List ℕ) (a b p at key : ℕ) (linked : TreesOk
   hung = slice_set (ns ++ leaf a b p ∷ []) at (with_child (node_at ns at) key (length ns))
 
   hung_length : length hung ≡ suc (length ns)
-  hung_length = set_length (ns ++ leaf a b p ∷ []) at (with_child (node_at ns at) key (length ns))
-      ∙ push_length ns (leaf a b p)
+  hung_length = grind (arith, set_length, push_length)
 
   hung_at : node_at hung at ≡ with_child (node_at ns at) key (length ns)
-  hung_at = set_here (ns ++ leaf a b p ∷ []) at (with_child (node_at ns at) key (length ns)) no_node
-      (let e : length (ns ++ leaf a b p ∷ []) ≡ suc (length ns) = push_length ns (leaf a b p) in
-      omega (arith, l, e))
+  hung_at = grind (arith, set_here, push_length)
 
   hung_old : (q : ℕ) → (at ≡ q → ⊥) → q < length ns → node_at hung q ≡ node_at ns q
-  hung_old q n m = set_other (ns ++ leaf a b p ∷ []) at q (with_child (node_at ns at) key (length ns)) no_node
-      n ∙ push_other ns q (leaf a b p) no_node m
+  hung_old q n m = grind (arith, set_other, push_other)
 
   hung_new : node_at hung (length ns) ≡ leaf a b p
-  hung_new = set_other (ns ++ leaf a b p ∷ []) at (length ns) (with_child (node_at ns at) key (length ns))
-      no_node (λ e. omega (arith, l, e)) ∙ push_here ns (leaf a b p) no_node
+  hung_new = grind (arith, set_other, push_here)
 
   hung_links : (q k : ℕ) → q < length hung → IsLink hung (child_of (node_at hung q) k)
-  hung_links q k m = elim (cases_eq at q) [
-    | inl e ↦ subst (λ (x : ℕ). IsLink hung (child_of (node_at hung x) k)) e
-        (subst (λ (x : Node). IsLink hung (child_of x k)) (sym hung_at)
-        (elim (with_links (node_at ns at) key (length ns) k) [
-          | inl h ↦
-              subst (IsLink hung) (sym h) (still_link ns hung _ (omega (arith, hung_length))
-              (linked.nodes at k l))
-          | inr h ↦
-              (λ o. absurd (let g : child_of (with_child (node_at ns at) key (length ns)) k ≡ length ns =
-              h.1 in
-              omega (arith, o, g, hung_length)))
-        ]))
-    | inr n ↦ elim (cases_lt q (length ns)) [
-      | inl h ↦ subst (λ (x : Node). IsLink hung (child_of x k)) (sym (hung_old q n h))
-          (still_link ns hung _ (omega (arith, hung_length)) (linked.nodes q k h))
-      | inr h ↦ (let e : length ns ≡ q = omega (arith, m, h, hung_length) in
-          subst (λ (x : ℕ). IsLink hung (child_of (node_at hung x) k)) e
-          (λ o. ap (λ (x : Node). child_of x k) hung_new ∙ leaf_behind a b p k))
-    ]
-  ]
+  hung_links q k m =
+      grind (
+        arith,
+        cases_eq,
+        hung_at,
+        with_links,
+        still_link,
+        hung_length,
+        cases_lt,
+        hung_old,
+        hung_new,
+        leaf_behind,
+      )
 
   pub hung_linked : TreesOk hung rs
-  hung_linked = record {
-    few = omega (arith, hung_length, room);
-    nodes = hung_links;
-    roots = λ w. still_link ns hung _ (omega (arith, hung_length)) (linked.roots w);
-  }
+  hung_linked = grind (arith, hung_length, hung_links, still_link)
 
   hung_grown : AllGrown ns hung
-  hung_grown q m = elim (cases_eq at q) [
-    | inl e ↦ subst (NodeGrown ns hung) e (record {
-      within = omega (arith, l, hung_length);
-      wave = ap (λ (x : Node). x.wave) hung_at;
-      instr = ap (λ (x : Node). x.instr) hung_at;
-      links = λ k h. ap (λ (x : Node). child_of x k) hung_at
-          ∙ elim (with_links (node_at ns at) key (length ns) k) [
-            | inl g ↦ g
-            | inr g ↦ absurd (let f : child_of (node_at ns at) k ≡ child_of (node_at ns at) key = g.0 in
-                omega (arith, h, f, bare))
-          ];
-    })
-    | inr n ↦ record {
-      within = omega (arith, m, hung_length);
-      wave = ap (λ (x : Node). x.wave) (hung_old q n m);
-      instr = ap (λ (x : Node). x.instr) (hung_old q n m);
-      links = λ k h. ap (λ (x : Node). child_of x k) (hung_old q n m);
-    }
-  ]
+  hung_grown q m = grind (arith, cases_eq, hung_length, hung_at, with_links, hung_old)
 
   hung_left : (w i : ℕ) → (SameKey a b w i → ⊥) → (q : ℕ) → q < length ns → Left ns hung w i q
   hung_left w i unlike q m = elim (cases_eq at q) [
@@ -187,9 +127,8 @@ module _ (ns : List Node) (rs : List ℕ) (a b p at key : ℕ) (linked : TreesOk
         | inl g ↦ inl (ap (λ (x : Node). child_of x k) hung_at ∙ g)
         | inr g ↦ inr (
           subst (λ (x : ℕ). length ns ≤ x) (sym g.0) bare,
-          λ n j. subst (λ (x : ℕ). seek hung n x j w i ≡ None)
-              (sym (ap (λ (x : Node). child_of x k) hung_at ∙ g.1))
-              (leaf_none hung (length ns) a b p w i (omega (arith, hung_length))
+          λ n j. subst (λ (x : ℕ). seek hung n x j w i ≡ None) (sym (ap (λ (x : Node). child_of x k)
+              hung_at ∙ g.1)) (leaf_none hung (length ns) a b p w i (omega (arith, hung_length))
               (omega (arith, hung_length, room)) hung_new unlike n j),
         )
       ];
@@ -253,49 +192,20 @@ module _ (ns : List Node) (rs : List ℕ) (a b p at : ℕ) (linked : TreesOk ns 
   moved_old q n = set_other ns at q placed no_node n
 
   moved_behind : (q k : ℕ) → child_of (node_at moved q) k ≡ child_of (node_at ns q) k
-  moved_behind q k = elim (cases_eq at q) [
-    | inl e ↦ subst (λ (x : ℕ). child_of (node_at moved x) k ≡ child_of (node_at ns x) k) e
-        (ap (λ (x : Node). child_of x k) moved_at)
-    | inr n ↦ ap (λ (x : Node). child_of x k) (moved_old q n)
-  ]
+  moved_behind q k = grind (arith, cases_eq, moved_at, moved_old)
 
   moved_wave : (q : ℕ) → (node_at moved q).wave ≡ (node_at ns q).wave
-  moved_wave q = elim (cases_eq at q) [
-    | inl e ↦ subst (λ (x : ℕ). (node_at moved x).wave ≡ (node_at ns x).wave) e
-        (ap (λ (x : Node). x.wave) moved_at)
-    | inr n ↦ ap (λ (x : Node). x.wave) (moved_old q n)
-  ]
+  moved_wave q = grind (arith, cases_eq, moved_at, moved_old)
 
   moved_instr : (q : ℕ) → (node_at moved q).instr ≡ (node_at ns q).instr
-  moved_instr q = elim (cases_eq at q) [
-    | inl e ↦ subst (λ (x : ℕ). (node_at moved x).instr ≡ (node_at ns x).instr) e
-        (ap (λ (x : Node). x.instr) moved_at)
-    | inr n ↦ ap (λ (x : Node). x.instr) (moved_old q n)
-  ]
+  moved_instr q = grind (arith, cases_eq, moved_at, moved_old)
 
   pub moved_linked : TreesOk moved rs
-  moved_linked = record {
-    few = subst (λ (n : ℕ). n ≤ nowhere) (sym moved_length) linked.few;
-    nodes = λ q k m. subst (IsLink moved) (sym (moved_behind q k))
-        (still_link ns moved _ (omega (arith, moved_length))
-        (linked.nodes q k (omega (arith, m, moved_length))));
-    roots = λ w. still_link ns moved _ (omega (arith, moved_length)) (linked.roots w);
-  }
+  moved_linked = grind (arith, moved_length, moved_behind, still_link)
 
   moved_left : (w i : ℕ) → (SameKey a b w i → ⊥) → (q : ℕ) → q < length ns → Left ns moved w i q
-  moved_left w i unlike q m = record {
-    within = omega (arith, m, moved_length);
-    wave = moved_wave q;
-    instr = moved_instr q;
-    place = λ s. elim (cases_eq at q) [
-      | inl e ↦ absurd (let t = is_same _ _ a b own in
-          let r : SameKey (node_at ns at).wave (node_at ns at).instr w i =
-          subst (λ (x : ℕ). SameKey (node_at ns x).wave (node_at ns x).instr w i) (sym e) s in
-          unlike (record { wave = sym t.wave ∙ r.wave; instr = sym t.instr ∙ r.instr }))
-      | inr n ↦ ap (λ (x : Node). x.place) (moved_old q n)
-    ];
-    links = λ k. inl (moved_behind q k);
-  }
+  moved_left w i unlike q m =
+      grind (arith, moved_length, moved_wave, moved_instr, cases_eq, is_same, moved_old, moved_behind)
 
   module _ (left key : ℕ) (so : LeadsTo ns (root_of rs a) a b (suc left) at key) where
     own_moved : in_trees moved rs a b ≡ Some p

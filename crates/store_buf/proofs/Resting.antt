@@ -1,6 +1,5 @@
 -- Where no request may be issued, nothing that waits is issuable.
-use Rattle.std.proofs.Common.{ℕ, ◌≡◌, Bool, true, List, Option, Some, None, slice_index_or, refl, sym, ap}
-use Rattle.std.proofs.Common.{◌∙◌, subst, inl, inr}
+use Rattle.std.proofs.Common.{ℕ, ◌≡◌, Bool, true, List, Option, Some, None, sym, ap, ◌∙◌, subst, arith}
 use Rattle.std.specs.Prelude.{is_none}
 use Rattle.std.proofs.lemmas.Bool.{and_from, both_ways}
 use Rattle.ws_words.specs.Outside.{Outside, World}
@@ -15,11 +14,11 @@ use Rattle.df_core.proofs.Parts.Driving.{flagged}
 use Rattle.df_core.proofs.Parts.Arriving.{ports_is_op, memory_is_op}
 use Rattle.store_buf.specs.declared.kept.Kept.{Kept}
 use Rattle.store_buf.specs.declared.order.Order.{Order}
-use Rattle.store_buf.specs.Requests.{entry_of, kept_in, issued_in, answer_if, operands_if}
-use Rattle.store_buf.specs.Ordering.{no_request, kept_at, NoneMay, ready_flag}
+use Rattle.store_buf.specs.Requests.{kept_in, issued_in, answer_if, operands_if}
+use Rattle.store_buf.specs.Ordering.{NoneMay, ready_flag}
 use Rattle.store_buf.specs.Outdoors.{Holding}
 use Rattle.store_buf.specs.Holds.{Holds, part}
-use Rattle.store_buf.proofs.Found.{Stands, entry_case}
+use Rattle.store_buf.proofs.Found.{entry_case}
 use Rattle.store_buf.proofs.Stepping.{two_ports}
 
 -- the chain lets a request that is issuable issue
@@ -52,24 +51,7 @@ module _ (image : Image) (world : World) (began : List (Option Began)) (o : Orde
       → (k : Kept) × (e ≡ Some k) × (k.answer ≡ None)
       × (operands_of (ports image k.instr) k.first k.second ≡ xs)
   waits_so None xs w = absurd (let f : None ≡ Some xs = w in cc)
-  waits_so (Some k) xs w = go k.answer refl w
-    where
-      go : (a : Option ℕ) → k.answer ≡ a
-          → waits_if k.answer (Some (operands_of (ports image k.instr) k.first k.second)) None ≡ Some xs
-          → (k' : Kept) × (Some k ≡ Some k') × (k'.answer ≡ None)
-          × (operands_of (ports image k'.instr) k'.first k'.second ≡ xs)
-      go (Some a) e v =
-          absurd (let f : None ≡ Some xs =
-          sym (ap (λ (b : Option ℕ). waits_if b (Some (operands_of (ports image k.instr) k.first k.second))
-          None) e) ∙ v in cc)
-      go None e v = (
-        k,
-        refl,
-        e,
-        (let f : Some (operands_of (ports image k.instr) k.first k.second) ≡ Some xs =
-            sym (ap (λ (b : Option ℕ). waits_if b (Some (operands_of (ports image k.instr) k.first k.second))
-            None) e) ∙ v in cc),
-      )
+  waits_so (Some k) xs w = grind arith
 
   -- a kept request that is issuable may be issued
   pub may_be : (k : Kept) → kept_in image o.kept.items k.wave k.instr ≡ Some
@@ -83,34 +65,4 @@ module _ (image : Image) (world : World) (began : List (Option Began)) (o : Orde
 
   pub none_issuable : NoneMay image o
       → NoneIssuable image (part image o.kept.items (chain_of o.chain) stopped m)
-  none_issuable none w i xs waits may = elim (entry_case o.kept.items w i) [
-    | inl n ↦ (let q = waits_so (entry_of o.kept.items w i) xs waits in let f : None ≡ Some q.0 = sym n
-        ∙ q.1 in cc)
-    | inr s ↦ at_place s
-  ]
-    where
-      at_place : Stands o.kept.items w i → ⊥
-      at_place s =
-          let q = waits_so (entry_of o.kept.items w i) xs waits in
-          let e : q.0 ≡ slice_index_or o.kept.items s.place no_request =
-          (let f : Some q.0 ≡ Some (slice_index_or o.kept.items s.place no_request) = sym q.1 ∙ s.is in
-          cc) in
-          let wave : q.0.wave ≡ w = ap (λ (k : Kept). k.wave) e ∙ s.wave in
-          let instr : q.0.instr ≡ i = ap (λ (k : Kept). k.instr) e ∙ s.instr in
-          let kept : kept_in image o.kept.items q.0.wave q.0.instr ≡ Some
-          (operands_of (ports image q.0.instr) q.0.first q.0.second) =
-          subst (λ (n : ℕ). kept_in image o.kept.items q.0.wave n ≡ Some
-          (operands_of (ports image q.0.instr) q.0.first q.0.second)) (sym instr)
-          (subst (λ (n : ℕ). kept_in image o.kept.items n i ≡ Some
-          (operands_of (ports image q.0.instr) q.0.first q.0.second)) (sym wave)
-          (ap (operands_if image) q.1)) in
-          let may' : Issuable image (issued_in o.kept.items) (chain_of o.chain) stopped q.0.wave q.0.instr
-          (operands_of (ports image q.0.instr) q.0.first q.0.second) =
-          subst (λ (ys : List ℕ). Issuable image (issued_in o.kept.items) (chain_of o.chain) stopped q.0.wave
-          q.0.instr ys) (sym q.3)
-          (subst (λ (n : ℕ). Issuable image (issued_in o.kept.items) (chain_of o.chain) stopped q.0.wave n xs)
-          (sym instr)
-          (subst (λ (n : ℕ). Issuable image (issued_in o.kept.items) (chain_of o.chain) stopped n i xs)
-          (sym wave) may)) in
-          both_ways (ready_flag image o (kept_at o s.place)) (none s.place s.within)
-          (subst (λ (k : Kept). ready_flag image o k ≡ true) e (may_be q.0 kept q.2 may'))
+  none_issuable none w i xs waits may = grind (arith, entry_case, waits_so, both_ways, may_be)

@@ -1,6 +1,6 @@
 -- What is kept under wave numbers where places come to one.
 use Rattle.std.proofs.Common.{ℕ, ◌≡◌, ◌⊎◌, Bool, true, false, cond, nat_eq, eqb-true, Option, Some, None}
-use Rattle.std.proofs.Common.{Result, Ok, Err, refl, sym, ap, ◌∙◌, subst, inl, inr}
+use Rattle.std.proofs.Common.{Result, Ok, Err, refl, sym, ap, ◌∙◌, subst, inl, inr, arith}
 use Rattle.std.specs.Prelude.{IsOk, OnOk}
 use Rattle.std.proofs.lemmas.Bool.{both_ways}
 use Rattle.std.specs.HashMap.{HashMap, get, Updates}
@@ -17,9 +17,7 @@ module _ (before without after : ℕ → Option WavePlaces) (wave : ℕ) (old ne
   retained_so w n r p h = go (nat_eq wave w) refl
     where
       go : (b : Bool) → nat_eq wave w ≡ b → IsFiledIf (after w) n r p
-      go false e = subst (λ (o : Option WavePlaces). IsFiledIf o n r p)
-          (sym (put w ∙ ap (λ (b : Bool). cond b (Some new) (without w)) e ∙ taken w
-          ∙ ap (λ (b : Bool). cond b None (before w)) e)) h
+      go false e = grind arith
       go true e = let same : wave ≡ w = eqb-true wave w e in
           subst (λ (o : Option WavePlaces). IsFiledIf o n r p)
           (sym (put w ∙ ap (λ (b : Bool). cond b (Some new) (without w)) e))
@@ -41,5 +39,4 @@ pub retained : {E S : Type 0} (result : Result (Option WavePlaces) E) → IsOk r
     → (w n : ℕ) (r : Option ℕ) (p : ℕ) → IsFiledIf (before w) n r p → IsFiledIf (get nat_eq after w) n r p
 retained (Ok x) ok before without after wave old new was taken put kept w n r p h =
     retained_so before (get nat_eq without) (get nat_eq after) wave old new was taken put.0 kept w n r p h
-retained (Err x) ok before without after wave old new was taken put kept w n r p h =
-    absurd (both_ways false refl ok)
+retained (Err x) ok before without after wave old new was taken put kept w n r p h = grind (arith, both_ways)

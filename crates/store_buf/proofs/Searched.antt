@@ -1,6 +1,6 @@
 -- What a tree of places has under an instance.
-use Rattle.std.proofs.Common.{ℕ, zero, suc, ◌≡◌, ◌<◌, ◌≤◌, ◌⊎◌, ◌/◌, ◌%◌, Bool, true, false, cond, nat_eq}
-use Rattle.std.proofs.Common.{lt-ltb, le-ltb, List, length, Some, None, refl, sym, ap, ◌∙◌, inl, inr, arith}
+use Rattle.std.proofs.Common.{ℕ, zero, suc, ◌≡◌, ◌<◌, ◌≤◌, ◌⊎◌, ◌/◌, true, false, lt-ltb, le-ltb, List}
+use Rattle.std.proofs.Common.{length, Some, None, refl, sym, ap, ◌∙◌, inl, inr, arith}
 use Rattle.std.proofs.lemmas.Bool.{cases_lt}
 use Rattle.df_core.specs.Core.{same_key}
 use Rattle.df_core.proofs.Keeping.Ports.{SameKey, with_key_cases}
@@ -10,44 +10,25 @@ use Rattle.store_buf.specs.Trees.{AllGrown, LeadsTo}
 
 -- past the nodes there is none
 pub seek_past : (ns : List Node) (n at key w i : ℕ) → length ns ≤ at → seek ns n at key w i ≡ None
-seek_past ns zero at key w i l = refl
-seek_past ns (suc n) at key w i l = rw (le-ltb at (length ns) l) refl
+seek_past ns n at key w i l = grind (arith, le-ltb)
 
 -- at a node of the instance
 pub seek_here : (ns : List Node) (n at key w i : ℕ) → at < length ns
     → SameKey (node_at ns at).wave (node_at ns at).instr w i → seek ns (suc n) at key w i
     ≡ Some (node_at ns at).place
-seek_here ns n at key w i l s =
-    rw (lt-ltb at (length ns) l)
-    (elim (with_key_cases (node_at ns at).wave (node_at ns at).instr (Some (node_at ns at).place)
-    (λ a b. seek ns n (child_of (node_at ns at) key) (key / 2) a b) w i) [
-      | inl h ↦ h.1
-      | inr h ↦ absurd (h.0 s)
-    ])
+seek_here ns n at key w i l s = grind (arith, lt-ltb, with_key_cases)
 
 -- at a node of another one
 pub seek_on : (ns : List Node) (n at key w i : ℕ) → at < length ns
     → (SameKey (node_at ns at).wave (node_at ns at).instr w i → ⊥) → seek ns (suc n) at key w i ≡ seek ns n
     (child_of (node_at ns at) key) (key / 2) w i
-seek_on ns n at key w i l s =
-    rw (lt-ltb at (length ns) l)
-    (elim (with_key_cases (node_at ns at).wave (node_at ns at).instr (Some (node_at ns at).place)
-    (λ a b. seek ns n (child_of (node_at ns at) key) (key / 2) a b) w i) [
-      | inl h ↦ absurd (s h.0)
-      | inr h ↦ h.1
-    ])
+seek_on ns n at key w i l s = grind (arith, lt-ltb, with_key_cases)
 
 pub is_same : (a b w i : ℕ) → same_key a b w i ≡ true → SameKey a b w i
-is_same a b w i e = elim (with_key_cases {A = ℕ} a b (Some 0) (λ x y. None) w i) [
-  | inl h ↦ h.0
-  | inr h ↦ absurd (let g : Some 0 ≡ None = sym (ap (λ (x : Bool). cond x (Some 0) None) e) ∙ h.1 in cc)
-]
+is_same a b w i e = grind (arith, with_key_cases)
 
 pub is_other : (a b w i : ℕ) → same_key a b w i ≡ false → SameKey a b w i → ⊥
-is_other a b w i e s = elim (with_key_cases {A = ℕ} a b (Some 0) (λ x y. None) w i) [
-  | inl h ↦ (let g : Some 0 ≡ None = sym h.1 ∙ ap (λ (x : Bool). cond x (Some 0) None) e in cc)
-  | inr h ↦ h.0 s
-]
+is_other a b w i e s = grind (arith, with_key_cases)
 
 pub grown_same : (ns : List Node) → AllGrown ns ns
 grown_same ns p l = record { within = l; wave = refl; instr = refl; links = λ key h. refl }
@@ -83,8 +64,7 @@ others old new roots w i linked few left (suc n) at key link =
   where
     go : ((p k : ℕ) → IsLink old p → seek new n p k w i ≡ seek old n p k w i)
         → (at < length old) ⊎ (length old ≤ at) → seek new (suc n) at key w i ≡ seek old (suc n) at key w i
-    go on (inr e) = let q : at ≡ nowhere = link e in seek_past new (suc n) at key w i (omega (arith, q, few))
-        ∙ sym (seek_past old (suc n) at key w i e)
+    go on (inr e) = grind (arith, seek_past)
     go on (inl l) =
         let g = left at l in
         elim (with_key_cases {A = ℕ} (node_at old at).wave (node_at old at).instr (Some 0)
@@ -109,36 +89,12 @@ others old new roots w i linked few left (suc n) at key link =
 pub leaf_none : (ns : List Node) (at a b p w i : ℕ) → at < length ns → length ns ≤ nowhere
     → node_at ns at ≡ leaf a b p → (SameKey a b w i → ⊥) → (n key : ℕ) → seek ns n at key w i ≡ None
 leaf_none ns at a b p w i l few is other zero key = refl
-leaf_none ns at a b p w i l few is other (suc n) key =
-    seek_on ns n at key w i l
-    (λ s. other (record {
-      wave = sym (ap (λ (x : Node). x.wave) is) ∙ s.wave;
-      instr = sym (ap (λ (x : Node). x.instr) is) ∙ s.instr;
-    }))
-    ∙ seek_past ns n (child_of (node_at ns at) key) (key / 2) w i
-    (let e : child_of (node_at ns at) key ≡ nowhere = ap (λ (x : Node). child_of x key) is
-    ∙ both (nat_eq (key % 2) 0) in omega (arith, e, few))
-  where
-    both : (x : Bool) → cond x nowhere nowhere ≡ nowhere
-    both true = refl
-    both false = refl
+leaf_none ns at a b p w i l few is other (suc n) key = grind (arith, seek_on, seek_past)
 
 -- a node with another one behind it has that one, or what it had
 pub with_links : (n : Node) (key next k : ℕ) → (child_of (with_child n key next) k ≡ child_of n k)
     ⊎ ((child_of n k ≡ child_of n key) × (child_of (with_child n key next) k ≡ next))
-with_links n key next k = go (nat_eq (key % 2) 0) (nat_eq (k % 2) 0)
-  where
-    go : (x y : Bool) → (cond y (cond x next n.even) (cond x n.odd next) ≡ cond y n.even n.odd)
-        ⊎ ((cond y n.even n.odd ≡ cond x n.even n.odd)
-        × (cond y (cond x next n.even) (cond x n.odd next) ≡ next))
-    go true true = inr (refl, refl)
-    go true false = inl refl
-    go false true = inl refl
-    go false false = inr (refl, refl)
+with_links n key next k = grind arith
 
 pub with_own : (n : Node) (key next : ℕ) → child_of (with_child n key next) key ≡ next
-with_own n key next = go (nat_eq (key % 2) 0)
-  where
-    go : (x : Bool) → cond x (cond x next n.even) (cond x n.odd next) ≡ next
-    go true = refl
-    go false = refl
+with_own n key next = grind arith

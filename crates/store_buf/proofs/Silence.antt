@@ -1,10 +1,9 @@
 -- Operations on ports that may be issued.
-use Rattle.std.proofs.Common.{ℕ, ◌≡◌, ◌<◌, ◌||◌, ◌&&◌, ◌==◌, true, false, not, nat_le, [], ◌∷◌, Some, None}
-use Rattle.std.proofs.Common.{length, refl, sym, inl, inr}
+use Rattle.std.proofs.Common.{ℕ, ◌≡◌, ◌<◌, ◌||◌, ◌&&◌, ◌==◌, true, not, nat_le, [], ◌∷◌, Some, length, refl}
+use Rattle.std.proofs.Common.{sym, inl, inr, arith}
 use Rattle.std.specs.Prelude.{is_none}
 use Rattle.std.proofs.lemmas.Bool.{and_parts, both_ways}
 use Rattle.ws_isa.specs.declared.instr.Op.{Op}
-use Rattle.ws_isa.specs.declared.instr.Op.TheVariants.{Give, Take}
 use Rattle.ws_isa.specs.Image.{Image, instr_at, note_of, is_load_op, is_past_op}
 use Rattle.df_core.specs.Core.{position_after}
 use Rattle.df_core.specs.Chains.{chain_of, may_flag, next_flag}
@@ -19,9 +18,7 @@ use Rattle.store_buf.proofs.Ordered.{ready_waits}
 use Rattle.ws_words.proofs.Bools.{or_comes as either}
 
 no_load : (op : Op) (p : ℕ) → port_of op ≡ Some p → is_load_op op ≡ true → ⊥
-no_load (Give q) p e l = both_ways false refl l
-no_load (Take q) p e l = both_ways false refl l
-no_load _ p e l = (let f : None ≡ Some p = e in cc)
+no_load op p e l = grind (arith, both_ways)
 
 -- one on a port that may be issued is next, and its request waits
 pub port_waits : (image : Image) (o : Order) → (q : ℕ) → q < length o.kept.items
@@ -42,13 +39,12 @@ port_waits image o q l ready p e =
           q (o.ok.index q l) l refl refl);
       waits = w.0;
       current = w.1;
-      next = elim (either (next_flag (chain_of o.chain) (note_of image (kept_at o q).instr))
-          (is_load_op (instr_at image (kept_at o q).instr).op && not
-          (is_past_op image.arrays (instr_at image (kept_at o q).instr).op ((kept_at o q).first ∷ []))
-          && nat_le (note_of image (kept_at o q).instr).ripple (position_after o.chain.last)) b.1) [
+      next = elim (either (next_flag (chain_of o.chain) (note_of image (kept_at o q).instr)) (is_load_op
+          (instr_at image (kept_at o q).instr).op && not (is_past_op image.arrays (instr_at image (kept_at o
+          q).instr).op ((kept_at o q).first ∷ [])) && nat_le (note_of image (kept_at o q).instr).ripple
+          (position_after o.chain.last)) b.1) [
             | inl h ↦ next_is (chain_of o.chain) (note_of image (kept_at o q).instr) h
-            | inr h ↦
-                absurd (let c = and_parts (is_load_op (instr_at image (kept_at o q).instr).op && not
+            | inr h ↦ absurd (let c = and_parts (is_load_op (instr_at image (kept_at o q).instr).op && not
                 (is_past_op image.arrays (instr_at image (kept_at o q).instr).op ((kept_at o q).first ∷ [])))
                 (nat_le (note_of image (kept_at o q).instr).ripple (position_after o.chain.last)) h in
                 let d = and_parts (is_load_op (instr_at image (kept_at o q).instr).op)

@@ -1,29 +1,25 @@
 -- A buffer issues a request that may be issued: an event of the core on the buffer's part.
-use Rattle.std.proofs.Common.{ℕ, suc, ◌-◌, ◌≡◌, ◌<◌, ◌≤◌, ◌⊎◌, ◌==◌, true, false, not, cond, ◌&&◌, ◌||◌}
-use Rattle.std.proofs.Common.{nat_le, List, [], ◌∷◌, length, Option, Some, None, slice_set, refl, sym, ap}
-use Rattle.std.proofs.Common.{◌∙◌, subst, inl, inr, leb-true}
+use Rattle.std.proofs.Common.{ℕ, suc, ◌≡◌, ◌<◌, ◌≤◌, ◌⊎◌, ◌==◌, true, false, not, cond, ◌&&◌, ◌||◌, nat_le}
+use Rattle.std.proofs.Common.{List, [], ◌∷◌, length, Option, Some, None, slice_set, refl, sym, ap, ◌∙◌, subst}
+use Rattle.std.proofs.Common.{inl, inr, leb-true, arith}
 use Rattle.std.proofs.lemmas.Bool.{and_parts, both_ways}
-use Rattle.ws_words.specs.Outside.{Outside, World, row}
+use Rattle.ws_words.specs.Outside.{Outside, World}
 use Rattle.ws_isa.specs.declared.instr.Op.{Op}
-use Rattle.ws_isa.specs.declared.instr.Op.TheVariants.{Phi, Steer, Send}
 use Rattle.ws_isa.specs.Image.{Image, instr_at, is_memory_op, is_load, is_load_op, is_past, is_past_op}
-use Rattle.ws_isa.specs.Image.{is_advance_op, note_of, ports, ports_of, answer, answer_op, after, after_op}
-use Rattle.ws_isa.specs.Image.{selector_of, sends, tokens_to, array_of_op, array_at}
+use Rattle.ws_isa.specs.Image.{is_advance_op, note_of, ports, ports_of, answer, after, after_op, selector_of}
+use Rattle.ws_isa.specs.Image.{sends, tokens_to, array_of_op, array_at}
 use Rattle.ws_isa.specs.Formed.{Formed}
 use Rattle.ws_isa.specs.Sound.{Sound}
 use Rattle.ws_isa.specs.Operations.{effect_of}
 use Rattle.df_core.specs.Effect.{effect_after}
 use Rattle.df_core.specs.Core as law
-use Rattle.df_core.specs.Core.{IsNext, Issuable, Passes, issued_with, position_after, with_key}
+use Rattle.df_core.specs.Core.{IsNext, Issuable, Passes, issued_with, position_after, with_key, IsSent}
 use Rattle.df_core.specs.Fit.{RightRequest}
-use Rattle.df_core.specs.Shown.{waits_if}
-use Rattle.df_core.specs.Core.{IsSent}
 use Rattle.df_core.proofs.Keeping.BufferKept.{fault_here}
 use Rattle.df_core.proofs.Walked.Facts.{WalkFacts}
 use Rattle.df_core.proofs.Walked.FromSound.{facts_of}
 use Rattle.df_core.proofs.Walked.PortsThere.{ports_there}
 use Rattle.df_core.proofs.Keeping.Ports.{with_key_cases}
-use Rattle.port_set.specs.Slots.{port_at}
 use Rattle.df_core.specs.Began.{Began}
 use Rattle.df_core.specs.Rights.{operands_of}
 use Rattle.df_core.specs.declared.plain.Operands.{Operands}
@@ -40,7 +36,7 @@ use Rattle.store_buf.specs.declared.order.Order.{Order}
 use Rattle.store_buf.specs.Requests.{entry_of, kept_in, issued_in, answer_if, operands_if}
 use Rattle.store_buf.specs.Finding.{place_in}
 use Rattle.store_buf.specs.Ordering.{kept_at, ready_flag}
-use Rattle.store_buf.specs.Outdoors.{Holding, HoldsOut, Performed, SlotIs}
+use Rattle.store_buf.specs.Outdoors.{Holding, HoldsOut, Performed}
 use Rattle.store_buf.specs.Contents.{FaultIs, RightTokens}
 use Rattle.store_buf.specs.Holds.{Holds, Issued, Stopped, part, waiting_in}
 use Rattle.store_buf.proofs.Found as F
@@ -53,24 +49,15 @@ use Rattle.store_buf.specs.Orders.{OrderGoes}
 
 pub two_ports : (op : Op) (f s : ℕ) → is_memory_op op ≡ true
     → listed (ports_of op) (record { first = f; second = s; third = 0 }) ≡ operands_of (ports_of op) f s
-two_ports Phi f s e = absurd (both_ways false refl e)
-two_ports _ f s e = refl
+two_ports op f s e = grind (arith, both_ways)
 
 pub no_selector : (op : Op) (xs : List ℕ) → is_memory_op op ≡ true → selector_of op xs ≡ 0
-no_selector Steer xs e = absurd (both_ways false refl e)
-no_selector (Send k) xs e = absurd (both_ways false refl e)
-no_selector _ xs e = refl
+no_selector op xs e = grind (arith, both_ways)
 
 -- loads before their turn leave nothing
 pub out_effect : (began : List (Option Began)) (o : Outside) (h : Holding) → HoldsOut began o h
     → HoldsOut began (effect_of o) h
-out_effect began o h is = record {
-  cells_are = is.cells_are;
-  input_is = is.input_is;
-  printed_are = printed_alike o.acts ∙ is.printed_are;
-  slots_are = λ slot l m. subst (λ (ws : List ℕ). SlotIs (port_at began slot) (row o.left (slot - 1)) ws
-      (port_at h.ports slot)) (sym (took_alike slot o.acts)) (is.slots_are slot l m);
-}
+out_effect began o h is = grind (arith, printed_alike, took_alike)
 
 module _ (image : Image) (world : World) (formed : Formed image) (sound : Sound image)
     (began : List (Option Began)) (o : Order) (h : Holding) (m : Outside)
@@ -78,9 +65,6 @@ module _ (image : Image) (world : World) (formed : Formed image) (sound : Sound 
     (p : ℕ) (l : p < length o.kept.items) (ready : ready_flag image o (kept_at o p) ≡ true) where
   facts : WalkFacts image world
   facts = facts_of image world (ports_there image formed) sound
-
-  abbrev k : Kept
-  k = kept_at o p
 
   abbrev xs : List ℕ
   xs = operands_of (ports image (kept_at o p).instr) (kept_at o p).first (kept_at o p).second
@@ -99,9 +83,7 @@ module _ (image : Image) (world : World) (formed : Formed image) (sound : Sound 
   fresh = ap answer_if found ∙ waits_here.0
 
   pub waiting_here : waiting_in image o.kept.items (kept_at o p).wave (kept_at o p).instr ≡ Some xs
-  waiting_here =
-      ap (λ (a : Option ℕ). waits_if a (kept_in image o.kept.items (kept_at o p).wave (kept_at o p).instr)
-      None) fresh ∙ ap (λ (x : Option (List ℕ)). waits_if None x None) kept_here
+  waiting_here = grind (arith, fresh, kept_here)
 
   pub right : RightRequest image world (kept_at o p).wave (kept_at o p).instr xs
   right = hold.right (kept_at o p).wave (kept_at o p).instr xs kept_here
@@ -113,9 +95,7 @@ module _ (image : Image) (world : World) (formed : Formed image) (sound : Sound 
   oo = record { first = (kept_at o p).first; second = (kept_at o p).second; third = 0 }
 
   xs_is : listed (ports_of (instr_at image (kept_at o p).instr).op) oo ≡ xs
-  xs_is = two_ports (instr_at image (kept_at o p).instr).op (kept_at o p).first (kept_at o p).second op_memory
-      ∙ ap (λ (n : ℕ). operands_of n (kept_at o p).first (kept_at o p).second)
-      (sym (ports_is_op image (kept_at o p).instr))
+  xs_is = grind (arith, two_ports, op_memory, ports_is_op)
 
   op_is : is_load image (kept_at o p).instr ≡ is_load_op (instr_at image (kept_at o p).instr).op
   unfolding is_load
@@ -124,8 +104,7 @@ module _ (image : Image) (world : World) (formed : Formed image) (sound : Sound 
   pub past_is : is_past image (kept_at o p).instr xs ≡ is_past_op image.arrays
       (instr_at image (kept_at o p).instr).op ((kept_at o p).first ∷ [])
   unfolding is_past
-  past_is = ap (is_past_op image.arrays (instr_at image (kept_at o p).instr).op) (sym xs_is)
-      ∙ same_past image.arrays (instr_at image (kept_at o p).instr).op oo
+  past_is = grind (arith, xs_is, same_past)
 
   turn : IsNext (chain_of o.chain) (note_of image (kept_at o p).instr)
       ⊎ ((is_load image (kept_at o p).instr ≡ true) × (is_past image (kept_at o p).instr xs ≡ false)
@@ -143,10 +122,9 @@ module _ (image : Image) (world : World) (formed : Formed image) (sound : Sound 
       (is_past_op image.arrays (instr_at image (kept_at o p).instr).op ((kept_at o p).first ∷ []))
       && nat_le (note_of image (kept_at o p).instr).ripple (position_after o.chain.last)) b.1) [
         | inl e ↦ inl (next_is (chain_of o.chain) (note_of image (kept_at o p).instr) e)
-        | inr e ↦
-            (let c = and_parts (is_load_op (instr_at image (kept_at o p).instr).op && not
-            (is_past_op image.arrays (instr_at image (kept_at o p).instr).op ((kept_at o p).first ∷ [])))
-            (nat_le (note_of image (kept_at o p).instr).ripple (position_after o.chain.last)) e in
+        | inr e ↦ (let c = and_parts (is_load_op (instr_at image (kept_at o p).instr).op && not (is_past_op
+            image.arrays (instr_at image (kept_at o p).instr).op ((kept_at o p).first ∷ []))) (nat_le (note_of
+            image (kept_at o p).instr).ripple (position_after o.chain.last)) e in
             let d = and_parts (is_load_op (instr_at image (kept_at o p).instr).op)
             (not (is_past_op image.arrays (instr_at image (kept_at o p).instr).op
             ((kept_at o p).first ∷ []))) c.0 in
@@ -229,8 +207,7 @@ module _ (image : Image) (world : World) (formed : Formed image) (sound : Sound 
 
     answer_is : word ≡ answer image (kept_at o p).instr xs m
     unfolding answer
-    answer_is = answers.answer ∙ sym (same_answer (instr_at image (kept_at o p).instr).op oo m)
-        ∙ ap (λ (ys : List ℕ). answer_op (instr_at image (kept_at o p).instr).op ys m) xs_is
+    answer_is = grind (arith, same_answer, xs_is)
 
     after_is : HoldsOut began (effect_after image (kept_at o p).instr xs m) left
     unfolding effect_after after
@@ -251,19 +228,10 @@ module _ (image : Image) (world : World) (formed : Formed image) (sound : Sound 
 
     entries : (w i : ℕ) → entry_of new.kept.items w i ≡ with_key (kept_at o p).wave (kept_at o p).instr
         (Some changed) (entry_of o.kept.items) w i
-    entries w i = ap (λ (ks : List Kept). entry_of ks w i) kept ∙ entry_set o.kept.items p changed l
-        (once_of o.kept.items (place_in o.index) o.ok.index) refl refl w i
+    entries w i = grind (arith, entry_set, once_of)
 
     kept_same : (w i : ℕ) → kept_in image new.kept.items w i ≡ kept_in image o.kept.items w i
-    kept_same w i = ap (operands_if image) (entries w i)
-        ∙ elim (with_key_cases (kept_at o p).wave (kept_at o p).instr (Some changed) (entry_of o.kept.items) w
-        i) [
-          | inl e ↦ ap (operands_if image) e.1
-              ∙ sym (subst (λ (a : ℕ). kept_in image o.kept.items w a ≡ Some xs) e.0.instr
-              (subst (λ (a : ℕ). kept_in image o.kept.items a (kept_at o p).instr ≡ Some xs) e.0.wave
-              kept_here))
-          | inr e ↦ ap (operands_if image) e.1
-        ]
+    kept_same w i = grind (arith, entries, with_key_cases, kept_here)
 
     issued_now : (w i : ℕ) → issued_in new.kept.items w i ≡ issued_with image (issued_in o.kept.items) m
         (kept_at o p).wave (kept_at o p).instr xs w i
@@ -297,30 +265,24 @@ module _ (image : Image) (world : World) (formed : Formed image) (sound : Sound 
       | inl q ↦ G.goes_next image world facts (issued_in o.kept.items) (waiting_in image o.kept.items) false
           (chain_of o.chain) m (early_ops o.early) hold.going (kept_at o p).wave (kept_at o p).instr xs right
           may inside (waiting_in image new.kept.items) q.0 (chain_of new.chain) (early_ops new.early) q.1
-      | inr q ↦
-          (let load : is_load image (kept_at o p).instr ≡ true = elim turn [
-            | inl e ↦ absurd (q.0 e)
-            | inr e ↦
-                e.0
-          ] in
+      | inr q ↦ (let load : is_load image (kept_at o p).instr ≡ true = elim turn [
+        | inl e ↦ absurd (q.0 e)
+        | inr e ↦ e.0
+      ] in
           let r = G.goes_early image world facts (issued_in o.kept.items) (waiting_in image o.kept.items)
           false (chain_of o.chain) m (early_ops o.early) hold.going (kept_at o p).wave (kept_at o p).instr
           xs right may inside (waiting_in image new.kept.items) q.0 load in (
-            subst (λ (d : law.Chain).
-                Passes image (issued_with image (issued_in o.kept.items) m (kept_at o p).wave
-                (kept_at o p).instr xs) (chain_of o.chain) d) (sym q.1) r.0,
-            subst (λ (d : law.Chain). OrderGoes image world
-                (issued_with image (issued_in o.kept.items) m (kept_at o p).wave (kept_at o p).instr xs)
-                (waiting_in image new.kept.items) false d (effect_after image (kept_at o p).instr xs m)
-                (early_ops new.early)) (sym q.1)
-                (early_alike image world (issued_with image (issued_in o.kept.items) m (kept_at o p).wave
-                (kept_at o p).instr xs) (waiting_in image new.kept.items) false (chain_of o.chain)
-                (effect_after image (kept_at o p).instr xs m) ((kept_at o p).instr ∷ (early_ops o.early))
-                (early_ops new.early)
-                (λ j e. elim e [
+            subst (λ (d : law.Chain). Passes image (issued_with image (issued_in o.kept.items) m (kept_at o
+                p).wave (kept_at o p).instr xs) (chain_of o.chain) d) (sym q.1) r.0,
+            subst (λ (d : law.Chain). OrderGoes image world (issued_with image (issued_in o.kept.items) m
+                (kept_at o p).wave (kept_at o p).instr xs) (waiting_in image new.kept.items) false d
+                (effect_after image (kept_at o p).instr xs m) (early_ops new.early)) (sym q.1) (early_alike
+                image world (issued_with image (issued_in o.kept.items) m (kept_at o p).wave (kept_at o
+                p).instr xs) (waiting_in image new.kept.items) false (chain_of o.chain) (effect_after image
+                (kept_at o p).instr xs m) ((kept_at o p).instr ∷ (early_ops o.early)) (early_ops new.early) (λ
+                j e. elim e [
                   | inl h ↦ subst (λ (n : ℕ). In n (early_ops new.early)) (sym h) q.2.1
-                  | inr h ↦
-                      q.2.2 j h
+                  | inr h ↦ q.2.2 j h
                 ]) (λ j e. elim (q.2.0 j e) [ inl h ↦ inl (sym h) | inr h ↦ inr h ]) r.1),
           ))
     ]
@@ -347,9 +309,8 @@ module _ (image : Image) (world : World) (formed : Formed image) (sound : Sound 
       record {
         going = going_alike image world (issued_with image (issued_in o.kept.items) m (kept_at o p).wave
             (kept_at o p).instr xs) (issued_in new.kept.items) issued_now (waiting_in image new.kept.items)
-            (waiting_in image new.kept.items) (λ w i. refl)
-            false (chain_of new.chain) (effect_after image (kept_at o p).instr xs m) (early_ops new.early)
-            goes.1;
+            (waiting_in image new.kept.items) (λ w i. refl) false (chain_of new.chain) (effect_after image
+            (kept_at o p).instr xs m) (early_ops new.early) goes.1;
         right = λ w i ys e. hold.right w i ys (sym (kept_same w i) ∙ e);
         outside = after_is;
       },

@@ -1,5 +1,5 @@
 -- Each token that is told is right.
-use Rattle.std.proofs.Common.{ℕ, List, [], ◌∷◌, subst, inl, inr}
+use Rattle.std.proofs.Common.{ℕ, List, [], ◌∷◌, inl, inr, arith}
 use Rattle.std.specs.List.{AllByRecursion}
 use Rattle.ws_words.specs.Outside.{World}
 use Rattle.ws_isa.specs.Image.{Image, Token}
@@ -10,7 +10,5 @@ use Rattle.df_core.specs.Rights.{IsRight}
 pub each_right : (image : Image) (world : World) (ts : List Token) → AllByRecursion (IsRight image world) ts
     → (w i p v : ℕ) → IsSent ts w i p v → RightToken image world w i p v
 each_right image world [] all w i p v e = absurd e
-each_right image world (t ∷ ts) all w i p v (inl e) =
-    subst (λ (x : ℕ × ℕ × ℕ × ℕ). RightToken image world x.0 x.1 x.2 x.3) (λ j. (e.0 j, e.1 j, e.2 j, e.3 j))
-    all.0
+each_right image world (t ∷ ts) all w i p v (inl e) = grind arith
 each_right image world (t ∷ ts) all w i p v (inr e) = each_right image world ts all.1 w i p v e

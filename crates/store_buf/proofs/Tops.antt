@@ -22,8 +22,7 @@ pub before : {A : Type 0} (xs ys : List A) (x y : A) → IsPermutation (x ∷ xs
 before {A} xs ys x y same h = go (Contains-permutation ys (x ∷ xs) y (IsPermutation-sym (x ∷ xs) ys same) h)
   where
     go : Contains (x ∷ xs) y → (x ≡ y) ⊎ Contains xs y
-    go (zero, l, e) = inl e
-    go (suc k, l, e) = inr (k, omega (arith, l), e)
+    go x = grind arith
 
 -- what isn't the top stays
 pub left_there : (xs ys : List (Reverse (ℕ × ℕ))) (x : Reverse (ℕ × ℕ)) (a b n p : ℕ)

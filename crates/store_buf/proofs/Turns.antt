@@ -1,5 +1,5 @@
 -- Issues in turn, and more of them.
-use Rattle.std.proofs.Common.{ℕ, ◌≡◌, ◌⊎◌, Bool, List, [], ◌++◌, Option, sym, ap, ◌∙◌, subst, inl, inr}
+use Rattle.std.proofs.Common.{ℕ, ◌≡◌, ◌⊎◌, Bool, List, [], ◌++◌, Option, sym, ap, ◌∙◌, subst, inl, inr, arith}
 use Rattle.std.proofs.lemmas.List.{append_assoc, append-nil}
 use Rattle.ws_words.specs.Outside.{World}
 use Rattle.ws_isa.specs.Image.{Image, Token}
@@ -32,8 +32,7 @@ one_issue image b c w i ts (inr e) = subst (λ (us : List Token). Issues image b
 
 right_both : (image : Image) (world : World) (xs ys : List Token) → RightTokens image world xs
     → RightTokens image world ys → RightTokens image world (xs ++ ys)
-right_both image world xs ys a b w i p v e = elim (sent_either xs ys w i p v e)
-    [ inl h ↦ a w i p v h | inr h ↦ b w i p v h ]
+right_both image world xs ys a b w i p v e = grind (arith, sent_either)
 
 module _ {P : Type 0} where
   pub none_yet : (image : Image) (s : Store P) (ts : List Token) → AllLead image s s ts ts
@@ -54,10 +53,9 @@ module _ {P : Type 0} where
         let q = one.2 world began r.memory formed sound r.stands in
         record {
           memory = q.memory;
-          issues = issues_on image (buffer_of image a m) (buffer_of image b r.memory)
-              (buffer_of image c q.memory) all.0 one.0 r.issues
-              (one_issue image (buffer_of image b r.memory) (buffer_of image c q.memory) q.wave q.instr one.0
-              q.event);
+          issues = issues_on image (buffer_of image a m) (buffer_of image b r.memory) (buffer_of image c
+              q.memory) all.0 one.0 r.issues (one_issue image (buffer_of image b r.memory) (buffer_of image c
+              q.memory) q.wave q.instr one.0 q.event);
           right = right_both image world all.0 one.0 r.right q.right;
           fault = λ f. q.fault;
           stands = q.stands;
@@ -73,11 +71,10 @@ module _ {P : Type 0} where
         let r = all.2 world began m formed sound stands in
         record {
           memory = r.memory;
-          issues = subst (λ (x : Order). Issues image (buffer_of image a m) all.0
-              (part image x.kept.items (chain_of x.chain) (has c.fault) r.memory)) (sym order)
-              (subst (λ (f : Option ℕ). Issues image (buffer_of image a m) all.0
-              (part image b.order.kept.items (chain_of b.order.chain) (has f) r.memory)) (sym fault)
-              r.issues);
+          issues = subst (λ (x : Order). Issues image (buffer_of image a m) all.0 (part image x.kept.items
+              (chain_of x.chain) (has c.fault) r.memory)) (sym order) (subst (λ (f : Option ℕ). Issues image
+              (buffer_of image a m) all.0 (part image b.order.kept.items (chain_of b.order.chain) (has f)
+              r.memory)) (sym fault) r.issues);
           right = r.right;
           fault = λ f. subst (FaultIs image world) (sym fault) (r.fault f);
           stands = so world began r.memory r.stands;

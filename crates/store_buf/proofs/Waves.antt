@@ -1,7 +1,6 @@
 -- The chain passes at most one end of a wave at once.
-use Rattle.std.proofs.Common.{ℕ, suc, ◌≡◌, ◌≤◌, ◌⊎◌, List, [], refl, ap, subst, inl, inr, arith}
+use Rattle.std.proofs.Common.{ℕ, suc, ◌≡◌, ◌≤◌, ◌⊎◌, List, [], refl, arith}
 use Rattle.ws_isa.specs.declared.instr.Link.{Link}
-use Rattle.ws_isa.specs.declared.instr.Link.TheVariants.{Unknown, Nothing, Is}
 use Rattle.ws_isa.specs.declared.instr.Note.{Note}
 use Rattle.ws_isa.specs.Image.{Image, note_of}
 use Rattle.df_core.specs.Core.{Chain, pass, pass_by}
@@ -12,17 +11,14 @@ use Rattle.ws_words.specs.Items.{In}
 -- the wave stays, or it is over and nothing is left
 link_cases : (c : Chain) (n : Note) (l : Link) (early : List ℕ) → ((pass_by c n l).wave ≡ c.wave)
     ⊎ (((pass_by c n l).wave ≡ suc c.wave) × (left_by l early ≡ []))
-link_cases c n Nothing early = inr (refl, refl)
-link_cases c n Unknown early = inl refl
-link_cases c n (Is k) early = inl refl
+link_cases c n l early = grind arith
 
 none_left : (image : Image) (c d : Chain) (early left : List ℕ) → ((i : ℕ) → In i early → ⊥)
     → Settles image c early d left → d.wave ≡ c.wave
-none_left image c d early left none (done n) = refl
-none_left image c d early left none (rests i h not_next ahead least) = refl
 none_left image c d early left none (drops mid back forth rest) = none_left image c d mid left
     (λ j k. none j (back j k)) rest
 none_left image c d early left none (goes i mid h nx back forth rest) = absurd (none i h)
+none_left image c d early left none x = refl
 
 pub settles_few : (image : Image) (c d : Chain) (early left : List ℕ) → Settles image c early d left
     → (c.wave ≤ d.wave) × (d.wave ≤ suc c.wave)
@@ -30,29 +26,13 @@ settles_few image c d early left (done n) = (omega arith, omega arith)
 settles_few image c d early left (rests i h not_next ahead least) = (omega arith, omega arith)
 settles_few image c d early left (drops mid back forth rest) = settles_few image c d mid left rest
 settles_few image c d early left (goes i mid h nx back forth rest) =
-    elim (link_cases c (note_of image i) (note_of image i).succ mid) [
-      | inl e ↦ (let r = settles_few image (pass c (note_of image i)) d (left_after (note_of image i) mid)
-          left rest in
-          let a : (pass c (note_of image i)).wave ≤ d.wave = r.0 in
-          let b : d.wave ≤ suc (pass c (note_of image i)).wave = r.1 in (omega arith, omega arith))
-      | inr e ↦ (let r : d.wave ≡ (pass c (note_of image i)).wave = none_left image (pass c (note_of image i))
-          d (left_after (note_of image i) mid) left (λ j k. absurd (subst (In j) e.1 k)) rest in
-          let q : (pass c (note_of image i)).wave ≡ suc c.wave = e.0 in (omega arith, omega arith))
-    ]
+    grind (
+      arith,
+      link_cases,
+      none_left,
+      settles_few image (pass c (note_of image i)) d (left_after (note_of image i) mid) left rest,
+    )
 
 pub passed_few : (image : Image) (c d : Chain) (i : ℕ) (early left : List ℕ) → PassedOn image c i early d left
     → (c.wave ≤ d.wave) × (d.wave ≤ suc c.wave)
-passed_few image c d i early left (inl p) =
-    elim (link_cases c (note_of image i) (note_of image i).succ early) [
-      | inl e ↦
-          (let r = settles_few image (pass c (note_of image i)) d (left_after (note_of image i) early)
-          left p.1 in
-          let a : (pass c (note_of image i)).wave ≤ d.wave = r.0 in
-          let b : d.wave ≤ suc (pass c (note_of image i)).wave = r.1 in (omega arith, omega arith))
-      | inr e ↦
-          (let r : d.wave ≡ (pass c (note_of image i)).wave = none_left image (pass c (note_of image i)) d
-          (left_after (note_of image i) early) left (λ j k. absurd (subst (In j) e.1 k)) p.1 in
-          let q : (pass c (note_of image i)).wave ≡ suc c.wave = e.0 in (omega arith, omega arith))
-    ]
-passed_few image c d i early left (inr p) = let e : d.wave ≡ c.wave = ap (λ (x : Chain). x.wave) p.1 in
-    (omega arith, omega arith)
+passed_few image c d i early left x = grind (arith, link_cases, settles_few, none_left)

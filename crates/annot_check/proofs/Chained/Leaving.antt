@@ -1,6 +1,6 @@
 -- The edges of a block, with what is kept at its end.
-use Rattle.std.proofs.Common.{ℕ, suc, ◌+◌, ◌≡◌, ◌<◌, true, false, List, length, set, Option, Some, None, refl}
-use Rattle.std.proofs.Common.{sym, ap, ◌∙◌, inl, inr, subst, arith, length-set}
+use Rattle.std.proofs.Common.{ℕ, suc, ◌+◌, ◌≡◌, ◌<◌, true, false, length, set, Option, Some, None, refl, sym}
+use Rattle.std.proofs.Common.{ap, ◌∙◌, inl, inr, subst, arith, length-set}
 use Rattle.std.proofs.lemmas.Bool.{cases_eq, cases_Bool}
 use Rattle.std.proofs.lemmas.List.{get_or-set_other, get_or-set_same}
 use Rattle.ws_isa.specs.declared.instr.Link.TheVariants.{Nothing}
@@ -20,8 +20,8 @@ use Rattle.annot_check.specs.Order.{end_top, end_other, end_odd, EndsAt, EdgePas
 use Rattle.annot_check.specs.Seen.{OrderBreach, OrderReady, order_image, lasts_at, Delivered, LeaveState}
 use Rattle.annot_check.specs.Seen.{EndState}
 use Rattle.ws_isa.specs.Formed.{Formed}
-use Rattle.annot_check.specs.Table.{choices_of, StartsOf}
-use Rattle.annot_check.proofs.Chained.Merging.{within_twice, within_self}
+use Rattle.annot_check.specs.Table.{choices_of}
+use Rattle.annot_check.proofs.Chained.Merging.{within_twice}
 use Rattle.annot_check.proofs.Shaped.Edges.{same_edge, SameEdge}
 
 same : {x y : Lasts} → Some x ≡ Some y → x ≡ y
@@ -29,48 +29,30 @@ same e = cc
 
 -- one more entry
 pub order_entered : (old new : WaveLinks) (n : ℕ) (l : Lasts) → OrderReady old → new.image.now ≡ old.image.now
-    →
-    new.starts.now ≡ old.starts.now → new.table.items ≡ set old.table.items n (Some l) →
-    n < length old.table.items → IsBlock (order_image old) n →
-    LastsOk (order_image old) n (first_number (order_image old) n) l → OrderReady new
-order_entered old new n l r i s t w h k =
-    let m : order_image old ≡ order_image new = sym (ap view.image i) in
+    → new.starts.now ≡ old.starts.now → new.table.items ≡ set old.table.items n (Some l) → n < length
+    old.table.items → IsBlock (order_image old) n → LastsOk (order_image old) n (first_number (order_image
+    old) n) l → OrderReady new
+order_entered old new n l r i s t w h k = let m : order_image old ≡ order_image new = sym (ap view.image i) in
     record {
       formed = subst Formed m r.formed;
       shape = subst ShapeRules m r.shape;
-      starts_are = subst (λ (x : Image). StartsOf x new.starts.now) m (rw s r.starts_are);
-      table_size = ap length t ∙ (length-set old.table.items n (Some l) ∙ (r.table_size ∙
-          ap (λ (x : Image). length x.blocks + 1) m));
-      ok = λ b x f. subst (λ (y : Image). IsBlock y b ×
-          LastsOk y b (first_number y b) x) m (either b x (ap (λ (y : List (Option Lasts)). lasts_at y b)
-          (sym t) ∙ f));
+      starts_are = grind arith;
+      table_size = ap length t ∙ (length-set old.table.items n (Some l) ∙ (grind arith));
+      ok = λ b x f. subst (λ (y : Image). IsBlock y b × LastsOk y b (first_number y b) x) m (either b x (grind
+          arith));
     }
   where
     either : (b : ℕ) (x : Lasts) → lasts_at (set old.table.items n (Some l)) b ≡ Some x →
         IsBlock (order_image old) b × LastsOk (order_image old) b (first_number (order_image old) b) x
     either b x f = elim (cases_eq b n) [
-      | inl g ↦ (
-        subst (IsBlock (order_image old)) (sym g) h,
-        subst (λ (c : ℕ). LastsOk (order_image old) c (first_number (order_image old) c) x) (sym g)
-            (subst (LastsOk (order_image old) n (first_number (order_image old) n))
-            (same (sym (get_or-set_same old.table.items n (Some l) None w) ∙
-            (ap (lasts_at (set old.table.items n (Some l))) (sym g) ∙ f))) k),
-      )
-      | inr d ↦ r.ok b x (sym (get_or-set_other old.table.items n b (Some l) None d) ∙ f)
+      | inl g ↦ grind (arith, same, get_or-set_same)
+      | inr d ↦ r.ok b x (grind (arith, get_or-set_other))
     ]
 
 -- a rule that the end of a wave breaks
 ends_with : (image : Image) (b : ℕ) (x : Option ℕ) → EndsAt image b →
     ComesWith image b (first_number image (suc b)) x → PathEnds image x
-ends_with image b x e c = record {
-  block = b;
-  next = first_number image (suc b);
-  done = c.done;
-  path = c.path;
-  at_end = refl;
-  out = e;
-  last_is = c.last_is;
-}
+ends_with image b x e c = grind arith
 
 mark_ends : (image : Image) (m : Mark) → MarkIs image m → (m.note.succ ≡ Nothing → ⊥) →
     (note_of image m.op).succ ≡ Nothing → ⊥
@@ -115,68 +97,33 @@ edge_ok image b r l s f ok = record {
 pub edge_more : (image : Image) (old new : ℕ → Option Lasts) (b r : ℕ) (l : Lasts) →
     ((c : ℕ) (m : Lasts) → old c ≡ Some m → (n : Lasts) × (new c ≡ Some n) × Within image m n) →
     EdgePassed image old b r l → EdgePassed image new b r l
-edge_more image old new b r l g e = let h = g (target image b r) e.more e.lands in
-    record { more = h.0; lands = h.1; within = within_twice image l e.more h.0 e.within h.2 }
+edge_more image old new b r l g e = grind arith
 
 pub leave_init : (image : Image) (old : ℕ → Option Lasts) (b : ℕ) (l : Lasts) → LeaveState image old old b 0 l
-leave_init image old b l = record {
-  same = λ c h. refl;
-  grows = λ c m h. (m, h, within_self image m);
-  edges =
-      λ q h. absurd (omega (arith, h));
-  ends = λ q h. absurd (omega (arith, h));
-}
+leave_init image old b l = grind arith
 
 pub leave_cross : (image : Image) (old mid new : ℕ → Option Lasts) (b r : ℕ) (l : Lasts) →
     LeaveState image old mid b r l → ((c : ℕ) → new c ≡ mid c) → is_first image (target image b r) ≡ true →
     EndOk l → LeaveState image old new b (r + 1) l
-leave_cross image old mid new b r l s e f ok = record {
-  same = λ c h. e c ∙ s.same c h;
-  grows = λ c m h. (let g = s.grows c m h in (g.0, e c ∙ g.1, g.2));
-  edges = λ q h x. elim (cases_eq q r) [
-    | inl g ↦ absurd (cc (sym f ∙ (ap (λ (n : ℕ). is_first image (target image b n)) (sym g) ∙ x)))
-    | inr d ↦ (let old_edge : EdgePassed image mid b q l = s.edges q (omega arith) x in
-        record {
-          more = old_edge.more;
-          lands = e (target image b q) ∙ old_edge.lands;
-          within =
-              old_edge.within;
-        })
-  ];
-  ends = λ q h x. ok;
-}
+leave_cross image old mid new b r l s e f ok = grind arith
 
 pub leave_inside : (image : Image) (old mid new : ℕ → Option Lasts) (b r : ℕ) (l : Lasts) → ShapeRules image →
     IsBlock image b → stops image b ≡ false → LeaveState image old mid b r l →
     is_first image (target image b r) ≡ false → Delivered image mid new (target image b r) l →
     LeaveState image old new b (r + 1) l
 leave_inside image old mid new b r l shape h st s f d = record {
-  same = λ c k. d.others c (λ e. absurd (omega (arith, ((shape.blocks b h).edges.later r st f).0, e)))
-      ∙ s.same c k;
-  grows = λ c m k. (let g = s.grows c m k in let x = step c g.0 g.1 in (
-    x.0,
-    x.1,
-    within_twice image m g.0 x.0 g.2 x.2,
-  ));
+  same = λ c k. d.others c (λ e. absurd (omega (arith, ((shape.blocks b h).edges.later r st f).0, e))) ∙
+      s.same c k;
+  grows = λ c m k. (let g = s.grows c m k in let x = step c g.0 g.1 in grind (arith, within_twice));
   edges = λ q k x. elim (cases_eq q r) [
-    | inl e ↦ subst (λ (n : ℕ). EdgePassed image new b n l) (sym e) (record {
-      more = d.more;
-      lands = d.has;
-      within = d.within;
-    })
+    | inl e ↦ grind arith
     | inr n ↦ edge_more image mid new b q l step (s.edges q (omega arith) x)
   ];
-  ends = λ q k x. elim (cases_eq q r) [
-    | inl e ↦ absurd (cc (sym f ∙ (ap (λ (n : ℕ). is_first image (target image b n)) (sym e) ∙ x)))
-    | inr n ↦ s.ends q (omega arith) x
-  ];
+  ends = grind (arith, cases_eq);
 }
   where
     step : (c : ℕ) (m : Lasts) → mid c ≡ Some m → (n : Lasts) × (new c ≡ Some n) × Within image m n
-    step c m k = elim (cases_eq c (target image b r)) [
-      | inl e ↦ (d.more, ap new e ∙ d.has, d.before m (ap mid (sym e) ∙ k))
-      | inr n ↦ (m, d.others c n ∙ k, within_self image m)
-    ]
+    step c m k = grind arith
 
 target_like : (image : Image) (b r s : ℕ) → leave_to (block_at image b).exit r ≡ leave_to
     (block_at image b).exit s → target image b r ≡ target image b s
@@ -206,29 +153,15 @@ all_left image old new b n l st e s = (inside, outside)
         record { more = x.more; lands = ap new (to r) ∙ x.lands; within = x.within }
 
     outside : (r : ℕ) → is_first image (target image b r) ≡ true → EndOk l
-    outside r f = s.ends (like r).choice (omega (
-      arith,
-      (like r).below,
-      e,
-    )) (ap (is_first image) (sym (to r)) ∙ f)
+    outside r f = s.ends (like r).choice (grind arith) (ap (is_first image) (sym (to r)) ∙ f)
 
 pub end_goes : (image : Image) (old new : ℕ → Option Lasts) (b n : ℕ) (l : Lasts) → stops image b ≡ false →
     n ≡ choices_of (block_at image b).exit → LeaveState image old new b n l → EndState image old new b l
-end_goes image old new b n l st e s = let all = all_left image old new b n l st e s in record {
-  same = s.same;
-  grows = s.grows;
-  edges = λ h r f. all.0 r f;
-  ends = λ x. elim x [ inl h ↦ absurd (cc (sym st ∙ h)) | inr h ↦ all.1 h.1.0 h.1.1 ];
-}
+end_goes image old new b n l st e s = grind (arith, all_left, same)
 
 pub end_stops : (image : Image) (old : ℕ → Option Lasts) (b : ℕ) (l : Lasts) → stops image b ≡ true →
     EndOk l → EndState image old old b l
-end_stops image old b l st ok = record {
-  same = λ c h. refl;
-  grows = λ c m h. (m, h, within_self image m);
-  edges = λ h. absurd (cc (sym st ∙ h));
-  ends = λ x. ok;
-}
+end_stops image old b l st ok = grind arith
 
 -- one more edge, of which it is known whether it crosses
 pub leave_next : (image : Image) (old mid new : ℕ → Option Lasts) (b r : ℕ) (l : Lasts) → ShapeRules image →
@@ -236,8 +169,9 @@ pub leave_next : (image : Image) (old mid new : ℕ → Option Lasts) (b r : ℕ
     (is_first image (target image b r) ≡ true → ((c : ℕ) → new c ≡ mid c) × EndOk l) →
     (is_first image (target image b r) ≡ false → Delivered image mid new (target image b r) l) →
     LeaveState image old new b (r + 1) l
-leave_next image old mid new b r l shape h st s crosses inside =
-    elim (cases_Bool (is_first image (target image b r))) [
-      | inl f ↦ (let x = crosses f in leave_cross image old mid new b r l s x.0 f x.1)
-      | inr f ↦ leave_inside image old mid new b r l shape h st s f (inside f)
-    ]
+leave_next image old mid new b r l shape h st s crosses inside = grind (
+  arith,
+  cases_Bool,
+  leave_cross,
+  leave_inside,
+)

@@ -1,6 +1,6 @@
 -- What is kept of more paths.
-use Rattle.std.proofs.Common.{ℕ, ◌≡◌, ◌<◌, ◌≤◌, ◌⊎◌, true, ◌||◌, cond, ltb, Option, Some, None, refl, sym, ap}
-use Rattle.std.proofs.Common.{◌∙◌, inl, inr, subst, arith}
+use Rattle.std.proofs.Common.{ℕ, ◌≡◌, ◌<◌, ◌≤◌, ◌⊎◌, true, ◌||◌, cond, ltb, Option, Some, None, sym, ap, ◌∙◌}
+use Rattle.std.proofs.Common.{inl, inr, arith}
 use Rattle.std.proofs.lemmas.Bool.{cases_eq, cases_lt, lt-ltb, le-ltb}
 use Rattle.ws_isa.specs.declared.instr.Note.{Note}
 use Rattle.ws_isa.specs.Image.{Image, block_at, note_of}
@@ -18,14 +18,7 @@ use Rattle.annot_check.proofs.Chained.Waves.{last_came, CameIn}
 use Rattle.ws_words.proofs.Bools.{or_comes, or_left, or_right}
 
 pub within_twice : (image : Image) (a b c : Lasts) → Within image a b → Within image b c → Within image a c
-within_twice image a b c f g = record {
-  lasts = λ x h. g.lasts x (f.lasts x h);
-  writers =
-      omega (arith, f.writers, g.writers);
-}
-
-pub within_self : (image : Image) (a : Lasts) → Within image a a
-within_self image a = record { lasts = λ x h. h; writers = omega arith }
+within_twice image a b c f g = grind arith
 
 joint_ok : (image : Image) (b k : ℕ) (l m : Lasts) → LastsOk image b k l → LastsOk image b k m →
     LastsOk image b k (joint l m)
@@ -45,8 +38,7 @@ joint_ok image b k l m p q = go (cases_lt l.writer.note.seq m.writer.note.seq)
       none_comes = none_comes;
       top_comes = p.top_comes;
       other_comes = p.other_comes;
-      odd_comes =
-          p.odd_comes;
+      odd_comes = p.odd_comes;
       writer_comes = q.writer_comes;
       other_apart = p.other_apart;
       odd_apart = p.odd_apart;
@@ -60,8 +52,7 @@ joint_ok image b k l m p q = go (cases_lt l.writer.note.seq m.writer.note.seq)
       none_comes = none_comes;
       top_comes = p.top_comes;
       other_comes = p.other_comes;
-      odd_comes =
-          p.odd_comes;
+      odd_comes = p.odd_comes;
       writer_comes = p.writer_comes;
       other_apart = p.other_apart;
       odd_apart = p.odd_apart;
@@ -69,12 +60,7 @@ joint_ok image b k l m p q = go (cases_lt l.writer.note.seq m.writer.note.seq)
 
 joint_writers : (l m : Lasts) → (l.writer.note.seq ≤ (joint l m).writer.note.seq) ×
     (m.writer.note.seq ≤ (joint l m).writer.note.seq)
-joint_writers l m = go (cases_lt l.writer.note.seq m.writer.note.seq)
-  where
-    go : (l.writer.note.seq < m.writer.note.seq) ⊎ (m.writer.note.seq ≤ l.writer.note.seq) →
-        (l.writer.note.seq ≤ (joint l m).writer.note.seq) × (m.writer.note.seq ≤ (joint l m).writer.note.seq)
-    go (inl lt) = rw (lt-ltb l.writer.note.seq m.writer.note.seq lt) (omega arith, omega arith)
-    go (inr le) = rw (le-ltb l.writer.note.seq m.writer.note.seq le) (omega arith, le)
+joint_writers l m = grind arith
 
 joint_keeps : (image : Image) (l m : Lasts) (x : Option ℕ) → InLasts image l x → InLasts image (joint l m) x
 joint_keeps image l m None (at_start e) = at_start (or_left l.none m.none e)
@@ -97,16 +83,9 @@ grown : (image : Image) (b k : ℕ) (l : Lasts) (x : Mark) (m : Lasts) → Lasts
 grown image b k l x m ok xi xc h = go (cases_eq x.op 0)
   where
     go : (x.op ≡ 0) ⊎ (x.op ≡ 0 → ⊥) → Grown image b k l x m
-    go (inl e) = rw (h.0.1 e) (record {
-      ok = ok;
-      keeps = λ z i. i;
-      has = λ p. absurd (omega (arith, p, e));
-      writer = refl;
-    })
-    go (inr n) =
-        let p : 1 ≤ x.op = omega arith in
-        let a : Added image b k l x (added l x) = added_is image b k l x ok xi p (xc p) (h.1 p) in
-        rw (h.0.0 p) (record { ok = a.ok; keeps = a.keeps; has = λ q. a.has; writer = a.writer })
+    go (inl e) = grind arith
+    go (inr n) = let p : 1 ≤ x.op = omega arith in let a : Added image b k l x (added l x) = added_is image b
+        k l x ok xi p (xc p) (h.1 p) in grind arith
 
 -- what is kept of all that stands for the others is kept of the others
 by_marks : (image : Image) (b k : ℕ) (l r : Lasts) → LastsOk image b k l → LastsOk image b k r →
@@ -114,8 +93,7 @@ by_marks : (image : Image) (b k : ℕ) (l r : Lasts) → LastsOk image b k l →
     (1 ≤ l.other.op → InLasts image r (Some l.other.op)) →
     (1 ≤ l.odd.op → InLasts image r (Some l.odd.op)) → (x : Option ℕ) → InLasts image l x → InLasts image r x
 by_marks image b k l r lo ro none top other odd None (at_start e) = at_start (none e)
-by_marks image b k l r lo ro none top other odd (Some m) (is_top p e) =
-    subst (λ (n : ℕ). InLasts image r (Some n)) (sym e) (top p)
+by_marks image b k l r lo ro none top other odd (Some m) (is_top p e) = grind arith
 by_marks image b k l r lo ro none top other odd (Some m) (is_less p s h) = both (top t) (other p)
   where
     t : 1 ≤ l.top.op
@@ -127,11 +105,7 @@ by_marks image b k l r lo ro none top other odd (Some m) (is_less p s h) = both 
     succ_of n i (is_less q e f) = elim f [ inl g ↦ inl (ap (λ (y : Note). y.succ) i ∙ g) | inr g ↦ inr g ]
 
     seq_of : InLasts image r (Some l.top.op) → l.top.note.seq ≤ r.top.note.seq
-    seq_of (is_top q e) = omega (
-      arith,
-      ap (λ (y : Note). y.seq) (lo.top_is ∙
-          (ap (note_of image) e ∙ sym ro.top_is)),
-    )
+    seq_of (is_top q e) = grind arith
     seq_of (is_less q e f) = omega (arith, e, ap (λ (y : Note). y.seq) lo.top_is)
 
     odd_of : 1 ≤ l.odd.op → InLasts image r (Some l.top.op) → 1 ≤ r.odd.op
@@ -139,9 +113,7 @@ by_marks image b k l r lo ro none top other odd (Some m) (is_less p s h) = both 
       where
         go : (l.top.note.succ ≡ r.top.note.succ) ⊎ (1 ≤ r.odd.op) → (l.odd.note.succ ≡ r.top.note.succ) ⊎
             (1 ≤ r.odd.op) → 1 ≤ r.odd.op
-        go (inr g) y = g
-        go (inl g) (inr f) = f
-        go (inl g) (inl f) = absurd (lo.odd_apart o (f ∙ sym g))
+        go x y = grind arith
 
     succ_is : InLasts image r (Some l.top.op) → ((note_of image m).succ ≡ r.top.note.succ) ⊎ (1 ≤ r.odd.op)
     succ_is i = elim h [
@@ -155,32 +127,21 @@ by_marks image b k l r lo ro none top other odd (Some m) (is_less p s h) = both 
     both : InLasts image r (Some l.top.op) → InLasts image r (Some l.other.op) → InLasts image r (Some m)
     both (is_less q e f) y = less q (is_less q e f)
     both (is_top q e) (is_less u f g) = less u (is_top q e)
-    both (is_top q e) (is_top u f) = absurd ((lo.other_apart p).1 (ap (λ (y : Note). y.seq) (lo.other_is ∙
-        (ap (note_of image) (f ∙ sym e) ∙ sym lo.top_is))))
+    both (is_top q e) (is_top u f) = grind arith
 
 pub merged : (image : Image) (b k : ℕ) (l m x y z : Lasts) → LastsOk image b k l → LastsOk image b k m →
     AddsTo (joint l m) m.top x → AddsTo x m.other y → AddsTo y m.odd z → Merged image b k l m z
-merged image b k l m x y z lo mo ax ay az =
-    let j : LastsOk image b k (joint l m) = joint_ok image b k l m lo mo in
-    let gx : Grown image b k (joint l m) m.top x = grown image b k
-    (joint l m) m.top x j mo.top_is mo.top_comes ax in
-    let gy : Grown image b k x m.other y = grown image b k x m.other y gx.ok mo.other_is mo.other_comes ay in
-    let gz : Grown image b k y m.odd z = grown image b k y m.odd z gy.ok mo.odd_is mo.odd_comes az in
-    let w : z.writer ≡ (joint l m).writer = gz.writer ∙ (gy.writer ∙ gx.writer) in
-    let ws = joint_writers l m in
-    let keeps : (v : Option ℕ) → InLasts image (joint l m) v → InLasts image z v =
-    λ v h. gz.keeps v (gy.keeps v (gx.keeps v h)) in
-    record {
+merged image b k l m x y z lo mo ax ay az = let j : LastsOk image b k (joint l m) = joint_ok image b k l m lo
+    mo in let gx : Grown image b k (joint l m) m.top x = grown image b k (joint l m) m.top x j mo.top_is
+    mo.top_comes ax in let gy : Grown image b k x m.other y = grown image b k x m.other y gx.ok mo.other_is
+    mo.other_comes ay in let gz : Grown image b k y m.odd z = grown image b k y m.odd z gy.ok mo.odd_is
+    mo.odd_comes az in let w : z.writer ≡ (joint l m).writer = grind arith in let ws = joint_writers l m in
+    let keeps : (v : Option ℕ) → InLasts image (joint l m) v → InLasts image z v = grind arith in record {
       ok = gz.ok;
-      left = record {
-        lasts = λ v h. keeps v (joint_keeps image l m v h);
-        writers =
-            omega (arith, ws.0, ap (λ (n : Mark). n.note.seq) w);
-      };
+      left = grind (arith, joint_keeps);
       right = record {
-        lasts = by_marks image b k m z mo gz.ok (λ e. start_of z
-            (keeps None (at_start (or_right l.none m.none e)))) (λ p. gz.keeps (Some m.top.op)
-            (gy.keeps (Some m.top.op) (gx.has p))) (λ p. gz.keeps (Some m.other.op) (gy.has p)) gz.has;
+        lasts = by_marks image b k m z mo gz.ok (λ e. start_of z (keeps None (at_start (or_right l.none m.none
+            e)))) (grind arith) (grind arith) gz.has;
         writers = omega (arith, ws.1, ap (λ (n : Mark). n.note.seq) w);
       };
     }

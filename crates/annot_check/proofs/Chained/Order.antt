@@ -1,68 +1,35 @@
 -- A closed table gives the rules on links and ripples.
 use Rattle.std.proofs.Common.{ℕ, zero, suc, ◌+◌, ◌≡◌, ◌<◌, ◌≤◌, ◌⊎◌, true, false, List, [], ◌∷◌, Option, Some}
-use Rattle.std.proofs.Common.{None, refl, sym, ap, ◌∙◌, inl, inr, subst, arith, eqb, ltb}
+use Rattle.std.proofs.Common.{None, refl, sym, ◌∙◌, inl, inr, arith, ltb}
 use Rattle.std.proofs.lemmas.Bool.{cases_Bool}
 use Rattle.ws_isa.specs.declared.instr.Link.{Link}
-use Rattle.ws_isa.specs.declared.instr.Link.TheVariants.{Unknown, Nothing, Is}
-use Rattle.ws_isa.specs.Image.{Image, first_number, size_of, is_memory, is_writing, note_of, target, IsIn}
+use Rattle.ws_isa.specs.declared.instr.Link.TheVariants.{Nothing, Is}
+use Rattle.ws_isa.specs.Image.{Image, first_number, size_of, is_memory, is_writing, note_of, IsIn}
 use Rattle.ws_isa.specs.Sound.{InWave, first, turn, edge, last_op, ComesNext, PathEnds, seq, ShapeRules}
 use Rattle.ws_isa.specs.Sound.{LinkRules, RippleRules}
 use Rattle.annot_check.specs.declared.lasts.Lasts.{Lasts}
 use Rattle.annot_check.specs.Order.{joined, agrees, LastsOk, InLasts, at_start, is_top, PassOk, EndOk}
-use Rattle.annot_check.specs.Order.{first_lasts, after, passed, GoodPass, out_of, EdgePassed, ClosedTable}
+use Rattle.annot_check.specs.Order.{first_lasts, after, passed, GoodPass, out_of, ClosedTable}
 use Rattle.annot_check.proofs.Chained.Kept.{ltb_is, pass_some, end_some}
 use Rattle.annot_check.proofs.Chained.Waves.{path_low, path_one, after_ok, Below, below_on}
 use Rattle.ws_words.proofs.Bools.{and_left, and_right}
-use Rattle.ws_words.proofs.Numbers.{eqb_is}
 use Rattle.ws_isa.proofs.Steps.{first_le}
 
 -- links that join
 join_linked : (s p : Link) (x z : ℕ) → joined s p x z ≡ true → (s ≡ Is z) ⊎ (p ≡ Is x)
-join_linked (Is n) Unknown x z e = inl (ap Is (eqb_is n z e))
-join_linked (Is n) (Is m) x z e = inl (ap Is (eqb_is n z (and_left (eqb n z) (eqb m x) e)))
-join_linked Unknown (Is m) x z e = inr (ap Is (eqb_is m x e))
-join_linked (Is n) Nothing x z e = absurd (cc)
-join_linked Unknown Unknown x z e = absurd (cc)
-join_linked Unknown Nothing x z e = absurd (cc)
-join_linked Nothing p x z e = absurd (cc)
+join_linked s p x z e = grind arith
 
 join_succ : (s p : Link) (x z n : ℕ) → joined s p x z ≡ true → s ≡ Is n → z ≡ n
-join_succ (Is m) Unknown x z n e f = sym (eqb_is m z e) ∙ is_same m n f
-  where
-    is_same : (m n : ℕ) → Is m ≡ Is n → m ≡ n
-    is_same m n f = cc
-join_succ (Is m) (Is k) x z n e f = sym (eqb_is m z (and_left (eqb m z) (eqb k x) e)) ∙ is_same m n f
-  where
-    is_same : (m n : ℕ) → Is m ≡ Is n → m ≡ n
-    is_same m n f = cc
-join_succ (Is m) Nothing x z n e f = absurd (cc)
-join_succ Unknown p x z n e f = absurd (cc)
-join_succ Nothing p x z n e f = absurd (cc)
+join_succ s p x z n e f = grind arith
 
 join_pred : (s p : Link) (x z n : ℕ) → joined s p x z ≡ true → p ≡ Is n → x ≡ n
-join_pred (Is m) (Is k) x z n e f = sym (eqb_is k x (and_right (eqb m z) (eqb k x) e)) ∙ is_same k n f
-  where
-    is_same : (m n : ℕ) → Is m ≡ Is n → m ≡ n
-    is_same m n f = cc
-join_pred Unknown (Is k) x z n e f = sym (eqb_is k x e) ∙ is_same k n f
-  where
-    is_same : (m n : ℕ) → Is m ≡ Is n → m ≡ n
-    is_same m n f = cc
-join_pred Nothing (Is k) x z n e f = absurd (cc)
-join_pred s Unknown x z n e f = absurd (cc)
-join_pred s Nothing x z n e f = absurd (cc)
+join_pred s p x z n e f = grind arith
 
 join_ends : (s p : Link) (x z : ℕ) → joined s p x z ≡ true → s ≡ Nothing → ⊥
-join_ends Nothing p x z e f = cc
-join_ends Unknown p x z e f = cc
-join_ends (Is n) p x z e f = cc
+join_ends s p x z e f = grind arith
 
 join_begins : (s p : Link) (x z : ℕ) → joined s p x z ≡ true → p ≡ Nothing → ⊥
-join_begins (Is n) Nothing x z e f = cc
-join_begins Unknown Nothing x z e f = cc
-join_begins Nothing Nothing x z e f = cc
-join_begins s Unknown x z e f = cc
-join_begins s (Is n) x z e f = cc
+join_begins s p x z e f = grind arith
 
 module _ (image : Image) (known : ℕ → Option Lasts) (shape : ShapeRules image)
     (all : ClosedTable image known) where
@@ -130,16 +97,7 @@ module _ (image : Image) (known : ℕ → Option Lasts) (shape : ShapeRules imag
           passed image left k s.here ≡ out_of image b s.entry → Here b k done × Stands b (suc k) (k ∷ done)
       go zero e g o = absurd (omega (arith, e))
       go (suc n) e g o = (
-        record {
-          entry = s.entry;
-          has = s.has;
-          lasts = s.here;
-          ok = s.ok;
-          pass = g.0;
-          last =
-              s.last;
-          below = s.below;
-        },
+        grind arith,
         record {
           entry = s.entry;
           has = s.has;
@@ -169,74 +127,49 @@ module _ (image : Image) (known : ℕ → Option Lasts) (shape : ShapeRules imag
     where
       go : (left : ℕ) → k + left ≡ first_number image (suc b) →
           passed image left k s.here ≡ out_of image b s.entry → AtEnd b done
-      go zero f o = record {
-        entry = s.entry;
-        has = s.has;
-        lasts = s.here;
-        ok =
-            subst (λ (m : ℕ). LastsOk image b m s.here) e s.ok;
-        out = o;
-        last = s.last;
-        below = s.below;
-      }
+      go zero f o = grind arith
       go (suc n) f o = absurd (omega (arith, f, e))
 
   pub stands : (b k : ℕ) (done : List ℕ) → InWave image b k done → Stands b k done
   stands b k done (first h f) = begins b [] first_lasts (all.first b h f) (at_start refl) (λ j a w. absurd a)
   stands b k done (turn {b = c} {k = l} {done = d} p w) =
       (on c l d (stands c l d p) w (path_one image c l d p)).1
-  stands b k done (edge {b = c} {k = l} {done = d} p e s r f) =
-      let a : AtEnd c d = at_end c l d (stands c l d p) e in
-      let x : EdgePassed image known c r (out_of image c a.entry) = (all.done c a.entry a.has).edges s r f in
-      begins (target image c r) d x.more x.lands (x.within.lasts (last_op image d)
-      (subst (λ (m : Lasts). InLasts image m (last_op image d)) a.out a.last))
-      (λ j i w. (let b : seq image j ≤ a.lasts.writer.note.seq = a.below j i w in
-      omega (arith, b, ap (λ (m : Lasts). m.writer.note.seq) a.out, x.within.writers)))
+  stands b k done (edge {b = c} {k = l} {done = d} p e s r f) = let a : AtEnd c d = at_end c l d (stands c l d
+      p) e in grind (arith, begins)
 
   here : (k : ℕ) (last : Option ℕ) (f : ComesNext image last k) → Here f.block k f.done
-  here k last f = (on f.block k f.done (stands f.block k f.done f.path) f.within
-      (path_one image f.block k f.done f.path)).0
+  here k last f = grind (arith, on, stands, path_one)
 
   passes : (k : ℕ) (last : Option ℕ) (f : ComesNext image last k) →
       PassOk (here k last f).lasts (note_of image k) (is_writing image k)
   passes k last f = (here k last f).pass f.memory
 
   pair_agrees : (j k : ℕ) → ComesNext image (Some j) k → agrees (note_of image j) (note_of image k) ≡ true
-  pair_agrees j k f =
-      let h : Here f.block k f.done = here k (Some j) f in
-      pass_some image f.block k j h.lasts (note_of image k) (is_writing image k) h.ok
-      (subst (InLasts image h.lasts) f.last_is h.last) (h.pass f.memory)
+  pair_agrees j k f = let h : Here f.block k f.done = here k (Some j) f in pass_some image f.block k j h.lasts
+      (note_of image k) (is_writing image k) h.ok (grind arith) (h.pass f.memory)
 
   pair_joined : (j k : ℕ) → ComesNext image (Some j) k → joined (note_of image j).succ (note_of image k).pred
       (seq image j) (seq image k) ≡ true
-  pair_joined j k f = and_right (ltb (seq image j) (seq image k)) (joined (note_of image j).succ
-      (note_of image k).pred (seq image j) (seq image k)) (pair_agrees j k f)
+  pair_joined j k f = grind (arith, and_right, pair_agrees j k f)
 
   starts_none : (l : Lasts) → InLasts image l None → l.none ≡ true
   starts_none l (at_start e) = e
 
   first_ok : (k : ℕ) → ComesNext image None k → (note_of image k).pred ≡ Nothing
-  first_ok k f =
-      let h : Here f.block k f.done = here k None f in
-      (h.pass f.memory).none_ok (starts_none h.lasts (subst (InLasts image h.lasts) f.last_is h.last))
+  first_ok k f = let h : Here f.block k f.done = here k None f in grind (arith, starts_none)
 
   end_of : (last : Option ℕ) (e : PathEnds image last) → AtEnd e.block e.done
   end_of last e = at_end e.block e.next e.done (stands e.block e.next e.done e.path) e.at_end
 
   end_ok : (last : Option ℕ) (e : PathEnds image last) → EndOk (end_of last e).lasts
-  end_ok last e = let a : AtEnd e.block e.done = end_of last e in
-      subst EndOk (sym a.out) ((all.done e.block a.entry a.has).ends e.out)
+  end_ok last e = grind arith
 
   no_end : PathEnds image None → ⊥
-  no_end e =
-      let a : AtEnd e.block e.done = end_of None e in
-      cc (sym (end_ok None e).some ∙ starts_none a.lasts (subst (InLasts image a.lasts) e.last_is a.last))
+  no_end e = let a : AtEnd e.block e.done = end_of None e in grind (arith, end_ok, starts_none)
 
   last_ok : (k : ℕ) → PathEnds image (Some k) → (note_of image k).succ ≡ Nothing
-  last_ok k e =
-      let a : AtEnd e.block e.done = end_of (Some k) e in
-      end_some image e.block (first_number image (suc e.block)) k a.lasts a.ok
-      (subst (InLasts image a.lasts) e.last_is a.last) (end_ok (Some k) e)
+  last_ok k e = let a : AtEnd e.block e.done = end_of (Some k) e in end_some image e.block (first_number image
+      (suc e.block)) k a.lasts a.ok (grind arith) (end_ok (Some k) e)
 
   is_in : (k : ℕ) (last : Option ℕ) (f : ComesNext image last k) → IsIn image f.block k
   is_in k last f = (path_low image f.block k f.done f.path, f.within)
@@ -269,9 +202,6 @@ module _ (image : Image) (known : ℕ → Option Lasts) (shape : ShapeRules imag
   pub ripple_rules : RippleRules image
   ripple_rules = record {
     own = λ k last f w. (passes k last f).own w;
-    above = λ b k j done path within m w a v. (let h : Here b k done =
-        (on b k done (stands b k done path) within (path_one image b k done path)).0 in
-        let below : seq image j ≤ h.lasts.writer.note.seq = h.below j a v in
-        let above : h.lasts.writer.note.seq ≤ (note_of image k).ripple = (h.pass m).above w in
-        omega (arith, below, above));
+    above = λ b k j done path within m w a v. (let h : Here b k done = grind (arith, on, stands, path_one) in
+        grind arith);
   }

@@ -1,12 +1,12 @@
 -- One block of a wave.
-use Rattle.std.proofs.Common.{ℕ, zero, suc, ◌+◌, ◌≡◌, ◌<◌, ◌≤◌, ◌⊎◌, Bool, true, false, ◌&&◌, List, [], ◌∷◌}
+use Rattle.std.proofs.Common.{ℕ, zero, suc, ◌+◌, ◌≡◌, ◌<◌, ◌≤◌, ◌⊎◌, Bool, true, false, ◌&&◌, List, ◌∷◌}
 use Rattle.std.proofs.Common.{length, map, get_or, Option, Some, None, refl, sym, ap, ◌∙◌, inl, inr, subst}
 use Rattle.std.proofs.Common.{arith, eqb, eq-eqb, ne_eqb}
 use Rattle.std.proofs.lemmas.Bool.{cases_eq, cases_Bool, cases_lt, lt-ltb}
 use Rattle.ws_isa.specs.View as view
 use Rattle.ws_isa.specs.declared.instr.Instr.{Instr as CodeInstr}
 use Rattle.ws_isa.specs.declared.instr.Link.{Link}
-use Rattle.ws_isa.specs.declared.instr.Link.TheVariants.{Unknown, Nothing, Is}
+use Rattle.ws_isa.specs.declared.instr.Link.TheVariants.{Is}
 use Rattle.ws_isa.specs.declared.instr.Note.{Note}
 use Rattle.ws_isa.specs.Image.{Instr, Image, no_note, instr_at, block_at, first_number, size_of, is_memory}
 use Rattle.ws_isa.specs.Image.{is_memory_op, is_writing, is_writing_op, note_of, IsIn, IsBlock}
@@ -17,14 +17,13 @@ use Rattle.annot_check.specs.declared.fault.CheckFault.TheVariants.{Refused, NoM
 use Rattle.annot_check.specs.declared.lasts.Mark.{Mark}
 use Rattle.annot_check.specs.declared.lasts.Lasts.{Lasts}
 use Rattle.annot_check.specs.LinkBreaches.{LinkBreach, not_positive, twice, pair, first, RippleBreach}
-use Rattle.annot_check.specs.LinkBreaches.{not_own, below, Disagree, falls, apart, other_succ, no_succ}
-use Rattle.annot_check.specs.LinkBreaches.{other_pred, no_pred}
+use Rattle.annot_check.specs.LinkBreaches.{not_own, below, Disagree, falls, other_succ, other_pred}
 use Rattle.annot_check.specs.Order.{joined, agrees, Comes, ComesWith, ComesBy, MarkIs, LastsOk, PassOk}
 use Rattle.annot_check.specs.Order.{PassBad, low, start, top, other, odd, own, above, after, passed, GoodPass}
 use Rattle.annot_check.specs.Order.{out_of}
 use Rattle.annot_check.specs.Seen.{CameWith, SeenOk, ApartBelow, OrderBreach, mark_of, stepped, broken}
 use Rattle.annot_check.specs.Seen.{repeated, StepBad, StepSeen, CameAll, PassState}
-use Rattle.annot_check.proofs.Shaped.Blocks.{Tail, whole}
+use Rattle.annot_check.proofs.Shaped.Blocks.{whole}
 use Rattle.annot_check.proofs.Chained.Kept.{blank_is}
 use Rattle.annot_check.proofs.Chained.Waves.{after_ok}
 use Rattle.ws_words.specs.Items.{nth, or_else}
@@ -54,30 +53,19 @@ after_read image k i l e = ap (stepped l k) e
 
 nth_read : (is : List CodeInstr) (n : ℕ) (x : CodeInstr) → n < length is → x ≡ get_or is n x →
     nth (map view.instr is) n ≡ Some (view.instr x)
-nth_read [] n x l e = absurd (omega arith)
-nth_read (y ∷ is) zero x l e = ap (λ (z : CodeInstr). Some (view.instr z)) (sym e)
 nth_read (y ∷ is) (suc n) x l e = nth_read is n x (omega arith) e
+nth_read is n x l e = grind arith
 
 -- the instruction at a place of a block
 pub instr_here : (image : Image) (b k n : ℕ) (is : List CodeInstr) (x : CodeInstr) → IsBlock image b →
     map view.instr is ≡ (block_at image b).instrs → k ≡ first_number image b + n → n < length is →
     x ≡ get_or is n x → instr_at image k ≡ view.instr x
-instr_here image b k n is x h e f l g =
-    ap (instr_at image) f ∙ (whole image b h).at n (view.instr x) (ap (λ (xs : List Instr). nth xs n)
-    (sym e) ∙ nth_read is n x l g)
+instr_here image b k n is x h e f l g = grind (arith, whole, nth_read)
 
 -- notes that don't agree
 
 join_fails : (image : Image) (j k : ℕ) (s p : Link) → (note_of image j).succ ≡ s →
     (note_of image k).pred ≡ p → joined s p (seq image j) (seq image k) ≡ false → Disagree image j k
-join_fails image j k Nothing p e f g = no_succ e
-join_fails image j k Unknown Nothing e f g = no_pred f
-join_fails image j k (Is n) Nothing e f g = no_pred f
-join_fails image j k Unknown Unknown e f g = apart (λ h. cc (sym e ∙ h)) (λ h. cc (sym f ∙ h))
-join_fails image j k (Is n) Unknown e f g = other_succ e (λ h. absurd (cc (sym g ∙
-    eq-eqb n (seq image k) (sym h))))
-join_fails image j k Unknown (Is m) e f g = other_pred f (λ h. absurd (cc (sym g ∙
-    eq-eqb m (seq image j) (sym h))))
 join_fails image j k (Is n) (Is m) e f g = go (cases_eq n (seq image k))
   where
     go : (n ≡ seq image k) ⊎ (n ≡ seq image k → ⊥) → Disagree image j k
@@ -85,6 +73,7 @@ join_fails image j k (Is n) (Is m) e f g = go (cases_eq n (seq image k))
     go (inl h) = other_pred f (λ i. absurd (cc (sym g ∙
         (ap (λ (t : Bool). t && eqb m (seq image j)) (eq-eqb n (seq image k) h) ∙
         eq-eqb m (seq image j) (sym i)))))
+join_fails image j k s p e f g = grind (arith, eq-eqb)
 
 agree_fails : (image : Image) (j k : ℕ) → agrees (note_of image j) (note_of image k) ≡ false →
     Disagree image j k
@@ -92,20 +81,14 @@ agree_fails image j k e = go (cases_lt (seq image j) (seq image k))
   where
     go : (seq image j < seq image k) ⊎ (seq image k ≤ seq image j) → Disagree image j k
     go (inr l) = falls l
-    go (inl l) = join_fails image j k (note_of image j).succ (note_of image k).pred refl refl
-        (sym (ap (λ (t : Bool). t && joined (note_of image j).succ (note_of image k).pred (seq image j)
-        (seq image k)) (lt-ltb (seq image j) (seq image k) l)) ∙ e)
+    go (inl l) = join_fails image j k (note_of image j).succ (note_of image k).pred refl refl (grind (
+      arith,
+      lt-ltb,
+    ))
 
 follows : (image : Image) (b k : ℕ) (x : Option ℕ) → k < first_number image (suc b) →
     is_memory image k ≡ true → ComesWith image b k x → ComesNext image x k
-follows image b k x w m c = record {
-  block = b;
-  done = c.done;
-  path = c.path;
-  within = w;
-  memory = m;
-  last_is = c.last_is;
-}
+follows image b k x w m c = grind arith
 
 abbrev follows_some : (image : Image) (b k : ℕ) → k < first_number image (suc b) → is_memory image k ≡ true →
     (c : Comes image b k) → ComesNext image (last_op image c.done) k
@@ -121,9 +104,8 @@ follows_some image b k w m c = record {
 mark_fails : (image : Image) (b k : ℕ) (mark : Mark) (note : Note) → MarkIs image mark →
     note ≡ note_of image k → k < first_number image (suc b) → is_memory image k ≡ true →
     ComesWith image b k (Some mark.op) → agrees mark.note note ≡ false → LinkBreach image mark.op k
-mark_fails image b k mark note e f w m c g = pair (follows image b k (Some mark.op) w m c)
-    (agree_fails image mark.op k (subst (λ (n : Note). agrees (note_of image mark.op) n ≡ false) f
-    (subst (λ (n : Note). agrees n note ≡ false) e g)))
+mark_fails image b k mark note e f w m c g = pair (follows image b k (Some mark.op) w m c) (agree_fails image
+    mark.op k (grind arith))
 
 -- a rule that an operation breaks behind what is kept
 pass_breach : (image : Image) (b k : ℕ) (l : Lasts) (note : Note) (w : Bool) (x : Bad) → LastsOk image b k l →
@@ -134,12 +116,9 @@ pass_breach image b k l note w x ok r m e f (low z) = not_positive (follows_some
     (sym (ap (λ (n : Note). n.seq) e) ∙ z)
 pass_breach image b k l note w x ok r m e f (start n p) =
     first (follows image b k None r m (ok.none_comes n)) (λ h. p (ap (λ (n : Note). n.pred) e ∙ h))
-pass_breach image b k l note w x ok r m e f (top p g) =
-    mark_fails image b k l.top note ok.top_is e r m (ok.top_comes p) g
-pass_breach image b k l note w x ok r m e f (other p g) =
-    mark_fails image b k l.other note ok.other_is e r m (ok.other_comes p) g
-pass_breach image b k l note w x ok r m e f (odd p g) =
-    mark_fails image b k l.odd note ok.odd_is e r m (ok.odd_comes p) g
+pass_breach image b k l note w x ok r m e f (top p g) = grind (arith, mark_fails)
+pass_breach image b k l note w x ok r m e f (other p g) = grind (arith, mark_fails)
+pass_breach image b k l note w x ok r m e f (odd p g) = grind (arith, mark_fails)
 pass_breach image b k l note w x ok r m e f (own t g) = not_own (follows_some image b k r m ok.comes) (sym f ∙
     t) (λ h. g (ap (λ (n : Note). n.ripple) e ∙ (h ∙ sym (ap (λ (n : Note). n.seq) e))))
 pass_breach image b k l note w x ok r m e f (above t g) = go (zero_or l.writer.op)
@@ -148,19 +127,9 @@ pass_breach image b k l note w x ok r m e f (above t g) = go (zero_or l.writer.o
     zero_or n = elim (cases_eq n 0) [ inl e ↦ inl e | inr d ↦ inr (omega arith) ]
 
     go : (l.writer.op ≡ 0) ⊎ (1 ≤ l.writer.op) → RippleBreach image k l.writer.op
-    go (inl z) = absurd (omega (
-      arith,
-      g,
-      ap (λ (n : Note). n.seq) (ok.writer_is ∙
-          (ap (note_of image) z ∙ sym (blank_is image))),
-    ))
-    go (inr p) = let c : ComesBy image b k l.writer.op = ok.writer_comes p in
-        below c.path r m (sym f ∙ t) c.among c.writes (omega (
-          arith,
-          g,
-          ap (λ (n : Note). n.ripple) e,
-          ap (λ (n : Note). n.seq) ok.writer_is,
-        ))
+    go (inl z) = grind (arith, blank_is)
+    go (inr p) = let c : ComesBy image b k l.writer.op = ok.writer_comes p in below c.path r m (sym f ∙ t)
+        c.among c.writes (grind arith)
 
 -- a refusal at an instruction
 pub step_breach : (image : Image) (b k : ℕ) (l : Lasts) (i : Instr) (seen : ℕ →
@@ -171,19 +140,12 @@ step_breach image b k l i seen NoMemory e h v r ok came n s = tt
 step_breach image b k l i seen (Refused x) e h v r ok came n (broken m p) =
     pass_breach image b k l (or_else i.note no_note) (is_writing_op i.op) x ok r (memory_read image k i e ∙
     m) (sym (note_read image k i e)) (sym (writing_read image k i e)) p
-step_breach image b k l i seen (Refused x) e h v r ok came n (repeated {j = j} m p) =
-    let c : CameWith image (block_at image b).wave (mark_of k i).note.seq j =
-    came (mark_of k i).note.seq j p in
-    twice c.follows (follows_some image b k r (memory_read image k i e ∙ m) ok.comes) c.wave (c.number ∙
-    sym (ap (λ (y : Note). y.seq) (note_read image k i e))) (n (mark_of k i).note.seq j p)
+step_breach image b k l i seen (Refused x) e h v r ok came n (repeated {j = j} m p) = let c : CameWith image
+    (block_at image b).wave (mark_of k i).note.seq j = grind arith in twice c.follows (follows_some image b k
+    r (memory_read image k i e ∙ m) ok.comes) c.wave (grind (arith, note_read)) (grind arith)
 
 same_block : (image : Image) (b c k : ℕ) → IsIn image b k → IsIn image c k → c ≡ b
-same_block image b c k h i = go (cases_lt b c) (cases_lt c b)
-  where
-    go : (b < c) ⊎ (c ≤ b) → (c < b) ⊎ (b ≤ c) → c ≡ b
-    go (inl l) y = absurd (omega (arith, h.1, i.0, first_le image (suc b) c l))
-    go (inr l) (inl m) = absurd (omega (arith, i.1, h.0, first_le image (suc c) b m))
-    go (inr l) (inr m) = omega arith
+same_block image b c k h i = grind (arith, cases_lt, first_le)
 
 init_at : (image : Image) (b : ℕ) (entry : Lasts) (seen : ℕ → Option ℕ) →
     LastsOk image b (first_number image b) entry → CameAll image (block_at image b).wave seen →
@@ -206,12 +168,7 @@ pub state_init : (image : Image) (b k : ℕ) (entry : Lasts) (seen : ℕ → Opt
     LastsOk image b k entry → CameAll image (block_at image b).wave seen → ((s j : ℕ) → seen s ≡ Some j →
     j < k) → PassState image b entry seen k entry seen
 state_init image b k entry seen e ok came few = subst (λ (m : ℕ). PassState image b entry seen m entry seen)
-    (sym e)
-    (init_at image b entry seen (subst (λ (m : ℕ). LastsOk image b m entry) e ok) came (λ s j h. omega (
-      arith,
-      few s j h,
-      e,
-    )))
+    (sym e) (init_at image b entry seen (grind arith) came (grind arith))
 
 pub state_end : (image : Image) (b k : ℕ) (entry here : Lasts) (old seen : ℕ → Option ℕ) →
     PassState image b entry old k here seen → k ≡ first_number image (suc b) →
@@ -235,12 +192,10 @@ module _ (image : Image) (b k : ℕ) (i : Instr) (entry here : Lasts) (old seen 
     where
       own : is_memory_op i.op ≡ true → ((mark_of k i).note.seq ≡ s) ⊎ ((mark_of k i).note.seq ≡ s → ⊥) →
           CameWith image (block_at image b).wave s j
-      own m (inl e) = subst (CameWith image (block_at image b).wave s) (some_same (sym (step.put m s ∙
-          rw (eq-eqb (mark_of k i).note.seq s e) refl) ∙ h))
+      own m (inl e) = subst (CameWith image (block_at image b).wave s) (grind (arith, some_same, eq-eqb))
           (record {
             last = last_op image state.ok.comes.done;
-            follows =
-                follows_some image b k within (memory ∙ m) state.ok.comes;
+            follows = grind (arith, memory);
             wave = refl;
             number = number ∙ e;
           })
@@ -254,32 +209,15 @@ module _ (image : Image) (b k : ℕ) (i : Instr) (entry here : Lasts) (old seen 
   new_fewer : (s j : ℕ) → new s ≡ Some j → j < suc k
   new_fewer s j h = go (cases_Bool (is_memory_op i.op))
     where
-      own : is_memory_op i.op ≡ true → ((mark_of k i).note.seq ≡ s) ⊎ ((mark_of k i).note.seq ≡ s → ⊥) →
-          j < suc k
-      own m (inl e) = let f : k ≡ j = some_same (sym (step.put m s ∙
-          rw (eq-eqb (mark_of k i).note.seq s e) refl) ∙ h) in omega arith
-      own m (inr n) = omega (
-        arith,
-        state.fewer s j (sym (step.put m s ∙
-            rw (ne_eqb (mark_of k i).note.seq s n) refl) ∙ h),
-      )
-
       go : (is_memory_op i.op ≡ true) ⊎ (is_memory_op i.op ≡ false) → j < suc k
-      go (inl m) = own m (cases_eq (mark_of k i).note.seq s)
-      go (inr m) = omega (arith, state.fewer s j (sym (step.same m s) ∙ h))
+      go x = grind arith
 
   -- an earlier operation of the wave keeps its number
   kept_number : (j : ℕ) → seen (seq image j) ≡ Some j → new (seq image j) ≡ Some j
   kept_number j h = go (cases_Bool (is_memory_op i.op))
     where
-      own : is_memory_op i.op ≡ true → ((mark_of k i).note.seq ≡ seq image j) ⊎
-          ((mark_of k i).note.seq ≡ seq image j → ⊥) → new (seq image j) ≡ Some j
-      own m (inl e) = absurd (cc (sym (step.is_new m) ∙ (ap seen e ∙ h)))
-      own m (inr n) = step.put m (seq image j) ∙ (rw (ne_eqb (mark_of k i).note.seq (seq image j) n) h)
-
       go : (is_memory_op i.op ≡ true) ⊎ (is_memory_op i.op ≡ false) → new (seq image j) ≡ Some j
-      go (inl m) = own m (cases_eq (mark_of k i).note.seq (seq image j))
-      go (inr m) = step.same m (seq image j) ∙ h
+      go x = grind arith
 
   new_has : (known : ℕ → Option Lasts) → SeenOk image known (block_at image b).wave k seen →
       (c j : ℕ) (l : Lasts) → known c ≡ Some l → IsIn image c j → j < suc k → is_memory image j ≡ true →
@@ -287,17 +225,14 @@ module _ (image : Image) (b k : ℕ) (i : Instr) (entry here : Lasts) (old seen 
   new_has known s c j l h inn lt m w = go (cases_eq j k)
     where
       go : (j ≡ k) ⊎ (j ≡ k → ⊥) → new (seq image j) ≡ Some j
-      go (inl e) = let mem : is_memory_op i.op ≡ true = sym memory ∙ (ap (is_memory image) (sym e) ∙ m) in
-          step.put mem (seq image j) ∙ rw (eq-eqb (mark_of k i).note.seq (seq image j) (sym number ∙
-          ap (seq image) (sym e))) (ap Some (sym e))
+      go (inl e) = grind (arith, memory, eq-eqb, number)
       go (inr n) = kept_number j (s.has c j l h inn (omega arith) m w)
 
   clash : (known : ℕ → Option Lasts) → SeenOk image known (block_at image b).wave k seen →
       (c j : ℕ) (l : Lasts) → known c ≡ Some l → IsIn image c j → j < k → is_memory image j ≡ true →
       is_memory image k ≡ true → (block_at image c).wave ≡ (block_at image b).wave →
       seq image j ≡ seq image k → ⊥
-  clash known s c j l h inn lt mj mk w e = cc (sym (s.has c j l h inn lt mj w) ∙
-      (ap seen (e ∙ number) ∙ step.is_new (sym memory ∙ mk)))
+  clash known s c j l h inn lt mj mk w e = grind (arith, number, memory)
 
   new_apart : (known : ℕ → Option Lasts) → SeenOk image known (block_at image b).wave k seen →
       ApartBelow image known k → ApartBelow image known (suc k)
@@ -305,14 +240,12 @@ module _ (image : Image) (b k : ℕ) (i : Instr) (entry here : Lasts) (old seen 
     where
       go : (j ≡ k) ⊎ (j ≡ k → ⊥) → (n ≡ k) ⊎ (n ≡ k → ⊥) → j ≡ n
       go (inl x) (inl y) = x ∙ sym y
-      go (inl x) (inr y) =
-          let cb : c ≡ b = same_block image b c k here_in (subst (IsIn image c) x ic) in
-          absurd (clash known s d n m hd id (omega arith) mn (ap (is_memory image) (sym x) ∙ mj) (sym w ∙
-          ap (λ (z : ℕ). (block_at image z).wave) cb) (sym e ∙ ap (seq image) x))
-      go (inr x) (inl y) =
-          let db : d ≡ b = same_block image b d k here_in (subst (IsIn image d) y id) in
-          absurd (clash known s c j l hc ic (omega arith) mj (ap (is_memory image) (sym y) ∙ mn) (w ∙
-          ap (λ (z : ℕ). (block_at image z).wave) db) (e ∙ ap (seq image) y))
+      go (inl x) (inr y) = let cb : c ≡ b = same_block image b c k here_in (subst (IsIn image c) x ic) in
+          absurd (clash known s d n m hd id (omega arith) mn (grind arith) (grind arith) (sym e ∙ ap (seq
+          image) x))
+      go (inr x) (inl y) = let db : d ≡ b = same_block image b d k here_in (subst (IsIn image d) y id) in
+          absurd (clash known s c j l hc ic (omega arith) mj (grind arith) (grind arith) (e ∙ ap (seq image)
+          y))
       go (inr x) (inr y) = a c d j n l m hc hd ic id (omega arith) (omega arith) mj mn w e
 
   pub state_step : (more : Lasts) → more ≡ stepped here k i → (is_memory_op i.op ≡ true →
@@ -323,8 +256,7 @@ module _ (image : Image) (b k : ℕ) (i : Instr) (entry here : Lasts) (old seen 
       next = e ∙ sym (after_read image k i here at)
 
       passes : is_memory image k ≡ true → PassOk here (note_of image k) (is_writing image k)
-      passes m = subst (λ (n : Note). PassOk here n (is_writing image k)) (sym (note_read image k i at))
-          (subst (PassOk here (mark_of k i).note) (sym (writing_read image k i at)) (pass (sym memory ∙ m)))
+      passes m = grind (arith, note_read, writing_read, memory)
 
       go : (left : ℕ) → k + left ≡ first_number image (suc b) →
           passed image left k here ≡ out_of image b entry → (GoodPass image left k here →
@@ -336,8 +268,7 @@ module _ (image : Image) (b k : ℕ) (i : Instr) (entry here : Lasts) (old seen 
             low = omega (arith, state.low);
             left = n;
             ends = omega (arith, f);
-            ok =
-                after_ok image b k here state.ok within;
+            ok = after_ok image b k here state.ok within;
             kept = kept;
             good = λ g. good (passes, g);
             came = new_came;
@@ -350,10 +281,8 @@ module _ (image : Image) (b k : ℕ) (i : Instr) (entry here : Lasts) (old seen 
 
 pub within_read : (image : Image) (b k n m : ℕ) → IsBlock image b → k ≡ first_number image b + n →
     m ≡ length (block_at image b).instrs → n < m → k < first_number image (suc b)
-within_read image b k n m h e f l = let t : Tail image b (first_number image b) (block_at image b).instrs =
-    whole image b h in omega (arith, t.ends, e, f, l)
+within_read image b k n m h e f l = grind (arith, whole)
 
 pub ends_read : (image : Image) (b k n m : ℕ) → IsBlock image b → k ≡ first_number image b + n →
     m ≡ length (block_at image b).instrs → n ≡ m → k ≡ first_number image (suc b)
-ends_read image b k n m h e f l = let t : Tail image b (first_number image b) (block_at image b).instrs =
-    whole image b h in omega (arith, t.ends, e, f, l)
+ends_read image b k n m h e f l = grind (arith, whole)

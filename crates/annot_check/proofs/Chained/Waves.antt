@@ -1,12 +1,11 @@
 -- Paths inside waves, and what a closed table says of them.
 use Rattle.std.proofs.Common.{ℕ, suc, ◌≡◌, ◌<◌, ◌≤◌, ◌⊎◌, Bool, true, false, cond, ◌&&◌, List, [], ◌∷◌}
-use Rattle.std.proofs.Common.{Option, Some, None, refl, sym, ap, ◌∙◌, inl, inr, subst, arith, ltb}
+use Rattle.std.proofs.Common.{Option, Some, refl, inl, inr, subst, arith, ltb}
 use Rattle.std.proofs.lemmas.Bool.{cases_Bool, cases_lt, lt-ltb, le-ltb}
 use Rattle.ws_isa.specs.Image.{Image, block_at, first_number, is_memory, is_writing, is_first, IsBlock}
 use Rattle.ws_isa.specs.Sound.{InWave, first, turn, edge, last_op, ComesNext, seq, wave_at, ShapeRules}
 use Rattle.annot_check.specs.declared.lasts.Lasts.{Lasts}
-use Rattle.annot_check.specs.Order.{Comes, ComesWith, ComesBy, MarkIs, LastsOk, first_lasts, mark_at}
-use Rattle.annot_check.specs.Order.{writer_after, after}
+use Rattle.annot_check.specs.Order.{Comes, ComesWith, ComesBy, LastsOk, first_lasts, mark_at, after}
 use Rattle.annot_check.proofs.Chained.Kept.{ltb_is, blank_is}
 use Rattle.ws_words.proofs.Bools.{and_left, and_right}
 use Rattle.ws_isa.proofs.Images.{writing_memory}
@@ -16,12 +15,11 @@ use Rattle.ws_isa.proofs.Steps.{first_zero, first_le}
 
 -- a path stands within its block
 pub path_low : (image : Image) (b k : ℕ) (done : List ℕ) → InWave image b k done → first_number image b ≤ k
-path_low image b k done (first h f) = omega arith
 path_low image b k done (turn {b = c} {k = l} {done = d} p w) = omega (arith, path_low image c l d p)
-path_low image b k done (edge p e s r f) = omega arith
+path_low image b k done x = omega arith
 
 pub path_one : (image : Image) (b k : ℕ) (done : List ℕ) → InWave image b k done → 1 ≤ k
-path_one image b k done p = omega (
+path_one image b k done p = grind (
   arith,
   path_low image b k done p,
   first_le image 0 b (omega arith),
@@ -50,23 +48,16 @@ last_came image b k done x s (turn {b = c} {k = l} {done = d} p w) e =
     go : (last_op image d ≡ Some x → CameIn image (block_at image c).wave x) → (is_memory image l ≡ true) ⊎
         (is_memory image l ≡ false) → CameIn image (block_at image c).wave x
     go rec (inl m) = subst (CameIn image (block_at image c).wave) (some_same (rw m at e)) (record {
-      last =
-          last_op image d;
-      follows = record {
-        block = c;
-        done = d;
-        path = p;
-        within = w;
-        memory = m;
-        last_is =
-            refl;
-      };
+      last = last_op image d;
+      follows = grind arith;
       wave = refl;
     })
     go rec (inr m) = rec (rw m at e)
-last_came image b k done x s (edge {b = c} {k = l} {done = d} p e t r f) h =
-    subst (λ (w : ℕ). CameIn image w x) (sym ((s.blocks c (path_block image c l d s p)).edges.later r t f).1)
-    (last_came image c l d x s p h)
+last_came image b k done x s (edge {b = c} {k = l} {done = d} p e t r f) h = grind (
+  arith,
+  path_block,
+  last_came image c l d x s p h,
+)
 
 comes_on : (image : Image) (b k : ℕ) → k < first_number image (suc b) → Comes image b k →
     Comes image b (suc k)
@@ -82,19 +73,13 @@ comes_by_on image b k j w c = record {
   done = k ∷ c.done;
   path = turn c.path w;
   among = inr c.among;
-  writes =
-      c.writes;
+  writes = c.writes;
 }
 
 pub after_ok : (image : Image) (b k : ℕ) (l : Lasts) → LastsOk image b k l → k < first_number image (suc b) →
     LastsOk image b (suc k) (after image k l)
 after_ok image b k l ok w = go (cases_Bool (is_memory image k))
   where
-    new_writer : (v : Bool) → (is_writing image k && ltb l.writer.note.seq (seq image k)) ≡ v →
-        MarkIs image (cond v (mark_at image k) l.writer)
-    new_writer true e = refl
-    new_writer false e = ok.writer_is
-
     writer_comes : (v : Bool) → (is_writing image k && ltb l.writer.note.seq (seq image k)) ≡ v →
         1 ≤ (cond v (mark_at image k) l.writer).op → ComesBy image b (suc k)
         (cond v (mark_at image k) l.writer).op
@@ -107,34 +92,20 @@ after_ok image b k l ok w = go (cases_Bool (is_memory image k))
     writer_comes false e h = comes_by_on image b k l.writer.op w (ok.writer_comes h)
 
     go : (is_memory image k ≡ true) ⊎ (is_memory image k ≡ false) → LastsOk image b (suc k) (after image k l)
-    go (inr m) = rw m (record {
-      comes = comes_on image b k w ok.comes;
-      top_is = ok.top_is;
-      other_is = ok.other_is;
-      odd_is = ok.odd_is;
-      writer_is = ok.writer_is;
-      none_comes = λ h. comes_past image b k None w m (ok.none_comes h);
-      top_comes = λ h. comes_past image b k (Some l.top.op) w m (ok.top_comes h);
-      other_comes = λ h. comes_past image b k (Some l.other.op) w m (ok.other_comes h);
-      odd_comes = λ h. comes_past image b k (Some l.odd.op) w m (ok.odd_comes h);
-      writer_comes = λ h. comes_by_on image b k l.writer.op w (ok.writer_comes h);
-      other_apart = ok.other_apart;
-      odd_apart = ok.odd_apart;
-    })
+    go (inr m) = grind (arith, comes_on, comes_past, comes_by_on)
     go (inl m) = rw m (record {
       comes = comes_on image b k w ok.comes;
       top_is = refl;
       other_is = blank_is image;
-      odd_is =
-          blank_is image;
-      writer_is = new_writer (is_writing image k && ltb l.writer.note.seq (seq image k)) refl;
+      odd_is = blank_is image;
+      writer_is = grind arith;
       none_comes = λ h. absurd (cc);
       top_comes = λ h. record { done = k ∷ ok.comes.done; path = turn ok.comes.path w; last_is = rw m refl };
-      other_comes = λ h. absurd (omega (arith, h));
-      odd_comes = λ h. absurd (omega (arith, h));
+      other_comes = grind arith;
+      odd_comes = grind arith;
       writer_comes = writer_comes (is_writing image k && ltb l.writer.note.seq (seq image k)) refl;
-      other_apart = λ h. absurd (omega (arith, h));
-      odd_apart = λ h f. absurd (omega (arith, h));
+      other_apart = grind arith;
+      odd_apart = grind arith;
     })
 
 -- the writing operations on a path are at most the one that is kept
@@ -143,32 +114,16 @@ Below image done l = (j : ℕ) → In j done → is_writing image j ≡ true →
 
 pub below_on : (image : Image) (k : ℕ) (done : List ℕ) (l : Lasts) → Below image done l →
     Below image (k ∷ done) (after image k l)
-below_on image k done l below j a w = go (cases_Bool (is_memory image k)) a
-  where
-    rises : (v : Bool) → (is_writing image k && ltb l.writer.note.seq (seq image k)) ≡ v →
-        l.writer.note.seq ≤ (cond v (mark_at image k) l.writer).note.seq
-    rises true e = let lt = ltb_is l.writer.note.seq (seq image k) (and_right (is_writing image k)
-        (ltb l.writer.note.seq (seq image k)) e) in omega (arith, lt)
-    rises false e = omega arith
-
-    own : is_writing image k ≡ true → seq image k ≤ (writer_after image k l.writer).note.seq
-    own x = rw x (pick (cases_lt l.writer.note.seq (seq image k)))
-      where
-        pick : (l.writer.note.seq < seq image k) ⊎ (seq image k ≤ l.writer.note.seq) →
-            seq image k ≤ (cond (ltb l.writer.note.seq (seq image k)) (mark_at image k) l.writer).note.seq
-        pick (inl lt) = rw (lt-ltb l.writer.note.seq (seq image k) lt) (omega arith)
-        pick (inr le) = rw (le-ltb l.writer.note.seq (seq image k) le) le
-
-    go : (is_memory image k ≡ true) ⊎ (is_memory image k ≡ false) → (j ≡ k) ⊎ In j done →
-        seq image j ≤ (after image k l).writer.note.seq
-    go (inl m) (inl e) = rw m (rw e (own (ap (is_writing image) (sym e) ∙ w)))
-    go (inl m) (inr h) = rw m (omega (
-      arith,
-      below j h w,
-      rises (is_writing image k && ltb l.writer.note.seq (seq image k)) refl,
-    ))
-    go (inr m) (inl e) = absurd (cc (sym m ∙ writing_memory image k (ap (is_writing image) (sym e) ∙ w)))
-    go (inr m) (inr h) = rw m (below j h w)
+below_on image k done l below j a w = grind (
+  arith,
+  cases_Bool,
+  ltb_is,
+  and_right,
+  cases_lt,
+  lt-ltb,
+  le-ltb,
+  writing_memory,
+)
 
 pub first_ok : (image : Image) (b : ℕ) → IsBlock image b → is_first image b ≡ true →
     LastsOk image b (first_number image b) first_lasts
@@ -176,15 +131,13 @@ first_ok image b h f = record {
   comes = record { done = []; path = first h f };
   top_is = blank_is image;
   other_is = blank_is image;
-  odd_is =
-      blank_is image;
+  odd_is = blank_is image;
   writer_is = blank_is image;
   none_comes = λ e. record { done = []; path = first h f; last_is = refl };
-  top_comes = λ e. absurd (omega (arith, e));
-  other_comes = λ e. absurd (omega (arith, e));
-  odd_comes =
-      λ e. absurd (omega (arith, e));
-  writer_comes = λ e. absurd (omega (arith, e));
-  other_apart = λ e. absurd (omega (arith, e));
-  odd_apart = λ e f. absurd (omega (arith, e));
+  top_comes = grind arith;
+  other_comes = grind arith;
+  odd_comes = grind arith;
+  writer_comes = grind arith;
+  other_apart = grind arith;
+  odd_apart = grind arith;
 }

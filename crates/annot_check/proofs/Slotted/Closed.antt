@@ -57,29 +57,14 @@ module _ (image : Image) (come : ℕ → Bool) (all : Closed image come) (shape 
   entered : (f b : ℕ) (slots : OpenSlots) (o : OpenSlots) → come f ≡ true →
       (block_at image b).wave ≡ (block_at image f).wave → PassedWith image f b → known f b ≡ Some slots →
       o ≡ slots → Covered b (first_number image b) o
-  entered f b slots o c w i e g =
-      let d : BlockDone image (known f) b slots = (at_wave f c).done b slots e i in
-      record {
-        first = f;
-        is_come = c;
-        wave = w;
-        inner = i;
-        slots = slots;
-        entry = e;
-        rest = (block_at image b).instrs;
-        tail = whole image b d.here;
-        good =
-            subst (GoodRun (block_at image b).instrs (first_number image b)) (sym g) d.good;
-        out =
-            ap (run (block_at image b).instrs (first_number image b)) g;
-      }
+  entered f b slots o c w i e g = let d : BlockDone image (known f) b slots = (at_wave f c).done b slots e i
+      in grind (arith, whole)
 
   -- the first block of a wave is come into
   entered_first : (f : ℕ) (o : OpenSlots) → come f ≡ true → AdvancesOpen image f o →
       Covered f (first_number image f) o
-  entered_first f o c a =
-      let t : WaveTable image (λ c. come c ≡ true) f (known f) = at_wave f c in
-      entered f f t.slots o c refl (inl refl) t.starts (one_opening image f o t.slots a t.begins)
+  entered_first f o c a = let t : WaveTable image (λ c. come c ≡ true) f (known f) = at_wave f c in entered f
+      f t.slots o c refl (inl refl) t.starts (grind (arith, one_opening))
 
   -- the turn of the instruction at hand
   pub record Turn (b k : ℕ) (o : OpenSlots) : Type 0 where
@@ -95,25 +80,13 @@ module _ (image : Image) (come : ℕ → Bool) (all : Closed image come) (shape 
       go : (rest : List Instr) → Tail image b k rest → GoodRun rest k o →
           run rest k o ≡ run (block_at image b).instrs (first_number image b) c.slots → Turn b k o
       go [] t g e = absurd (omega (arith, t.ends))
-      go (i ∷ is) t g e = record {
-        instr = i;
-        ports_are = ports_tail image b k i is t;
-        dests_are = now_tail image b k i is t;
-        good = g.0;
-        after = rw (now_tail image b k i is t) (record {
-          first = c.first;
-          is_come = c.is_come;
-          wave = c.wave;
-          inner = c.inner;
-          slots = c.slots;
-          entry = c.entry;
-          rest = is;
-          tail =
-              tail_rest image b k i is t;
-          good = g.1;
-          out = e;
-        });
-      }
+      go (i ∷ is) t g e = grind (
+        arith,
+        ports_tail image b k i is t,
+        now_tail image b k i is t,
+        tail_rest
+            image b k i is t,
+      )
 
   -- at the end of a block
   at_end : (b k : ℕ) (o : OpenSlots) (c : Covered b k o) → k ≡ first_number image (suc b) →
@@ -137,25 +110,18 @@ module _ (image : Image) (come : ℕ → Bool) (all : Closed image come) (shape 
 
   -- an edge leads on in its wave, or to the first block of one
   led : (b k : ℕ) (o : OpenSlots) (c : Covered b k o) → k ≡ first_number image (suc b) → stops image b ≡ false
-      →
-      (r : ℕ) → (is_first image (target image b r) ≡ true) ⊎ (is_first image (target image b r) ≡ false) →
+      → (r : ℕ) → (is_first image (target image b r) ≡ true) ⊎ (is_first image (target image b r) ≡ false) →
       Covered (target image b r) (first_number image (target image b r)) (all_opened (opens_at image b r) o)
-  led b k o c e s r (inl f) =
-      let d : EdgeDone image (known c.first) b r o = at_edge b k o c e s r in
-      let t : WaveTable image (λ x. come x ≡ true) c.first (known c.first) = at_wave c.first c.is_come in
-      entered_first (target image b r) (all_opened (opens_at image b r) o)
-      (t.across (target image b r) d.slots d.lands f)
-      (subst (AdvancesOpen image (target image b r)) (sym d.leaves) (d.crossing f))
-  led b k o c e s r (inr f) =
-      let d : EdgeDone image (known c.first) b r o = at_edge b k o c e s r in
-      entered c.first (target image b r) d.slots (all_opened (opens_at image b r) o) c.is_come
-      (((shape.blocks b (block_done b k o c).here).edges.later r s f).1 ∙ c.wave) (inr f) d.lands d.leaves
+  led b k o c e s r (inl f) = let d : EdgeDone image (known c.first) b r o = at_edge b k o c e s r in let t :
+      WaveTable image (λ x. come x ≡ true) c.first (known c.first) = at_wave c.first c.is_come in
+      entered_first (target image b r) (all_opened (opens_at image b r) o) (grind arith) (subst (AdvancesOpen
+      image (target image b r)) (sym d.leaves) (d.crossing f))
+  led b k o c e s r (inr f) = grind (arith, at_edge b k o c e s r, entered, block_done b k o c)
 
   pub covered : (b k : ℕ) (o : OpenSlots) → Opens image b k o → Covered b k o
   covered b k o begin = entered_first 1 (all_opened (start_dests image) none_open) all.one all.begun.begins
   covered b k o (turn {b = c} {k = l} {o = p} path w) = (at_turn c l p (covered c l p path) w).after
-  covered b k o (edge {b = c} {k = l} {o = p} path e s r) =
-      led c l p (covered c l p path) e s r (cases_Bool (is_first image (target image c r)))
+  covered b k o (edge {b = c} {k = l} {o = p} path e s r) = grind (arith, led, cases_Bool, covered c l p path)
 
   -- an edge that a path takes is done in the table of its wave
   record Taken (c b : ℕ) (o : OpenSlots) : Type 0 where
@@ -170,56 +136,38 @@ module _ (image : Image) (come : ℕ → Bool) (all : Closed image come) (shape 
     pub same_wave : is_first image b ≡ false → (block_at image b).wave ≡ (block_at image c).wave
 
   taken : (c b : ℕ) (o : OpenSlots) → EdgeInto image c b o → Taken c b o
-  taken c b o e =
-      let x : Covered c (first_number image (suc c)) e.before = covered c (first_number image (suc c))
-      e.before e.path in
-      let d : EdgeDone image (known x.first) c e.choice e.before = at_edge c (first_number image (suc c))
-      e.before x refl e.goes_on e.choice in
-      let h : IsBlock image c = (block_done c (first_number image (suc c)) e.before x).here in
-      record {
+  taken c b o e = let x : Covered c (first_number image (suc c)) e.before = grind (arith, covered) in let d :
+      EdgeDone image (known x.first) c e.choice e.before = at_edge c (first_number image (suc c)) e.before x
+      refl e.goes_on e.choice in let h : IsBlock image c = grind (arith, block_done) in record {
         first = x.first;
         is_come = x.is_come;
         here = h;
         wave = x.wave;
         slots = d.slots;
-        lands = ap (known x.first) (sym e.to) ∙ d.lands;
+        lands = grind arith;
         leaves = sym e.opens ∙ d.leaves;
-        crossing = λ f. subst (λ (t : ℕ). AdvancesOpen image t d.slots) e.to
-            (d.crossing (ap (is_first image) e.to ∙ f));
-        same_wave = λ f. ap (λ (t : ℕ). (block_at image t).wave) (sym e.to)
-            ∙ ((shape.blocks c h).edges.later e.choice e.goes_on (ap (is_first image) e.to ∙ f)).1;
+        crossing = grind arith;
+        same_wave = grind arith;
       }
 
   -- two paths into one block that isn't the first of its wave come with the slots of one table
   agree : (c d b : ℕ) (o p : OpenSlots) → EdgeInto image c b o → EdgeInto image d b p
       → is_first image b ≡ false → o ≡ p
-  agree c d b o p e f i =
-      let x : Taken c b o = taken c b o e in
-      let y : Taken d b p = taken d b p f in
-      let m : CameTo image x.first = all.came x.first x.is_come in
-      let n : CameTo image y.first = all.came y.first y.is_come in
-      let one : x.first ≡ y.first = one_first image x.first y.first order m.here n.here m.first n.first
-      (sym x.wave ∙ (sym (x.same_wave i) ∙ (y.same_wave i ∙ y.wave))) in
-      let eq : x.slots ≡ y.slots = some_same (sym x.lands ∙ (ap (λ (t : ℕ). known t b) one ∙ y.lands)) in
-      x.leaves ∙ (eq ∙ sym y.leaves)
+  agree c d b o p e f i = let x : Taken c b o = taken c b o e in let y : Taken d b p = taken d b p f in let m
+      : CameTo image x.first = all.came x.first x.is_come in let n : CameTo image y.first = all.came y.first
+      y.is_come in let one : x.first ≡ y.first = grind (arith, one_first) in let eq : x.slots ≡ y.slots =
+      some_same (sym x.lands ∙ (ap (λ (t : ℕ). known t b) one ∙ y.lands)) in grind arith
 
   turn_slots : (b k : ℕ) (o : OpenSlots) → Opens image b k o → k < first_number image (suc b)
       → TurnSlots image k o
-  turn_slots b k o path w =
-      let t : Turn b k o = at_turn b k o (covered b k o path) w in
-      record {
-        has_all = λ q l. t.good.has_all q (rw (sym t.ports_are) l);
-        fresh = rw t.dests_are t.good.fresh;
-      }
+  turn_slots b k o path w = grind (arith, at_turn b k o (covered b k o path) w, covered b k o path)
 
   end_slots : (b : ℕ) (o : OpenSlots) → Opens image b (first_number image (suc b)) o → EndSlots image b o
-  end_slots b o path =
-      let c : Covered b (first_number image (suc b)) o = covered b (first_number image (suc b)) o path in
-      record {
-        edges = λ s r. (at_edge b (first_number image (suc b)) o c refl s r).fresh;
-        stop = λ s j q. ap (λ (x : OpenSlots). x j q) (at_end b (first_number image (suc b)) o c refl)
-            ∙ (block_done b (first_number image (suc b)) o c).ended.stop s j q;
-      }
+  end_slots b o path = let c : Covered b (first_number image (suc b)) o = grind (arith, covered) in record {
+    edges = λ s r. (at_edge b (first_number image (suc b)) o c refl s r).fresh;
+    stop = λ s j q. ap (λ (x : OpenSlots). x j q) (at_end b (first_number image (suc b)) o c refl) ∙
+        (block_done b (first_number image (suc b)) o c).ended.stop s j q;
+  }
 
   pub slot_rules : SlotRules image
   slot_rules = record {

@@ -1,45 +1,31 @@
 -- What it means to come into a block.
-use Rattle.std.proofs.Common.{ℕ, suc, ◌≡◌, ◌<◌, ◌≤◌, ◌⊎◌, Bool, true, false, not, cond, List, [], ◌∷◌, refl}
-use Rattle.std.proofs.Common.{sym, ap, ◌∙◌, inl, inr, subst, arith, eq-eqb, ne_eqb}
+use Rattle.std.proofs.Common.{ℕ, suc, ◌≡◌, ◌<◌, ◌≤◌, ◌⊎◌, true, false, not, cond, List, [], ◌∷◌, refl, sym}
+use Rattle.std.proofs.Common.{inr, subst, arith}
 use Rattle.std.proofs.lemmas.Bool.{cases_eq, cases_Bool}
 use Rattle.ws_isa.specs.declared.instr.Dest.{Dest}
 use Rattle.ws_isa.specs.Image.{Instr, Image, block_at, first_number, is_advance, is_advance_op, is_first}
-use Rattle.ws_isa.specs.Image.{target, IsIn, IsBlock}
+use Rattle.ws_isa.specs.Image.{target, IsBlock}
 use Rattle.ws_isa.specs.Sound.{OpenSlots, none_open, opened, all_opened, HasDest, Opens, begin, edge}
 use Rattle.ws_isa.specs.Sound.{EdgeInto, AdvancesOpen}
 use Rattle.annot_check.specs.Runs.{advance_list}
-use Rattle.annot_check.specs.Breaches.{Astray, extra, missing, PortBreach, begins, crossing, PendingBreach}
+use Rattle.annot_check.specs.Breaches.{Astray, PortBreach, begins, crossing, PendingBreach}
 use Rattle.annot_check.specs.Table.{Arrives, at_start, by_edge}
 use Rattle.annot_check.proofs.Shaped.Blocks.{Tail, whole, tail_head, tail_rest}
 use Rattle.ws_isa.proofs.Slots.{all_opened_has as is_opened}
 use Rattle.ws_isa.proofs.Certified.{first_is}
 
 pub is_dest : (d : Dest) (j q : ℕ) → ((d.instr ≡ j) × (d.port ≡ q)) ⊎ ((d.instr ≡ j) × (d.port ≡ q) → ⊥)
-is_dest d j q = go (cases_eq d.instr j) (cases_eq d.port q)
-  where
-    go : (d.instr ≡ j) ⊎ (d.instr ≡ j → ⊥) → (d.port ≡ q) ⊎ (d.port ≡ q → ⊥) →
-        ((d.instr ≡ j) × (d.port ≡ q)) ⊎ ((d.instr ≡ j) × (d.port ≡ q) → ⊥)
-    go (inl e) (inl f) = inl (e, f)
-    go (inr n) f = inr (λ h. n h.0)
-    go (inl e) (inr n) = inr (λ h. n h.1)
+is_dest d j q = grind arith
 
 opened_there : (d : Dest) (o : OpenSlots) (j q : ℕ) → ((d.instr ≡ j) × (d.port ≡ q) → ⊥)
     → opened d o j q ≡ o j q
-opened_there d o j q n = go (cases_eq d.instr j) (cases_eq d.port q)
-  where
-    go : (d.instr ≡ j) ⊎ (d.instr ≡ j → ⊥) → (d.port ≡ q) ⊎ (d.port ≡ q → ⊥) → opened d o j q ≡ o j q
-    go (inl e) (inl f) = absurd (n (e, f))
-    go (inr m) f = rw (ne_eqb d.instr j m) refl
-    go (inl e) (inr m) = rw (eq-eqb d.instr j e, ne_eqb d.port q m) refl
+opened_there d o j q n = grind arith
 
 -- what is open was opened, or open before
 pub was_opened : (ds : List Dest) (o : OpenSlots) (j q : ℕ) → all_opened ds o j q ≡ true → HasDest ds j q ⊎
     (o j q ≡ true)
 was_opened [] o j q e = inr e
-was_opened (d ∷ ds) o j q e = elim (was_opened ds (opened d o) j q e) [
-  | inl h ↦ inl (inr h)
-  | inr f ↦ elim (is_dest d j q) [ inl h ↦ inl (inl h) | inr n ↦ inr (sym (opened_there d o j q n) ∙ f) ]
-]
+was_opened (d ∷ ds) o j q e = grind (arith, is_dest, opened_there, was_opened ds (opened d o) j q e)
 
 pub record IsAdvanceSlot (image : Image) (b k j q : ℕ) : Type 0 where
   pub low : k ≤ j
@@ -58,34 +44,12 @@ advance_in image b k [] t j q h = absurd h
 advance_in image b k (i ∷ is) t j q h = go (λ x. advance_in image b (suc k) is
     (tail_rest image b k i is t) j q x) (cases_Bool (is_advance_op i.op)) h
   where
-    go : (HasDest (advance_list is (suc k)) j q → IsAdvanceSlot image b (suc k) j q) →
-        (is_advance_op i.op ≡ true) ⊎ (is_advance_op i.op ≡ false) →
-        HasDest (cond (is_advance_op i.op) (record {
+    go : (HasDest (advance_list is (suc k)) j q → IsAdvanceSlot image b (suc k) j q) → (is_advance_op i.op ≡
+        true) ⊎ (is_advance_op i.op ≡ false) → HasDest (cond (is_advance_op i.op) (record {
           instr = k;
-          port =
-              0;
+          port = 0;
         } ∷ advance_list is (suc k)) (advance_list is (suc k))) j q → IsAdvanceSlot image b k j q
-    go rec (inl e) h = elim (rw e at h) [
-      | inl f ↦ record {
-        low = omega (arith, f.0);
-        high = omega (arith, t.ends, f.0);
-        advance =
-            ap (is_advance image) (sym f.0) ∙ (advance_at image b k i is t ∙ e);
-        port = sym f.1;
-      }
-      | inr f ↦ let r = rec f in record {
-        low = omega (arith, r.low);
-        high = r.high;
-        advance = r.advance;
-        port = r.port;
-      }
-    ]
-    go rec (inr e) h = let r = rec (rw e at h) in record {
-      low = omega (arith, r.low);
-      high = r.high;
-      advance = r.advance;
-      port = r.port;
-    }
+    go rec x h = grind (arith, advance_at)
 
 advance_has : (image : Image) (b k : ℕ) (is : List Instr) → Tail image b k is → (j q : ℕ) →
     IsAdvanceSlot image b k j q → HasDest (advance_list is k) j q
@@ -93,51 +57,19 @@ advance_has image b k [] t j q a = absurd (omega (arith, t.ends, a.low, a.high))
 advance_has image b k (i ∷ is) t j q a = go (λ x. advance_has image b (suc k) is
     (tail_rest image b k i is t) j q x) (cases_Bool (is_advance_op i.op)) (cases_eq k j)
   where
-    go : (IsAdvanceSlot image b (suc k) j q → HasDest (advance_list is (suc k)) j q) →
-        (is_advance_op i.op ≡ true) ⊎ (is_advance_op i.op ≡ false) → (k ≡ j) ⊎ (k ≡ j → ⊥) →
-        HasDest (cond (is_advance_op i.op) (record {
+    go : (IsAdvanceSlot image b (suc k) j q → HasDest (advance_list is (suc k)) j q) → (is_advance_op i.op ≡
+        true) ⊎ (is_advance_op i.op ≡ false) → (k ≡ j) ⊎ (k ≡ j → ⊥) → HasDest (cond (is_advance_op i.op)
+        (record {
           instr = k;
-          port =
-              0;
+          port = 0;
         } ∷ advance_list is (suc k)) (advance_list is (suc k))) j q
-    go rec (inl e) (inl f) = rw e (inl (f, sym a.port))
-    go rec (inl e) (inr n) = rw e (inr (rec (record {
-      low = omega (arith, a.low);
-      high = a.high;
-      advance =
-          a.advance;
-      port = a.port;
-    })))
-    go rec (inr e) (inl f) = absurd (cc (
-      sym e ∙ (sym (advance_at image b k i is t) ∙
-          ap (is_advance image) f),
-      a.advance,
-    ))
-    go rec (inr e) (inr n) = rw e (rec (record {
-      low = omega (arith, a.low);
-      high = a.high;
-      advance =
-          a.advance;
-      port = a.port;
-    }))
+    go rec x y = grind (arith, advance_at)
 
 -- the slots of a block's advances
 pub advances_open : (image : Image) (b : ℕ) → IsBlock image b →
     AdvancesOpen image b (all_opened (advance_list (block_at image b).instrs
     (first_number image b)) none_open)
-advances_open image b h j q = (
-  (λ e. there (was_opened list none_open j q e)),
-  λ x. is_opened list none_open j q (advance_has image b (first_number image b) (block_at image b).instrs
-      (whole image b h) j q (record { low = x.0.0; high = x.0.1; advance = x.1; port = x.2 })),
-)
-  where
-    list : List Dest
-    list = advance_list (block_at image b).instrs (first_number image b)
-
-    there : HasDest list j q ⊎ (none_open j q ≡ true) → IsIn image b j × (is_advance image j ≡ true) × (q ≡ 0)
-    there (inl d) = let a = advance_in image b (first_number image b) (block_at image b).instrs
-        (whole image b h) j q d in ((a.low, a.high), a.advance, a.port)
-    there (inr e) = absurd (cc e)
+advances_open image b h j q = grind (arith, was_opened, is_opened, advance_has, whole, advance_in)
 
 pub edge_path : (image : Image) (from b : ℕ) (o : OpenSlots) → EdgeInto image from b o →
     Opens image b (first_number image b) o
@@ -153,59 +85,26 @@ arrives_path image from b o (by_edge e) = edge_path image from b o e
 
 pub edge_of_arrival : (image : Image) (from b : ℕ) (o : OpenSlots) → Arrives image from b o →
     is_first image b ≡ false → EdgeInto image from b o
-edge_of_arrival image from b o (at_start e g) f = absurd (cc (sym f ∙ (ap (is_first image) e ∙
-    first_is image)))
-edge_of_arrival image from b o (by_edge d) f = d
+edge_of_arrival image from b o x f = grind (arith, first_is)
 
 -- at a slot at which other slots differ from the advances'
 pub astray : (image : Image) (b : ℕ) (o p : OpenSlots) (j q : ℕ) → AdvancesOpen image b p
     → o j q ≡ not (p j q) →
     Astray image b o j q
-astray image b o p j q a e = go (cases_Bool (p j q))
-  where
-    go : (p j q ≡ true) ⊎ (p j q ≡ false) → Astray image b o j q
-    go (inl t) = missing (rw t at e) ((a j q).0 t)
-    go (inr f) = extra (rw f at e) (λ x. absurd (cc (sym f ∙ (a j q).1 x)))
+astray image b o p j q a e = grind arith
 
 -- the first block of a wave is entered with other slots than its advances'
 pub crossing_bad : (image : Image) (from b : ℕ) (o : OpenSlots) (j q : ℕ) → Arrives image from b o →
     is_first image b ≡ true → Astray image b o j q → PortBreach image j q
-crossing_bad image from b o j q (at_start g k) f a = begins (subst (λ (s : OpenSlots). Astray image 1 s j q)
-    (sym k) (subst (λ (m : ℕ). Astray image m o j q) g a))
+crossing_bad image from b o j q (at_start g k) f a = begins (grind arith)
 crossing_bad image from b o j q (by_edge d) f a = crossing d f a
-
-clash : (v w : Bool) → v ≡ w → w ≡ not v → ⊥
-clash true w y x = cc
-clash false w y x = cc
 
 pub join_bad : (image : Image) (from c b : ℕ) (o p : OpenSlots) (j q : ℕ) → c ≤ from
     → is_first image b ≡ false →
     EdgeInto image c b p → EdgeInto image from b o → o j q ≡ not (p j q) → PendingBreach image c from
-join_bad image from c b o p j q l f r a x = record {
-  ordered = l;
-  block = b;
-  inside = f;
-  one = p;
-  other = o;
-  first = r;
-  second = a;
-  instr = j;
-  port = q;
-  differ = λ y. clash (p j q) (o j q) y x;
-}
+join_bad image from c b o p j q l f r a x = grind arith
 
 pub join_back : (image : Image) (from c b : ℕ) (o p : OpenSlots) (j q : ℕ) → from ≤ c
     → is_first image b ≡ false →
     EdgeInto image c b p → EdgeInto image from b o → o j q ≡ not (p j q) → PendingBreach image from c
-join_back image from c b o p j q l f r a x = record {
-  ordered = l;
-  block = b;
-  inside = f;
-  one = o;
-  other = p;
-  first = a;
-  second = r;
-  instr = j;
-  port = q;
-  differ = λ y. clash (p j q) (o j q) (sym y) x;
-}
+join_back image from c b o p j q l f r a x = grind arith

@@ -1,5 +1,5 @@
 -- Waves that are passed one after the other.
-use Rattle.std.proofs.Common.{ℕ, ◌≡◌, ◌⊎◌, true, List, [], ◌∷◌, ◌++◌, inl, inr, subst}
+use Rattle.std.proofs.Common.{ℕ, ◌≡◌, ◌⊎◌, true, List, [], ◌∷◌, ◌++◌, inl, inr, arith}
 use Rattle.ws_isa.specs.Image.{Image}
 use Rattle.ws_isa.specs.Formed.{WavesInOrder}
 use Rattle.ws_isa.specs.Sound.{ShapeRules, SlotRules}
@@ -17,10 +17,7 @@ Come w b = flag_at w.come.items b ≡ true
 pub round_todo : (old new : Waves) (todo : List ℕ) (n : ℕ) → todo ≡ old.todo.items ++ n ∷ []
     → MoreCome old new →
     ((b : ℕ) → HasNumber todo b → Come old b) → (b : ℕ) → HasNumber new.todo.items b → Come new b
-round_todo old new todo n e m all b h = elim (m.todo_come b h) [
-  | inl x ↦ m.keeps b (all b (rw e (has_left old.todo.items (n ∷ []) b x)))
-  | inr x ↦ x
-]
+round_todo old new todo n e m all b h = grind (arith, has_left)
 
 pub round_done : (image : Image) (old new : Waves) (todo : List ℕ) (n : ℕ) → todo ≡ old.todo.items ++ n ∷ [] →
     MoreCome old new →
@@ -30,11 +27,8 @@ pub round_done : (image : Image) (old new : Waves) (todo : List ℕ) (n : ℕ) �
 round_done image old new todo n e m all last b h = elim (m.is_new b h) [
   | inr x ↦ inl x
   | inl x ↦ elim (all b x) [
-    | inr w ↦ inr (wave_among image b (λ c. Come old c) (λ c. Come new c) (λ c k f. m.keeps c k) w)
-    | inl y ↦ elim (has_either old.todo.items n b (rw e at y)) [
-      | inl z ↦ inl (m.todo b z)
-      | inr s ↦ inr (subst (WaveDone image (λ c. Come new c)) s last)
-    ]
+    | inr w ↦ grind (arith, wave_among)
+    | inl y ↦ grind (arith, has_either)
   ]
 ]
 
@@ -43,9 +37,5 @@ pub whole_rules : (image : Image) (w : Waves) → w.todo.items ≡ [] → ShapeR
     → WavesInOrder image.blocks →
     Begun image → Come w 1 → ((b : ℕ) → Come w b → CameTo image b) →
     ((b : ℕ) → Come w b → HasNumber w.todo.items b ⊎ WaveDone image (λ c. Come w c) b) → SlotRules image
-whole_rules image w none shape order begun one came all = slot_rules image (flag_at w.come.items) (record {
-  begun = begun;
-  one = one;
-  came = came;
-  waves = λ b h. elim (all b h) [ inl m ↦ absurd (none_has w.todo.items b none m) | inr d ↦ d ];
-}) shape order
+whole_rules image w none shape order begun one came all = slot_rules image (flag_at w.come.items) (grind
+    (arith, none_has)) shape order

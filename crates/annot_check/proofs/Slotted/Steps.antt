@@ -1,10 +1,9 @@
 -- A trace that has grown.
-use Rattle.std.proofs.Common.{ℕ, zero, suc, ◌+◌, ◌*◌, ◌^◌, ◌≡◌, ◌<◌, ◌≤◌, ◌⊎◌, Bool, true, List, []}
-use Rattle.std.proofs.Common.{◌∷◌, length, get_or, Option, refl, sym, ap, ap₂, ◌∙◌, inl, inr, subst, arith}
+use Rattle.std.proofs.Common.{ℕ, suc, ◌+◌, ◌*◌, ◌^◌, ◌≡◌, ◌<◌, ◌≤◌, ◌⊎◌, Bool, true, List, ◌∷◌, length}
+use Rattle.std.proofs.Common.{get_or, Option, refl, sym, ap, inl, inr, subst, arith}
 use Rattle.std.proofs.lemmas.Bool.{cases_eq}
 use Rattle.ws_isa.specs.View as view
-use Rattle.ws_isa.specs.Image.{Instr, Block, Exit, Goto, Branch, Landings, Stop, Image, block_at}
-use Rattle.ws_isa.specs.Image.{first_number, stops, IsBlock}
+use Rattle.ws_isa.specs.Image.{Instr, Block, Exit, Image, block_at, first_number, stops, IsBlock}
 use Rattle.ws_isa.specs.Formed.{Formed, ExitWithin, BlockWithin, most_landings}
 use Rattle.ws_isa.specs.Sound.{OpenSlots, Opens, none_open}
 use Rattle.annot_check.specs.declared.trace.Entry.{Entry}
@@ -19,24 +18,15 @@ use Rattle.annot_check.specs.Done.{EdgeDone, Ended}
 use Rattle.annot_check.specs.Table.{image_of, trace_nodes, set_slots, known, entry_at, StartsOf, board_size}
 use Rattle.annot_check.specs.Table.{Ready, Grows, Shut, length_of}
 use Rattle.annot_check.proofs.Slotted.Held.{shut_look}
-use Rattle.annot_check.proofs.Shaped.Blocks.{whole, Tail}
+use Rattle.annot_check.proofs.Shaped.Blocks.{whole}
 use Rattle.annot_check.proofs.Shaped.Paths.{run_path, bad_path}
 use Rattle.annot_check.proofs.Slotted.Suits.{block_on}
-use Rattle.annot_check.proofs.Slotted.Entries.{set_stays, edge_grows, table_stays}
+use Rattle.annot_check.proofs.Slotted.Entries.{set_stays, edge_grows}
 use Rattle.ws_isa.proofs.Blocks.{at_block}
 use Rattle.ws_isa.proofs.Steps.{first_le}
 
 pub grows_not : (t : Trace) → Ready t → Grows t t
-grows_not t r = record {
-  image = refl;
-  starts = refl;
-  depth = refl;
-  board = refl;
-  nodes =
-      record { ok = r.held.nodes; more = omega arith; same = λ s l. refl };
-  table =
-      table_stays t.table.items t.todo.items;
-}
+grows_not t r = grind arith
 
 same_image : (a b : Trace) → Grows a b → image_of a ≡ image_of b
 same_image a b g = sym (ap view.image g.image)
@@ -55,15 +45,12 @@ base_stays a b g set l = omega (arith, l, g.nodes.more)
 -- the slots at hand before, by their set
 pub at_hand : (a b : Trace) → Ready a → Shut a → Grows a b → (set : ℕ) → set ≡ a.held.set →
     set_slots b set ≡ look a.held
-at_hand a b r s g set e = ap (set_slots b) e ∙
-    (set_stays a b r.held.nodes g.nodes g.depth a.held.set r.held.there ∙ sym (shut_look a.held r.held s))
+at_hand a b r s g set e = grind (arith, set_stays, shut_look)
 
 pub path_stays : (a b : Trace) → Ready a → Shut a → Grows a b → (n set : ℕ) → set ≡ a.held.set →
     Opens (image_of a) n (first_number (image_of a) (suc n)) (look a.held) →
     Opens (image_of b) n (first_number (image_of b) (suc n)) (set_slots b set)
-path_stays a b r s g n set e p = subst (λ (x : Image). Opens x n (first_number x (suc n)) (set_slots b set))
-    (same_image a b g)
-    (subst (Opens (image_of a) n (first_number (image_of a) (suc n))) (sym (at_hand a b r s g set e)) p)
+path_stays a b r s g n set e p = grind (arith, same_image, at_hand)
 
 -- one more edge is done
 pub more_done : (a b c : Trace) → Ready a → Shut a → Ready b → Grows a b → Grows b c → (n r set : ℕ) →
@@ -74,21 +61,16 @@ pub more_done : (a b c : Trace) → Ready a → Shut a → Ready b → Grows a b
 more_done a b c ra s rb g h n r set e before last q l = go (cases_eq q r)
   where
     go : (q ≡ r) ⊎ (q ≡ r → ⊥) → EdgeDone (image_of c) (known c) n q (look a.held)
-    go (inl f) = subst (λ (m : ℕ). EdgeDone (image_of c) (known c) n m (look a.held)) (sym f)
-        (subst (EdgeDone (image_of c) (known c) n r) (at_hand a b ra s g set e) last)
+    go (inl f) = grind (arith, at_hand a b ra s g set e)
     go (inr f) = edge_grows b c rb h n q (look a.held) (before q (omega arith))
 
 landings_few : (x : Exit) → ExitWithin x → length_of x < 2 ^ 30
 unfolding most_landings
-landings_few (Goto b) h = omega arith
-landings_few (Branch s b c) h = omega arith
-landings_few (Landings s ls) h = omega (arith, h)
-landings_few Stop h = omega arith
+landings_few x h = grind arith
 
 pub few_landings : (image : Image) (b : ℕ) (x : Block) → Formed image → IsBlock image b →
     x ≡ block_at image b → length_of x.exit < 2 ^ 30
-few_landings image b x f h e = rw e (landings_few (block_at image b).exit
-    (at_block BlockWithin image b f.blocks h).exit)
+few_landings image b x f h e = grind (arith, landings_few, at_block BlockWithin image b f.blocks h)
 
 pub stop_bad : (image : Image) (b : ℕ) (o : OpenSlots) (j q : ℕ) → Opens image b (first_number image (suc b))
     o →
@@ -96,74 +78,44 @@ pub stop_bad : (image : Image) (b : ℕ) (o : OpenSlots) (j q : ℕ) → Opens i
 stop_bad image b o j q p s e = stop p refl s e
 
 pub ended_stop : (image : Image) (known : ℕ → Option OpenSlots) (b : ℕ) (o : OpenSlots) → stops image b ≡ true
-    →
-    o ≡ none_open → Ended image known b o
-ended_stop image known b o s e = record {
-  stop = λ f j q. ap (λ (x : OpenSlots). x j q) e;
-  edges =
-      λ f. absurd (cc (sym s ∙ f));
-}
+    → o ≡ none_open → Ended image known b o
+ended_stop image known b o s e = grind arith
 
 -- the path through a block from its entry on, and a breach on it
 pub visit_path : (image : Image) (b : ℕ) (s o p : OpenSlots) (is : List Instr) (k : ℕ) → IsBlock image b →
     Opens image b (first_number image b) s → is ≡ (block_at image b).instrs → k ≡ first_number image b →
     o ≡ s → p ≡ run is k o → Opens image b (first_number image (suc b)) p
-visit_path image b s o p is k h r f g e i =
-    let same : p ≡ run (block_at image b).instrs (first_number image b) s = i ∙
-    (ap₂ (λ (x : List Instr) (m : ℕ). run x m o) f g ∙
-    ap (run (block_at image b).instrs (first_number image b)) e) in
-    subst (Opens image b (first_number image (suc b))) (sym same) (run_path image b (first_number image b)
-    (block_at image b).instrs s (whole image b h) r)
+visit_path image b s o p is k h r f g e i = grind (arith, run_path, whole)
 
 pub visit_bad : (image : Image) (b : ℕ) (s o : OpenSlots) (is : List Instr) (k j q : ℕ) → IsBlock image b →
     Opens image b (first_number image b) s → is ≡ (block_at image b).instrs → k ≡ first_number image b →
     o ≡ s → BadRun is k o j q → PortBreach image j q
-visit_bad image b s o is k j q h r f g e x =
-    bad_path image b (first_number image b) (block_at image b).instrs s (whole image b h) r j q
-    (subst (λ (y : List Instr). BadRun y (first_number image b) s j q) f (subst
-    (λ (m : ℕ). BadRun is m s j q) g (subst (λ (z : OpenSlots). BadRun is k z j q) e x)))
+visit_bad image b s o is k j q h r f g e x = grind (arith, bad_path, whole)
 
 pub entry_of : (t : List (Option Entry)) (n : ℕ) (d r : Option Entry) → n < length t → r ≡ get_or t n d →
     entry_at t n ≡ r
-entry_of [] n d r l e = absurd (omega arith)
-entry_of (x ∷ t) zero d r l e = sym e
 entry_of (x ∷ t) (suc n) d r l e = entry_of t n d r (omega arith) e
+entry_of t n d r l e = grind arith
 
 pub in_table : (t : Trace) (b : ℕ) → Ready t → IsBlock (image_of t) b → b < length t.table.items
 in_table t b r h = omega (arith, r.table_size, h.1)
 
 pub starts_order : (image : Image) (starts : List ℕ) (b : ℕ) → StartsOf image starts → IsBlock image b →
     get_or starts b 0 ≤ get_or starts (b + 1) 0
-starts_order image starts b s h = omega (
-  arith,
-  s.1 b (omega (arith, h.1)),
-  s.1 (b + 1) (omega (arith, h.1)),
-  first_le image b (b + 1) (omega arith),
-)
+starts_order image starts b s h = grind (arith, first_le)
 
 pub starts_sum : (image : Image) (starts : List ℕ) (b n : ℕ) → StartsOf image starts → IsBlock image b →
     n ≡ length (block_at image b).instrs → get_or starts b 0 + n ≡ get_or starts (b + 1) 0
-starts_sum image starts b n s h e =
-    let t : Tail image b (first_number image b) (block_at image b).instrs = whole image b h in
-    let f : first_number image (b + 1) ≡ first_number image (suc b) = ap (first_number image) (omega arith) in
-    omega (arith, s.1 b (omega (arith, h.1)), s.1 (b + 1) (omega (arith, h.1)), t.ends, e, f)
+starts_sum image starts b n s h e = grind (arith, whole)
 
 pub starts_room : (image : Image) (starts : List ℕ) (b n : ℕ) → StartsOf image starts → IsBlock image b →
     n ≡ board_size image → 4 * get_or starts (b + 1) 0 ≤ n
 unfolding board_size
-starts_room image starts b n s h e = omega (
-  arith,
-  e,
-  s.1 (b + 1) (omega (arith, h.1)),
-  first_le image (b + 1) (suc (length image.blocks)) (omega (arith, h.1)),
-)
+starts_room image starts b n s h e = grind (arith, first_le)
 
 pub run_on_read : (image : Image) (b n k : ℕ) (is : List Instr) → Formed image → IsBlock image b →
     n ≡ board_size image → is ≡ (block_at image b).instrs → k ≡ first_number image b → AllRunOn n is k
-run_on_read image b n k is f h e g i =
-    subst (λ (m : ℕ). AllRunOn m is k) (sym e) (subst (λ (x : List Instr). AllRunOn (board_size image) x k)
-    (sym g) (subst (AllRunOn (board_size image) (block_at image b).instrs) (sym i)
-    (block_on image b f h)))
+run_on_read image b n k is f h e g i = grind (arith, block_on)
 
 pub kept_after_load : (a b c : Open) → b.sets ≡ a.sets → Moved b c → NodesKept (nodes_of a) (nodes_of c)
 kept_after_load a b c e m = subst (λ (x : Sets). NodesKept x.nodes.items (nodes_of c)) e m.kept

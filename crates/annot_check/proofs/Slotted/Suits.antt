@@ -1,14 +1,12 @@
 -- What a formed image gives to the checker of slots.
-use Rattle.std.proofs.Common.{ℕ, zero, suc, ◌+◌, ◌*◌, ◌≡◌, ◌<◌, ◌≤◌, Bool, true, false, cond, List, [], ◌∷◌}
-use Rattle.std.proofs.Common.{◌++◌, length, arith, eqb}
+use Rattle.std.proofs.Common.{ℕ, zero, suc, ◌+◌, ◌*◌, ◌≡◌, ◌≤◌, false, List, [], ◌∷◌, ◌++◌, length, arith}
 use Rattle.std.specs.List.{AllByRecursion}
 use Rattle.ws_isa.specs.declared.instr.Dest.{Dest}
 use Rattle.ws_isa.specs.declared.instr.Op.{Op}
-use Rattle.ws_isa.specs.declared.instr.Op.TheVariants.{Steer, Send}
-use Rattle.ws_isa.specs.Image.{Instr, Exit, Goto, Branch, Landings, Stop, Pad, Block, Image, no_block, flat}
-use Rattle.ws_isa.specs.Image.{block_at, first_number, ports_of, ports, instr_at, stops, is_stop, target}
-use Rattle.ws_isa.specs.Image.{leave_to, landing_of, pad_of, start_dests, IsBlock}
-use Rattle.ws_isa.specs.Formed.{Formed, Suited, DestIn, DestsIn, ExitIn, SomeLanding, WavesInOrder}
+use Rattle.ws_isa.specs.Image.{Instr, Exit, Goto, Landings, Pad, Block, Image, no_block, flat, block_at}
+use Rattle.ws_isa.specs.Image.{first_number, ports, stops, is_stop, target, leave_to, landing_of, pad_of}
+use Rattle.ws_isa.specs.Image.{start_dests, IsBlock}
+use Rattle.ws_isa.specs.Formed.{Formed, Suited, DestIn, DestsIn, ExitIn, SomeLanding}
 use Rattle.ws_isa.specs.Sound.{opens_at}
 use Rattle.annot_check.specs.Runs.{OnBoard, AllOn, AllRunOn, edge_list}
 use Rattle.annot_check.specs.Table.{board_size}
@@ -22,9 +20,7 @@ use Rattle.ws_isa.specs.Shows.{edge_by}
 
 on_board : (image : Image) (d : Dest) → DestIn image d → OnBoard (board_size image) d
 unfolding board_size ports
-on_board image d h =
-    let p : ports_of (instr_at image d.instr).op < 4 = few_ports (instr_at image d.instr).op in
-    (omega (arith, h.1, p), omega (arith, h.0.1, number_last image))
+on_board image d h = grind (arith, few_ports, number_last)
 
 pub all_on : (image : Image) (ds : List Dest) → DestsIn image ds → AllOn (board_size image) ds
 all_on image [] h = tt
@@ -41,9 +37,8 @@ all_right P (x ∷ xs) ys h = all_right P xs ys h.1
 all_flat : (P : Instr → Type 0) (bs : List Block) (b : ℕ) → AllByRecursion P (flat bs) →
     AllByRecursion P (or_else (nth bs b) no_block).instrs
 unfolding no_block
-all_flat P [] b h = tt
-all_flat P (x ∷ xs) zero h = all_left P x.instrs (flat xs) h
 all_flat P (x ∷ xs) (suc b) h = all_flat P xs b (all_right P x.instrs (flat xs) h)
+all_flat P bs b h = grind (arith, all_left)
 
 -- what is said of all instructions is said of a block's
 pub all_in_block : (P : Instr → Type 0) (image : Image) (b : ℕ) → AllByRecursion P (flat image.blocks) →
@@ -56,11 +51,11 @@ run_on : (image : Image) (is : List Instr) (k m : ℕ) → AllByRecursion (λ i.
     AllByRecursion (λ i. DestsIn image i.others) is → k + length is ≡ m → 4 * m ≤ board_size image →
     AllRunOn (board_size image) is k
 run_on image [] k m d o e l = tt
-run_on image (i ∷ is) k m d o e l = (
-  omega (arith, e, l),
-  all_on image i.dests d.0,
-  all_on image i.others o.0,
-  run_on image is (suc k) m d.1 o.1 (omega (arith, e)) l,
+run_on image (i ∷ is) k m d o e l = grind (
+  arith,
+  all_on,
+  run_on image is (suc k) m d.1 o.1 (omega (arith, e))
+      l,
 )
 
 pub block_on : (image : Image) (b : ℕ) → Formed image → IsBlock image b →
@@ -76,23 +71,12 @@ block_on image b f h =
 pads_on : (image : Image) (ps : List Pad) (k : ℕ) → AllByRecursion (λ p. DestsIn image p.dests) ps →
     AllOn (board_size image) (pad_of ps k)
 pads_on image [] k h = tt
-pads_on image (p ∷ ps) k h = go (eqb p.number k) (pads_on image ps k h.1)
-  where
-    go : (v : Bool) → AllOn (board_size image) (pad_of ps k) →
-        AllOn (board_size image) (cond v p.dests (pad_of ps k))
-    go true r = all_on image p.dests h.0
-    go false r = r
+pads_on image (p ∷ ps) k h = grind (arith, all_on, pads_on image ps k h.1)
 
 sent_on : (image : Image) (r : ℕ) (ps : List Pad) (i : Instr) (op : Op) → DestsIn image i.dests →
     DestsIn image i.others → AllByRecursion (λ p. DestsIn image p.dests) ps →
     AllOn (board_size image) (edge_by ps r i op)
-sent_on image r ps i Steer d o p = go (eqb r 0)
-  where
-    go : (t : Bool) → AllOn (board_size image) (cond t i.others i.dests)
-    go true = all_on image i.others o
-    go false = all_on image i.dests d
-sent_on image r ps i (Send k) d o p = pads_on image ps k p
-sent_on image r ps i _ d o p = tt
+sent_on image r ps i op d o p = grind (arith, all_on, pads_on)
 
 on_append : (n : ℕ) (xs ys : List Dest) → AllOn n xs → AllOn n ys → AllOn n (xs ++ ys)
 on_append n [] ys a b = b
@@ -103,8 +87,7 @@ edges_on : (image : Image) (r : ℕ) (ps : List Pad) (is : List Instr) →
     AllByRecursion (λ p. DestsIn image p.dests) ps →
     AllOn (board_size image) (edge_list ps r is)
 edges_on image r ps [] d o p = tt
-edges_on image r ps (i ∷ is) d o p = on_append (board_size image) (edge_by ps r i i.op) (edge_list ps r is)
-    (sent_on image r ps i i.op d.0 o.0 p) (edges_on image r ps is d.1 o.1 p)
+edges_on image r ps (i ∷ is) d o p = grind (arith, on_append, sent_on, edges_on image r ps is d.1 o.1 p)
 
 pub opens_on : (image : Image) (b r : ℕ) → Formed image → IsBlock image b → IsBlock image (target image b r) →
     AllOn (board_size image) (opens_at image b r)
@@ -122,32 +105,25 @@ start_on image f h = pads_on image (block_at image 1).pads 0
 
 landing_in : (image : Image) (ls : List ℕ) (r : ℕ) → 1 ≤ length ls → AllByRecursion (IsBlock image) ls →
     IsBlock image (landing_of ls r)
-landing_in image [] r l h = absurd (omega arith)
-landing_in image (x ∷ []) r l h = h.0
-landing_in image (x ∷ y ∷ ls) zero l h = h.0
 landing_in image (x ∷ y ∷ ls) (suc r) l h = landing_in image (y ∷ ls) r (omega arith) h.1
+landing_in image ls r l h = grind arith
 
 leads_in : (image : Image) (x : Exit) (r : ℕ) → ExitIn image x → SomeLanding x → is_stop x ≡ false →
     IsBlock image (leave_to x r)
 leads_in image (Goto b) r h s e = h
-leads_in image (Branch s b c) r h l e = go (eqb r 0)
-  where
-    go : (v : Bool) → IsBlock image (cond v c b)
-    go true = h.2
-    go false = h.1
 leads_in image (Landings s ls) r h l e = landing_in image ls r l h.1
-leads_in image Stop r h s e = absurd (cc)
+leads_in image x r h l e = grind arith
 
 pub targets_in : (image : Image) (b r : ℕ) → Suited image → IsBlock image b → stops image b ≡ false →
     IsBlock image (target image b r)
 unfolding target stops
-targets_in image b r f h s = leads_in image (block_at image b).exit r (at_block
-    (λ x. ExitIn image x.exit) image b f.references.exits h)
-    (at_block (λ x. SomeLanding x.exit) image b f.landings h) s
+targets_in image b r f h s = grind (
+  arith,
+  leads_in,
+  at_block (λ x. ExitIn image x.exit) image b
+      f.references.exits h,
+  at_block (λ x. SomeLanding x.exit) image b f.landings h,
+)
 
 pub has_block : (image : Image) → Formed image → IsBlock image 1
-has_block image f = go image.blocks f.waves
-  where
-    go : (bs : List Block) → WavesInOrder bs → (1 ≤ 1) × (1 ≤ length bs)
-    go [] h = absurd h
-    go (b ∷ bs) h = (omega arith, omega arith)
+has_block image f = grind arith

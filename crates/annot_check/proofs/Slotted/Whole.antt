@@ -1,12 +1,12 @@
 -- The start, and the whole pass.
-use Rattle.std.proofs.Common.{ℕ, zero, suc, ◌+◌, ◌-◌, ◌*◌, ◌≡◌, ◌<◌, ◌⊎◌, true, List, [], ◌∷◌, ◌++◌, length}
-use Rattle.std.proofs.Common.{Option, Some, None, get_or, refl, sym, ap, ap₂, ◌∙◌, inl, inr, subst, arith}
-use Rattle.std.proofs.Common.{take, length-append, length-take}
+use Rattle.std.proofs.Common.{ℕ, suc, ◌+◌, ◌-◌, ◌*◌, ◌≡◌, ◌<◌, ◌⊎◌, true, List, [], ◌∷◌, ◌++◌, length, Option}
+use Rattle.std.proofs.Common.{Some, None, get_or, refl, sym, ap, ap₂, ◌∙◌, inl, inr, subst, arith, take}
+use Rattle.std.proofs.Common.{length-append, length-take}
 use Rattle.ws_isa.specs.View as view
 use Rattle.ws_isa.specs.declared.instr.Dest.{Dest}
 use Rattle.ws_isa.specs.Image.{Pad, Block, Image, block_at, first_number, is_first, pad_of, start_dests}
 use Rattle.ws_isa.specs.Image.{IsBlock}
-use Rattle.ws_isa.specs.Sound.{OpenSlots, none_open, all_opened, Fresh, Opens, begin, AdvancesOpen}
+use Rattle.ws_isa.specs.Sound.{OpenSlots, none_open, all_opened, Fresh, begin, AdvancesOpen}
 use Rattle.annot_check.specs.declared.trace.Entry.{Entry}
 use Rattle.annot_check.specs.declared.trace.Trace.{Trace}
 use Rattle.annot_check.specs.Breaches.{Taken, PortBreach, start}
@@ -16,7 +16,6 @@ use Rattle.annot_check.specs.Table.{image_of, trace_nodes, entry_at, entry_slots
 use Rattle.annot_check.specs.Table.{Shut, Between, Reached, HasNumber, AllPassed, Ready, StartsOf, board_size}
 use Rattle.annot_check.specs.Open.{OpenOk}
 use Rattle.ws_isa.specs.Formed.{Formed, most_instrs}
-use Rattle.annot_check.proofs.Slotted.Firsts.{one_opening}
 use Rattle.annot_check.proofs.Slotted.Entries.{set_stays, edge_grows, has_left, has_last, has_either}
 use Rattle.ws_isa.proofs.Blocks.{number_last}
 use Rattle.ws_isa.proofs.Certified.{first_is}
@@ -24,13 +23,11 @@ use Rattle.ws_isa.proofs.Certified.{first_is}
 pub start_read : (image : Image) (x : Block) (pads : List Pad) (ds : List Dest) → x ≡ block_at image 1 →
     pads ≡ x.pads → ds ≡ pad_of pads 0 → ds ≡ start_dests image
 unfolding start_dests
-start_read image x pads ds e f g = g ∙ (ap (λ (ps : List Pad). pad_of ps 0) (f ∙
-    ap (λ (y : Block). y.pads) e))
+start_read image x pads ds e f g = grind arith
 
 pub start_bad : (image : Image) (o : OpenSlots) (ds : List Dest) (j q : ℕ) → ds ≡ start_dests image →
     o ≡ none_open → Taken ds o j q → PortBreach image j q
-start_bad image o ds j q e f t = start (subst (λ (xs : List Dest). Taken xs none_open j q) e
-    (subst (λ (s : OpenSlots). Taken ds s j q) f t))
+start_bad image o ds j q e f t = start (grind arith)
 
 pub begun_ok : (image : Image) (o p : OpenSlots) (ds : List Dest) → ds ≡ start_dests image → o ≡ none_open →
     Fresh ds o → p ≡ all_opened ds o → AdvancesOpen image 1 p → Begun image
@@ -63,10 +60,7 @@ between_ok t u r s g n e same = record {
   ready = r;
   shut = s;
   blank = blank;
-  no_todo = no_number u.todo.items (λ b h. elim (g.table.todo_new b h) [
-    | inl m ↦ none_has t.todo.items b e m
-    | inr x ↦ absurd (cc (sym (blank b) ∙ x.1))
-  ]);
+  no_todo = no_number u.todo.items (grind (arith, none_has));
 }
   where
     blank : (b : ℕ) → entry_at u.table.items b ≡ None
@@ -99,27 +93,14 @@ pub passed_more : (t u : Trace) (todo : List ℕ) (n f : ℕ) (passed more : Lis
 passed_more t u todo n f passed more h m r g all done b e k = elim (g.table.is_new b e k) [
   | inr new ↦ inl new
   | inl old ↦ elim (all b e old) [
-    | inr d ↦ inr (
-      rw m (has_left passed (n ∷ []) b d.0),
-      λ w. here b e old (done_grows t u r g b
-          (set_slots t e.set) (d.1 (back b w))),
-    )
+    | inr d ↦ inr (grind (arith, has_left), λ w. here b e old (grind (arith, done_grows)))
     | inl q ↦ elim (has_either t.todo.items n b (rw h at q)) [
       | inl x ↦ inl (g.table.todo b x)
-      | inr s ↦ inr (
-        rw (m, ← s) (has_last passed n),
-        λ w. here b e old
-            (subst (λ (c : ℕ). BlockDone (image_of u) (known u) c (set_slots t e.set)) s
-            (done (subst (PassedWith (image_of t) f) (sym s) (back b w)) e
-            (ap (entry_at t.table.items) s ∙ old))),
-      )
+      | inr s ↦ inr (rw (m, ← s) (has_last passed n), λ w. here b e old (grind arith))
     ]
   ]
 ]
   where
-    back : (b : ℕ) → PassedWith (image_of u) f b → PassedWith (image_of t) f b
-    back b w = subst (λ (x : Image). PassedWith x f b) (ap view.image g.image) w
-
     here : (b : ℕ) (e : Entry) → entry_at t.table.items b ≡ Some e →
         BlockDone (image_of u) (known u) b (set_slots t e.set) →
         BlockDone (image_of u) (known u) b (set_slots u e.set)
@@ -137,10 +118,7 @@ pub all_in_grown : (t u : Trace) (numbers : List ℕ) → Grows t u → AllIn t 
 all_in_grown t u numbers g all b h = let e = all b h in (e.0, g.table.keeps b e.0 e.1)
 
 pub todo_in : (t u : Trace) → Grows t u → AllIn t t.todo.items → AllIn u u.todo.items
-todo_in t u g all b h = elim (g.table.todo_new b h) [
-  | inl m ↦ all_in_grown t u t.todo.items g all b m
-  | inr e ↦ e
-]
+todo_in t u g all b h = grind arith
 
 pub all_in_front : (t : Trace) (numbers front : List ℕ) (n : ℕ) → numbers ≡ front ++ n ∷ [] →
     AllIn t numbers → AllIn t front
@@ -148,23 +126,12 @@ all_in_front t numbers front n e all b h = all b (rw e (has_left front (n ∷ []
 
 pub all_in_more : (t : Trace) (numbers more : List ℕ) (n : ℕ) → more ≡ numbers ++ n ∷ [] → AllIn t numbers →
     InTable t n → AllIn t more
-all_in_more t numbers more n e all i b h = elim (has_either numbers n b (rw e at h)) [
-  | inl m ↦ all b m
-  | inr s ↦ (i.0, ap (entry_at t.table.items) (sym s) ∙ i.1)
-]
+all_in_more t numbers more n e all i b h = grind (arith, has_either)
 
 -- a block of the table is come into
 pub came_in : (t : Trace) (b : ℕ) → Ready t → InTable t b → is_first (image_of t) b ≡ true →
     CameTo (image_of t) b
-came_in t b r i f =
-    let x : Reached t b i.0 = r.table_ok b i.0 i.1 in
-    record {
-      here = x.here;
-      first = f;
-      slots = set_slots t i.0.set;
-      path = x.path;
-      advances = x.crossing f;
-    }
+came_in t b r i f = let x : Reached t b i.0 = r.table_ok b i.0 i.1 in grind arith
 
 pub all_left_passed : (t : Trace) (f : ℕ) (passed : List ℕ) → t.todo.items ≡ [] → AllPassed t f passed →
     (b : ℕ) (e : Entry) → entry_at t.table.items b ≡ Some e → HasNumber passed b
@@ -189,48 +156,28 @@ wave_done t f passed none r all i first = record {
   };
 }
   where
-    same : {x y : OpenSlots} → Some x ≡ Some y → x ≡ y
-    same e = cc
-
     entry_is : (b : ℕ) (s : OpenSlots) (x : Option Entry) → entry_at t.table.items b ≡ x →
         entry_slots t x ≡ Some s
         → (e : Entry) × ((entry_at t.table.items b ≡ Some e) × (set_slots t e.set ≡ s))
-    entry_is b s None e h = absurd (cc)
-    entry_is b s (Some x) e h = (x, (e, same h))
+    entry_is b s x e h = grind arith
 
     at_done : (b : ℕ) (e : Entry) → entry_at t.table.items b ≡ Some e → PassedWith (image_of t) f b →
         BlockDone (image_of t) (known t) b (set_slots t e.set)
-    at_done b e h w = elim (all b e h) [
-      | inl m ↦ absurd (none_has t.todo.items b none m)
-      | inr d ↦ d.1 w
-    ]
+    at_done b e h w = elim (all b e h) [ inl m ↦ grind (arith, none_has) | inr d ↦ d.1 w ]
 
 -- the first block of a wave is come into with the slots of a set that has its advances
 pub reached_again : (t : Trace) (b : ℕ) (e : Entry) → CameTo (image_of t) b → e.set < length (trace_nodes t) →
     AdvancesOpen (image_of t) b (set_slots t e.set) → Reached t b e
-reached_again t b e m l a = record {
-  here = m.here;
-  there = l;
-  path = subst (Opens (image_of t) b (first_number (image_of t) b))
-      (one_opening (image_of t) b m.slots (set_slots t e.set) m.advances a) m.path;
-  came = λ f. absurd (cc (sym m.first ∙ f));
-  crossing = λ f. a;
-}
+reached_again t b e m l a = grind arith
 
 -- a wave is begun
 pub begun_wave : (t u : Trace) (f : ℕ) (passed : List ℕ) → ((b : ℕ) → entry_at t.table.items b ≡ None)
     → Grows t u →
     AllPassed u f passed
-begun_wave t u f passed n g b e h = elim (g.table.is_new b e h) [
-  | inl k ↦ absurd (cc (sym (n b) ∙ k))
-  | inr k ↦ inl k
-]
+begun_wave t u f passed n g b e h = grind arith
 
 pub begun_in : (t u : Trace) → t.todo.items ≡ [] → Grows t u → AllIn u u.todo.items
-begun_in t u n g b k = elim (g.table.todo_new b k) [
-  | inl m ↦ absurd (none_has t.todo.items b n m)
-  | inr e ↦ e
-]
+begun_in t u n g b k = grind arith
 
 pub ends_number : (xs : List ℕ) (n : ℕ) → HasNumber (xs ++ n ∷ []) n
 ends_number [] n = inl refl
@@ -239,44 +186,21 @@ ends_number (x ∷ xs) n = inr (ends_number xs n)
 -- the wave of a block is done with more blocks that are come to
 pub wave_among : (image : Image) (f : ℕ) (one more : ℕ → Type 0) →
     ((b : ℕ) → one b → is_first image b ≡ true → more b) → WaveDone image one f → WaveDone image more f
-wave_among image f one more grow w = record {
-  known = w.known;
-  table = record {
-    slots = w.table.slots;
-    starts = w.table.starts;
-    begins = w.table.begins;
-    across = λ b s k x. grow b (w.table.across b s k x) x;
-    done = w.table.done;
-  };
-}
+wave_among image f one more grow w = grind arith
 
 pub nil_left : (xs ys : List ℕ) (n : ℕ) → n ≡ length xs → xs ≡ ys ++ [] → ys ≡ take (n - 1) xs → xs ≡ []
-nil_left [] ys n h e f = refl
-nil_left (x ∷ xs) ys n h e f = absurd (omega (
-  arith,
-  ap length e,
-  length-append ys [],
-  ap length f,
-  length-take (n - 1) (x ∷ xs),
-  h,
-))
+nil_left xs ys n h e f = grind (arith, length-append, length-take)
 
 -- the size of the board, by the number behind the last instruction
 pub board_is : (image : Image) (starts : List ℕ) (n m : ℕ) → StartsOf image starts → n ≡ length image.blocks →
     m ≡ get_or starts (n + 1) m → 4 * m + 4 ≡ board_size image
 unfolding board_size
-board_is image starts n m s e f =
-    let g : get_or starts (n + 1) m ≡ get_or starts (n + 1) 0 =
-    in_range starts (n + 1) m 0 (omega (arith, s.0, e)) in
-    let h : get_or starts (n + 1) 0 ≡ first_number image (n + 1) = s.1 (n + 1) (omega (arith, e)) in
-    let k : first_number image (n + 1) ≡ first_number image (suc (length image.blocks)) =
-    ap (first_number image) (omega (arith, e)) in
-    omega (arith, f, g, h, k)
+board_is image starts n m s e f = let g : get_or starts (n + 1) m ≡ get_or starts (n + 1) 0 = in_range starts
+    (n + 1) m 0 (omega (arith, s.0, e)) in grind arith
   where
     in_range : (xs : List ℕ) (k a b : ℕ) → k < length xs → get_or xs k a ≡ get_or xs k b
-    in_range [] k a b l = absurd (omega arith)
-    in_range (x ∷ xs) zero a b l = refl
     in_range (x ∷ xs) (suc k) a b l = in_range xs k a b (omega arith)
+    in_range xs k a b l = grind arith
 
 pub board_small : (image : Image) (n : ℕ) → Formed image → n ≡ board_size image → n < 1073741824
 unfolding board_size most_instrs
@@ -286,11 +210,4 @@ pub opening_ready : (t : Trace) → Formed (image_of t) → StartsOf (image_of t
     length t.held.board.items ≡ board_size (image_of t) →
     length t.table.items ≡ length (image_of t).blocks + 1 → ((b : ℕ) → entry_at t.table.items b ≡ None) →
     Ready t
-opening_ready t f s o l n none = record {
-  formed = f;
-  starts_are = s;
-  size = l;
-  held = o;
-  table_size = n;
-  table_ok = λ b e h. absurd (cc (sym (none b) ∙ h));
-}
+opening_ready t f s o l n none = grind arith

@@ -1,6 +1,6 @@
 -- The data of a store comes and its cell's queue is followed.
 use Rattle.std.proofs.Common.{ℕ, ◌-◌, ◌≡◌, slice_index, Bool, true, false, List, [], ◌++◌, Option, Some, None}
-use Rattle.std.proofs.Common.{Result, Ok, Err, sym, ap, ◌∙◌, subst, inl, inr}
+use Rattle.std.proofs.Common.{Result, Ok, Err, sym, ap, ◌∙◌, subst, inl, inr, arith}
 use Rattle.std.proofs.lemmas.Bool.{both_ways, cases_eq}
 use Rattle.ws_words.specs.Outside.{World}
 use Rattle.ws_isa.specs.declared.instr.Op.{Op}
@@ -28,11 +28,9 @@ use Rattle.part_store.specs.Parted.{OnCell, Parting}
 use Rattle.store_buf.specs.Outdoors.{RoseAt}
 use Rattle.store_buf.specs.Contents.{RightTokens}
 use Rattle.part_store.specs.Calls.{PartSubmitSo, PartTookSo}
-use Rattle.part_store.specs.Calls.{fills as arrived}
 use Rattle.part_store.specs.Rules.{Fills, Moves, MovesTo}
 use Rattle.part_store.specs.Parts.{Beside, Calm, DrainLeads, Filled, FollowsOn, FrontsBut, FrontsBy}
-use Rattle.part_store.specs.Parts.{PartsStand, PartsSettledSo, PartsLeadTo}
-use Rattle.part_store.specs.Parts.{content_of}
+use Rattle.part_store.specs.Parts.{PartsStand, PartsSettledSo, PartsLeadTo, content_of}
 use Rattle.part_store.proofs.Moving.Filling as L
 use Rattle.part_store.proofs.Queueing.Fronts as F
 use Rattle.part_store.proofs.Moving.Keeping as K
@@ -113,17 +111,7 @@ module _ {P : Type 0} (image : Image) (world : World) (began : List (Option Bega
     (empty : t0 ≡ []) (running : old.fault ≡ None) (working : old.failed ≡ None)
     (right : IsAsked image world (asked_of k)) (calm : Calm image world began old) where
   fills : Fills (content_of old) k (content_of (record mid { starved = false }))
-  fills = record {
-    old = filled.fills.old;
-    was = filled.fills.was;
-    bare = filled.fills.bare;
-    kept = filled.fills.kept;
-    bare_is = filled.fills.bare_is;
-    queued = filled.fills.queued;
-    chain = filled.fills.chain;
-    fault = filled.fills.fault;
-    outside = filled.fills.outside;
-  }
+  fills = grind arith
 
   parting : Parting image world began (content_of (record mid { starved = false }))
   parting = L.fills image world began (content_of old)
@@ -179,8 +167,7 @@ module _ {P : Type 0} (image : Image) (world : World) (began : List (Option Bega
       (content_of x)) same drained.0) led.0.moves
 
   pub told : t2 ≡ drains.0 ++ lead.0
-  told = lead.1 ∙ ap (λ (ts : List Token). ts ++ lead.0)
-      (drains.1 ∙ ap (λ (ts : List Token). ts ++ drains.0) empty)
+  told = grind arith
 
   pub calm_new : Calm image world began new
   calm_new = led.1
@@ -191,18 +178,7 @@ module _ {P : Type 0} (image : Image) (world : World) (began : List (Option Bega
 
   took : (f p : Option ℕ) (s : Bool) → new.fault ≡ f → new.failed ≡ p → new.starved ≡ s →
       PartTookSo image (content_of old) k (drains.0 ++ lead.0) f p s (content_of new)
-  took f p s a b c = (
-    (running, working),
-    (
-      content_of (record mid { starved = false }),
-      arrived fills,
-      record
-          { mid = led.0.mid; moves = both; alike = led.0.alike },
-    ),
-    a,
-    b,
-    c,
-  )
+  took f p s a b c = grind (arith, fills, both)
 
   unfailed : d.failed ≡ None
   unfailed = beside.failed ∙ filled.failed ∙ working
@@ -219,11 +195,8 @@ module _ {P : Type 0} (image : Image) (world : World) (began : List (Option Bega
   said (Err (fault.Index array)) s = took (Some array) None false s.0 (s.1 ∙ unfailed) s.2
   said (Err (fault.Port port)) s = (
     took None (Some port) false s.0 s.1 s.2,
-    subst
-        (λ (h : _). RoseAt port h new.outer.ports) ports_same s.3,
+    subst (λ (h : _). RoseAt port h new.outer.ports) ports_same s.3,
     s.4,
   )
   said (Err fault.NoMemory) s = inr (took None None true s.0 (s.1 ∙ unfailed) s.2, s.3)
-  said (Err fault.Old) s = absurd s
-  said (Err (fault.Stopped port)) s = absurd s
-  said (Err (fault.Ended array)) s = absurd s
+  said r s = absurd s

@@ -1,6 +1,6 @@
 -- The data of a store comes, and what is true of a buffer stays true.
-use Rattle.std.proofs.Common.{ℕ, ◌≡◌, ◌≤◌, ◌⊎◌, Bool, false, cond, List, length, Option, Some, None, refl}
-use Rattle.std.proofs.Common.{sym, ap, ◌∙◌, subst, inl, inr}
+use Rattle.std.proofs.Common.{ℕ, ◌≡◌, ◌≤◌, ◌⊎◌, Bool, false, List, length, Option, Some, None, refl, sym, ap}
+use Rattle.std.proofs.Common.{◌∙◌, subst, inl, inr, arith}
 use Rattle.std.proofs.lemmas.Bool.{both_ways}
 use Rattle.ws_words.specs.Outside.{World, row}
 use Rattle.ws_isa.specs.Image.{Image}
@@ -31,26 +31,19 @@ module _ (image : Image) (world : World) (began : List (Option Began)) (c d : Pa
 
   cases : (w i : ℕ) → (SameKey k.wave k.instr w i × (entry_of d.kept w i ≡ Some k')) ⊎
       ((SameKey k.wave k.instr w i → ⊥) × (entry_of d.kept w i ≡ entry_of c.kept w i))
-  cases w i = elim (with_key_cases k.wave k.instr (Some k') (entry_of c.kept) w i)
-      [ inl h ↦ inl (h.0, f.kept w i ∙ h.1) | inr h ↦ inr (h.0, f.kept w i ∙ h.1) ]
+  cases w i = grind (arith, with_key_cases)
 
   was_at : (w i : ℕ) → SameKey k.wave k.instr w i → entry_of c.kept w i ≡ Some f.old
-  was_at w i key = subst (λ (n : ℕ). entry_of c.kept w n ≡ Some f.old) key.instr
-      (subst (λ (n : ℕ). entry_of c.kept n k.instr ≡ Some f.old) key.wave f.was)
+  was_at w i key = grind arith
 
   pub issued : (w i : ℕ) → issued_in d.kept w i ≡ issued_in c.kept w i
-  issued w i = elim (cases w i) [
-    | inl h ↦ ap O.answer_in h.1 ∙ sym (ap O.answer_in (was_at w i h.0))
-    | inr h ↦ ap O.answer_in h.1
-  ]
+  issued w i = grind (arith, cases, was_at)
 
   bare_here : (w i : ℕ) → SameKey k.wave k.instr w i → is_bare d w i ≡ false
-  bare_here w i key = f.bare_is w i ∙ elim (key_cases k.wave k.instr w i)
-      [ inl y ↦ ap (λ (v : Bool). cond v false (is_bare c w i)) y.0 | inr y ↦ absurd (y.1 key) ]
+  bare_here w i key = grind arith
 
   pub bare_there : (w i : ℕ) → (SameKey k.wave k.instr w i → ⊥) → is_bare d w i ≡ is_bare c w i
-  bare_there w i n = f.bare_is w i ∙ elim (key_cases k.wave k.instr w i)
-      [ inl y ↦ absurd (n y.1) | inr y ↦ ap (λ (v : Bool). cond v false (is_bare c w i)) y.0 ]
+  bare_there w i n = grind (arith, key_cases)
 
   whole : (v : Bool) → v ≡ false → IsKept image world v k'
   whole v e = subst (λ (y : Bool). IsKept image world y k') (sym e) right

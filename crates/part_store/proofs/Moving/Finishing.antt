@@ -1,6 +1,6 @@
 -- The first entry of a queue is done: the moves, and what is true afterwards.
-use Rattle.std.proofs.Common.{ℕ, ◌≡◌, ◌<◌, true, cond, List, length, drop, Option, Some, None, slice_set}
-use Rattle.std.proofs.Common.{refl, sym, ap, ◌∙◌, subst, inl, inr}
+use Rattle.std.proofs.Common.{ℕ, ◌≡◌, ◌<◌, true, cond, List, length, Option, Some, None, slice_set, sym, ap}
+use Rattle.std.proofs.Common.{◌∙◌, subst, arith}
 use Rattle.std.proofs.lemmas.List.{append-nil}
 use Rattle.ws_words.specs.Outside.{World, row, with_row}
 use Rattle.ws_isa.specs.Image.{Image, Token, instr_at, is_memory, sends, tokens_to}
@@ -19,7 +19,6 @@ use Rattle.store_buf.specs.Requests.{entry_of, issued_in, answer_if}
 use Rattle.store_buf.specs.Ordering.{kept_at}
 use Rattle.part_store.specs.declared.entry.Queued.{Queued}
 use Rattle.part_store.specs.declared.parts.Parts.{Parts}
-use Rattle.part_store.specs.Bares.{is_in}
 use Rattle.part_store.specs.Queues.{without}
 use Rattle.part_store.specs.Contents.{cell, PartContent}
 use Rattle.part_store.specs.Parted.{Parting, is_store_op}
@@ -43,8 +42,7 @@ pub record Counts (c : PartContent) (e : Queued) : Type 0 where
 
 entry_with : (o : Option Kept) (a : ℕ) → answer_if o ≡ Some a →
     (x : Kept) × (o ≡ Some x) × (x.answer ≡ Some a)
-entry_with None a e = absurd (let g : None ≡ Some a = e in cc)
-entry_with (Some x) a e = (x, refl, e)
+entry_with o a e = grind arith
 
 pub counts : (image : Image) (world : World) (began : List (Option Began)) (c : PartContent) →
     Parting image world began c → (e : Queued) → In e c.queued → Counts c e
@@ -109,20 +107,7 @@ module _ {P : Type 0} (image : Image) (world : World) (formed : Formed image) (s
   followed : Followed image (content_of s) e
       (sends image e.wave e.instr (operands_at image (kept_at s.order p)) (word_of image (content_of s) e))
       (content_of n)
-  followed = record {
-    request = kept_at s.order p;
-    is_kept = found;
-    kept = entries;
-    cells = cells;
-    input = (λ j. drop (read j) (input j));
-    printed = ap (λ (v : _). v.items) printed;
-    ports = ports;
-    queued = queued;
-    bare = λ w i. ap (λ (b : _). is_in b w i) same.bare;
-    chain = ap chain_of same.chain;
-    fault = same.fault;
-    tokens_are = refl;
-  }
+  followed = grind (arith, found, entries)
 
   moves : Moves image (content_of s) (sends image e.wave e.instr (operands_at image (kept_at s.order p))
       (word_of image (content_of s) e)) (content_of n)
@@ -131,22 +116,7 @@ module _ {P : Type 0} (image : Image) (world : World) (formed : Formed image) (s
       (word_of image (content_of s) e))) (follows e fol going followed stays)
 
   has_same : (w i : ℕ) → has (issued_in n.order.kept.items w i) ≡ has (issued_in s.order.kept.items w i)
-  has_same w i = elim (with_key_cases e.wave e.instr
-      (Some (record {
-        wave = e.wave;
-        instr = e.instr;
-        first = (kept_at s.order p).first;
-        second = (kept_at s.order p).second;
-        answer = Some (word_of image (content_of s) e);
-      }))
-      (entry_of s.order.kept.items) w i) [
-        | inl h ↦ ap (λ (o : Option Kept). has (answer_if o)) (entries w i ∙ h.1)
-            ∙ sym (ap has (subst (λ (x : ℕ × ℕ).
-            issued_in s.order.kept.items x.0 x.1 ≡ Some (A.answer_of (kept_at s.order p).answer at.some).0)
-            (λ j. (h.0.wave j, h.0.instr j)) (ap answer_if found
-            ∙ (A.answer_of (kept_at s.order p).answer at.some).1)))
-        | inr h ↦ ap (λ (o : Option Kept). has (answer_if o)) (entries w i ∙ h.1)
-      ]
+  has_same w i = grind (arith, with_key_cases, entries, found)
 
   memory : is_memory image (kept_at s.order p).instr ≡ true
   memory = let i = (F.front_in s.queues.entries.items e.row e.index e fol.first).0 in
@@ -165,17 +135,16 @@ module _ {P : Type 0} (image : Image) (world : World) (formed : Formed image) (s
   finishes = (
     moves,
     record {
-      parting = (K.moves_keep image world formed sound began (content_of s) (content_of n)
-          (sends image e.wave e.instr (operands_at image (kept_at s.order p))
-          (word_of image (content_of s) e)) moves st.parting).0;
-      early_issued = λ j h. let r = subst
-          (λ (x : code.Chain × List ℕ). EarlyIssued (issued_in s.order.kept.items) (chain_of x.0) x.1)
-          (λ i. (sym same.chain i, sym (ap early_ops same.early) i)) st.early_issued j h in
+      parting = (K.moves_keep image world formed sound began (content_of s) (content_of n) (sends image e.wave
+          e.instr (operands_at image (kept_at s.order p)) (word_of image (content_of s) e)) moves
+          st.parting).0;
+      early_issued = λ j h. let r = subst (λ (x : code.Chain × List ℕ). EarlyIssued (issued_in
+          s.order.kept.items) (chain_of x.0) x.1) (λ i. (sym same.chain i, sym (ap early_ops same.early) i))
+          st.early_issued j h in
           O.some_more (issued_in n.order.kept.items n.order.chain.wave j)
           (issued_in s.order.kept.items n.order.chain.wave j) r.0 (has_same n.order.chain.wave j) r.1;
-      early_all = λ cut w i a t x is y at2 me m. let r =
-          O.some_more (issued_in s.order.kept.items w i) (issued_in n.order.kept.items w i) a
-          (sym (has_same w i)) is in
+      early_all = λ cut w i a t x is y at2 me m. let r = O.some_more (issued_in s.order.kept.items w i)
+          (issued_in n.order.kept.items w i) a (sym (has_same w i)) is in
           subst (λ (z : code.Chain × List ℕ).
           HasEarly image world (issued_in s.order.kept.items) (chain_of z.0) z.1)
           (λ j. (sym same.chain j, sym (ap early_ops same.early) j)) st.early_all cut w i r.0 t

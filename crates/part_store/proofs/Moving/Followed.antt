@@ -1,5 +1,5 @@
 -- First entries on a cell are done, one after another.
-use Rattle.std.proofs.Common.{ℕ, ◌≡◌, false, List, [], ◌++◌, Some, sym, ap, ◌∙◌, subst}
+use Rattle.std.proofs.Common.{ℕ, ◌≡◌, false, List, [], ◌++◌, Some, sym, ap, ◌∙◌, subst, arith}
 use Rattle.std.proofs.lemmas.List.{append_assoc, append-nil}
 use Rattle.ws_isa.specs.Image.{Image, Token}
 use Rattle.part_store.specs.declared.entry.Queued.{Queued}
@@ -15,18 +15,12 @@ use Rattle.part_store.proofs.Queueing.Lines as N
 -- a cell's first operation stands on it
 pub on_its_cell : (es : List Queued) (r j : ℕ) (e : Queued) → front es r j ≡ Some e →
     front es e.row e.index ≡ Some e
-on_its_cell es r j e h = let on = (F.front_in es r j e h).1 in
-    subst (λ (n : ℕ). front es e.row n ≡ Some e) (sym on.index)
-    (subst (λ (n : ℕ). front es n j ≡ Some e) (sym on.row) h)
+on_its_cell es r j e h = grind (arith, F.front_in es r j e h)
 
 module _ {P : Type 0} where
   pub none_yet : (image : Image) (r j : ℕ) (s : Parts P) (ts : List Token) → FollowsOn image r j s s ts ts
-  none_yet image r j s ts = (
-    [],
-    sym (append-nil ts),
-    λ world began formed sound st going but.
-        (stays, st, but),
-  )
+  none_yet image r j s ts =
+      ([], sym (append-nil ts), λ world began formed sound st going but. (stays, st, but))
 
   pub one_more : (image : Image) (r j : ℕ) (e : Queued) (a b c : Parts P) (t0 t1 t2 : List Token) →
       FollowsOn image r j a b t0 t1 → FinishLeads image e b c t1 t2 →
@@ -44,9 +38,8 @@ module _ {P : Type 0} where
         let y = one.2 world began formed sound x.1 (fault ∙ going) fol in (
           L.moves_on image (content_of a) (content_of b) (content_of c) all.0 one.0 x.0 y.0,
           y.1,
-          λ f q l g n. ap (λ (m : _). is_in m f.wave f.instr) bare
-              ∙ x.2 f q l (sym (N.first_other b.queues.entries.items e.row e.index q l
-              (λ y z. n (y ∙ on.row) (z ∙ on.index)))
-              ∙ subst (λ (es : List Queued). front es q l ≡ Some f) queued g) n,
+          λ f q l g n. ap (λ (m : _). is_in m f.wave f.instr) bare ∙ x.2 f q l (sym (N.first_other
+              b.queues.entries.items e.row e.index q l (λ y z. n (y ∙ on.row) (z ∙ on.index))) ∙ subst (λ
+              (es : List Queued). front es q l ≡ Some f) queued g) n,
         ),
   )

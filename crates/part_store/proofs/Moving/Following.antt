@@ -81,8 +81,7 @@ module _ (image : Image) (world : World) (formed : Formed image) (sound : Sound 
       record {
         fires = right_k.at.fires;
         wave = right_k.at.wave ∙ key_of.wave;
-        instr = right_k.at.instr
-            ∙ key_of.instr;
+        instr = right_k.at.instr ∙ key_of.instr;
       } in
       let q : right_k.time ≡ t = one_time image world facts e.wave e.instr right_k.time t right_k.inst on.inst
       at' on.at in
@@ -129,25 +128,13 @@ module _ (image : Image) (world : World) (formed : Formed image) (sound : Sound 
   cells_load s = cond-false (is_store_op (instr_at image e.instr).op) _ _ s
 
   shape_left : (r : ℕ) → length (row (cells_left image c k e) r) ≡ length (row memory.cells r)
-  shape_left r = elim (cases_Bool (is_store_op (instr_at image e.instr).op)) [
-    | inl s ↦ ap (λ (cs : List (List ℕ)). length (row cs r)) (cells_store s)
-        ∙ C.stored_shape c.outside.cells e.row e.index k.second r ∙ p.shape r
-    | inr s ↦ ap (λ (cs : List (List ℕ)). length (row cs r)) (cells_load s) ∙ p.shape r
-  ]
+  shape_left r = grind (arith, cases_Bool, cells_store, C.stored_shape, cells_load)
 
   rows_left : length (cells_left image c k e) ≡ length memory.cells
-  rows_left = elim (cases_Bool (is_store_op (instr_at image e.instr).op)) [
-    | inl s ↦ ap (λ (cs : List (List ℕ)). length cs) (cells_store s)
-        ∙ C.stored_rows c.outside.cells e.row e.index k.second ∙ p.rows
-    | inr s ↦ ap (λ (cs : List (List ℕ)). length cs) (cells_load s) ∙ p.rows
-  ]
+  rows_left = grind (arith, cases_Bool, cells_store, C.stored_rows, cells_load)
 
   off_cell : (r j : ℕ) → (IsOn e r j → ⊥) → cell (cells_left image c k e) r j ≡ cell c.outside.cells r j
-  off_cell r j n = elim (cases_Bool (is_store_op (instr_at image e.instr).op)) [
-    | inl s ↦ ap (λ (cs : List (List ℕ)). cell cs r j) (cells_store s)
-        ∙ C.stored_there c.outside.cells e.row e.index k.second r j (λ x y. n (record { row = x; index = y }))
-    | inr s ↦ ap (λ (cs : List (List ℕ)). cell cs r j) (cells_load s)
-  ]
+  off_cell r j n = grind (arith, cases_Bool, cells_store, C.stored_there, cells_load)
 
   -- the step of the walk, as a store
   abbrev as_store : is_store_op (instr_at image e.instr).op ≡ true →
@@ -162,9 +149,13 @@ module _ (image : Image) (world : World) (formed : Formed image) (sound : Sound 
 
   not_store : is_store_op (instr_at image e.instr).op ≡ false → (q l : ℕ) →
       C.StoreAt image world facts q l t → ⊥
-  not_store s q l at = both_ways (is_store_op (instr_at image on.inst.instr).op) (sym store_inst ∙ s)
-      (ap (λ (x : Inst). is_store_op (instr_at image x.instr).op)
-      (same_fired image world facts t t on.inst at.inst on.at.fires at.fires refl) ∙ at.store)
+  not_store s q l at = grind (
+    arith,
+    both_ways,
+    store_inst,
+    same_fired image world facts t t on.inst at.inst
+        on.at.fires at.fires refl,
+  )
 
   -- its cell then has what the walk has after it
   value_left : cell (cells_left image c k e) e.row e.index ≡ cell
@@ -204,11 +195,7 @@ module _ (image : Image) (world : World) (formed : Formed image) (sound : Sound 
 
   still_queued : (w i : ℕ) → is_queued c.queued w i ≡ true → (SameKey e.wave e.instr w i → ⊥) →
       is_queued d.queued w i ≡ true
-  still_queued w i q n = let g = F.queued_in c.queued w i q in
-      subst (λ (es : List Queued). is_queued es w i ≡ true) (sym go.queued)
-      (F.in_queued (without c.queued e.wave e.instr) w i g.0
-      (F.in_without e.wave e.instr c.queued g.0 g.1
-      (λ s. n (record { wave = sym s.wave ∙ g.2.wave; instr = sym s.instr ∙ g.2.instr }))) g.2)
+  still_queued w i q n = grind (arith, F.queued_in, F.in_queued, F.in_without)
 
   -- what counts on its cell from a later step on is queued still
   later_queued : (w i b u : ℕ) → counts w i ≡ Some b → OnCell image world w i e.row e.index u → t < u →
@@ -245,8 +232,7 @@ module _ (image : Image) (world : World) (formed : Formed image) (sound : Sound 
       (subst (λ (n : ℕ). OnCell image world n g.instr g.row g.index s.0) key.wave s.1) in
       let q = T.one_there image world formed sound w i g.row g.index s.0 e.row e.index u g_on there in (
         record { row = q.row; index = q.index },
-        subst
-            (λ (n : ℕ). OnCell image world g.wave g.instr g.row g.index n) q.time s.1,
+        subst (λ (n : ℕ). OnCell image world g.wave g.instr g.row g.index n) q.time s.1,
       )
 
   -- where another is the cell's first entry then, no store on the cell is between
@@ -318,8 +304,7 @@ module _ (image : Image) (world : World) (formed : Formed image) (sound : Sound 
 
   entry_cases : (w i : ℕ) → (SameKey e.wave e.instr w i × (entry_of d.kept w i ≡ Some k')) ⊎
       ((SameKey e.wave e.instr w i → ⊥) × (entry_of d.kept w i ≡ entry_of c.kept w i))
-  entry_cases w i = elim (with_key_cases e.wave e.instr (Some k') (entry_of c.kept) w i)
-      [ inl h ↦ inl (h.0, go.kept w i ∙ h.1) | inr h ↦ inr (h.0, go.kept w i ∙ h.1) ]
+  entry_cases w i = grind (arith, with_key_cases)
 
   is_kept_so : (b : Bool) → IsKept image world b k → IsKept image world b k'
   is_kept_so b h = subst (λ (n : ℕ). IsKept image world b
@@ -341,26 +326,13 @@ module _ (image : Image) (world : World) (formed : Formed image) (sound : Sound 
       (S.kept_alike image world b k (Some (word_of image c e)) h))
 
   new_right : (w i : ℕ) (x : Kept) → entry_of d.kept w i ≡ Some x → IsKept image world (is_bare d w i) x
-  new_right w i x h = elim (entry_cases w i) [
-    | inl z ↦ (let q : Some k' ≡ Some x = sym z.1 ∙ h in let s : k' ≡ x = cc in
-        let b : is_bare d w i ≡ is_bare c e.wave e.instr = go.bare w i
-        ∙ sym (subst (λ (n : ℕ). is_bare c e.wave e.instr ≡ is_bare c w n) z.0.instr
-        (ap (λ (n : ℕ). is_bare c n e.instr) z.0.wave)) in
-        subst (λ (y : Kept). IsKept image world (is_bare d w i) y) s
-        (is_kept_so (is_bare d w i) (subst (λ (y : Bool). IsKept image world y k) (sym b)
-        (p.right e.wave e.instr k go.is_kept))))
-    | inr z ↦ subst (λ (y : Bool). IsKept image world y x) (sym (go.bare w i)) (p.right w i x (sym z.1 ∙ h))
-  ]
+  new_right w i x h = grind (arith, entry_cases w i, is_kept_so)
 
   count_at : (w i : ℕ) → SameKey e.wave e.instr w i → counts w i ≡ Some a
-  count_at w i key = subst (λ (n : ℕ). counts w n ≡ Some a) key.instr
-      (subst (λ (n : ℕ). counts n e.instr ≡ Some a) key.wave counted)
+  count_at w i key = grind (arith, counted)
 
   new_same : (w i : ℕ) → has (counts w i) ≡ has (issued_in d.kept w i)
-  new_same w i = elim (entry_cases w i) [
-    | inl h ↦ ap has (count_at w i h.0) ∙ sym (ap (λ (x : Option Kept). has (answer_if x)) h.1)
-    | inr h ↦ p.same w i ∙ sym (ap (λ (x : Option Kept). has (answer_if x)) h.1)
-  ]
+  new_same w i = grind (arith, entry_cases, count_at)
 
   new_told : (w i b : ℕ) → is_queued d.queued w i ≡ false → issued_in d.kept w i ≡ Some b →
       counts w i ≡ Some b
@@ -401,9 +373,8 @@ module _ (image : Image) (world : World) (formed : Formed image) (sound : Sound 
       (subst (λ (n : ℕ). OnCell image world f.wave f.instr n j u) (sym i.1.row) f_on) in
       elim (T.front_first image world formed sound c.queued r j e f p.rising h0
       (F.without_in e.wave e.instr c.queued f i.0) i.1) [
-        | inl q ↦ absurd (T.gone image world formed sound e.wave e.instr c.queued p.rising f i.0
-            (subst (λ (x : Queued). SameKey x.wave x.instr e.wave e.instr) (sym q)
-            (record { wave = refl; instr = refl })))
+        | inl q ↦ absurd (T.gone image world formed sound e.wave e.instr c.queued p.rising f i.0 (subst (λ (x
+            : Queued). SameKey x.wave x.instr e.wave e.instr) (sym q) (record { wave = refl; instr = refl })))
         | inr q ↦ T.earlier_times image world formed sound e f t u q on f_at
       ]
 
@@ -421,18 +392,14 @@ module _ (image : Image) (world : World) (formed : Formed image) (sound : Sound 
       n (record { row = q.row; index = q.index })
 
   at_e : (r j u w i : ℕ) → IsOn e r j → OnCell image world w i r j u → OnCell image world w i e.row e.index u
-  at_e r j u w i o there = subst (λ (n : ℕ). OnCell image world w i e.row n u) (sym o.index)
-      (subst (λ (n : ℕ). OnCell image world w i n j u) (sym o.row) there)
+  at_e r j u w i o there = grind arith
 
   new_cells : (r j : ℕ) → cell d.outside.cells r j ≡ cell (cells_left image c k e) r j
   new_cells r j = ap (λ (cs : List (List ℕ)). cell cs r j) go.cells
 
   value_at : (r j : ℕ) → IsOn e r j → cell d.outside.cells r j ≡ cell
       (effect_at image world (suc t)).cells r j
-  value_at r j o = new_cells r j ∙ subst (λ (n : ℕ).
-      cell (cells_left image c k e) r n ≡ cell (effect_at image world (suc t)).cells r n) o.index
-      (subst (λ (n : ℕ). cell (cells_left image c k e) n e.index ≡ cell
-      (effect_at image world (suc t)).cells n e.index) o.row value_left)
+  value_at r j o = grind (arith, new_cells, value_left)
 
   pub follows : Partly image world began counts memory d
   follows = record {
@@ -442,8 +409,8 @@ module _ (image : Image) (world : World) (formed : Formed image) (sound : Sound 
     opened = new_opened;
     sits = λ x h. p.sits x (in_left x h);
     numbered = λ x h. p.numbered x (in_left x h);
-    rising = subst (RisingEntries image world) (sym go.queued)
-        (T.rising_without image world formed sound e.wave e.instr c.queued p.rising);
+    rising = subst (RisingEntries image world) (sym go.queued) (T.rising_without image world formed sound
+        e.wave e.instr c.queued p.rising);
     every = λ f r j u h f_on w i b v n there l. elim (cell_cases e r j) [
       | inl z ↦ (let m : t < u = then_later r j u f z.1 h f_on in
           let q = later_queued w i b v n (at_e r j v w i z.1 there) (omega (arith, m, l)) in
@@ -452,23 +419,20 @@ module _ (image : Image) (world : World) (formed : Formed image) (sound : Sound 
       | inr z ↦ still_queued w i (p.every f r j u (off_front r j f z.1 h) f_on w i b v n there l)
           (other_instance w i r j v z.1 there)
     ];
-    few = (let a1 : open_queues (without c.queued e.wave e.instr) ≤ open_queues c.queued =
-        N.fewer_open e.wave e.instr e.row e.index c.queued queued_e same_cell_as in
+    few = (let a1 : open_queues (without c.queued e.wave e.instr) ≤ open_queues c.queued = N.fewer_open e.wave
+        e.instr e.row e.index c.queued queued_e same_cell_as in
         let b1 : open_queues c.queued ≤ 16 = p.few in
         subst (λ (es : List Queued). open_queues es ≤ 16) (sym go.queued) (omega (arith, a1, b1)));
     free = λ r j n. elim (cell_cases e r j) [
-      | inl z ↦ value_at r j z.1 ∙ subst (λ (m : ℕ).
-          cell (effect_at image world (suc t)).cells r m ≡ cell memory.cells r m) z.1.index
-          (subst (λ (m : ℕ). cell (effect_at image world (suc t)).cells m e.index ≡ cell memory.cells m
-          e.index) z.1.row
-          (last_value (O.no_more (front (without c.queued e.wave e.instr) e.row e.index)
-          (front [] e.row e.index)
-          (subst (λ (m : ℕ). holds (without c.queued e.wave e.instr) e.row m ≡ false) (sym z.1.index)
-          (subst (λ (m : ℕ). holds (without c.queued e.wave e.instr) m j ≡ false) (sym z.1.row)
-          (subst (λ (es : List Queued). holds es r j ≡ false) go.queued n))) refl)))
-      | inr z ↦ new_cells r j ∙ off_cell r j z.1
-          ∙ p.free r j (ap has (sym (other_front r j z.1))
-          ∙ subst (λ (es : List Queued). holds es r j ≡ false) go.queued n)
+      | inl z ↦ value_at r j z.1 ∙ subst (λ (m : ℕ). cell (effect_at image world (suc t)).cells r m ≡ cell
+          memory.cells r m) z.1.index (subst (λ (m : ℕ). cell (effect_at image world (suc t)).cells m e.index
+          ≡ cell memory.cells m e.index) z.1.row (last_value (O.no_more (front (without c.queued e.wave
+          e.instr) e.row e.index) (front [] e.row e.index) (subst (λ (m : ℕ). holds (without c.queued e.wave
+          e.instr) e.row m ≡ false) (sym z.1.index) (subst (λ (m : ℕ). holds (without c.queued e.wave e.instr)
+          m j ≡ false) (sym z.1.row) (subst (λ (es : List Queued). holds es r j ≡ false) go.queued n)))
+          refl)))
+      | inr z ↦ new_cells r j ∙ off_cell r j z.1 ∙ p.free r j (ap has (sym (other_front r j z.1)) ∙ subst (λ
+          (es : List Queued). holds es r j ≡ false) go.queued n)
     ];
     before = λ f r j u h f_on. elim (cell_cases e r j) [
       | inl z ↦ (let m : t < u = then_later r j u f z.1 h f_on in
@@ -490,9 +454,9 @@ module _ (image : Image) (world : World) (formed : Formed image) (sound : Sound 
       cells_are = refl;
       input_is = p.outside.input_is ∙ sym go.input;
       printed_are = p.outside.printed_are ∙ sym go.printed;
-      slots_are = λ slot l m. subst (λ (ps : List (Option Told)).
-          SlotIs (port_at began slot) (row memory.left (slot - 1)) (took_words slot memory.acts)
-          (port_at ps slot)) (sym go.ports) (p.outside.slots_are slot l m);
+      slots_are = λ slot l m. subst (λ (ps : List (Option Told)). SlotIs (port_at began slot) (row memory.left
+          (slot - 1)) (took_words slot memory.acts) (port_at ps slot)) (sym go.ports) (p.outside.slots_are
+          slot l m);
     };
   }
 

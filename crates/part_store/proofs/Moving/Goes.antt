@@ -1,7 +1,7 @@
 -- A request or address at hand goes: the moves, and what is true afterwards.
 use Rattle.std.proofs.Common.{ℕ, ◌-◌, ◌≡◌, ◌≤◌, ◌⊎◌, Bool, true, false, not, cond, ◌&&◌, ◌||◌, ltb, nat_eq}
-use Rattle.std.proofs.Common.{List, [], ◌∷◌, ◌++◌, length, Option, Some, None, slice_index}
-use Rattle.std.proofs.Common.{slice_set, refl, sym, ap, ◌∙◌, subst, inl, inr, ltb-true, eqb-true, arith}
+use Rattle.std.proofs.Common.{List, [], ◌∷◌, ◌++◌, length, Option, Some, None, slice_index, slice_set, refl}
+use Rattle.std.proofs.Common.{sym, ap, ◌∙◌, subst, inl, inr, ltb-true, arith}
 use Rattle.std.proofs.lemmas.Bool.{and_parts, both_ways}
 use Rattle.std.proofs.lemmas.List.{append-nil}
 use Rattle.ws_words.specs.Outside.{Outside, World, row}
@@ -11,14 +11,13 @@ use Rattle.ws_isa.specs.Formed.{Formed}
 use Rattle.ws_isa.specs.Sound.{Sound}
 use Rattle.df_core.specs.Core.{IsNext, Issuable, position_after, has, issued_with, with_key}
 use Rattle.df_core.specs.Fit.{Legal, RightRequest}
-use Rattle.df_core.proofs.Keeping.Ports.{with_key_cases}
 use Rattle.df_core.specs.Chains.{chain_of, PassedOn}
 use Rattle.df_core.specs.Began.{Began}
 use Rattle.store_buf.specs.Earlies.{early_ops}
 use Rattle.store_buf.specs.declared.kept.Kept.{Kept}
 use Rattle.store_buf.specs.Requests.{entry_of, issued_in, answer_if}
 use Rattle.store_buf.specs.Ordering.{kept_at}
-use Rattle.store_buf.specs.Outdoors.{Holding, HoldsOut, Performed}
+use Rattle.store_buf.specs.Outdoors.{HoldsOut, Performed}
 use Rattle.store_buf.specs.Outers.{holding}
 use Rattle.part_store.specs.declared.entry.Queued.{Queued}
 use Rattle.part_store.specs.declared.parts.Parts.{Parts}
@@ -40,8 +39,7 @@ use Rattle.ws_words.proofs.Bools.{or_comes as either}
 
 none_listed : (es : List Queued) → nat_eq (length es) 0 ≡ true → es ≡ []
 none_listed [] e = refl
-none_listed (x ∷ es) e = absurd (let z : length (x ∷ es) ≡ 0 = eqb-true (length (x ∷ es)) 0 e in
-    omega (arith, z))
+none_listed (x ∷ es) e = grind arith
 
 -- what counts now, by the list of requests
 same_after : (image : Image) (counts : ℕ → ℕ → Option ℕ) (memory : Outside) (ks ls : List Kept) (k : Kept)
@@ -55,19 +53,7 @@ same_after : (image : Image) (counts : ℕ → ℕ → Option ℕ) (memory : Out
       answer = Some word;
     })) (entry_of ks) w i) →
     (w i : ℕ) → has (issued_with image counts memory k.wave k.instr xs w i) ≡ has (issued_in ls w i)
-same_after image counts memory ks ls k word xs same kept w i =
-    elim (with_key_cases k.wave k.instr (Some
-    (record { wave = k.wave; instr = k.instr; first = k.first; second = k.second; answer = Some word }))
-    (entry_of ks) w i) [
-      | inl h ↦ elim (with_key_cases k.wave k.instr (Some (answer image k.instr xs memory)) counts w i) [
-        | inl g ↦ ap has g.1 ∙ sym (ap (λ (e : Option Kept). has (answer_if e)) (kept w i ∙ h.1))
-        | inr g ↦ absurd (g.0 h.0)
-      ]
-      | inr h ↦ elim (with_key_cases k.wave k.instr (Some (answer image k.instr xs memory)) counts w i) [
-        | inl g ↦ absurd (h.0 g.0)
-        | inr g ↦ ap has g.1 ∙ same w i ∙ sym (ap (λ (e : Option Kept). has (answer_if e)) (kept w i ∙ h.1))
-      ]
-    ]
+same_after image counts memory ks ls k word xs same kept w i = grind arith
 
 module _ {P : Type 0} (image : Image) (world : World) (formed : Formed image) (sound : Sound image)
     (began : List (Option Began)) (s : Parts P) (ok : PartsOk s) (calm : Calm image world began s)
@@ -126,11 +112,7 @@ module _ {P : Type 0} (image : Image) (world : World) (formed : Formed image) (s
       (parting.partly.right k.wave k.instr k (U.found image s.order p goes.may.within))
 
   next_bare : is_in s.bare k.wave k.instr ≡ true → IsNext (chain_of s.order.chain) (note_of image k.instr)
-  next_bare b = elim turn [
-    | inl n ↦ n
-    | inr h ↦ absurd
-        (both_ways _ (O.store_no_load image k.instr (address b).store) h.0)
-  ]
+  next_bare b = grind (arith, turn, both_ways, O.store_no_load, address)
 
   ask_bare : is_in s.bare k.wave k.instr ≡ true → Ask
   ask_bare b = let ad = address b in record {
@@ -154,8 +136,7 @@ module _ {P : Type 0} (image : Image) (world : World) (formed : Formed image) (s
     may = record {
       going = refl;
       current = waits_now.1;
-      fresh =
-          O.no_more (parting.counts k.wave k.instr) (issued_in s.order.kept.items k.wave k.instr)
+      fresh = O.no_more (parting.counts k.wave k.instr) (issued_in s.order.kept.items k.wave k.instr)
           (parting.partly.same k.wave k.instr) fresh;
       turn = may_whole.turn;
     };
@@ -190,8 +171,7 @@ module _ {P : Type 0} (image : Image) (world : World) (formed : Formed image) (s
 
     new_same : (w i : ℕ) → has (issued_with image parting.counts parting.memory k.wave k.instr a.xs w i) ≡ has
         (issued_in n.order.kept.items w i)
-    new_same = same_after image parting.counts parting.memory s.order.kept.items n.order.kept.items k word
-        a.xs parting.partly.same entries
+    new_same = grind (arith, same_after, entries)
 
     abbrev inside : is_past image k.instr a.xs ≡ false
     inside = O.past_is image k a.xs a.first ∙ within
@@ -238,8 +218,7 @@ module _ {P : Type 0} (image : Image) (world : World) (formed : Formed image) (s
     outside_moved : (word : ℕ) (q : List Queued) →
         Counted image (content_of s) k word q (holding n.outer) (content_of n) →
         Counted image (content_of s) k word q (holding s.outer) (content_of n)
-    outside_moved word q g = subst (λ (h : Holding). Counted image (content_of s) k word q h (content_of n))
-        (ap holding outer) g
+    outside_moved word q g = grind arith
 
     opens_so : is_in s.bare k.wave k.instr ≡ true → OpensQueue image (content_of s) k
     opens_so b =
@@ -365,24 +344,8 @@ module _ {P : Type 0} (image : Image) (world : World) (formed : Formed image) (s
     where
       whole_now : (b : Bool) → is_in s.bare k.wave k.instr ≡ b →
           (is_in s.bare k.wave k.instr ≡ false) × (s.queues.entries.items ≡ [])
-      whole_now true e = absurd (let r = and_parts (not (is_past_at image k))
-          (ltb (open_queues s.queues.entries.items) 16 || holds_op s.queues.entries.items
-          (instr_at image k.instr).op k.first)
-          (subst (λ (x : Bool). cond x (not (is_past_at image k) &&
-          (ltb (open_queues s.queues.entries.items) 16 || holds_op s.queues.entries.items
-          (instr_at image k.instr).op k.first))
-          (nat_eq (length s.queues.entries.items) 0 || not (is_past_at image k)) ≡ true) e goes.rule) in
-          both_ways (not (is_past_at image k)) (ap not past) r.0)
-      whole_now false e = (
-        e,
-        none_listed s.queues.entries.items
-            (elim (either (nat_eq (length s.queues.entries.items) 0) (not (is_past_at image k))
-            (subst (λ (x : Bool). cond x (not (is_past_at image k) &&
-            (ltb (open_queues s.queues.entries.items) 16 || holds_op s.queues.entries.items
-            (instr_at image k.instr).op k.first))
-            (nat_eq (length s.queues.entries.items) 0 || not (is_past_at image k)) ≡ true) e goes.rule))
-            [ inl h ↦ h | inr h ↦ absurd (both_ways (not (is_past_at image k)) (ap not past) h) ]),
-      )
+      whole_now true e = grind arith
+      whole_now false e = grind (arith, none_listed, either, both_ways)
 
 -- where only what ports tell of their faults has changed a buffer stays calm
 module _ {P : Type 0} (image : Image) (world : World) (began : List (Option Began)) (s n : Parts P)
@@ -423,13 +386,12 @@ module _ {P : Type 0} (image : Image) (world : World) (began : List (Option Bega
               every = p.every;
               few = p.few;
               free = λ r j e. ap (λ (cs : List (List ℕ)). C.cell cs r j) cells_same ∙ p.free r j e;
-              before = λ e r j t f on. ap (λ (cs : List (List ℕ)). C.cell cs r j) cells_same
-                  ∙ p.before e r j t f on;
+              before = λ e r j t f on. ap (λ (cs : List (List ℕ)). C.cell cs r j) cells_same ∙ p.before e r j
+                  t f on;
               rows = ap (λ (cs : List (List ℕ)). length cs) cells_same ∙ p.rows;
               shape = λ r. ap (λ (cs : List (List ℕ)). length (row cs r)) cells_same ∙ p.shape r;
-              outside = subst (λ (cs : List (List ℕ)).
-                  HoldsOut began (O.with_cells q.memory cs) (holding n.outer)) (sym cells_same)
-                  (kept began (O.with_cells q.memory s.outer.cells) p.outside);
+              outside = subst (λ (cs : List (List ℕ)). HoldsOut began (O.with_cells q.memory cs) (holding
+                  n.outer)) (sym cells_same) (kept began (O.with_cells q.memory s.outer.cells) p.outside);
             };
             fault = q.fault;
             quiet = q.quiet;

@@ -1,7 +1,7 @@
 -- An operation whose cell no queue holds is issued, and the buffer's facts stay.
-use Rattle.std.proofs.Common.{ℕ, ◌-◌, ◌≡◌, ◌≤◌, ◌⊎◌, Bool, true, false, List, [], ◌∷◌, length, Option, Some}
-use Rattle.std.proofs.Common.{slice_index, sym, ap, ◌∙◌, subst, inl, inr}
-use Rattle.std.proofs.lemmas.Bool.{both_ways, cases_Bool, cases_eq}
+use Rattle.std.proofs.Common.{ℕ, ◌-◌, ◌≡◌, ◌≤◌, ◌⊎◌, true, false, List, [], ◌∷◌, length, Option, Some}
+use Rattle.std.proofs.Common.{slice_index, sym, ap, ◌∙◌, subst, inl, inr, arith}
+use Rattle.std.proofs.lemmas.Bool.{both_ways, cases_Bool}
 use Rattle.ws_words.specs.Outside.{Outside, World, row}
 use Rattle.ws_isa.specs.Image.{Image, instr_at, array_at, answer, after_op, sends}
 use Rattle.ws_isa.specs.Formed.{Formed}
@@ -25,7 +25,6 @@ use Rattle.part_store.specs.Rules.{Counted, operands_at}
 use Rattle.part_store.proofs.Queueing.Times as T
 use Rattle.part_store.proofs.Queueing.Ops as O
 use Rattle.part_store.proofs.Queueing.Cells as C
-use Rattle.part_store.proofs.Queueing.Standing as S
 use Rattle.ws_words.specs.Items.{In}
 
 module _ (image : Image) (world : World) (formed : Formed image) (sound : Sound image)
@@ -89,9 +88,7 @@ module _ (image : Image) (world : World) (formed : Formed image) (sound : Sound 
 
   new_count : (w i : ℕ) → SameKey k.wave k.instr w i →
       counts' w i ≡ Some (answer image k.instr (operands_at image k) memory)
-  new_count w i key = elim (with_key_cases k.wave k.instr
-      (Some (answer image k.instr (operands_at image k) memory)) counts w i)
-      [ inl h ↦ h.1 | inr h ↦ absurd (h.0 key) ]
+  new_count w i key = grind (arith, with_key_cases)
 
   old_count : (w i : ℕ) → (SameKey k.wave k.instr w i → ⊥) → counts' w i ≡ counts w i
   old_count w i n = elim (with_key_cases k.wave k.instr
@@ -106,8 +103,7 @@ module _ (image : Image) (world : World) (formed : Formed image) (sound : Sound 
 
   entry_cases : (w i : ℕ) → (SameKey k.wave k.instr w i × (entry_of d.kept w i ≡ Some k')) ⊎
       ((SameKey k.wave k.instr w i → ⊥) × (entry_of d.kept w i ≡ entry_of c.kept w i))
-  entry_cases w i = elim (with_key_cases k.wave k.instr (Some k') (entry_of c.kept) w i)
-      [ inl h ↦ inl (h.0, go.kept w i ∙ h.1) | inr h ↦ inr (h.0, go.kept w i ∙ h.1) ]
+  entry_cases w i = grind (arith, with_key_cases k.wave k.instr (Some k') (entry_of c.kept) w i)
 
   queued_same : (w i : ℕ) → is_queued d.queued w i ≡ is_queued c.queued w i
   queued_same w i = ap (λ (es : List Queued). is_queued es w i) go.queued_are
@@ -116,16 +112,7 @@ module _ (image : Image) (world : World) (formed : Formed image) (sound : Sound 
   front_same r j = ap (λ (es : List Queued). front es r j) go.queued_are
 
   new_right : (w i : ℕ) (x : Kept) → entry_of d.kept w i ≡ Some x → IsKept image world (is_bare d w i) x
-  new_right w i x e = elim (entry_cases w i) [
-    | inl h ↦ (let q : Some k' ≡ Some x = sym h.1 ∙ e in let s : k' ≡ x = cc in
-        let b : is_bare d w i ≡ is_bare c k.wave k.instr = go.bare w i
-        ∙ sym (subst (λ (n : ℕ). is_bare c k.wave k.instr ≡ is_bare c w n) h.0.instr
-        (ap (λ (n : ℕ). is_bare c n k.instr) h.0.wave)) in
-        subst (λ (y : Kept). IsKept image world (is_bare d w i) y) s
-        (S.kept_alike image world (is_bare d w i) k (Some word)
-        (subst (λ (z : Bool). IsKept image world z k) (sym b) (p.right k.wave k.instr k is_kept))))
-    | inr h ↦ subst (λ (z : Bool). IsKept image world z x) (sym (go.bare w i)) (p.right w i x (sym h.1 ∙ e))
-  ]
+  new_right w i x e = grind (arith, entry_cases)
 
   pub new_same : (w i : ℕ) → has (counts' w i) ≡ has (issued_in d.kept w i)
   new_same w i = elim (entry_cases w i) [
@@ -156,8 +143,7 @@ module _ (image : Image) (world : World) (formed : Formed image) (sound : Sound 
   memory_store : (r : ℕ) → is_store_op (instr_at image k.instr).op ≡ true →
       is_on_row (instr_at image k.instr).op r ≡ true →
       memory'.cells ≡ C.stored memory.cells r k.first (slice_index (operands_at image k) 1)
-  memory_store r s e = C.store_cells image k.instr (operands_at image k) memory r s e
-      ∙ ap (λ (n : ℕ). C.stored memory.cells r n (slice_index (operands_at image k) 1)) first_is
+  memory_store r s e = grind (arith, C.store_cells, C.stored, first_is)
 
   left_free : (r j : ℕ) → holds c.queued r j ≡ false → cell left.cells r j ≡ cell memory'.cells r j
   left_free r j n = elim (cases_Bool (is_store_op (instr_at image k.instr).op)) [
@@ -183,10 +169,7 @@ module _ (image : Image) (world : World) (formed : Formed image) (sound : Sound 
   ]
     where
       same_place : (q r j : ℕ) → ((q ≡ r) × (k.first ≡ j)) ⊎ C.Differ q k.first r j
-      same_place q r j = elim (cases_eq q r) [
-        | inl a ↦ elim (cases_eq k.first j) [ inl b ↦ inl (a, b) | inr b ↦ inr (λ x y. b y) ]
-        | inr a ↦ inr (λ x y. a x)
-      ]
+      same_place q r j = grind arith
 
   -- a held cell stays as it was
   left_held : (r j : ℕ) (e : Queued) → front c.queued r j ≡ Some e →
@@ -250,11 +233,10 @@ module _ (image : Image) (world : World) (formed : Formed image) (sound : Sound 
     ];
     sits = λ e h. let s = p.sits e (subst (λ (es : List Queued). In e es) go.queued_are h) in (
       s.0,
-      elim (with_key_cases k.wave k.instr
-          (Some (answer image k.instr (operands_at image k) memory)) counts e.wave e.instr) [
+      elim (with_key_cases k.wave k.instr (Some (answer image k.instr (operands_at image k) memory)) counts
+          e.wave e.instr) [
             | inl z ↦ (answer image k.instr (operands_at image k) memory, z.1)
-            | inr z ↦
-                (s.1.0, z.1 ∙ s.1.1)
+            | inr z ↦ (s.1.0, z.1 ∙ s.1.1)
           ],
     );
     numbered = λ e h. p.numbered e (subst (λ (es : List Queued). In e es) go.queued_are h);
@@ -264,21 +246,20 @@ module _ (image : Image) (world : World) (formed : Formed image) (sound : Sound 
       | inr old ↦ queued_same w i ∙ p.every e r j t (sym (front_same r j) ∙ h) on w i a u old.1 there l
     ];
     few = subst (λ (es : List Queued). open_queues es ≤ 16) (sym go.queued_are) p.few;
-    free = λ r j n. ap (λ (h : Holding). cell h.cells r j) go.outside_is
-        ∙ left_free r j (ap has (sym (front_same r j)) ∙ n);
-    before = λ e r j t h on. ap (λ (x : Holding). cell x.cells r j) go.outside_is
-        ∙ left_held r j e (sym (front_same r j) ∙ h) ∙ p.before e r j t (sym (front_same r j) ∙ h) on;
-    rows = ap (λ (x : Holding). length x.cells) go.outside_is ∙ left_rows ∙ p.rows
-        ∙ sym (C.after_rows image k.instr (operands_at image k) memory);
-    shape = λ r. ap (λ (x : Holding). length (row x.cells r)) go.outside_is ∙ left_shape r ∙ p.shape r
-        ∙ sym (C.after_shape image k.instr (operands_at image k) memory r);
-    outside = subst (λ (x : Holding). HoldsOut began (O.with_cells memory' x.cells) x)
-        (sym go.outside_is) outside_left;
+    free = λ r j n. ap (λ (h : Holding). cell h.cells r j) go.outside_is ∙ left_free r j (ap has (sym
+        (front_same r j)) ∙ n);
+    before = λ e r j t h on. ap (λ (x : Holding). cell x.cells r j) go.outside_is ∙ left_held r j e (sym
+        (front_same r j) ∙ h) ∙ p.before e r j t (sym (front_same r j) ∙ h) on;
+    rows = ap (λ (x : Holding). length x.cells) go.outside_is ∙ left_rows ∙ p.rows ∙ sym (C.after_rows image
+        k.instr (operands_at image k) memory);
+    shape = λ r. ap (λ (x : Holding). length (row x.cells r)) go.outside_is ∙ left_shape r ∙ p.shape r ∙ sym
+        (C.after_shape image k.instr (operands_at image k) memory r);
+    outside = subst (λ (x : Holding). HoldsOut began (O.with_cells memory' x.cells) x) (sym go.outside_is)
+        outside_left;
   }
     where
       whole : (w i : ℕ) → SameKey k.wave k.instr w i → is_bare c w i ≡ false
-      whole w i key = subst (λ (m : ℕ). is_bare c w m ≡ false) key.instr
-          (subst (λ (m : ℕ). is_bare c m k.instr ≡ false) key.wave bare_is)
+      whole w i key = grind arith
 
   -- and what it sends is right
   pub sent_right : RightTokens image world (sends image k.wave k.instr (operands_at image k) word)

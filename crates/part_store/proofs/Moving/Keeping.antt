@@ -1,6 +1,6 @@
 -- Each move keeps what is true of a buffer with queues.
-use Rattle.std.proofs.Common.{ℕ, ◌-◌, ◌≡◌, ◌<◌, ◌≤◌, ◌⊎◌, Bool, true, false, cond, List, [], ◌∷◌, ◌++◌}
-use Rattle.std.proofs.Common.{Option, Some, None, slice_index, refl, sym, ap, ◌∙◌, subst, inl, inr, arith}
+use Rattle.std.proofs.Common.{ℕ, ◌-◌, ◌≡◌, ◌<◌, ◌≤◌, ◌⊎◌, Bool, true, false, List, [], ◌∷◌, ◌++◌, Option}
+use Rattle.std.proofs.Common.{Some, None, slice_index, refl, sym, ap, ◌∙◌, subst, inl, inr, arith}
 use Rattle.std.proofs.lemmas.Bool.{both_ways, cases_lt}
 use Rattle.ws_words.specs.Outside.{Outside, World}
 use Rattle.ws_isa.specs.Image.{Image, Token, instr_at, array_at, is_past, note_of, sends}
@@ -9,13 +9,12 @@ use Rattle.ws_isa.specs.Sound.{Sound}
 use Rattle.df_core.specs.Effect.{effect_after}
 use Rattle.df_core.specs.Core.{Chain, Issuable, IsNext, IsSent, has, issued_with}
 use Rattle.df_core.specs.Fit.{Legal, RightRequest}
-use Rattle.df_core.specs.Shown.{waits_if}
 use Rattle.df_core.proofs.Walked.Facts.{WalkFacts}
 use Rattle.df_core.proofs.Keeping.BufferKept as B
 use Rattle.df_core.proofs.Walked.Pauses.{mem_same, no_op_no_write}
 use Rattle.df_core.specs.Began.{Began}
 use Rattle.store_buf.specs.declared.kept.Kept.{Kept}
-use Rattle.store_buf.specs.Requests.{entry_of, issued_in, answer_if, operands_if, kept_in}
+use Rattle.store_buf.specs.Requests.{entry_of, issued_in, answer_if}
 use Rattle.store_buf.specs.Outdoors.{Holding, HoldsOut, Performed}
 use Rattle.store_buf.specs.Contents.{RightTokens, FaultIs}
 use Rattle.part_store.specs.declared.entry.Queued.{Queued}
@@ -43,13 +42,11 @@ module _ (image : Image) (world : World) (formed : Formed image) (sound : Sound 
 
   module _ (c : PartContent) (s : Parting image world began c) (going : c.fault ≡ None) where
     pub legal : Legal image world s.counts (asking image c) false c.chain s.memory
-    legal = subst (λ (b : Bool). Legal image world s.counts (asking image c) b c.chain s.memory)
-        (ap has going) s.legal
+    legal = grind arith
 
     module _ (k : Kept) (bare : Bool) (w : Waits c k bare) where
       fresh : s.counts k.wave k.instr ≡ None
-      fresh = O.no_more (s.counts k.wave k.instr) (issued_in c.kept k.wave k.instr)
-          (s.partly.same k.wave k.instr) (ap answer_if w.kept ∙ w.waits)
+      fresh = grind arith
 
       pub may_next : k.wave ≡ c.chain.wave → IsNext c.chain (note_of image k.instr) → (xs : List ℕ) →
           Issuable image s.counts c.chain false k.wave k.instr xs
@@ -86,11 +83,7 @@ module _ (image : Image) (world : World) (formed : Formed image) (sound : Sound 
     held_front : (k : Kept) → is_on_row (instr_at image k.instr).op (array_at image k.instr - 1) ≡ true →
         holds_op c.queued (instr_at image k.instr).op k.first ≡ true →
         (e : Queued) × (front c.queued (array_at image k.instr - 1) k.first ≡ Some e)
-    held_front k row h = elim (O.cases_row image c.queued k.instr k.first) [
-      | inl z ↦ has_some (front c.queued (array_at image k.instr - 1) k.first) (sym z.1 ∙ h)
-      | inr z ↦ absurd (both_ways (is_on_row (instr_at image k.instr).op (array_at image k.instr - 1))
-          (z.0 (array_at image k.instr - 1)) row)
-    ]
+    held_front k row h = grind (arith, has_some, both_ways)
 
     -- the operation joins a queue, behind its first entry, which is a store without data
     module _ (fronts : Fronts c) (k : Kept) (bare : Bool) (w : Waits c k bare) (xs : List ℕ)
@@ -109,8 +102,7 @@ module _ (image : Image) (world : World) (formed : Formed image) (sound : Sound 
       }
 
       here : OnCell image world k.wave k.instr (array_at image k.instr - 1) k.first req.time
-      here = J.here image world formed sound began c
-          (asking image c) s.counts s.memory legal s.partly k w.kept xs req may row first_is 0 d go
+      here = grind arith
 
       -- the first entry on its cell comes before it
       behind : (e : Queued) → front c.queued (array_at image k.instr - 1) k.first ≡ Some e →
@@ -138,22 +130,19 @@ module _ (image : Image) (world : World) (formed : Formed image) (sound : Sound 
           (s.partly.numbered e i.0, refl)
         where
           has_entry : (o : Option Kept) (a : ℕ) → answer_if o ≡ Some a → (x : Kept) × (o ≡ Some x)
-          has_entry None a e = absurd (let g : None ≡ Some a = e in cc)
-          has_entry (Some x) a e = (x, refl)
+          has_entry o a e = grind arith
 
       move_to : (r j : ℕ) (o : Option Queued) → IsOn f r j →
           front c.queued (array_at image k.instr - 1) k.first ≡ o → front c.queued r j ≡ o
-      move_to r j o on h = subst (λ (n : ℕ). front c.queued r n ≡ o) on.index
-          (subst (λ (n : ℕ). front c.queued n k.first ≡ o) on.row h)
+      move_to r j o on h = grind arith
 
       -- a queue that is there
       join_held : (e : Queued) → front c.queued (array_at image k.instr - 1) k.first ≡ Some e →
           Partly image world began (issued_with image s.counts s.memory k.wave k.instr xs)
           (effect_after image k.instr xs s.memory) d
-      join_held e h = J.joins image world formed sound began c
-          (asking image c) s.counts s.memory legal s.partly k w.kept xs req may row first_is 0 d go
-          (let a1 : open_queues (joined f c.queued) ≡ N.one_more (holds c.queued f.row f.index)
-          (open_queues c.queued) = N.open_joined f c.queued in
+      join_held e h = J.joins image world formed sound began c (asking image c) s.counts s.memory legal
+          s.partly k w.kept xs req may row first_is 0 d go (let a1 : open_queues (joined f c.queued) ≡
+          N.one_more (holds c.queued f.row f.index) (open_queues c.queued) = N.open_joined f c.queued in
           let b1 : N.one_more (holds c.queued f.row f.index) (open_queues c.queued) ≡ open_queues c.queued =
           ap (λ (b : Bool). N.one_more b (open_queues c.queued)) (ap has h) in
           let c1 : open_queues c.queued ≤ 16 = s.partly.few in omega (arith, a1, b1, c1))
@@ -170,10 +159,9 @@ module _ (image : Image) (world : World) (formed : Formed image) (sound : Sound 
           open_queues c.queued < 16 →
           Partly image world began (issued_with image s.counts s.memory k.wave k.instr xs)
           (effect_after image k.instr xs s.memory) d
-      join_new h next st room = J.joins image world formed sound began c
-          (asking image c) s.counts s.memory legal s.partly k w.kept xs req may row first_is 0 d go
-          (let a1 : open_queues (joined f c.queued) ≡ N.one_more (holds c.queued f.row f.index)
-          (open_queues c.queued) = N.open_joined f c.queued in
+      join_new h next st room = J.joins image world formed sound began c (asking image c) s.counts s.memory
+          legal s.partly k w.kept xs req may row first_is 0 d go (let a1 : open_queues (joined f c.queued) ≡
+          N.one_more (holds c.queued f.row f.index) (open_queues c.queued) = N.open_joined f c.queued in
           let b1 : N.one_more (holds c.queued f.row f.index) (open_queues c.queued) ≡ N.one_more false
           (open_queues c.queued) = ap (λ (b : Bool). N.one_more b (open_queues c.queued)) (ap has h) in
           omega (arith, a1, b1, room))
@@ -196,24 +184,19 @@ module _ (image : Image) (world : World) (formed : Formed image) (sound : Sound 
               S.from image world formed sound false
               (asking image c) s.counts c.chain s.memory legal k.wave k.instr xs req may in
               elim (lt_or_eq req.time u l) [
-                | inl y ↦ S.none_before_early image world formed sound false
-                    (asking image c) s.counts c.chain s.memory legal v i a u r j n there
-                    (array_at image k.instr - 1) k.first req.time m y
+                | inl y ↦ S.none_before_early image world formed sound false (asking image c) s.counts c.chain
+                    s.memory legal v i a u r j n there (array_at image k.instr - 1) k.first req.time m y
                     (record {
                       inst = req.inst;
                       fires = req.at.fires;
-                      store =
-                          subst (λ (q : ℕ). is_store_op (instr_at image q).op ≡ true)
-                          (sym req.at.instr) st;
-                      row =
-                          subst (λ (q : ℕ).
-                          is_on_row (instr_at image q).op (array_at image k.instr - 1) ≡ true)
-                          (sym req.at.instr) row;
-                      index = ap (λ (ys : List ℕ). slice_index ys 0) req.operands
-                          ∙ first_is;
+                      store = subst (λ (q : ℕ). is_store_op (instr_at image q).op ≡ true) (sym req.at.instr)
+                          st;
+                      row = subst (λ (q : ℕ). is_on_row (instr_at image q).op (array_at image k.instr - 1) ≡
+                          true) (sym req.at.instr) row;
+                      index = ap (λ (ys : List ℕ). slice_index ys 0) req.operands ∙ first_is;
                     })
-                | inr y ↦ (let there' : OnCell image world v i r j req.time =
-                    subst (λ (q : ℕ). OnCell image world v i r j q) (sym y) there in
+                | inr y ↦ (let there' : OnCell image world v i r j req.time = subst (λ (q : ℕ). OnCell image
+                    world v i r j q) (sym y) there in
                     let key = T.one_instance image world formed sound k.wave k.instr
                     (array_at image k.instr - 1) k.first v i r j req.time here there' in
                     let g : s.counts v i ≡ None =
@@ -229,18 +212,17 @@ module _ (image : Image) (world : World) (formed : Formed image) (sound : Sound 
       join_fronts : ((e : Queued) × (front c.queued (array_at image k.instr - 1) k.first ≡ Some e)) ⊎
           ((front c.queued (array_at image k.instr - 1) k.first ≡ None) × (is_bare c k.wave k.instr ≡ true)) →
           Fronts d
-      join_fronts which x r j h0 = let h : front (joined f c.queued) r j ≡ Some x =
-          subst (λ (es : List Queued). front es r j ≡ Some x) go.queued_are h0 in
+      join_fronts which x r j h0 = let h : front (joined f c.queued) r j ≡ Some x = subst (λ (es : List
+          Queued). front es r j ≡ Some x) go.queued_are h0 in
           go.bare x.wave x.instr ∙ elim (cell_cases f r j) [
             | inl o ↦ elim which [
-              | inl z ↦ (let y : Some z.0 ≡ Some x =
-                  sym (T.joined_front image world formed sound f c.queued r j z.0 s.partly.rising
-                  (move_to r j (Some z.0) o.1 z.1) (behind z.0 z.1)) ∙ h in
+              | inl z ↦ (let y : Some z.0 ≡ Some x = sym (T.joined_front image world formed sound f c.queued r
+                  j z.0 s.partly.rising (move_to r j (Some z.0) o.1 z.1) (behind z.0 z.1)) ∙ h in
                   let q : z.0 ≡ x = cc in
                   subst (λ (e : Queued). is_bare c e.wave e.instr ≡ true) q
                   (fronts z.0 r j (move_to r j (Some z.0) o.1 z.1)))
-              | inr z ↦ (let y : Some f ≡ Some x =
-                  sym (F.joined_first f c.queued r j o.1 (move_to r j None o.1 z.0)) ∙ h in
+              | inr z ↦ (let y : Some f ≡ Some x = sym (F.joined_first f c.queued r j o.1 (move_to r j None
+                  o.1 z.0)) ∙ h in
                   let q : f ≡ x = cc in subst (λ (e : Queued). is_bare c e.wave e.instr ≡ true) q z.1)
             ]
             | inr n ↦ fronts x r j (sym (F.joined_other f c.queued r j n.1) ∙ h)
@@ -324,14 +306,7 @@ module _ (image : Image) (world : World) (formed : Formed image) (sound : Sound 
   -- the chain lets a whole request issue
   pub may_counts : (c : PartContent) (s : Parting image world began c) (k : Kept) → GoesByChain image c k →
       Issuable image s.counts c.chain false k.wave k.instr (operands_at image k)
-  may_counts c s k g = record {
-    going = refl;
-    current = g.may.current;
-    fresh =
-        O.no_more (s.counts k.wave k.instr) (issued_in c.kept k.wave k.instr)
-        (s.partly.same k.wave k.instr) g.may.fresh;
-    turn = g.may.turn;
-  }
+  may_counts c s k g = grind (arith, fresh, O.no_more)
 
   pub right_of : (c : PartContent) (s : Parting image world began c) (k : Kept) → Waits c k false →
       RightRequest image world k.wave k.instr (operands_at image k)
@@ -391,17 +366,13 @@ module _ (image : Image) (world : World) (formed : Formed image) (sound : Sound 
         left = s.memory.left;
         acts = s.memory.acts;
       }) s.partly.outside in (
-        counted c s g.going k false g.waits (operands_at image k) req may
-            (O.first_of image k) g.within word c.queued left d go
-            (I.new_same image world formed sound began c
-            (asking image c) s.counts s.memory law s.partly k g.waits.kept req may word left h told
-            g.waits.bare_is d go)
-            (I.issues image world formed sound began c
-            (asking image c) s.counts s.memory law s.partly k g.waits.kept req may word left h told
-            g.waits.bare_is d go),
-        I.sent_right image world formed sound began c
-            (asking image c) s.counts s.memory law s.partly k g.waits.kept req may word left h told
-            g.waits.bare_is d go,
+        counted c s g.going k false g.waits (operands_at image k) req may (O.first_of image k) g.within
+            word c.queued left d go (I.new_same image world formed sound began c (asking image c) s.counts
+            s.memory law s.partly k g.waits.kept req may word left h told g.waits.bare_is d go) (I.issues
+            image world formed sound began c (asking image c) s.counts s.memory law s.partly k
+            g.waits.kept req may word left h told g.waits.bare_is d go),
+        I.sent_right image world formed sound began c (asking image c) s.counts s.memory law s.partly k
+            g.waits.kept req may word left h told g.waits.bare_is d go,
       )
 
   -- rule 3
@@ -415,11 +386,9 @@ module _ (image : Image) (world : World) (formed : Formed image) (sound : Sound 
         record {
           counts = s.counts;
           memory = s.memory;
-          legal = subst (λ (b : Bool). Legal image world s.counts (asking image d) b d.chain s.memory)
-              (sym (ap has (go.fault ∙ going)))
-              (subst (λ (x : Chain). Legal image world s.counts (asking image d) false x s.memory)
-              (sym go.chain)
-              (record {
+          legal = subst (λ (b : Bool). Legal image world s.counts (asking image d) b d.chain s.memory) (sym
+              (ap has (go.fault ∙ going))) (subst (λ (x : Chain). Legal image world s.counts (asking image d)
+              false x s.memory) (sym go.chain) (record {
                 cut = law.cut;
                 ordered = law.ordered;
                 settled = law.settled;
@@ -429,8 +398,8 @@ module _ (image : Image) (world : World) (formed : Formed image) (sound : Sound 
           fault = subst (FaultIs image world) (sym (go.fault ∙ going)) tt;
           quiet = λ z. absurd (both_ways (has d.fault) (ap has (go.fault ∙ going)) z);
         },
-        W.sent_right image world formed sound began c false
-            (asking image c) s.counts s.memory law s.partly e fol some d go,
+        W.sent_right image world formed sound began c false (asking image c) s.counts s.memory law s.partly e
+            fol some d go,
       )
 
   -- the walk's first operation past the end
@@ -489,23 +458,17 @@ module _ (image : Image) (world : World) (formed : Formed image) (sound : Sound 
     where
       waits_so : (c : PartContent) (k : Kept) → Waits c k false →
           asking image c k.wave k.instr ≡ Some (operands_at image k)
-      waits_so c k w = ap (λ (b : Bool). cond b None
-          (waits_if (issued_in c.kept k.wave k.instr) (kept_in image c.kept k.wave k.instr) None)) w.bare_is
-          ∙ ap (λ (o : Option ℕ). waits_if o (kept_in image c.kept k.wave k.instr) None)
-          (ap answer_if w.kept ∙ w.waits)
-          ∙ ap (λ (o : Option (List ℕ)). waits_if None o None) (ap (operands_if image) w.kept)
+      waits_so c k w = grind arith
 
   sent_either : (xs ys : List Token) (w i p v : ℕ) → IsSent (xs ++ ys) w i p v →
       IsSent xs w i p v ⊎ IsSent ys w i p v
   sent_either [] ys w i p v e = inr e
   sent_either (x ∷ xs) ys w i p v (inl e) = inl (inl e)
-  sent_either (x ∷ xs) ys w i p v (inr e) =
-      elim (sent_either xs ys w i p v e) [ inl h ↦ inl (inr h) | inr h ↦ inr h ]
+  sent_either (x ∷ xs) ys w i p v (inr e) = grind (arith, sent_either xs ys w i p v e)
 
   right_both : (xs ys : List Token) → RightTokens image world xs → RightTokens image world ys →
       RightTokens image world (xs ++ ys)
-  right_both xs ys a b w i p v e = elim (sent_either xs ys w i p v e)
-      [ inl h ↦ a w i p v h | inr h ↦ b w i p v h ]
+  right_both xs ys a b w i p v e = grind (arith, sent_either)
 
   pub moves_keep : (old new : PartContent) (tokens : List Token) → Moves image old tokens new →
       Parting image world began old → Parting image world began new × RightTokens image world tokens

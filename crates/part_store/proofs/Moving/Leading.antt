@@ -1,6 +1,6 @@
 -- Moves in turn.
-use Rattle.std.proofs.Common.{ℕ, ◌≡◌, Bool, List, [], ◌++◌, Option, Some, None}
-use Rattle.std.proofs.Common.{refl, sym, ap, ◌∙◌, subst}
+use Rattle.std.proofs.Common.{ℕ, ◌≡◌, Bool, List, [], ◌++◌, Option, Some, None, refl, sym, ap, ◌∙◌, subst}
+use Rattle.std.proofs.Common.{arith}
 use Rattle.std.proofs.lemmas.List.{append_assoc, append-nil}
 use Rattle.ws_isa.specs.Image.{Image, Token, sends}
 use Rattle.part_store.specs.declared.parts.Parts.{Parts}
@@ -29,10 +29,9 @@ moves_on image a b c xs ys (opens {d = d} k f o g rest) more =
     opens k f o g (moves_on image d b c xs ys rest more)
 moves_on image a b c xs ys (joins {d = d} k f g h go rest) more =
     joins k f g h go (moves_on image d b c xs ys rest more)
-moves_on image a b c xs ys (issues {d = d} {rest = r} k word left f g h answers go rest) more =
-    subst (λ (ts : List Token). Moves image a ts c)
-    (sym (append_assoc (sends image k.wave k.instr (operands_at image k) word) r ys))
-    (issues k word left f g h answers go (moves_on image d b c r ys rest more))
+moves_on image a b c xs ys (issues {d = d} {rest = r} k word left f g h answers go rest) more = subst (λ (ts :
+    List Token). Moves image a ts c) (sym (append_assoc (sends image k.wave k.instr (operands_at image k)
+    word) r ys)) (issues k word left f g h answers go (moves_on image d b c r ys rest more))
 moves_on image a b c xs ys (follows {d = d} {some = some} {rest = r} first fol going go rest) more =
     subst (λ (ts : List Token). Moves image a ts c) (sym (append_assoc some r ys))
     (follows first fol going go (moves_on image d b c r ys rest more))
@@ -42,17 +41,7 @@ moves_on image a b c xs ys (stops k f) more =
     (subst (λ (x : PartContent). Moves image a [] x) (sym r.1) (stops k f))
 
 pub same : (c : PartContent) → Alike c c
-same c = record {
-  kept = refl;
-  bare = refl;
-  queued = refl;
-  chain = refl;
-  fault = refl;
-  cells = refl;
-  input = refl;
-  printed = refl;
-  ports = λ began o h. h;
-}
+same c = grind arith
 
 module _ {P : Type 0} where
   pub none_yet : (image : Image) (s : Parts P) (ts : List Token) → MovesOn image s s ts ts
@@ -63,9 +52,8 @@ module _ {P : Type 0} where
   one_more image a b c t0 t1 t2 all one = (
     all.0 ++ one.0,
     one.1 ∙ ap (λ (ts : List Token). ts ++ one.0) all.1 ∙ append_assoc t0 all.0 one.0,
-    λ world began formed sound calm.
-        let r = all.2 world began formed sound calm in
-        let q = one.2 world began formed sound r.1 in
+    λ world began formed sound calm. let r = all.2 world began formed sound calm in let q = one.2 world
+        began formed sound r.1 in
         (moves_on image (content_of a) (content_of b) (content_of c) all.0 one.0 r.0 q.0, q.1),
   )
 
@@ -74,8 +62,7 @@ module _ {P : Type 0} where
   led image a b t0 t1 all = (
     all.0,
     all.1,
-    λ world began formed sound calm. let r =
-        all.2 world began formed sound calm in
+    λ world began formed sound calm. let r = all.2 world began formed sound calm in
         (record { mid = content_of b; moves = r.0; alike = same (content_of b) }, r.1),
   )
 
@@ -139,9 +126,8 @@ minded {P} image a b f t t0 t1 all = (
         record {
           mid = r.0.mid;
           moves = r.0.moves;
-          alike =
-              alike_on r.0.mid (content_of b)
-              (content_of (record b { failed = f; starved = t })) r.0.alike q.1;
+          alike = alike_on r.0.mid (content_of b) (content_of (record b { failed = f; starved = t }))
+              r.0.alike q.1;
         },
         q.0,
       ),

@@ -1,10 +1,9 @@
 -- A request or address that may go: what the chain lets, and what comes when it counts as issued.
-use Rattle.std.proofs.Common.{ℕ, ◌≡◌, ◌<◌, ◌≤◌, ◌⊎◌, ◌==◌, true, false, not, ◌&&◌, ◌||◌, nat_le, List, []}
-use Rattle.std.proofs.Common.{◌∷◌, length, Option, Some, None, slice_set, refl, sym, ap, ◌∙◌, subst, inl, inr}
-use Rattle.std.proofs.Common.{leb-true}
+use Rattle.std.proofs.Common.{ℕ, ◌≡◌, ◌<◌, ◌≤◌, ◌⊎◌, true, false, List, ◌∷◌, length, Option, Some, None}
+use Rattle.std.proofs.Common.{slice_set, refl, sym, subst, inl, inr, leb-true, arith}
 use Rattle.std.proofs.lemmas.Bool.{and_parts}
 use Rattle.ws_words.specs.Outside.{Outside, World}
-use Rattle.ws_isa.specs.Image.{Image, instr_at, is_load, is_load_op, is_past, is_past_op, note_of}
+use Rattle.ws_isa.specs.Image.{Image, instr_at, is_load, is_load_op, is_past, note_of}
 use Rattle.ws_isa.specs.Formed.{Formed}
 use Rattle.ws_isa.specs.Sound.{Sound}
 use Rattle.df_core.specs.Effect.{effect_after}
@@ -13,7 +12,7 @@ use Rattle.df_core.specs.Core.{IsNext, Issuable, Passes, has, issued_with, posit
 use Rattle.df_core.specs.Fit.{Legal, RightRequest}
 use Rattle.df_core.proofs.Walked.Facts.{WalkFacts}
 use Rattle.df_core.proofs.Keeping.Ports.{with_key_cases}
-use Rattle.df_core.specs.Chains.{chain_of, may_flag, next_flag, PassedOn}
+use Rattle.df_core.specs.Chains.{chain_of, PassedOn}
 use Rattle.df_core.specs.Stands.{HasEarly, EarlyIssued}
 use Rattle.df_core.proofs.Parts.Nexts.{next_is}
 use Rattle.store_buf.specs.Earlies.{early_ops}
@@ -58,15 +57,7 @@ module _ (image : Image) (o : Order) (p : ℕ) (l : p < length o.kept.items) whe
         answer = Some word;
       }))
       (entry_of o.kept.items) w i
-  answered word ks kept w i = ap (λ (xs : List Kept). entry_of xs w i) kept
-      ∙ entry_set o.kept.items p (record {
-        wave = (kept_at o p).wave;
-        instr = (kept_at o p).instr;
-        first = (kept_at o p).first;
-        second = (kept_at o p).second;
-        answer = Some word;
-      }) l
-      (once_of o.kept.items (place_in o.index) o.ok.index) refl refl w i
+  answered word ks kept w i = grind (arith, entry_set, once_of)
 
   module _ (ready : ready_flag image o (kept_at o p) ≡ true) where
     pub waits : ((kept_at o p).answer ≡ None) × ((kept_at o p).wave ≡ o.chain.wave)
@@ -79,28 +70,7 @@ module _ (image : Image) (o : Order) (p : ℕ) (l : p < length o.kept.items) whe
     pub turn : IsNext (chain_of o.chain) (note_of image (kept_at o p).instr) ⊎
         ((is_load image (kept_at o p).instr ≡ true) × (is_past_at image (kept_at o p) ≡ false) ×
         ((note_of image (kept_at o p).instr).ripple ≤ position_after o.chain.last))
-    turn =
-        let a = and_parts _ (may_flag image (chain_of o.chain) (kept_at o p).wave (kept_at o p).instr
-        (kept_at o p).first) ready in
-        let b = and_parts ((kept_at o p).wave == o.chain.wave)
-        (next_flag (chain_of o.chain)
-        (note_of image (kept_at o p).instr)
-        || (is_load_op (instr_at image (kept_at o p).instr).op && not
-        (is_past_op image.arrays (instr_at image (kept_at o p).instr).op ((kept_at o p).first ∷ [])) &&
-        nat_le (note_of image (kept_at o p).instr).ripple (position_after o.chain.last))) a.1 in
-        elim (either (next_flag (chain_of o.chain) (note_of image (kept_at o p).instr))
-        (is_load_op (instr_at image (kept_at o p).instr).op && not
-        (is_past_op image.arrays (instr_at image (kept_at o p).instr).op ((kept_at o p).first ∷ [])) &&
-        nat_le (note_of image (kept_at o p).instr).ripple (position_after o.chain.last)) b.1) [
-          | inl e ↦ inl (next_is (chain_of o.chain) (note_of image (kept_at o p).instr) e)
-          | inr e ↦ (let c = and_parts (is_load_op (instr_at image (kept_at o p).instr).op && not
-              (is_past_op image.arrays (instr_at image (kept_at o p).instr).op ((kept_at o p).first ∷ [])))
-              (nat_le (note_of image (kept_at o p).instr).ripple (position_after o.chain.last)) e in
-              let d = and_parts (is_load_op (instr_at image (kept_at o p).instr).op)
-              (not (is_past_op image.arrays (instr_at image (kept_at o p).instr).op
-              ((kept_at o p).first ∷ []))) c.0 in
-              inr (op_is ∙ d.0, not_false _ d.1, leb-true _ _ c.1))
-        ]
+    turn = grind (arith, and_parts, either, next_is, op_is, not_false, leb-true)
 
 -- the chain passes it and issued ones behind it, or it is listed
 module _ (image : Image) (world : World) (formed : Formed image) (sound : Sound image) (o n : Order)
@@ -136,23 +106,19 @@ module _ (image : Image) (world : World) (formed : Formed image) (sound : Sound 
   goes : After
   unfolding After
   goes = elim passed [
-    | inl q ↦ G.goes_next image world facts counts waiting false
-        (chain_of o.chain) memory (early_ops o.early) going w i xs req may inside after q.0
-        (chain_of n.chain) (early_ops n.early) q.1
+    | inl q ↦ G.goes_next image world facts counts waiting false (chain_of o.chain) memory (early_ops o.early)
+        going w i xs req may inside after q.0 (chain_of n.chain) (early_ops n.early) q.1
     | inr q ↦ (let load : is_load image i ≡ true = elim may.turn [ inl e ↦ absurd (q.0 e) | inr e ↦ e.0 ] in
         let r = G.goes_early image world facts counts waiting false
         (chain_of o.chain) memory (early_ops o.early) going w i xs req may inside after q.0 load in (
-          subst (λ (d : law.Chain). Passes image (issued_with image counts memory w i xs)
-              (chain_of o.chain) d) (sym q.1) r.0,
+          subst (λ (d : law.Chain). Passes image (issued_with image counts memory w i xs) (chain_of o.chain)
+              d) (sym q.1) r.0,
           subst (λ (d : law.Chain). OrderGoes image world (issued_with image counts memory w i xs) after false
-              d
-              (effect_after image i xs memory) (early_ops n.early)) (sym q.1)
-              (early_alike image world (issued_with image counts memory w i xs) after false (chain_of o.chain)
-              (effect_after image i xs memory) (i ∷ (early_ops o.early)) (early_ops n.early)
-              (λ j e. elim e [
+              d (effect_after image i xs memory) (early_ops n.early)) (sym q.1) (early_alike image world
+              (issued_with image counts memory w i xs) after false (chain_of o.chain) (effect_after image i xs
+              memory) (i ∷ (early_ops o.early)) (early_ops n.early) (λ j e. elim e [
                 | inl h ↦ subst (λ (k : ℕ). In k (early_ops n.early)) (sym h) q.2.1
-                | inr h ↦
-                    q.2.2 j h
+                | inr h ↦ q.2.2 j h
               ])
               (λ j e. elim (q.2.0 j e) [ inl h ↦ inl (sym h) | inr h ↦ inr h ]) r.1),
         ))
@@ -171,9 +137,8 @@ module _ (image : Image) (world : World) (formed : Formed image) (sound : Sound 
 
   pub all_now : HasEarly image world (issued_in n.kept.items) (chain_of n.chain) (early_ops n.early)
   unfolding After
-  all_now cut v j a t e is x at me l = let r =
-      O.some_more (issued_with image counts memory w i xs v j) (issued_in n.kept.items v j) a
-      (new_same v j) is in goes.1.early_all cut v j r.0 t e r.1 x at me l
+  all_now cut v j a t e is x at me l = let r = O.some_more (issued_with image counts memory w i xs v j)
+      (issued_in n.kept.items v j) a (new_same v j) is in goes.1.early_all cut v j r.0 t e r.1 x at me l
 
 -- what was kept is kept still
 pub still_kept : (image : Image) (o : Order) (p : ℕ) (l : p < length o.kept.items) (word : ℕ)
@@ -187,25 +152,4 @@ pub still_kept : (image : Image) (o : Order) (p : ℕ) (l : p < length o.kept.it
     }) →
     (w i : ℕ) → ((k : Kept) × (entry_of o.kept.items w i ≡ Some k)) → (k : Kept) × (entry_of ks w i ≡ Some k)
 still_kept image o p l word ks kept w i e =
-    elim (with_key_cases (kept_at o p).wave (kept_at o p).instr
-    (Some (record {
-      wave = (kept_at o p).wave;
-      instr = (kept_at o p).instr;
-      first = (kept_at o p).first;
-      second = (kept_at o p).second;
-      answer = Some word;
-    }))
-    (entry_of o.kept.items) w i) [
-      | inl h ↦ (
-        record {
-          wave = (kept_at o p).wave;
-          instr = (kept_at o p).instr;
-          first = (kept_at o p).first;
-          second = (kept_at o p).second;
-          answer = Some word;
-        },
-        answered image o p l
-            word ks kept w i ∙ h.1,
-      )
-      | inr h ↦ (e.0, answered image o p l word ks kept w i ∙ h.1 ∙ e.1)
-    ]
+    grind (arith, with_key_cases, answered image o p l word ks kept w i)

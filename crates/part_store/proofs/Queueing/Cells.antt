@@ -1,11 +1,10 @@
 -- Cells: what a store leaves, and how the walk changes them.
 use Rattle.std.proofs.Common.{ℕ, zero, suc, ◌-◌, ◌≡◌, ◌<◌, ◌≤◌, true, false, List, [], ◌∷◌, length, Some}
 use Rattle.std.proofs.Common.{slice_index, slice_set, refl, sym, ap, ◌∙◌, subst, inl, inr, arith, eq-eqb}
-use Rattle.std.proofs.Common.{eqb-true}
 use Rattle.std.proofs.lemmas.Bool.{both_ways, cases_Bool, cases_eq}
 use Rattle.ws_words.specs.Outside.{Outside, World, row, with_row}
 use Rattle.ws_isa.specs.declared.instr.Op.{Op}
-use Rattle.ws_isa.specs.declared.instr.Op.TheVariants.{Load, Store, Input, Output, Give, Take}
+use Rattle.ws_isa.specs.declared.instr.Op.TheVariants.{Store}
 use Rattle.ws_isa.specs.Image.{Image, instr_at, is_memory, after_op, after}
 use Rattle.ws_isa.specs.Walk.{Inst, fires}
 use Rattle.df_core.specs.Effect.{effect_at, effect_after}
@@ -20,32 +19,24 @@ abbrev pub Differ : ℕ → ℕ → ℕ → ℕ → Type 0
 Differ r j q k = r ≡ q → j ≡ k → ⊥
 
 set_there : (xs : List ℕ) (j k v : ℕ) → (j ≡ k → ⊥) → slice_index (slice_set xs j v) k ≡ slice_index xs k
-set_there [] j k v n = refl
-set_there (x ∷ xs) zero zero v n = absurd (n refl)
-set_there (x ∷ xs) zero (suc k) v n = refl
-set_there (x ∷ xs) (suc j) zero v n = refl
 set_there (x ∷ xs) (suc j) (suc k) v n = set_there xs j k v (λ e. n (ap suc e))
+set_there xs j k v n = grind arith
 
 set_here : (xs ys : List ℕ) (j v : ℕ) → length xs ≡ length ys →
     slice_index (slice_set xs j v) j ≡ slice_index (slice_set ys j v) j
 set_here [] [] j v e = refl
-set_here [] (y ∷ ys) j v e = absurd (omega (arith, e))
-set_here (x ∷ xs) [] j v e = absurd (omega (arith, e))
 set_here (x ∷ xs) (y ∷ ys) zero v e = refl
 set_here (x ∷ xs) (y ∷ ys) (suc j) v e = set_here xs ys j v (omega (arith, e))
+set_here xs ys j v e = absurd (omega (arith, e))
 
 row_here : (cs : List (List ℕ)) (r j v : ℕ) →
     row (with_row cs r (slice_set (row cs r) j v)) r ≡ slice_set (row cs r) j v
-row_here [] r j v = refl
-row_here (c ∷ cs) zero j v = refl
 row_here (c ∷ cs) (suc r) j v = row_here cs r j v
+row_here cs r j v = refl
 
 row_there : (cs : List (List ℕ)) (r q : ℕ) (xs : List ℕ) → (r ≡ q → ⊥) → row (with_row cs r xs) q ≡ row cs q
-row_there [] r q xs n = refl
-row_there (c ∷ cs) zero zero xs n = absurd (n refl)
-row_there (c ∷ cs) zero (suc q) xs n = refl
-row_there (c ∷ cs) (suc r) zero xs n = refl
 row_there (c ∷ cs) (suc r) (suc q) xs n = row_there cs r q xs (λ e. n (ap suc e))
+row_there cs r q xs n = grind arith
 
 -- the cells after a store
 abbrev pub stored : List (List ℕ) → ℕ → ℕ → ℕ → List (List ℕ)
@@ -53,47 +44,29 @@ stored cs r j v = with_row cs r (slice_set (row cs r) j v)
 
 pub stored_there : (cs : List (List ℕ)) (r j v q k : ℕ) → Differ r j q k →
     cell (stored cs r j v) q k ≡ cell cs q k
-stored_there cs r j v q k n = elim (cases_eq r q) [
-  | inl e ↦ subst (λ (p : ℕ). cell (stored cs r j v) p k ≡ cell cs p k) e
-      (ap (λ (xs : List ℕ). slice_index xs k) (row_here cs r j v) ∙ set_there (row cs r) j k v (λ f. n e f))
-  | inr m ↦ ap (λ (xs : List ℕ). slice_index xs k) (row_there cs r q (slice_set (row cs r) j v) m)
-]
+stored_there cs r j v q k n = grind (arith, cases_eq, row_here, set_there, row_there)
 
 pub stored_here : (cs ds : List (List ℕ)) (r j v : ℕ) → length (row cs r) ≡ length (row ds r) →
     cell (stored cs r j v) r j ≡ cell (stored ds r j v) r j
-stored_here cs ds r j v e = ap (λ (xs : List ℕ). slice_index xs j) (row_here cs r j v)
-    ∙ set_here (row cs r) (row ds r) j v e ∙ sym (ap (λ (xs : List ℕ). slice_index xs j) (row_here ds r j v))
+stored_here cs ds r j v e = grind (arith, row_here, set_here)
 
 pub stored_shape : (cs : List (List ℕ)) (r j v q : ℕ) → length (row (stored cs r j v) q) ≡ length (row cs q)
-stored_shape cs r j v q = elim (cases_eq r q) [
-  | inl e ↦ subst (λ (p : ℕ). length (row (stored cs r j v) p) ≡ length (row cs p)) e
-      (ap length (row_here cs r j v) ∙ set_length (row cs r) j v)
-  | inr m ↦ ap length (row_there cs r q (slice_set (row cs r) j v) m)
-]
+stored_shape cs r j v q = grind (arith, cases_eq, row_here, set_length, row_there)
 
 pub stored_rows : (cs : List (List ℕ)) (r j v : ℕ) → length (stored cs r j v) ≡ length cs
 stored_rows cs r j v = go cs r (slice_set (row cs r) j v)
   where
     go : (xs : List (List ℕ)) (q : ℕ) (x : List ℕ) → length (with_row xs q x) ≡ length xs
-    go [] q x = refl
-    go (y ∷ ys) zero x = refl
     go (y ∷ ys) (suc q) x = ap suc (go ys q x)
+    go xs q x = refl
 
 -- the cells after an operation
 op_cells : (op : Op) (xs : List ℕ) (o : Outside) → is_store_op op ≡ false → (after_op op xs o).cells ≡ o.cells
-op_cells (Store a) xs o e = absurd (both_ways true e refl)
-op_cells (Load a) xs o e = refl
-op_cells Input xs o e = refl
-op_cells Output xs o e = refl
-op_cells (Give p) xs o e = refl
-op_cells (Take p) xs o e = refl
-op_cells _ xs o e = refl
+op_cells op xs o e = grind arith
 
 op_stores : (op : Op) (xs : List ℕ) (o : Outside) (r : ℕ) → is_store_op op ≡ true → is_on_row op r ≡ true →
     (after_op op xs o).cells ≡ stored o.cells r (slice_index xs 0) (slice_index xs 1)
-op_stores (Store a) xs o r e f = ap (λ (q : ℕ). stored o.cells q (slice_index xs 0) (slice_index xs 1))
-    (eqb-true (a - 1) r f)
-op_stores _ xs o r e f = absurd (both_ways false refl e)
+op_stores op xs o r e f = grind arith
 
 op_row : (op : Op) → is_store_op op ≡ true → (r : ℕ) × (is_on_row op r ≡ true)
 op_row (Store a) e = (a - 1, eq-eqb (a - 1) (a - 1) refl)
@@ -209,13 +182,11 @@ module _ (image : Image) where
         length (row cs r) ≡ length (row (effect_at image world t).cells r) →
         cell (stored cs r j (slice_index s.inst.operands 1)) r j ≡ cell
         (effect_at image world (suc t)).cells r j
-    store_leaves t r j s cs m e =
-        stored_here cs (effect_at image world t).cells r j (slice_index s.inst.operands 1) e
-        ∙ ap (λ (n : ℕ). cell (stored (effect_at image world t).cells r n (slice_index s.inst.operands 1)) r
-        j) (sym s.index)
-        ∙ sym (ap (λ (o : Outside). cell o.cells r j) (facts.mem_op t s.inst s.fires m)
-        ∙ ap (λ (ds : List (List ℕ)). cell ds r j)
-        (store_cells s.inst.instr s.inst.operands (effect_at image world t) r s.store s.row))
+    store_leaves t r j s cs m e = stored_here cs (effect_at image world t).cells r j (slice_index
+        s.inst.operands 1) e ∙ ap (λ (n : ℕ). cell (stored (effect_at image world t).cells r n (slice_index
+        s.inst.operands 1)) r j) (sym s.index) ∙ sym (ap (λ (o : Outside). cell o.cells r j) (facts.mem_op t
+        s.inst s.fires m) ∙ ap (λ (ds : List (List ℕ)). cell ds r j) (store_cells s.inst.instr s.inst.operands
+        (effect_at image world t) r s.store s.row))
 
 -- the same of the operation alone
 pub op_plain : (image : Image) (i : ℕ) (xs : List ℕ) (o : Outside) →

@@ -1,6 +1,6 @@
 -- The first entry on a cell, and entries that are queued.
 use Rattle.std.proofs.Common.{ℕ, ◌≡◌, ◌⊎◌, Bool, true, false, cond, List, [], ◌∷◌, Some, None, refl, sym, ap}
-use Rattle.std.proofs.Common.{◌∙◌, subst, inl, inr}
+use Rattle.std.proofs.Common.{◌∙◌, subst, inl, inr, arith}
 use Rattle.std.proofs.lemmas.Bool.{both_ways, cases_Bool}
 use Rattle.df_core.proofs.Keeping.Ports.{SameKey}
 use Rattle.part_store.specs.declared.entry.Queued.{Queued}
@@ -47,19 +47,11 @@ queued_in (e ∷ es) w i h = elim (key_cases e.wave e.instr w i) [
 pub in_queued : (es : List Queued) (w i : ℕ) (f : Queued) → In f es → SameKey f.wave f.instr w i →
     is_queued es w i ≡ true
 in_queued [] w i f h k = absurd h
-in_queued (e ∷ es) w i f (inl q) k = elim (key_cases e.wave e.instr w i) [
-  | inl c ↦ rw c.0 refl
-  | inr c ↦ absurd (c.1 (subst (λ (x : Queued). SameKey x.wave x.instr w i) q k))
-]
-in_queued (e ∷ es) w i f (inr g) k = elim (key_cases e.wave e.instr w i) [
-  | inl c ↦ rw c.0 refl
-  | inr c ↦ rw c.0 (in_queued es w i f g k)
-]
+in_queued (e ∷ es) w i f (inl q) k = grind arith
+in_queued (e ∷ es) w i f (inr g) k = grind (arith, key_cases, in_queued es w i f g k)
 
 module _ (f : Queued) where
   pub joined_in : (es : List Queued) (e : Queued) → In e (joined f es) → (e ≡ f) ⊎ In e es
-  joined_in [] e (inl q) = inl q
-  joined_in [] e (inr h) = absurd h
   joined_in (x ∷ es) e h = elim (cases_Bool (all_later (x ∷ es) f)) [
     | inl l ↦ elim (subst (λ (b : Bool). In e (cond b (f ∷ x ∷ es) (x ∷ joined f es))) l h)
         [ inl q ↦ inl q | inr g ↦ inr g ]
@@ -68,13 +60,11 @@ module _ (f : Queued) where
       | inr g ↦ elim (joined_in es e g) [ inl q ↦ inl q | inr k ↦ inr (inr k) ]
     ]
   ]
+  joined_in [] e x = grind arith
 
   pub joined_new : (es : List Queued) → In f (joined f es)
   joined_new [] = inl refl
-  joined_new (x ∷ es) = elim (cases_Bool (all_later (x ∷ es) f)) [
-    | inl l ↦ subst (λ (b : Bool). In f (cond b (f ∷ x ∷ es) (x ∷ joined f es))) (sym l) (inl refl)
-    | inr l ↦ subst (λ (b : Bool). In f (cond b (f ∷ x ∷ es) (x ∷ joined f es))) (sym l) (inr (joined_new es))
-  ]
+  joined_new (x ∷ es) = grind (arith, cases_Bool, joined_new es)
 
   pub joined_old : (es : List Queued) (e : Queued) → In e es → In e (joined f es)
   joined_old [] e h = absurd h
@@ -87,16 +77,8 @@ module _ (f : Queued) where
   -- on other cells nothing changes
   pub joined_other : (es : List Queued) (r j : ℕ) → (IsOn f r j → ⊥) → front (joined f es) r j ≡ front es r j
   joined_other [] r j n = front_there f [] r j n
-  joined_other (x ∷ es) r j n = elim (cases_Bool (all_later (x ∷ es) f)) [
-    | inl l ↦ ap (λ (b : Bool). front (cond b (f ∷ x ∷ es) (x ∷ joined f es)) r j) l
-        ∙ front_there f (x ∷ es) r j n
-    | inr l ↦ ap (λ (b : Bool). front (cond b (f ∷ x ∷ es) (x ∷ joined f es)) r j) l
-        ∙ elim (cell_cases x r j) [
-          | inl c ↦ front_here x (joined f es) r j c.1 ∙ sym (front_here x es r j c.1)
-          | inr c ↦ front_there x (joined f es) r j c.1 ∙ joined_other es r j n
-              ∙ sym (front_there x es r j c.1)
-        ]
-  ]
+  joined_other (x ∷ es) r j n =
+      grind (arith, cases_Bool, front_there, cell_cases, front_here, joined_other es r j n)
 
   -- on a cell that no queue held it is the first one
   pub joined_first : (es : List Queued) (r j : ℕ) → IsOn f r j → front es r j ≡ None →

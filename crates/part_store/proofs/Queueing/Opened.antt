@@ -29,9 +29,7 @@ pub at_cell : (es : List Queued) (x : Queued) (r j : ℕ) → IsOn x r j → hol
 at_cell es x r j o = ap (λ (n : ℕ). holds es n x.index) o.row ∙ ap (holds es r) o.index
 
 pub swap : (a b : Bool) (n : ℕ) → one_more a (one_more b n) ≡ one_more b (one_more a n)
-swap true b n = refl
-swap false true n = refl
-swap false false n = refl
+swap a b n = grind arith
 
 pub open_joined : (f : Queued) (es : List Queued) →
     open_queues (joined f es) ≡ one_more (holds es f.row f.index) (open_queues es)
@@ -62,11 +60,11 @@ module _ (w i r j : ℕ) where
       open_queues es ≡ one_more (holds (without es w i) r j) (open_queues (without es w i))
   open_without [] q all = absurd (both_ways false refl q)
   open_without (x ∷ es) q all = elim (key_cases x.wave x.instr w i) [
-    | inl k ↦ ap (λ (b : Bool). one_more b (open_queues es)) (at_cell es x r j (all x (inl refl) k.1))
-        ∙ sym (ap (λ (b : Bool). one_more (holds (cond b es (x ∷ without es w i)) r j)
-        (open_queues (cond b es (x ∷ without es w i)))) k.0)
-    | inr k ↦ (let q' : is_queued es w i ≡ true =
-        subst (λ (b : Bool). cond b true (is_queued es w i) ≡ true) k.0 q in
+    | inl k ↦ ap (λ (b : Bool). one_more b (open_queues es)) (at_cell es x r j (all x (inl refl) k.1)) ∙ sym
+        (ap (λ (b : Bool). one_more (holds (cond b es (x ∷ without es w i)) r j) (open_queues (cond b es (x ∷
+        without es w i)))) k.0)
+    | inr k ↦ (let q' : is_queued es w i ≡ true = subst (λ (b : Bool). cond b true (is_queued es w i) ≡ true)
+        k.0 q in
         let ih : open_queues es ≡ one_more (holds (without es w i) r j) (open_queues (without es w i)) =
         open_without es q' (λ e h. all e (inr h)) in
         let g = F.queued_in es w i q' in
@@ -79,15 +77,12 @@ module _ (w i r j : ℕ) where
               ∙ sym (ap (λ (b : Bool). one_more b
               (one_more (holds (without es w i) x.row x.index) (open_queues (without es w i))))
               (held_here x (without es w i) r j c.1)))
-          | inr c ↦ ap (one_more (holds es x.row x.index)) ih
-              ∙ swap (holds es x.row x.index) (holds (without es w i) r j) (open_queues (without es w i))
-              ∙ ap (λ (b : Bool). one_more (holds (without es w i) r j)
-              (one_more b (open_queues (without es w i))))
-              (sym (ap has (F.without_other w i es x.row x.index
-              (λ e h y o. c.1 (record {
+          | inr c ↦ ap (one_more (holds es x.row x.index)) ih ∙ swap (holds es x.row x.index) (holds (without
+              es w i) r j) (open_queues (without es w i)) ∙ ap (λ (b : Bool). one_more (holds (without es w i)
+              r j) (one_more b (open_queues (without es w i)))) (sym (ap has (F.without_other w i es x.row
+              x.index (λ e h y o. c.1 (record {
                 row = sym o.row ∙ (all e (inr h) y).row;
-                index = sym o.index
-                    ∙ (all e (inr h) y).index;
+                index = sym o.index ∙ (all e (inr h) y).index;
               })))))
               ∙ sym (ap (λ (b : Bool). one_more b
               (one_more (holds (without es w i) x.row x.index) (open_queues (without es w i))))
@@ -98,11 +93,9 @@ module _ (w i r j : ℕ) where
   ]
 
   fewer_by : (b : Bool) (n m : ℕ) → m ≡ one_more b n → n ≤ m
-  fewer_by true n m e = omega (arith, e)
-  fewer_by false n m e = omega (arith, e)
+  fewer_by b n m e = grind arith
 
   pub fewer_open : (es : List Queued) → is_queued es w i ≡ true →
       ((e : Queued) → In e es → SameKey e.wave e.instr w i → IsOn e r j) →
       open_queues (without es w i) ≤ open_queues es
-  fewer_open es q all = fewer_by (holds (without es w i) r j) (open_queues (without es w i)) (open_queues es)
-      (open_without es q all)
+  fewer_open es q all = grind (arith, fewer_by, open_without)

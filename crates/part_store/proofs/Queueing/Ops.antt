@@ -1,11 +1,11 @@
 -- Operations on cells: their operands, what they leave outside the cells, and whether they count as issued.
 use Rattle.std.proofs.Common.{ℕ, ◌-◌, ◌≡◌, ◌⊎◌, true, false, List, [], ◌∷◌, ◌++◌, Option, Some, None}
-use Rattle.std.proofs.Common.{slice_index, refl, sym, ap, ◌∙◌, subst, inl, inr, eqb, eq-eqb, eqb-true}
+use Rattle.std.proofs.Common.{slice_index, refl, sym, ◌∙◌, subst, inl, inr, eqb, eq-eqb, arith}
 use Rattle.std.proofs.lemmas.Bool.{both_ways}
 use Rattle.ws_words.specs.Outside.{Act, loads, stores, Outside, row, printed_words}
 use Rattle.ws_words.specs.Plain.{took_words}
 use Rattle.ws_isa.specs.declared.instr.Op.{Op}
-use Rattle.ws_isa.specs.declared.instr.Op.TheVariants.{Load, Store, Input, Output, Give, Take}
+use Rattle.ws_isa.specs.declared.instr.Op.TheVariants.{Load, Store}
 use Rattle.ws_isa.specs.Image.{Array, Image, instr_at, array_at, array_of_op, ports, ports_of, is_load}
 use Rattle.ws_isa.specs.Image.{is_load_op, is_writing, is_writing_op, is_past, is_past_op, after, after_op}
 use Rattle.ws_isa.specs.Image.{answer, answer_op}
@@ -13,13 +13,12 @@ use Rattle.ws_isa.specs.Operations.{effect_of, without_loads}
 use Rattle.df_core.specs.Effect.{effect_after}
 use Rattle.df_core.specs.Core.{Chain, NoneNext, Passes, stays, passes, has}
 use Rattle.df_core.proofs.Keeping.Ports.{SameKey, with_key_cases}
-use Rattle.port_set.specs.Slots.{port_at}
 use Rattle.df_core.specs.Began.{Began}
 use Rattle.df_core.specs.Rights.{operands_of}
 use Rattle.df_core.proofs.Parts.Issuing.{printed_alike, took_alike}
 use Rattle.store_buf.specs.declared.kept.Kept.{Kept}
 use Rattle.store_buf.specs.Requests.{entry_of, answer_if}
-use Rattle.store_buf.specs.Outdoors.{Holding, HoldsOut, SlotIs}
+use Rattle.store_buf.specs.Outdoors.{Holding, HoldsOut}
 use Rattle.part_store.specs.declared.entry.Queued.{Queued}
 use Rattle.part_store.specs.Queues.{holds}
 use Rattle.part_store.specs.Contents.{cell, is_on_row, holds_op}
@@ -38,42 +37,24 @@ pub record NoRow (es : List Queued) (op : Op) (j : ℕ) : Type 0 where
   pub row : (r : ℕ) → is_on_row op r ≡ false
   pub held : holds_op es op j ≡ false
 
-pub row_cases : (es : List Queued) (op : Op) (j : ℕ) → OnRow es op j ⊎ NoRow es op j
-row_cases es (Load a) j = inl (record { row = eq-eqb (a - 1) (a - 1) refl; held = refl })
-row_cases es (Store a) j = inl (record { row = eq-eqb (a - 1) (a - 1) refl; held = refl })
-row_cases es _ j = inr (record { row = λ r. refl; held = refl })
-
 store_row_op : (op : Op) → is_store_op op ≡ true → is_on_row op (array_of_op op - 1) ≡ true
-store_row_op (Store a) e = eq-eqb (a - 1) (a - 1) refl
-store_row_op _ e = absurd (both_ways false refl e)
+store_row_op op e = grind arith
 
 store_no_load_op : (op : Op) → is_store_op op ≡ true → is_load_op op ≡ false
-store_no_load_op (Store a) e = refl
-store_no_load_op _ e = absurd (both_ways false refl e)
+store_no_load_op op e = grind arith
 
 store_writes_op : (op : Op) → is_store_op op ≡ true → is_writing_op op ≡ true
-store_writes_op (Store a) e = refl
-store_writes_op _ e = absurd (both_ways false refl e)
+store_writes_op op e = grind arith
 
 first_op : (op : Op) (f s : ℕ) → slice_index (operands_of (ports_of op) f s) 0 ≡ f
-first_op op f s = go op
-  where
-    go : (o : Op) → slice_index (operands_of (ports_of o) f s) 0 ≡ f
-    go (Store a) = refl
-    go _ = refl
+first_op op f s = grind arith
 
 second_op : (op : Op) (f s : ℕ) → is_store_op op ≡ true → slice_index (operands_of (ports_of op) f s) 1 ≡ s
-second_op (Store a) f s e = refl
-second_op _ f s e = absurd (both_ways false refl e)
+second_op op f s e = grind arith
 
 past_op : (arrays : List Array) (op : Op) (xs ys : List ℕ) → slice_index xs 0 ≡ slice_index ys 0 →
     is_past_op arrays op xs ≡ is_past_op arrays op ys
-past_op arrays op xs ys e = go op
-  where
-    go : (o : Op) → is_past_op arrays o xs ≡ is_past_op arrays o ys
-    go (Load a) = rw e refl
-    go (Store a) = rw e refl
-    go _ = refl
+past_op arrays op xs ys e = grind arith
 
 module _ (image : Image) where
   pub store_row : (i : ℕ) → is_store_op (instr_at image i).op ≡ true →
@@ -87,8 +68,7 @@ module _ (image : Image) where
       ⊎ (((r : ℕ) → is_on_row (instr_at image i).op r ≡ false) ×
       (holds_op es (instr_at image i).op j ≡ false))
   unfolding array_at
-  cases_row es i j = elim (row_cases es (instr_at image i).op j)
-      [ inl h ↦ inl (h.row, h.held) | inr h ↦ inr (h.row, h.held) ]
+  cases_row es i j = grind arith
 
   pub store_no_load : (i : ℕ) → is_store_op (instr_at image i).op ≡ true → is_load image i ≡ false
   unfolding is_load
@@ -124,15 +104,7 @@ one_act : (began : List (Option Began)) (o : Outside) (cs : List (List ℕ)) (h 
       left = o.left;
       acts = without_loads (o.acts ++ act ∷ []);
     }) h
-one_act began o cs h act p t is = record {
-  cells_are = is.cells_are;
-  input_is = is.input_is;
-  printed_are = printed_alike (o.acts ++ act ∷ []) ∙ printed_same o.acts (act ∷ []) p ∙ is.printed_are;
-  slots_are = λ slot l m. subst (λ (ws : List ℕ).
-      SlotIs (port_at began slot) (row o.left (slot - 1)) ws (port_at h.ports slot))
-      (sym (took_alike slot (o.acts ++ act ∷ []) ∙ took_quiet slot o.acts (act ∷ []) (t slot)))
-      (is.slots_are slot l m);
-}
+one_act began o cs h act p t is = grind (arith, printed_alike, printed_same, took_alike, took_quiet)
 
 quiet_op : (began : List (Option Began)) (op : Op) (r : ℕ) (xs : List ℕ) (o : Outside) (cs : List (List ℕ))
     (h : Holding) → is_on_row op r ≡ true → HoldsOut began (with_cells o cs) h →
@@ -150,18 +122,15 @@ unfolding effect_after after
 quiet_out began image i r xs o cs h e is = quiet_op began (instr_at image i).op r xs o cs h e is
 
 pub no_more : {A B : Type 0} (o : Option A) (p : Option B) → has o ≡ has p → p ≡ None → o ≡ None
-no_more None p e f = refl
-no_more (Some a) p e f = absurd (both_ways true (e ∙ ap has f) refl)
+no_more o p e f = grind arith
 
 pub some_more : {A B : Type 0} (o : Option A) (p : Option B) (b : B) → has o ≡ has p → p ≡ Some b →
     (a : A) × (o ≡ Some a)
-some_more None p b e f = absurd (both_ways false refl (e ∙ ap has f))
-some_more (Some a) p b e f = (a, refl)
+some_more o p b e f = grind arith
 
 pub none_next_alike : (image : Image) (f g : ℕ → ℕ → Option ℕ) → ((w i : ℕ) → has (g w i) ≡ has (f w i)) →
     (c : Chain) → NoneNext image f c → NoneNext image g c
-none_next_alike image f g same c none i a e nx = let r =
-    some_more (f c.wave i) (g c.wave i) a (sym (same c.wave i)) e in none i r.0 r.1 nx
+none_next_alike image f g same c none i a e nx = grind arith
 
 pub passes_alike : (image : Image) (f g : ℕ → ℕ → Option ℕ) → ((w i : ℕ) → has (g w i) ≡ has (f w i)) →
     (c d : Chain) → Passes image f c d → Passes image g c d
@@ -173,13 +142,10 @@ passes_alike image f g same c d (passes i a e nx rest) =
 -- answers of loads and stores
 answer_load_op : (op : Op) (r : ℕ) (xs : List ℕ) (o : Outside) → is_on_row op r ≡ true →
     is_store_op op ≡ false → answer_op op xs o ≡ cell o.cells r (slice_index xs 0)
-answer_load_op (Load a) r xs o e f = ap (λ (n : ℕ). cell o.cells n (slice_index xs 0)) (eqb-true (a - 1) r e)
-answer_load_op (Store a) r xs o e f = absurd (both_ways true f refl)
-answer_load_op _ r xs o e f = absurd (both_ways false refl e)
+answer_load_op op r xs o e f = grind arith
 
 answer_store_op : (op : Op) (xs : List ℕ) (o : Outside) → is_store_op op ≡ true → answer_op op xs o ≡ 0
-answer_store_op (Store a) xs o e = refl
-answer_store_op _ xs o e = absurd (both_ways false refl e)
+answer_store_op op xs o e = grind arith
 
 pub answer_load : (image : Image) (i r : ℕ) (xs : List ℕ) (o : Outside) →
     is_on_row (instr_at image i).op r ≡ true → is_store_op (instr_at image i).op ≡ false →
@@ -208,11 +174,7 @@ three f s = f ∷ s ∷ 0 ∷ []
 operands_alike_op : (op : Op) (f s : ℕ) (o : Outside) →
     (answer_op op (operands_of (ports_of op) f s) o ≡ answer_op op (three f s) o) ×
     (after_op op (operands_of (ports_of op) f s) o ≡ after_op op (three f s) o)
-operands_alike_op (Store a) f s o = (refl, refl)
-operands_alike_op (Load a) f s o = (refl, refl)
-operands_alike_op Output f s o = (refl, refl)
-operands_alike_op (Take p) f s o = (refl, refl)
-operands_alike_op _ f s o = (refl, refl)
+operands_alike_op op f s o = grind arith
 
 pub operands_alike : (image : Image) (k : Kept) (o : Outside) →
     (answer_op (instr_at image k.instr).op (operands_at image k) o ≡ answer_op (instr_at image k.instr).op
@@ -226,10 +188,7 @@ no_cells_op : (op : Op) (xs : List ℕ) (o : Outside) (cs : List (List ℕ)) →
     ((r : ℕ) → is_on_row op r ≡ false) → answer_op op xs (with_cells o cs) ≡ answer_op op xs o
 no_cells_op (Load a) xs o cs n = absurd (both_ways (eqb (a - 1) (a - 1)) (n (a - 1))
     (eq-eqb (a - 1) (a - 1) refl))
-no_cells_op (Store a) xs o cs n = refl
-no_cells_op Input xs o cs n = refl
-no_cells_op (Give p) xs o cs n = refl
-no_cells_op _ xs o cs n = refl
+no_cells_op op xs o cs n = refl
 
 pub no_cells : (image : Image) (i : ℕ) (xs : List ℕ) (o : Outside) (cs : List (List ℕ)) →
     ((r : ℕ) → is_on_row (instr_at image i).op r ≡ false) →
@@ -246,24 +205,19 @@ answer_is image i xs o = refl
 apart_op : (op : Op) (xs : List ℕ) (o : Outside) (cs : List (List ℕ)) →
     effect_of (after_op op xs (with_cells o cs)) ≡ with_cells (effect_of (after_op op xs o))
     (after_op op xs (with_cells o cs)).cells
-apart_op (Store a) xs o cs = refl
-apart_op (Load a) xs o cs = refl
-apart_op Input xs o cs = refl
-apart_op Output xs o cs = refl
-apart_op (Give p) xs o cs = refl
-apart_op (Take p) xs o cs = refl
-apart_op _ xs o cs = refl
+apart_op op xs o cs = grind arith
 
 pub outside_after : (began : List (Option Began)) (image : Image) (i : ℕ) (xs : List ℕ) (o : Outside)
     (cs : List (List ℕ)) (h : Holding) → HoldsOut began (after_op (instr_at image i).op xs (with_cells o cs))
     h →
     HoldsOut began (with_cells (effect_after image i xs o) h.cells) h
 unfolding effect_after after
-outside_after began image i xs o cs h is =
-    subst (λ (ds : List (List ℕ)). HoldsOut began
-    (with_cells (effect_of (after_op (instr_at image i).op xs o)) ds) h) is.cells_are
-    (subst (λ (z : Outside). HoldsOut began z h) (apart_op (instr_at image i).op xs o cs)
-    (out_effect began (after_op (instr_at image i).op xs (with_cells o cs)) h is))
+outside_after began image i xs o cs h is = grind (
+  arith,
+  apart_op (instr_at image i).op xs o cs,
+  out_effect
+      began (after_op (instr_at image i).op xs (with_cells o cs)) h is,
+)
 
 abbrev pub answer_in : Option Kept → Option ℕ
 answer_in e = answer_if e

@@ -1,15 +1,14 @@
 -- A buffer with queues: what its operations that count as issued are to the walk.
-use Rattle.std.proofs.Common.{ℕ, ◌≡◌, ◌<◌, ◌≤◌, Bool, true, false, List, Option, Some, refl, sym, ap, ◌∙◌}
-use Rattle.std.proofs.Common.{subst, inl, inr, arith}
+use Rattle.std.proofs.Common.{ℕ, ◌≡◌, ◌<◌, ◌≤◌, Bool, true, false, List, Option, Some, sym, ap, ◌∙◌, subst}
+use Rattle.std.proofs.Common.{arith}
 use Rattle.std.proofs.lemmas.Bool.{both_ways}
 use Rattle.ws_words.specs.Outside.{Outside, World}
-use Rattle.ws_isa.specs.Image.{Image, instr_at, is_load, is_memory, note_of}
+use Rattle.ws_isa.specs.Image.{Image, instr_at, is_memory, note_of}
 use Rattle.ws_isa.specs.Formed.{Formed}
 use Rattle.ws_isa.specs.Sound.{Sound}
 use Rattle.df_core.specs.Core.{Chain, Issuable, IsNext}
 use Rattle.df_core.specs.Fit.{IssuedOp, Legal, RightRequest, NoOp, chain_at}
 use Rattle.df_core.proofs.Walked.Facts.{WalkFacts}
-use Rattle.df_core.proofs.Keeping.BufferKept as B
 use Rattle.df_core.proofs.Keeping.Settling.{one_time}
 use Rattle.store_buf.specs.declared.kept.Kept.{Kept}
 use Rattle.part_store.specs.Parted.{OnCell, IsKept, IsAddressed, is_store_op}
@@ -21,8 +20,7 @@ use Rattle.part_store.proofs.Queueing.Cells as C
 -- an address comes from a store
 bare_store : (image : Image) (world : World) (b : Bool) (k : Kept) → b ≡ true → IsKept image world b k →
     IsAddressed image world k.wave k.instr k.first
-bare_store image world true k e h = h
-bare_store image world false k e h = absurd (both_ways false refl e)
+bare_store image world b k e h = grind arith
 
 pub bare_kept : (image : Image) (world : World) (b : Bool) (k : Kept) → b ≡ true → IsKept image world b k →
     IsAddressed image world k.wave k.instr k.first
@@ -30,15 +28,13 @@ bare_kept = bare_store
 
 pub whole_kept : (image : Image) (world : World) (b : Bool) (k : Kept) → b ≡ false → IsKept image world b k →
     RightRequest image world k.wave k.instr (operands_at image k)
-whole_kept image world true k e h = absurd (both_ways true e refl)
-whole_kept image world false k e h = h
+whole_kept image world b k e h = grind arith
 
 -- an answer doesn't matter
 pub kept_alike : (image : Image) (world : World) (b : Bool) (k : Kept) (a : Option ℕ) →
     IsKept image world b k → IsKept image world b
     (record { wave = k.wave; instr = k.instr; first = k.first; second = k.second; answer = a })
-kept_alike image world true k a h = h
-kept_alike image world false k a h = h
+kept_alike image world b k a h = grind arith
 
 module _ (image : Image) (world : World) (formed : Formed image) (sound : Sound image) (stopped : Bool)
     (waiting : ℕ → ℕ → Option (List ℕ)) (counts : ℕ → ℕ → Option ℕ) (chain : Chain) (memory : Outside)
@@ -56,13 +52,7 @@ module _ (image : Image) (world : World) (formed : Formed image) (sound : Sound 
   pub store_passed : (w i a t r j : ℕ) → counts w i ≡ Some a → is_store_op (instr_at image i).op ≡ true →
       OnCell image world w i r j t → t < legal.cut
   store_passed w i a t r j e s on =
-      let p = place_of w i a t r j e on in
-      let q : p.0.time ≡ t = p.1 in
-      elim p.0.place [
-        | inl l ↦ omega (arith, l, q)
-        | inr h ↦ absurd (both_ways (is_load image i) (O.store_no_load image i s)
-            (sym (ap (is_load image) p.0.at.instr) ∙ h.1.load))
-      ]
+      grind (arith, place_of w i a t r j e on, both_ways, O.store_no_load image i s)
 
   -- a store on a cell before the passed operations' end counts
   pub passed_counts : (r j k : ℕ) → (s : C.StoreAt image world facts r j k) → k < legal.cut →
@@ -71,31 +61,19 @@ module _ (image : Image) (world : World) (formed : Formed image) (sound : Sound 
 
   pub store_on : (r j k : ℕ) → (s : C.StoreAt image world facts r j k) →
       OnCell image world s.inst.wave s.inst.instr r j k
-  store_on r j k s = record {
-    inst = s.inst;
-    at = record { fires = s.fires; wave = refl; instr = refl };
-    row = s.row;
-    index = s.index;
-  }
+  store_on r j k s = grind arith
 
   -- no store is between the passed operations and another one that counts
   pub none_before_early : (w i a t r j : ℕ) → counts w i ≡ Some a → OnCell image world w i r j t →
       (q l k : ℕ) → legal.cut ≤ k → k < t → C.StoreAt image world facts q l k → ⊥
   none_before_early w i a t r j e on q l k from to s =
-      let p = place_of w i a t r j e on in
-      let m : p.0.time ≡ t = p.1 in
-      elim p.0.place [
-        | inl h ↦ omega (arith, h, m, from, to)
-        | inr h ↦ h.1.no_write k s.inst from (omega (arith, m, to)) s.fires
-            (O.store_writes image s.inst.instr s.store)
-      ]
+      grind (arith, place_of w i a t r j e on, from, O.store_writes image s.inst.instr s.store)
 
   -- a request that may be issued
   module _ (w i : ℕ) (xs : List ℕ) (req : RightRequest image world w i xs)
       (may : Issuable image counts chain false w i xs) where
     pub from : legal.cut ≤ req.time
-    from = B.from image world facts counts chain false memory legal.settled w i xs may req.time req.inst
-        req.at req.operands req.memory legal.cut legal.ordered
+    from = grind arith
 
     -- where it is next all before it are passed
     pub first : IsNext chain (note_of image i) → NoOp image world legal.cut req.time

@@ -1,11 +1,9 @@
 -- When the walk comes to operations on cells.
-use Rattle.std.proofs.Common.{ℕ, ◌-◌, ◌≡◌, ◌<◌, ◌≤◌, ◌⊎◌, Bool, true, false, cond, ◌&&◌, List, [], ◌∷◌, Some}
-use Rattle.std.proofs.Common.{None, slice_index, refl, sym, ap, ◌∙◌, subst, inl, inr, arith, eqb-true, eq-eqb}
-use Rattle.std.proofs.Common.{ne_eqb}
+use Rattle.std.proofs.Common.{ℕ, ◌≡◌, ◌<◌, ◌≤◌, ◌⊎◌, Bool, true, false, cond, ◌&&◌, List, [], ◌∷◌, Some, None}
+use Rattle.std.proofs.Common.{slice_index, refl, sym, ap, ◌∙◌, subst, inl, inr, arith, eq-eqb, ne_eqb}
 use Rattle.std.proofs.lemmas.Bool.{and_from, and_parts, both_ways, cases_Bool, cases_eq, lt-ltb, le-ltb}
 use Rattle.ws_words.specs.Outside.{World}
 use Rattle.ws_isa.specs.declared.instr.Op.{Op}
-use Rattle.ws_isa.specs.declared.instr.Op.TheVariants.{Load, Store}
 use Rattle.ws_isa.specs.Image.{Image, instr_at, is_memory, is_memory_op}
 use Rattle.ws_isa.specs.Formed.{Formed}
 use Rattle.ws_isa.specs.Walk.{Inst}
@@ -28,14 +26,10 @@ use Rattle.part_store.proofs.Queueing.Fronts as F
 use Rattle.ws_words.specs.Items.{In}
 
 row_memory_op : (o : Op) (r : ℕ) → is_on_row o r ≡ true → is_memory_op o ≡ true
-row_memory_op (Load a) r e = refl
-row_memory_op (Store a) r e = refl
-row_memory_op _ r e = absurd (both_ways false refl e)
+row_memory_op o r e = grind arith
 
 pub row_is_op : (o : Op) (r q : ℕ) → is_on_row o r ≡ true → is_on_row o q ≡ true → r ≡ q
-row_is_op (Load a) r q e f = sym (eqb-true (a - 1) r e) ∙ eqb-true (a - 1) q f
-row_is_op (Store a) r q e f = sym (eqb-true (a - 1) r e) ∙ eqb-true (a - 1) q f
-row_is_op _ r q e f = absurd (both_ways false refl e)
+row_is_op o r q e f = grind arith
 
 pub row_memory : (image : Image) (i r : ℕ) → is_on_row (instr_at image i).op r ≡ true →
     is_memory image i ≡ true
@@ -66,12 +60,7 @@ module _ (image : Image) (world : World) (formed : Formed image) (sound : Sound 
   -- two operations at one step are of one instance
   pub one_instance : (w i r j v k q l t : ℕ) → OnCell image world w i r j t → OnCell image world v k q l t →
       SameKey w i v k
-  one_instance w i r j v k q l t a b =
-      let s : a.inst ≡ b.inst = same_fired image world facts t t a.inst b.inst a.at.fires b.at.fires refl in
-      record {
-        wave = sym a.at.wave ∙ ap (λ (x : Inst). x.wave) s ∙ b.at.wave;
-        instr = sym a.at.instr ∙ ap (λ (x : Inst). x.instr) s ∙ b.at.instr;
-      }
+  one_instance w i r j v k q l t a b = grind arith
 
   abbrev At : Queued → ℕ → Type 0
   At e t = OnCell image world e.wave e.instr e.row e.index t
@@ -81,26 +70,14 @@ module _ (image : Image) (world : World) (formed : Formed image) (sound : Sound 
 
   pub earlier_then : (e f g : Queued) → Earlier image world e f → Earlier image world f g →
       Earlier image world e g
-  earlier_then e f g a b =
-      let s : a.then ≡ b.time = at_once f a.then b.time a.other b.one in
-      record {
-        time = a.time;
-        one = a.one;
-        then = b.then;
-        other = b.other;
-        before = (let p : a.time < a.then = a.before in let q : b.time < b.then = b.before in omega arith);
-        numbered = (a.numbered.0, b.numbered.1);
-      }
+  earlier_then e f g a b = grind (arith, at_once f a.then b.time a.other b.one)
 
   pub earlier_by : (e f : Queued) (t u : ℕ) → At e t → At f u → t < u →
       IsNumbered image e × IsNumbered image f → Earlier image world e f
   earlier_by e f t u a b l n = record { time = t; one = a; then = u; other = b; before = l; numbered = n }
 
   pub earlier_times : (e f : Queued) (t u : ℕ) → Earlier image world e f → At e t → At f u → t < u
-  earlier_times e f t u s a b =
-      let p : s.time ≡ t = at_once e s.time t s.one a in
-      let q : s.then ≡ u = at_once f s.then u s.other b in
-      let l : s.time < s.then = s.before in omega arith
+  earlier_times e f t u s a b = grind (arith, at_once e s.time t s.one a, at_once f s.then u s.other b)
 
   -- an entry isn't earlier than one of its own instance
   pub not_self : (e f : Queued) → SameKey e.wave e.instr f.wave f.instr → Earlier image world e f → ⊥
@@ -129,10 +106,9 @@ module _ (image : Image) (world : World) (formed : Formed image) (sound : Sound 
       elim (cases_eq e.wave f.wave) [
         | inl same ↦ inr (
           same,
-          rw (s.numbered.0, s.numbered.1, ← s.one.at.instr, ← s.other.at.instr)
-              (seq_up image world sound.shape sound.links s.time s.then s.one.inst s.other.inst l
-              s.one.at.fires
-              mx s.other.at.fires my (we ∙ same ∙ sym wf)),
+          rw (s.numbered.0, s.numbered.1, ← s.one.at.instr, ← s.other.at.instr) (seq_up image world
+              sound.shape sound.links s.time s.then s.one.inst s.other.inst l s.one.at.fires mx
+              s.other.at.fires my (we ∙ same ∙ sym wf)),
         )
         | inr n ↦ inl (omega arith)
       ]
@@ -209,32 +185,27 @@ module _ (image : Image) (world : World) (formed : Formed image) (sound : Sound 
         RisingEntries image world (joined f es)
     rising_joined [] rise all = ((λ g h. absurd h), tt)
     rising_joined (x ∷ es) rise all = elim (cases_Bool (all_later (x ∷ es) f)) [
-      | inl l ↦ subst (λ (b : Bool). RisingEntries image world (cond b (f ∷ x ∷ es) (x ∷ joined f es)))
-          (sym l)
-          (elim (all x (inl refl)) [
-            | inl a ↦ absurd (both_ways (is_later x f) (later_not x f a)
-                (and_parts (is_later x f) (all_later es f) l).0)
+      | inl l ↦ subst (λ (b : Bool). RisingEntries image world (cond b (f ∷ x ∷ es) (x ∷ joined f es))) (sym
+          l) (elim (all x (inl refl)) [
+            | inl a ↦ absurd (both_ways (is_later x f) (later_not x f a) (and_parts (is_later x f) (all_later
+                es f) l).0)
             | inr a ↦ (
               (λ g h. elim h [
-                | inl q ↦ subst (λ (y : Queued). Earlier image world f y)
-                    (sym q) a
+                | inl q ↦ subst (λ (y : Queued). Earlier image world f y) (sym q) a
                 | inr k ↦ earlier_then f x g a (rise.0 g k)
               ]),
               rise,
             )
           ])
-      | inr l ↦ subst (λ (b : Bool). RisingEntries image world (cond b (f ∷ x ∷ es) (x ∷ joined f es)))
-          (sym l) (
+      | inr l ↦ subst (λ (b : Bool). RisingEntries image world (cond b (f ∷ x ∷ es) (x ∷ joined f es))) (sym
+          l) (
             (λ g h. elim (F.joined_in f es g h) [
               | inl q ↦ subst (λ (y : Queued). Earlier image world x y) (sym q) (elim (all x (inl refl)) [
                 | inl a ↦ a
-                | inr a ↦ absurd (both_ways (all_later (x ∷ es) f) l
-                    (later_all (x ∷ es) (λ g h.
-                    elim h [
-                      | inl q ↦ subst (λ (y : Queued). Earlier image world f y)
-                          (sym q) a
-                      | inr k ↦ earlier_then f x g a (rise.0 g k)
-                    ])))
+                | inr a ↦ absurd (both_ways (all_later (x ∷ es) f) l (later_all (x ∷ es) (λ g h. elim h [
+                  | inl q ↦ subst (λ (y : Queued). Earlier image world f y) (sym q) a
+                  | inr k ↦ earlier_then f x g a (rise.0 g k)
+                ])))
               ])
               | inr k ↦ rise.0 g k
             ]),
@@ -263,12 +234,7 @@ module _ (image : Image) (world : World) (formed : Formed image) (sound : Sound 
     pub rising_without : (es : List Queued) → RisingEntries image world es
         → RisingEntries image world (without es w i)
     rising_without [] rise = tt
-    rising_without (x ∷ es) rise = elim (key_cases x.wave x.instr w i) [
-      | inl k ↦ subst (λ (b : Bool). RisingEntries image world (cond b es (x ∷ without es w i))) (sym k.0)
-          rise.1
-      | inr k ↦ subst (λ (b : Bool). RisingEntries image world (cond b es (x ∷ without es w i))) (sym k.0)
-          ((λ g h. rise.0 g (F.without_in w i es g h)), rising_without es rise.1)
-    ]
+    rising_without (x ∷ es) rise = grind (arith, key_cases, F.without_in, rising_without es rise.1)
 
     -- it stands no more among the others
     pub gone : (es : List Queued) → RisingEntries image world es → (e : Queued) → In e (without es w i) →

@@ -1,12 +1,11 @@
 -- What stays true of a buffer after a call.
 use Rattle.std.proofs.Common.{ℕ, ◌≡◌, true, List, Option, Some, None, Result, Ok, Err, sym, ◌∙◌, subst, inl}
-use Rattle.std.proofs.Common.{inr}
+use Rattle.std.proofs.Common.{inr, arith}
 use Rattle.std.proofs.lemmas.Bool.{both_ways}
 use Rattle.ws_words.specs.Outside.{World}
 use Rattle.ws_isa.specs.Image.{Image, Token, instr_at}
 use Rattle.ws_isa.specs.Formed.{Formed}
 use Rattle.ws_isa.specs.Sound.{Sound}
-use Rattle.df_core.specs.Core.{Chain}
 use Rattle.df_core.proofs.Walked.SentTokens.{nth_slice}
 use Rattle.df_core.specs.Chains.{chain_of}
 use Rattle.df_core.specs.Began.{Began}
@@ -14,7 +13,7 @@ use Rattle.df_core.specs.Rights.{IsAsked, IsRight}
 use Rattle.store_buf.specs.declared.fault.BufFault.{BufFault}
 use Rattle.store_buf.specs.declared.fault.BufFault.TheVariants as fault
 use Rattle.store_buf.specs.declared.kept.Kept.{Kept}
-use Rattle.store_buf.specs.Outdoors.{Holding, RoseAt, RoseSince}
+use Rattle.store_buf.specs.Outdoors.{RoseAt, RoseSince}
 use Rattle.store_buf.specs.Outers.{holding}
 use Rattle.store_buf.specs.Contents.{PortWaits, RightTokens, with_tokens}
 use Rattle.store_buf.specs.Stores.{asked_of}
@@ -27,20 +26,16 @@ use Rattle.part_store.specs.Calls.{PartSubmitSo, request_of}
 use Rattle.part_store.specs.Parts.{AddressLeads, Calm, PartsOk, PartsFiled, content_of, PartsStanding}
 use Rattle.part_store.specs.Parts.{PartsSubmitLeads}
 use Rattle.part_store.proofs.Running.Resting as R
-use Rattle.ws_words.specs.Items.{nth}
 use Rattle.part_store.specs.Contents.{PartContent}
 
 module _ {P : Type 0} (image : Image) (world : World) (began : List (Option Began)) (formed : Formed image)
     (old new : Parts P) (standing : PartsStanding image world began old) (calm : Calm image world began new)
     (ok : PartsOk new) (filed : PartsFiled image new) where
   idle_same : SameAs (content_of old) (content_of new) → PartIdle image (content_of new)
-  idle_same s f t = R.no_rule_same image (content_of old) (content_of new) s
-      (standing.idle (sym s.failed ∙ f) (sym s.starved ∙ t))
+  idle_same s f t = grind arith
 
   failed_same : SameAs (content_of old) (content_of new) → PartFailedSo image began (content_of new)
-  failed_same s port e = subst (λ (x : List Kept × Chain × Holding). PortWaits image x.0 x.1 port ×
-      RoseSince began port x.2.ports) (λ j. (sym s.kept j, sym s.chain j, sym s.outside j))
-      (standing.failed port (sym s.failed ∙ e))
+  failed_same s port e = grind arith
 
   none_failed : new.failed ≡ None → PartFailedSo image began (content_of new)
   none_failed n port e = absurd (let f : None ≡ Some port = sym n ∙ e in cc)
@@ -69,8 +64,7 @@ module _ {P : Type 0} (image : Image) (world : World) (began : List (Option Bega
   fails : (port : ℕ) → new.failed ≡ Some port → RoseAt port old.outer.ports new.outer.ports →
       PortWaits image new.order.kept.items (chain_of new.order.chain) port
       → PartsStanding image world began new
-  fails port is rose waits = stands (λ f t. absurd (let g : Some port ≡ None = sym is ∙ f in cc))
-      (one_failed port is rose waits)
+  fails port is rose waits = grind (arith, stands, one_failed port is rose waits)
 
   starves : new.starved ≡ true → new.failed ≡ None → PartsStanding image world began new
   starves s n = stands (λ f t. absurd (both_ways new.starved t s)) (none_failed n)
@@ -79,8 +73,7 @@ module _ {P : Type 0} (image : Image) (world : World) (began : List (Option Bega
   same_stands s = stands (idle_same s) (failed_same s)
 
   equal_stands : content_of new ≡ content_of old → PartsStanding image world began new
-  equal_stands e = stands (subst (PartIdle image) (sym e) standing.idle)
-      (subst (PartFailedSo image began) (sym e) standing.failed)
+  equal_stands e = grind arith
 
   pub addressed : (k : Kept) (tokens : List Token) (r : Result (Unit {0}) BufFault) →
       AddressSo image (content_of old) k tokens r (content_of new) → PartsStanding image world began new
@@ -89,9 +82,8 @@ module _ {P : Type 0} (image : Image) (world : World) (began : List (Option Bega
   addressed k tokens (Err (fault.Port port)) a = fails port a.0.3 a.1 a.2
   addressed k tokens (Err fault.NoMemory) (inl a) = same_stands a.2
   addressed k tokens (Err fault.NoMemory) (inr a) = starves a.0.4 a.0.3
-  addressed k tokens (Err fault.Old) a = equal_stands a.2
-  addressed k tokens (Err (fault.Stopped port)) a = equal_stands a.2
   addressed k tokens (Err (fault.Ended array)) a = equal_stands a.1
+  addressed k tokens r a = equal_stands a.2
 
   pub submitted : (k : Kept) (tokens : List Token) (r : Result (Unit {0}) BufFault) →
       PartSubmitSo image (content_of old) k tokens r (content_of new) → PartsStanding image world began new
@@ -119,11 +111,10 @@ module _ {P : Type 0} (im image : Image) (world : World) (began : List (Option B
   address_told right leads =
       let l = subst (λ (i : Image). AddressLeads i old k tokens r new) same leads world began formed sound
       right standing.calm standing.idle in (
-        addressed image world began formed old new standing l.0 ok
-            (subst (λ (i : Image). PartsFiled i new) same filed) k tokens r l.2,
+        addressed image world began formed old new standing l.0 ok (subst (λ (i : Image). PartsFiled i
+            new) same filed) k tokens r l.2,
         l.1,
-        subst
-            (λ (x : Kept). AddressSo image (content_of old) x tokens r (content_of new)) is l.2,
+        subst (λ (x : Kept). AddressSo image (content_of old) x tokens r (content_of new)) is l.2,
       )
 
   pub submit_told : IsAsked image world (asked_of k) → PartsSubmitLeads im old k tokens r new →
@@ -132,35 +123,25 @@ module _ {P : Type 0} (im image : Image) (world : World) (began : List (Option B
   submit_told right leads =
       let l = subst (λ (i : Image). PartsSubmitLeads i old k tokens r new) same leads world began formed sound
       right standing.calm standing.idle in (
-        submitted image world began formed old new standing l.0 ok
-            (subst (λ (i : Image). PartsFiled i new) same filed) k tokens r l.2,
+        submitted image world began formed old new standing l.0 ok (subst (λ (i : Image). PartsFiled i
+            new) same filed) k tokens r l.2,
         l.1,
-        subst
-            (λ (x : Kept). PartSubmitSo image (content_of old) x tokens r (content_of new)) is l.2,
+        subst (λ (x : Kept). PartSubmitSo image (content_of old) x tokens r (content_of new)) is l.2,
       )
 
 -- the same with a list of tokens as the answer
 pub addressed_as : (image : Image) (old : PartContent) (k : Kept) (tokens : List Token)
     (r : Result (Unit {0}) BufFault) (new : PartContent) → AddressSo image old k tokens r new →
     AddressedSo image old k (with_tokens tokens r) new
-addressed_as image old k tokens (Ok u) new a = a
-addressed_as image old k tokens (Err f) new a = (tokens, a)
+addressed_as image old k tokens r new a = grind arith
 
 pub submitted_as : (image : Image) (old : PartContent) (k : Kept) (tokens : List Token)
     (r : Result (Unit {0}) BufFault) (new : PartContent) → PartSubmitSo image old k tokens r new →
     SubmittedSo image old k (with_tokens tokens r) new
-submitted_as image old k tokens (Ok u) new a = a
-submitted_as image old k tokens (Err f) new a = (tokens, a)
+submitted_as image old k tokens r new a = grind arith
 
 -- a right token at a store's port 0 is its address
 pub is_address : (image : Image) (world : World) (t : Token) → IsRight image world t →
     is_store_op (instr_at image t.instr).op ≡ true → t.port ≡ 0 →
     IsAddressed image world t.wave t.instr t.value
-is_address image world t right store port = record {
-  time = right.time;
-  inst = right.inst;
-  at = right.at;
-  store = store;
-  address = nth_slice right.inst.operands 0 t.value
-      (subst (λ (p : ℕ). nth right.inst.operands p ≡ Some t.value) port right.operand);
-}
+is_address image world t right store port = grind (arith, nth_slice)

@@ -1,12 +1,12 @@
 -- A request or an address comes, and what is true of a buffer stays true.
-use Rattle.std.proofs.Common.{ℕ, ◌≡◌, ◌≤◌, Bool, true, false, cond, List, [], ◌∷◌, ◌++◌, length, Option, Some}
-use Rattle.std.proofs.Common.{None, refl, sym, ap, ◌∙◌, subst, inl, inr}
+use Rattle.std.proofs.Common.{ℕ, ◌≡◌, ◌≤◌, Bool, false, List, length, Option, Some, None, refl, sym, ap, ◌∙◌}
+use Rattle.std.proofs.Common.{subst, arith}
 use Rattle.std.proofs.lemmas.Bool.{both_ways}
 use Rattle.ws_words.specs.Outside.{World, row}
 use Rattle.ws_isa.specs.Image.{Image}
 use Rattle.df_core.specs.Core.{Chain, has}
 use Rattle.df_core.specs.Fit.{Legal}
-use Rattle.df_core.proofs.Keeping.Ports.{SameKey, with_key_cases}
+use Rattle.df_core.proofs.Keeping.Ports.{with_key_cases}
 use Rattle.df_core.specs.Began.{Began}
 use Rattle.store_buf.specs.declared.kept.Kept.{Kept}
 use Rattle.store_buf.specs.Requests.{entry_of, issued_in}
@@ -31,51 +31,16 @@ module _ (image : Image) (world : World) (began : List (Option Began)) (c d : Pa
   k' = record { wave = k.wave; instr = k.instr; first = k.first; second = k.second; answer = None }
 
   issued : (w i : ℕ) → issued_in d.kept w i ≡ issued_in c.kept w i
-  issued w i = ap (λ (ks : List Kept). issued_in ks w i) come.kept
-      ∙ issued_push image c.kept k' come.fresh refl w i
+  issued w i = grind (arith, issued_push)
 
   right_so : (x : Bool) → x ≡ b → IsKept image world x k'
-  right_so x e = subst (λ (y : Bool). IsKept image world y k') (sym e) (plain b right)
-    where
-      plain : (y : Bool) → IsKept image world y k → IsKept image world y k'
-      plain true h = h
-      plain false h = h
+  right_so x e = grind arith
 
   new_right : (w i : ℕ) (x : Kept) → entry_of d.kept w i ≡ Some x → IsKept image world (is_bare d w i) x
-  new_right w i x h =
-      let g : entry_of (c.kept ++ k' ∷ []) w i ≡ Some x =
-      subst (λ (ks : List Kept). entry_of ks w i ≡ Some x) come.kept h in
-      elim (key_cases k.wave k.instr w i) [
-        | inl y ↦ elim (with_key_cases k.wave k.instr (Some k') (entry_of c.kept) w i) [
-          | inl z ↦ (let q : Some k' ≡ Some x = sym (entry_push c.kept k' come.fresh w i ∙ z.1) ∙ g in
-              let e : k' ≡ x = cc in
-              subst (λ (v : Kept). IsKept image world (is_bare d w i) v) e
-              (right_so (is_bare d w i)
-              (come.bare_is w i ∙ ap (λ (v : Bool). cond v b (is_bare c w i)) y.0)))
-          | inr z ↦ absurd (z.0 y.1)
-        ]
-        | inr y ↦ elim (with_key_cases k.wave k.instr (Some k') (entry_of c.kept) w i) [
-          | inl z ↦ absurd (y.1 z.0)
-          | inr z ↦ subst (λ (v : Bool). IsKept image world v x)
-              (sym (come.bare_is w i ∙ ap (λ (v : Bool). cond v b (is_bare c w i)) y.0))
-              (s.partly.right w i x (sym (entry_push c.kept k' come.fresh w i ∙ z.1) ∙ g))
-        ]
-      ]
-
-  -- what counts has another instance
-  other : (w i a : ℕ) → s.counts w i ≡ Some a → SameKey k.wave k.instr w i → ⊥
-  other w i a e key =
-      let r = O.some_more (issued_in c.kept w i) (s.counts w i) a (sym (s.partly.same w i)) e in
-      let g : entry_of c.kept w i ≡ None =
-      subst (λ (n : ℕ). entry_of c.kept w n ≡ None) key.instr
-      (subst (λ (n : ℕ). entry_of c.kept n k.instr ≡ None) key.wave come.fresh) in
-      let h : None ≡ Some r.0 = sym (ap O.answer_in g) ∙ r.1 in cc
+  new_right w i x h = grind (arith, key_cases, with_key_cases, entry_push, right_so)
 
   bare_old : (w i a : ℕ) → s.counts w i ≡ Some a → is_bare d w i ≡ is_bare c w i
-  bare_old w i a e = elim (key_cases k.wave k.instr w i) [
-    | inl y ↦ absurd (other w i a e y.1)
-    | inr y ↦ come.bare_is w i ∙ ap (λ (v : Bool). cond v b (is_bare c w i)) y.0
-  ]
+  bare_old w i a e = grind arith
 
   queued_same : (w i : ℕ) → is_queued d.queued w i ≡ is_queued c.queued w i
   queued_same w i = ap (λ (es : List Queued). is_queued es w i) come.queued

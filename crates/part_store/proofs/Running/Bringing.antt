@@ -1,11 +1,11 @@
 -- An address or a request comes to the buffer, and what is known of a run stays true.
-use Rattle.std.proofs.Common.{ℕ, ◌≡◌, Bool, true, false, cond, List, Option, Some, None, Result, Ok, Err}
-use Rattle.std.proofs.Common.{OnOk, refl, sym, ap, ◌∙◌, subst, inl, inr}
+use Rattle.std.proofs.Common.{ℕ, ◌≡◌, Bool, true, false, List, Option, Some, None, Result, Ok, Err, OnOk}
+use Rattle.std.proofs.Common.{refl, sym, ap, ◌∙◌, subst, inl, inr, arith}
 use Rattle.std.proofs.lemmas.Bool.{both_ways, cases_Bool}
 use Rattle.ws_words.specs.Outside.{World}
 use Rattle.ws_isa.specs.Image.{Image, Token, ports, sends}
 use Rattle.ws_isa.specs.Walk.{Ports}
-use Rattle.df_core.specs.Core.{same_key, with_key}
+use Rattle.df_core.specs.Core.{with_key}
 use Rattle.df_core.specs.Shown.{Tables}
 use Rattle.df_core.proofs.Keeping.Ports.{SameKey, with_key_cases}
 use Rattle.df_core.specs.Began.{Began}
@@ -44,32 +44,20 @@ have_answered image t c way paid w i a k e s q = paid.answered
     (sends image w i (operands_of (ports image i) k.first k.second) a) (w, i, a, k, e, s, q, refl)
 
 pub both_ok : {A E : Type 0} {X Y Z : Type 0} (r : Result A E) → (X → Y → Z) → OnOk r X → OnOk r Y → OnOk r Z
-both_ok (Ok a) f x y = f x y
-both_ok (Err e) f x y = tt
+both_ok r f x y = grind arith
 
 -- not queued later, not queued before
 old_joined : (image : Image) (e : Queued) (es : List Queued) (w i : ℕ) → is_queued (joined e es) w i ≡ false →
     is_queued es w i ≡ false
-old_joined image e es w i n = elim (cases_Bool (is_queued es w i)) [
-  | inl q ↦ (let f = F.queued_in es w i q in absurd (both_ways (is_queued (joined e es) w i) n
-      (F.in_queued (joined e es) w i f.0 (F.joined_old e es f.0 f.1) f.2)))
-  | inr q ↦ q
-]
+old_joined image e es w i n = grind (arith, cases_Bool, F.queued_in, both_ways, F.in_queued, F.joined_old)
 
 new_joined : (image : Image) (e : Queued) (es : List Queued) (w i : ℕ) → is_queued (joined e es) w i ≡ false →
     SameKey e.wave e.instr w i → ⊥
-new_joined image e es w i n key = both_ways (is_queued (joined e es) w i) n
-    (F.in_queued (joined e es) w i e (F.joined_new e es) key)
+new_joined image e es w i n key = grind (arith, both_ways, F.in_queued, F.joined_new)
 
 old_without : (es : List Queued) (a b w i : ℕ) → is_queued (without es a b) w i ≡ false →
     (SameKey a b w i → ⊥) → is_queued es w i ≡ false
-old_without es a b w i n other = elim (cases_Bool (is_queued es w i)) [
-  | inl q ↦ (let f = F.queued_in es w i q in absurd (both_ways (is_queued (without es a b) w i) n
-      (F.in_queued (without es a b) w i f.0
-      (F.in_without a b es f.0 f.1 (λ s.
-      other (record { wave = sym s.wave ∙ f.2.wave; instr = sym s.instr ∙ f.2.instr }))) f.2)))
-  | inr q ↦ q
-]
+old_without es a b w i n other = grind (arith, cases_Bool, F.queued_in, both_ways, F.in_queued, F.in_without)
 
 -- what is kept stays kept, and is as whole as before
 pub record Lasts (c d : PartContent) : Type 0 where
@@ -77,24 +65,16 @@ pub record Lasts (c d : PartContent) : Type 0 where
   pub bare : (w i : ℕ) → is_bare d w i ≡ is_bare c w i
 
 lasts_on : (c d e : PartContent) → Lasts c d → Lasts d e → Lasts c e
-lasts_on c d e a b = record {
-  kept = λ w i k h. (let x = a.kept w i k h in b.kept w i x.0 x.1);
-  bare = λ w i. b.bare w i ∙ a.bare w i;
-}
+lasts_on c d e a b = grind arith
 
 with_kept : (w i : ℕ) (k : Kept) (f : ℕ → ℕ → Option Kept) (a b : ℕ) (x : Kept) → f a b ≡ Some x →
     (y : Kept) × (with_key w i (Some k) f a b ≡ Some y)
-with_kept w i k f a b x e = elim (with_key_cases w i (Some k) f a b)
-    [ inl h ↦ (k, h.1) | inr h ↦ (x, h.1 ∙ e) ]
+with_kept w i k f a b x e = grind (arith, with_key_cases w i (Some k) f a b)
 
 module _ (image : Image) where
   counted_lasts : (c d : PartContent) (k : Kept) (word : ℕ) (q : List Queued) (o : _) →
       Counted image c k word q o d → Lasts c d
-  counted_lasts c d k word q o n = record {
-    kept = λ w i x e. (let y = with_kept k.wave k.instr (answered k (Some word)) (entry_of c.kept) w i x e in
-        (y.0, n.kept w i ∙ y.1));
-    bare = n.bare;
-  }
+  counted_lasts c d k word q o n = grind arith
 
   pub moves_last : (c d : PartContent) (ts : List Token) → Moves image c ts d → Lasts c d
   moves_last c d ts stays = record { kept = λ w i k e. (k, e); bare = λ w i. refl }
@@ -118,29 +98,11 @@ module _ (image : Image) where
     -- an operation joins a queue
     join_done : (c d : PartContent) (k : Kept) (o : _) →
         Counted image c k 0 (joined (entry_at image k) c.queued) o d → Done c → Done d
-    join_done c d k o n done w i a x e s q =
-        let q' : is_queued (joined (entry_at image k) c.queued) w i ≡ false =
-        subst (λ (es : List Queued). is_queued es w i ≡ false) n.queued_are q in
-        elim (with_key_cases k.wave k.instr (Some (answered k (Some 0))) (entry_of c.kept) w i) [
-          | inl h ↦ absurd (new_joined image (entry_at image k) c.queued w i q' h.0)
-          | inr h ↦ done w i a x (sym h.1 ∙ sym (n.kept w i) ∙ e) s
-              (old_joined image (entry_at image k) c.queued w i q')
-        ]
+    join_done c d k o n done w i a x e s q = grind (arith, with_key_cases, new_joined, old_joined)
 
     issue_done : (c d : PartContent) (k : Kept) (word : ℕ) (o : _) → Counted image c k word c.queued o d →
         Covers (sends image k.wave k.instr (operands_at image k) word) way → Done c → Done d
-    issue_done c d k word o n sent done w i a x e s q =
-        elim (with_key_cases k.wave k.instr (Some (answered k (Some word))) (entry_of c.kept) w i) [
-          | inl h ↦ (let z : Some (answered k (Some word)) ≡ Some x = sym h.1 ∙ sym (n.kept w i) ∙ e in
-              let y : answered k (Some word) ≡ x = cc in
-              let v : Some word ≡ Some a = ap (λ (l : Kept). l.answer) y ∙ s in
-              let u : word ≡ a = cc in
-              subst (λ (l : ℕ × ℕ × ℕ × ℕ × ℕ).
-              AllReach f way (sends image l.0 l.1 (operands_of (ports image l.1) l.2 l.3) l.4))
-              (λ j. (h.0.wave j, h.0.instr j, (y j).first, (y j).second, u j)) (R.reach_all f _ way sent))
-          | inr h ↦ done w i a x (sym h.1 ∙ sym (n.kept w i) ∙ e) s
-              (subst (λ (es : List Queued). is_queued es w i ≡ false) n.queued_are q)
-        ]
+    issue_done c d k word o n sent done w i a x e s q = grind arith
 
     follow_done : (c d : PartContent) (e : Queued) (some : List Token) → Followed image c e some d →
         Covers some way → Done c → Done d
@@ -181,34 +143,21 @@ module _ (image : Image) where
     moves_done c d ts (opens {d = m} k a b n r) sent done = moves_done m d _ r sent (join_done c m k _ n done)
     moves_done c d ts (joins {d = m} k a b h n r) sent done =
         moves_done m d _ r sent (join_done c m k _ n done)
-    moves_done c d ts (issues {d = m} {rest = rest} k word left a b h u n r) sent done =
-        moves_done m d rest r (R.covers_right _ rest way sent)
-        (issue_done c m k word _ n (R.covers_left _ rest way sent) done)
+    moves_done c d ts (issues {d = m} {rest = rest} k word left a b h u n r) sent done = moves_done m d rest r
+        (R.covers_right _ rest way sent) (issue_done c m k word _ n (R.covers_left _ rest way sent) done)
     moves_done c d ts (follows {d = m} {some = some} {rest = rest} first g h n r) sent done =
         moves_done m d rest r (R.covers_right some rest way sent)
         (follow_done c m first some n (R.covers_left some rest way sent) done)
     moves_done c d ts (stops k h) sent done = done
 
     alike_done : (c d : PartContent) → Alike c d → Done c → Done d
-    alike_done c d a done w i n x e s q =
-        done w i n x (subst (λ (ks : List Kept). entry_of ks w i ≡ Some x) a.kept e) s
-        (subst (λ (es : List Queued). is_queued es w i ≡ false) a.queued q)
+    alike_done c d a done w i n x e s q = grind arith
 
     to_done : (c d : PartContent) (ts : List Token) → MovesTo image c ts d → Covers ts way → Done c → Done d
     to_done c d ts m sent done = alike_done m.mid d m.alike (moves_done c m.mid ts m.moves sent done)
 
     come_done : (c d : PartContent) (k : Kept) (b : Bool) → ComesIn c k b d → Done c → Done d
-    come_done c d k b m done w i a x e s q =
-        let e' : with_key k.wave k.instr (Some (answered k None)) (entry_of c.kept) w i ≡ Some x =
-        sym (entry_push c.kept (answered k None) m.fresh w i)
-        ∙ sym (ap (λ (ks : List Kept). entry_of ks w i) m.kept) ∙ e in
-        elim (with_key_cases k.wave k.instr (Some (answered k None)) (entry_of c.kept) w i) [
-          | inl h ↦ (let z : Some (answered k None) ≡ Some x = sym h.1 ∙ e' in
-              let y : answered k None ≡ x = cc in
-              absurd (nothing a (ap (λ (l : Kept). l.answer) y ∙ s)))
-          | inr h ↦ done w i a x (sym h.1 ∙ e') s
-              (subst (λ (es : List Queued). is_queued es w i ≡ false) m.queued q)
-        ]
+    come_done c d k b m done w i a x e s q = grind (arith, entry_push, with_key_cases, nothing)
 
     fill_done : (world : World) (began : List (Option Began)) (c d : PartContent) (k : Kept) →
         Parting image world began c → Fills c k d → Done c → Done d
@@ -231,80 +180,42 @@ module _ (image : Image) where
         ]
 
   to_last : (c d : PartContent) (ts : List Token) → MovesTo image c ts d → Lasts c d
-  to_last c d ts m = let l = moves_last c m.mid ts m.moves in record {
-    kept = λ w i k e. (let x = l.kept w i k e in
-        (x.0, ap (λ (ks : List Kept). entry_of ks w i) m.alike.kept ∙ x.1));
-    bare = λ w i. same_bare w i ∙ l.bare w i;
-  }
-    where
-      same_bare : (w i : ℕ) → is_bare d w i ≡ is_bare m.mid w i
-      same_bare w i = ap (λ (bs : List (ℕ × ℕ)). is_bare (record m.mid { bare = bs }) w i) m.alike.bare
+  to_last c d ts m = grind (arith, moves_last)
 
   last_whole : (c d : PartContent) (w i : ℕ) → Lasts c d → IsWhole c w i → IsWhole d w i
   last_whole c d w i l h = let x = l.kept w i h.0 h.1 in (x.0, x.1, l.bare w i ∙ h.2)
 
   come_kept : (c d : PartContent) (k : Kept) (b : Bool) → ComesIn c k b d → (w i : ℕ) →
       entry_of d.kept w i ≡ with_key k.wave k.instr (Some (answered k None)) (entry_of c.kept) w i
-  come_kept c d k b m w i = ap (λ (ks : List Kept). entry_of ks w i) m.kept
-      ∙ entry_push c.kept (answered k None) m.fresh w i
+  come_kept c d k b m w i = grind (arith, entry_push)
 
   -- what is whole stays whole where another comes
   come_whole : (c d : PartContent) (k : Kept) (b : Bool) (w i : ℕ) → ComesIn c k b d → IsWhole c w i
       → IsWhole d w i
-  come_whole c d k b w i m h = elim (key_cases k.wave k.instr w i) [
-    | inl s ↦ absurd (nothing h.0 (subst (λ (l : ℕ × ℕ). None ≡ entry_of c.kept l.0 l.1)
-        (λ j. (s.1.wave j, s.1.instr j)) (sym m.fresh) ∙ h.1))
-    | inr s ↦ (let x = with_kept k.wave k.instr (answered k None) (entry_of c.kept) w i h.0 h.1 in (
-      x.0,
-      come_kept c d k b m w i ∙ x.1,
-      m.bare_is w i ∙ ap (λ (v : Bool). cond v b (is_bare c w i)) s.0
-          ∙ h.2,
-    ))
-  ]
+  come_whole c d k b w i m h = grind (
+    arith,
+    key_cases k.wave k.instr w i,
+    nothing,
+    with_kept k.wave k.instr
+        (answered k None) (entry_of c.kept) w i h.0 h.1,
+    come_kept c d k b m w i,
+  )
 
   -- a request that has come is whole
   now_whole : (c d : PartContent) (k : Kept) → ComesIn c k false d → IsWhole d k.wave k.instr
-  now_whole c d k m = elim (with_key_cases k.wave k.instr (Some (answered k None))
-      (entry_of c.kept) k.wave k.instr) [
-        | inl h ↦ (
-          answered k None,
-          come_kept c d k false m k.wave k.instr ∙ h.1,
-          m.bare_is k.wave k.instr
-              ∙ here,
-        )
-        | inr h ↦ absurd (h.0 (record { wave = refl; instr = refl }))
-      ]
-    where
-      here : cond (same_key k.wave k.instr k.wave k.instr) false (is_bare c k.wave k.instr) ≡ false
-      here = elim (key_cases k.wave k.instr k.wave k.instr) [
-        | inl s ↦ ap (λ (v : Bool). cond v false (is_bare c k.wave k.instr)) s.0
-        | inr s ↦ absurd (s.1 (record { wave = refl; instr = refl }))
-      ]
-
-  fill_bare : (c d : PartContent) (k : Kept) → Fills c k d → (w i : ℕ) → is_bare c w i ≡ false →
-      is_bare d w i ≡ false
-  fill_bare c d k m w i e = m.bare_is w i ∙ elim (key_cases k.wave k.instr w i) [
-    | inl s ↦ ap (λ (v : Bool). cond v false (is_bare c w i)) s.0
-    | inr s ↦ ap (λ (v : Bool). cond v false (is_bare c w i)) s.0 ∙ e
-  ]
+  now_whole c d k m = grind (
+    arith,
+    with_key_cases,
+    come_kept c d k false m k.wave k.instr,
+    key_cases k.wave
+        k.instr k.wave k.instr,
+  )
 
   fill_whole : (c d : PartContent) (k : Kept) (w i : ℕ) → Fills c k d → IsWhole c w i → IsWhole d w i
-  fill_whole c d k w i m h =
-      let x = with_kept k.wave k.instr (answered k m.old.answer) (entry_of c.kept) w i h.0 h.1 in
-      (x.0, m.kept w i ∙ x.1, fill_bare c d k m w i h.2)
+  fill_whole c d k w i m h = grind arith
 
   filled_whole : (c d : PartContent) (k : Kept) → Fills c k d → IsWhole d k.wave k.instr
-  filled_whole c d k m = elim (with_key_cases k.wave k.instr (Some (answered k m.old.answer))
-      (entry_of c.kept) k.wave k.instr) [
-        | inl h ↦ (answered k m.old.answer, m.kept k.wave k.instr ∙ h.1, m.bare_is k.wave k.instr ∙ here)
-        | inr h ↦ absurd (h.0 (record { wave = refl; instr = refl }))
-      ]
-    where
-      here : cond (same_key k.wave k.instr k.wave k.instr) false (is_bare c k.wave k.instr) ≡ false
-      here = elim (key_cases k.wave k.instr k.wave k.instr) [
-        | inl s ↦ ap (λ (v : Bool). cond v false (is_bare c k.wave k.instr)) s.0
-        | inr s ↦ absurd (s.1 (record { wave = refl; instr = refl }))
-      ]
+  filled_whole c d k m = grind arith
 
   -- what is known stays true where the buffer changes so
   pay_part : (t : Tables) (c d : PartContent) (way : List Token)
@@ -331,17 +242,8 @@ module _ (image : Image) where
       GoesOn d → Paid image t d way
   addressed c d k (Ok ts) old way so offered t paid going =
       pay_came t c d k true ts old way None None false so.0 offered.0 offered.1 paid
-  addressed c d k (Err (fault.Index a)) old way so offered t paid going =
-      absurd (nothing a (sym going.0 ∙ so.1.2))
-  addressed c d k (Err (fault.Port p)) old way so offered t paid going =
-      absurd (nothing p (sym going.1 ∙ so.1.0.3))
-  addressed c d k (Err fault.NoMemory) old way so offered t paid going = absurd offered
-  addressed c d k (Err fault.Old) old way so offered t paid going =
-      subst (λ (x : PartContent × List Token). Paid image t x.0 x.1) (λ j. (sym so.1.2 j, sym offered j)) paid
-  addressed c d k (Err (fault.Stopped p)) old way so offered t paid going =
-      absurd (nothing p (sym going.1 ∙ ap (λ (x : PartContent). x.failed) so.1.2 ∙ so.1.1))
-  addressed c d k (Err (fault.Ended a)) old way so offered t paid going =
-      absurd (nothing a (sym going.0 ∙ ap (λ (x : PartContent). x.fault) so.1.1 ∙ so.1.0))
+  addressed c d k (Err fault.Old) old way so offered t paid going = grind arith
+  addressed c d k answer old way so offered t paid going = grind (arith, nothing)
 
   module _ (world : World) (began : List (Option Began)) (c : PartContent)
       (parting : Parting image world began c) where
@@ -374,31 +276,12 @@ module _ (image : Image) where
         GoesOn d → Paid image t d way
     submitted d k (Ok ts) old way so offered t paid going =
         pay_took t d k ts old way None None false so.0 offered.0 offered.1 paid
-    submitted d k (Err (fault.Index a)) old way so offered t paid going =
-        absurd (nothing a (sym going.0 ∙ so.1.2))
-    submitted d k (Err (fault.Port p)) old way so offered t paid going =
-        absurd (nothing p (sym going.1 ∙ so.1.0.3))
-    submitted d k (Err fault.NoMemory) old way so offered t paid going = absurd offered
-    submitted d k (Err fault.Old) old way so offered t paid going =
-        subst (λ (x : PartContent × List Token). Paid image t x.0 x.1) (λ j. (sym so.1.3 j, sym offered j))
-        paid
-    submitted d k (Err (fault.Stopped p)) old way so offered t paid going =
-        absurd (nothing p (sym going.1 ∙ ap (λ (x : PartContent). x.failed) so.1.2 ∙ so.1.1))
-    submitted d k (Err (fault.Ended a)) old way so offered t paid going =
-        absurd (nothing a (sym going.0 ∙ ap (λ (x : PartContent). x.fault) so.1.1 ∙ so.1.0))
+    submitted d k (Err fault.Old) old way so offered t paid going = grind arith
+    submitted d k answer old way so offered t paid going = grind (arith, nothing)
 
     pub submitted_whole : (d : PartContent) (k : Kept) (answer : Result (List Token) BufFault)
         (old way : List Token) → SubmittedSo image c k answer d → IsOffered answer old way → GoesOn d →
         IsWhole d k.wave k.instr
     submitted_whole d k (Ok ts) old way so offered going = took_whole d k ts None None false so.0
-    submitted_whole d k (Err (fault.Index a)) old way so offered going =
-        absurd (nothing a (sym going.0 ∙ so.1.2))
-    submitted_whole d k (Err (fault.Port p)) old way so offered going =
-        absurd (nothing p (sym going.1 ∙ so.1.0.3))
-    submitted_whole d k (Err fault.NoMemory) old way so offered going = absurd offered
-    submitted_whole d k (Err fault.Old) old way so offered going =
-        subst (λ (x : PartContent). IsWhole x k.wave k.instr) (sym so.1.3) (so.1.1.0, so.1.1.1, so.1.2)
-    submitted_whole d k (Err (fault.Stopped p)) old way so offered going =
-        absurd (nothing p (sym going.1 ∙ ap (λ (x : PartContent). x.failed) so.1.2 ∙ so.1.1))
-    submitted_whole d k (Err (fault.Ended a)) old way so offered going =
-        absurd (nothing a (sym going.0 ∙ ap (λ (x : PartContent). x.fault) so.1.1 ∙ so.1.0))
+    submitted_whole d k (Err fault.Old) old way so offered going = grind arith
+    submitted_whole d k answer old way so offered going = grind (arith, nothing)

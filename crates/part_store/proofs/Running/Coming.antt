@@ -1,8 +1,6 @@
 -- What comes of an address.
 use Rattle.std.proofs.Common.{ℕ, ◌+◌, ◌≡◌, ◌≤◌, Bool, true, false, cond, List, [], ◌∷◌, ◌++◌, Option, Some}
-use Rattle.std.proofs.Common.{None, Result, Ok, Err, OnOk, OnErr, IsOk, refl, sym, ap, ◌∙◌, subst, inl, inr}
-use Rattle.std.proofs.Common.{arith}
-use Rattle.std.proofs.lemmas.Bool.{both_ways, cases_Bool}
+use Rattle.std.proofs.Common.{None, Result, Ok, Err, OnOk, OnErr, IsOk, sym, ap, ◌∙◌, subst, inl, inr, arith}
 use Rattle.ws_words.specs.Outside.{World}
 use Rattle.ws_isa.specs.Image.{Image, Token}
 use Rattle.ws_isa.specs.Formed.{Formed}
@@ -26,9 +24,7 @@ use Rattle.part_store.specs.Bares.{is_in}
 use Rattle.part_store.specs.Parted.{IsKept, Parting, Fronts}
 use Rattle.part_store.specs.Rules.{MovesTo, NoRule, stays, ComesIn}
 use Rattle.part_store.specs.Calls.{AddressSo, ComesWhole, CameSo, SameAs, PartIdle, PartSubmitSo}
-use Rattle.part_store.specs.Calls.{comes as arrived}
 use Rattle.part_store.specs.Parts.{Calm, PartsOk, content_of, PartsSettledSo, PartsKeep}
-use Rattle.part_store.proofs.Queueing.Keys.{key_cases}
 use Rattle.part_store.proofs.Running.Arriving as A
 use Rattle.part_store.proofs.Moving.Keeping as K
 use Rattle.part_store.proofs.Moving.Leading as L
@@ -36,20 +32,16 @@ use Rattle.part_store.proofs.Moving.Reordered as Y
 use Rattle.part_store.proofs.Running.Resting as R
 
 pub take_ok : {A E : Type 0} {X : Type 0} (r : Result A E) → IsOk r → OnOk r X → X
-take_ok (Ok a) h x = x
-take_ok (Err e) h x = absurd (both_ways false refl h)
+take_ok r h x = grind arith
 
 pub both : {A E : Type 0} {X : Type 0} (r : Result A E) → OnOk r X → OnErr r X → X
-both (Ok a) x y = x
-both (Err e) x y = y
+both r x y = grind arith
 
 pub map_err : {A E : Type 0} {X Y : Type 0} (r : Result A E) → (X → Y) → OnErr r X → OnErr r Y
-map_err (Ok a) f y = tt
-map_err (Err e) f y = f y
+map_err r f y = grind arith
 
 pub at_most : {A E : Type 0} (r : Result A E) (n m : ℕ) → OnOk r (n ≡ m + 1) → OnErr r (n ≡ m) → n ≤ m + 1
-at_most (Ok a) n m e f = omega (arith, e)
-at_most (Err a) n m e f = omega (arith, f)
+at_most r n m e f = grind arith
 
 -- what is kept is kept among more
 pub kept_more : (ks : List Kept) (k : Kept) (w i : ℕ) → ((x : Kept) × (entry_of ks w i ≡ Some x)) →
@@ -66,29 +58,15 @@ kept_more (y ∷ ks) k w i e = elim (with_key_cases y.wave y.instr (Some y) (ent
 
 pub kept_now : (ks : List Kept) (k : Kept) → entry_of ks k.wave k.instr ≡ None →
     (x : Kept) × (entry_of (ks ++ k ∷ []) k.wave k.instr ≡ Some x)
-kept_now ks k fresh = (
-  k,
-  entry_push ks k fresh k.wave k.instr
-      ∙ with_key_same k.wave k.instr (Some k) (entry_of ks),
-)
+kept_now ks k fresh =
+    grind (arith, entry_push ks k fresh k.wave k.instr, with_key_same k.wave k.instr (Some k) (entry_of ks))
 
 module _ {P : Type 0} where
   -- a request that had not come isn't an address alone
   pub whole_bare : (old mid : Parts P) (k : Kept) → PartsOk old →
       entry_of old.order.kept.items k.wave k.instr ≡ None → mid.bare ≡ old.bare → (w i : ℕ) →
       is_in mid.bare w i ≡ cond (same_key k.wave k.instr w i) false (is_in old.bare w i)
-  whole_bare old mid k ok fresh same w i = ap (λ (b : _). is_in b w i) same
-      ∙ elim (key_cases k.wave k.instr w i) [
-        | inl y ↦ elim (cases_Bool (is_in old.bare w i)) [
-          | inl t ↦ absurd (let q = ok.bare w i t in
-              let g : entry_of old.order.kept.items w i ≡ None =
-              subst (λ (n : ℕ). entry_of old.order.kept.items w n ≡ None) y.1.instr
-              (subst (λ (n : ℕ). entry_of old.order.kept.items n k.instr ≡ None) y.1.wave fresh) in
-              let z : None ≡ Some q.0 = sym g ∙ q.1 in cc)
-          | inr f ↦ f ∙ sym (ap (λ (v : Bool). cond v false (is_in old.bare w i)) y.0)
-        ]
-        | inr y ↦ sym (ap (λ (v : Bool). cond v false (is_in old.bare w i)) y.0)
-      ]
+  whole_bare old mid k ok fresh same w i = grind arith
 
   -- it isn't kept, and nothing has changed
   module _ (image : Image) (world : World) (began : List (Option Began)) (old new : Parts P)
@@ -127,16 +105,7 @@ module _ {P : Type 0} where
         )
 
     pub same_as : SameAs (content_of old) (content_of new)
-    same_as = record {
-      kept = keeps.kept_are;
-      bare = bare;
-      queued = keeps.queued;
-      chain = ap chain_of keeps.chain;
-      fault = keeps.fault;
-      failed = keeps.failed;
-      starved = keeps.starved;
-      outside = keeps.outer;
-    }
+    same_as = grind arith
 
   -- it is kept
   module _ (image : Image) (world : World) (began : List (Option Began)) (formed : Formed image)
@@ -168,26 +137,23 @@ module _ {P : Type 0} where
     }
 
     issued_same : (w i : ℕ) → issued_in mid.order.kept.items w i ≡ issued_in old.order.kept.items w i
-    issued_same w i = ap (λ (ks : List Kept). issued_in ks w i) keeps.kept_are
-        ∙ issued_push image old.order.kept.items k fresh waits w i
+    issued_same w i = grind (arith, issued_push)
 
     pub calm_now : Calm image world began (record mid { starved = false })
     calm_now = (
       record {
-        parting = A.arrives image world began (content_of old)
-            (content_of (record mid { starved = false })) k b comes calm.0.parting running right;
-        early_issued = λ j h. let r = subst
-            (λ (x : code.Chain × List ℕ). EarlyIssued (issued_in old.order.kept.items) (chain_of x.0) x.1)
-            (λ n. (sym keeps.chain n, sym keeps.early n)) calm.0.early_issued j h in
+        parting = A.arrives image world began (content_of old) (content_of (record mid { starved = false })) k
+            b comes calm.0.parting running right;
+        early_issued = λ j h. let r = subst (λ (x : code.Chain × List ℕ). EarlyIssued (issued_in
+            old.order.kept.items) (chain_of x.0) x.1) (λ n. (sym keeps.chain n, sym keeps.early n))
+            calm.0.early_issued j h in
             (r.0, issued_same mid.order.chain.wave j ∙ r.1);
-        early_all = λ cut w i a t e is x at me l.
-            subst (λ (y : code.Chain × List ℕ).
-            HasEarly image world (issued_in old.order.kept.items) (chain_of y.0) y.1)
-            (λ n. (sym keeps.chain n, sym keeps.early n)) calm.0.early_all cut w i a t e
-            (sym (issued_same w i) ∙ is) x at me l;
+        early_all = λ cut w i a t e is x at me l. subst (λ (y : code.Chain × List ℕ). HasEarly image world
+            (issued_in old.order.kept.items) (chain_of y.0) y.1) (λ n. (sym keeps.chain n, sym keeps.early n))
+            calm.0.early_all cut w i a t e (sym (issued_same w i) ∙ is) x at me l;
       },
-      A.fronts_stay image world began (content_of old)
-          (content_of (record mid { starved = false })) k b comes calm.0.parting running right calm.1,
+      A.fronts_stay image world began (content_of old) (content_of (record mid { starved = false })) k b comes
+          calm.0.parting running right calm.1,
     )
 
     module _ (new : Parts P) (tokens : List Token)
@@ -199,20 +165,13 @@ module _ {P : Type 0} where
 
       came : (f p : Option ℕ) (s : Bool) → new.fault ≡ f → new.failed ≡ p → new.starved ≡ s →
           CameSo image (content_of old) k b tokens f p s (content_of new)
-      came f p s e g h = (
-        (running, working),
-        (content_of (record mid { starved = false }), comes, lead.0),
-        e,
-        g,
-        h,
-      )
+      came f p s e g h = grind (arith, comes)
 
       pub said : (b ≡ true) → (r : Result (Unit {0}) BufFault) → PartsSettledSo image mid r new →
           AddressSo image (content_of old) k tokens r (content_of new)
       said t (Ok u) s = (
         on_true (came None None false s.0 (s.1 ∙ keeps.failed ∙ working) s.2),
-        R.no_rule
-            image new (s.3 world began formed sound lead.1.0) lead.1.1,
+        R.no_rule image new (s.3 world began formed sound lead.1.0) lead.1.1,
       )
         where
           on_true : CameSo image (content_of old) k b tokens None None false (content_of new) →
@@ -233,23 +192,14 @@ module _ {P : Type 0} where
             (came None None true s.0 (s.1 ∙ keeps.failed ∙ working) s.2),
         s.3,
       )
-      said t (Err fault.Old) s = absurd s
-      said t (Err (fault.Stopped port)) s = absurd s
-      said t (Err (fault.Ended array)) s = absurd s
+      said t r s = absurd s
 
       pub took : (b ≡ false) → (r : Result (Unit {0}) BufFault) → PartsSettledSo image mid r new →
           PartSubmitSo image (content_of old) k tokens r (content_of new)
       took t r s = by_result r s
         where
           arrives : ComesWhole (content_of old) k (content_of (record mid { starved = false }))
-          arrives = comes_in t comes
-            where
-              comes_in : b ≡ false → ComesIn (content_of old) k b
-                  (content_of (record mid { starved = false })) →
-                  ComesWhole (content_of old) k (content_of (record mid { starved = false }))
-              comes_in e x = arrived (subst
-                  (λ (y : Bool). ComesIn (content_of old) k y (content_of (record mid { starved = false }))) e
-                  x)
+          arrives = grind (arith, comes)
 
           by_result : (r : Result (Unit {0}) BufFault) → PartsSettledSo image mid r new →
               PartSubmitSo image (content_of old) k tokens r (content_of new)
@@ -258,8 +208,7 @@ module _ {P : Type 0} where
               (running, working),
               (content_of (record mid { starved = false }), arrives, lead.0),
               s.0,
-              s.1 ∙ keeps.failed
-                  ∙ working,
+              s.1 ∙ keeps.failed ∙ working,
               s.2,
             ),
             R.no_rule image new (s.3 world began formed sound lead.1.0) lead.1.1,
@@ -268,8 +217,7 @@ module _ {P : Type 0} where
             (running, working),
             (content_of (record mid { starved = false }), arrives, lead.0),
             s.0,
-            s.1
-                ∙ keeps.failed ∙ working,
+            s.1 ∙ keeps.failed ∙ working,
             s.2,
           )
           by_result (Err (fault.Port port)) s = (
@@ -283,20 +231,17 @@ module _ {P : Type 0} where
             subst (λ (h : Holding). RoseAt port h.ports new.outer.ports) keeps.outer s.3,
             s.4,
           )
-          by_result (Err fault.NoMemory) s =
-              inr (
-                (
-                  (running, working),
-                  (content_of (record mid { starved = false }), arrives, lead.0),
-                  s.0,
-                  s.1 ∙ keeps.failed ∙ working,
-                  s.2,
-                ),
-                s.3,
-              )
-          by_result (Err fault.Old) s = absurd s
-          by_result (Err (fault.Stopped port)) s = absurd s
-          by_result (Err (fault.Ended array)) s = absurd s
+          by_result (Err fault.NoMemory) s = inr (
+            (
+              (running, working),
+              (content_of (record mid { starved = false }), arrives, lead.0),
+              s.0,
+              s.1 ∙ keeps.failed ∙ working,
+              s.2,
+            ),
+            s.3,
+          )
+          by_result r s = absurd s
 
     -- where the chain doesn't let it go and no port has found no memory, no rule is applicable
     module _ (fed : old.starved ≡ false) (held : may_flag image
@@ -330,38 +275,10 @@ module _ {P : Type 0} where
 
       put_came : CameSo image (content_of old) k b [] None None false
           (content_of (record mid { starved = false }))
-      put_came = (
-        (running, working),
-        (content_of (record mid { starved = false }), comes, put_moves),
-        keeps.fault ∙ running,
-        keeps.failed ∙ working,
-        refl,
-      )
+      put_came = grind (arith, comes, put_moves)
 
       pub put_address : (b ≡ true) → AddressSo image (content_of old) k [] (Ok tt) (content_of mid)
-      put_address t = subst (λ (m : Parts P). AddressSo image (content_of old) k [] (Ok tt) (content_of m))
-          same_mid (
-            subst (λ (y : Bool). CameSo image (content_of old) k y [] None None false
-                (content_of (record mid { starved = false }))) t put_came,
-            put_rule,
-          )
+      put_address t = grind (arith, same_mid, put_came, put_rule)
 
       pub put_request : (b ≡ false) → PartSubmitSo image (content_of old) k [] (Ok tt) (content_of mid)
-      put_request t = subst (λ (m : Parts P). PartSubmitSo image (content_of old) k [] (Ok tt) (content_of m))
-          same_mid (
-            (
-              (running, working),
-              (
-                content_of (record mid { starved = false }),
-                arrived
-                    (subst (λ (y : Bool).
-                    ComesIn (content_of old) k y (content_of (record mid { starved = false })))
-                    t comes),
-                put_moves,
-              ),
-              keeps.fault ∙ running,
-              keeps.failed ∙ working,
-              refl,
-            ),
-            put_rule,
-          )
+      put_request t = grind (arith, same_mid, comes, put_moves, put_rule)

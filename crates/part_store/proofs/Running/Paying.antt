@@ -1,5 +1,5 @@
 -- A token comes to the table, and what is known of a run stays true.
-use Rattle.std.proofs.Common.{ℕ, ◌≡◌, ◌⊎◌, true, false, List, [], ◌∷◌, Some, sym, subst}
+use Rattle.std.proofs.Common.{ℕ, ◌≡◌, ◌⊎◌, true, false, List, [], ◌∷◌, Some, subst, arith}
 use Rattle.ws_isa.specs.Image.{Image, Token, is_memory, result_of, sends}
 use Rattle.ws_isa.specs.Walk.{Ports, start_tokens}
 use Rattle.df_core.specs.Core.{Key, HasFired, operands_in}
@@ -8,19 +8,15 @@ use Rattle.match_table.specs.Tables as table
 use Rattle.match_table.specs.Tables.{held, part}
 use Rattle.match_table.specs.Matching.{Arrives, Full}
 use Rattle.match_table.proofs.Listed.{has_from}
-use Rattle.store_buf.specs.declared.kept.Kept.{Kept}
-use Rattle.store_buf.specs.Requests.{entry_of}
 use Rattle.store_buf.specs.Runs.{Covers}
 use Rattle.store_buf.proofs.Paying as P
 use Rattle.store_buf.proofs.Reaching as R
 use Rattle.part_store.specs.Runs.{IsWhole, Owes, Paid}
-use Rattle.df_core.proofs.Telling.Owing.{nothing}
 use Rattle.part_store.specs.Contents.{PartContent}
 
 module _ (image : Image) where
   pub pay_more : (t : Tables) (c : PartContent) (way more : List Token) → Covers way more → Paid image t c way
-      →
-      Paid image t c more
+      → Paid image t c more
   pay_more t c way more k paid = P.pay_more image (IsWhole c) (Owes image c) t way more k paid
 
   -- a token that has come is let go
@@ -37,13 +33,11 @@ module _ (image : Image) where
         fresh way paid
 
     pub taken_waits : new.fired ≡ old.fired → Paid image (part new) c way
-    taken_waits same = subst (λ (ks : List Key). Paid image (record { held = held new; fired = ks }) c way)
-        (sym same) arrived
+    taken_waits same = grind (arith, arrived)
 
     one : (xs : List ℕ) → Full image old x new xs → (w i : ℕ) → HasFired new.fired w i →
         HasFired old.fired w i ⊎ ((x.wave ≡ w) × (x.instr ≡ i))
-    one xs full w i h = has_from old.fired (record { wave = x.wave; instr = x.instr }) w i
-        (subst (λ (ks : List Key). HasFired ks w i) full.fired h)
+    one xs full w i h = grind (arith, has_from)
 
     pub taken_fires : (more tokens : List Token) (xs : List ℕ) → Full image old x new xs →
         is_memory image x.instr ≡ false →
@@ -61,14 +55,11 @@ module _ (image : Image) where
     pub taken_asks : (d : PartContent) (more : List Token) (xs : List ℕ) → Full image old x new xs →
         is_memory image x.instr ≡ true → ((t : Tables) → Paid image t c way → Paid image t d more) →
         IsWhole d x.wave x.instr → Paid image (part new) d more
-    taken_asks d more xs full memory tell whole =
-        P.pay_asks image (IsWhole d) (Owes image d) (held new) old.fired new.fired more
-        (tell (record { held = held new; fired = old.fired }) arrived) x.wave x.instr (one xs full) memory
-        whole
+    taken_asks d more xs full memory tell whole = P.pay_asks image (IsWhole d) (Owes image d) (held new)
+        old.fired new.fired more (tell (record { held = held new; fired = old.fired }) arrived) x.wave x.instr
+        (one xs full) memory whole
 
 -- a run begins
 pub pay_start : (image : Image) (f : Ports) (ks : List Key) (c : PartContent) (way : List Token) → ks ≡ [] →
     c.kept ≡ [] → Covers (start_tokens image) way → Paid image (record { held = f; fired = ks }) c way
-pay_start image f ks c way none empty pulse =
-    P.pay_start image (record { held = f; fired = ks }) (IsWhole c) (Owes image c) way none
-    (λ ts o. nothing o.3 (subst (λ (ls : List Kept). entry_of ls o.0 o.1 ≡ Some o.3) empty o.4)) pulse
+pay_start image f ks c way none empty pulse = grind arith

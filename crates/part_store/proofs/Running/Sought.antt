@@ -1,11 +1,10 @@
 -- In a buffer of a run none may go where none was found: the one that is next has the smallest number.
-use Rattle.std.proofs.Common.{ℕ, ◌-◌, ◌≡◌, ◌≤◌, ◌<◌, Bool, true, false, not, cond, ◌&&◌, ◌||◌, ltb, nat_eq}
-use Rattle.std.proofs.Common.{List, length, Option, Some, None, refl, sym, ap, ◌∙◌, subst, inl, inr}
-use Rattle.std.proofs.Common.{arith}
+use Rattle.std.proofs.Common.{ℕ, ◌-◌, ◌≡◌, ◌≤◌, ◌<◌, Bool, true, false, List, length, Option, Some, None}
+use Rattle.std.proofs.Common.{refl, sym, ◌∙◌, subst, inl, inr, arith}
 use Rattle.std.specs.Prelude.{MatchOption, IfSome}
-use Rattle.std.proofs.lemmas.Bool.{and_from, and_parts, both_ways}
+use Rattle.std.proofs.lemmas.Bool.{and_parts, both_ways}
 use Rattle.ws_words.specs.Outside.{World}
-use Rattle.ws_isa.specs.Image.{Image, instr_at, array_at, is_load, is_load_op, note_of}
+use Rattle.ws_isa.specs.Image.{Image, instr_at, array_at, is_load, note_of}
 use Rattle.ws_isa.specs.Formed.{Formed}
 use Rattle.ws_isa.specs.Sound.{Sound}
 use Rattle.df_core.specs.Core.{IsNext}
@@ -14,25 +13,22 @@ use Rattle.df_core.specs.Began.{Began}
 use Rattle.df_core.specs.Chains.{chain_of}
 use Rattle.df_core.proofs.Telling.Firsts as L
 use Rattle.store_buf.specs.declared.kept.Kept.{Kept}
-use Rattle.store_buf.specs.Requests.{issued_in, answer_if}
 use Rattle.store_buf.specs.Finding.{place_in}
 use Rattle.store_buf.specs.Ordering.{kept_at, WaitsHere, GoesEarly, IsForemost, MayAt, NoneEarly, number_of}
 use Rattle.store_buf.specs.Ordering.{ready_flag, ripple_of}
 use Rattle.store_buf.specs.declared.order.Order.{Order}
 use Rattle.part_store.specs.declared.parts.Parts.{Parts}
 use Rattle.part_store.specs.Bares.{is_in}
-use Rattle.part_store.specs.Queues.{open_queues}
-use Rattle.part_store.specs.Contents.{asking, holds_op}
+use Rattle.part_store.specs.Contents.{asking}
 use Rattle.part_store.specs.Parted.{IsAddressed, Parting, is_store_op}
 use Rattle.part_store.specs.Rules.{Waits, is_past_at, operands_at}
-use Rattle.part_store.specs.Parts.{PartsOk, PartsFiled, PartsStand, NoneGo, NoneGoSo, NoneSought}
-use Rattle.part_store.specs.Parts.{GoesAt, content_of, go_flag, rule_flag}
+use Rattle.part_store.specs.Parts.{PartsOk, PartsFiled, PartsStand, NoneGo, NoneGoSo, NoneSought, GoesAt}
+use Rattle.part_store.specs.Parts.{content_of, go_flag, rule_flag}
 use Rattle.part_store.proofs.Moving.Keeping as K
 use Rattle.part_store.proofs.Queueing.Ops as O
 use Rattle.part_store.proofs.Queueing.Standing as S
 use Rattle.part_store.proofs.Queueing.Times as T
 use Rattle.part_store.proofs.Moving.Turning as U
-use Rattle.ws_words.proofs.Bools.{or_right}
 
 module _ {P : Type 0} (image : Image) (world : World) (formed : Formed image) (sound : Sound image)
     (began : List (Option Began)) (s : Parts P) (ok : PartsOk s) (stand : PartsStand image world began s)
@@ -52,17 +48,10 @@ module _ {P : Type 0} (image : Image) (world : World) (formed : Formed image) (s
   module _ (q : ℕ) (here : WaitsHere s.order q) where
     waits : (b : Bool) → is_in s.bare (kept_at s.order q).wave (kept_at s.order q).instr ≡ b →
         Waits (content_of s) (kept_at s.order q) b
-    waits b e = record {
-      kept = U.found image s.order q here.within;
-      waits = here.waits;
-      bare_is = e;
-    }
+    waits b e = grind (arith, U.found)
 
     fresh : parting.counts (kept_at s.order q).wave (kept_at s.order q).instr ≡ None
-    fresh = O.no_more (parting.counts (kept_at s.order q).wave (kept_at s.order q).instr)
-        (issued_in s.order.kept.items (kept_at s.order q).wave (kept_at s.order q).instr)
-        (parting.partly.same (kept_at s.order q).wave (kept_at s.order q).instr)
-        (ap answer_if (U.found image s.order q here.within) ∙ here.waits)
+    fresh = grind (arith, O.no_more, U.found)
 
     ask : (b : Bool) → is_in s.bare (kept_at s.order q).wave (kept_at s.order q).instr ≡ b → Ask q
     ask false e = record {
@@ -83,9 +72,8 @@ module _ {P : Type 0} (image : Image) (world : World) (formed : Formed image) (s
             inst = ad.inst;
             at = ad.at;
             operands = refl;
-            memory = T.row_memory image (kept_at s.order q).instr
-                (array_at image (kept_at s.order q).instr - 1)
-                (O.store_row image (kept_at s.order q).instr ad.store);
+            memory = T.row_memory image (kept_at s.order q).instr (array_at image (kept_at s.order q).instr -
+                1) (O.store_row image (kept_at s.order q).instr ad.store);
           };
         }
 
@@ -114,21 +102,15 @@ module _ {P : Type 0} (image : Image) (world : World) (formed : Formed image) (s
   module _ (none : NoneSought image s) (p : ℕ) (l : p < length s.order.kept.items)
       (goes : go_flag image s (kept_at s.order p) ≡ true) where
     ready : ready_flag image s.order (kept_at s.order p) ≡ true
-    ready = (and_parts (ready_flag image s.order (kept_at s.order p))
-        (rule_flag image s (kept_at s.order p)) goes).0
+    ready = grind (arith, and_parts)
 
     here : WaitsHere s.order p
-    here = let w = U.waits image s.order p l ready in
-        record { within = l; current = w.1; waits = w.0 }
+    here = grind (arith, U.waits, ready, waits)
 
     ripple_is : is_load image (kept_at s.order p).instr ≡ true → is_past_at image (kept_at s.order p) ≡ false
-        →
-        ripple_of image (kept_at s.order p) ≡ Some ((note_of image (kept_at s.order p).instr).ripple)
+        → ripple_of image (kept_at s.order p) ≡ Some ((note_of image (kept_at s.order p).instr).ripple)
     unfolding is_load
-    ripple_is load within = ap (λ (b : Bool).
-        cond b (Some ((note_of image (kept_at s.order p).instr).ripple)) None)
-        (and_from (is_load_op (instr_at image (kept_at s.order p).instr).op) (not
-        (is_past_at image (kept_at s.order p))) load (ap not within))
+    ripple_is load within = grind arith
 
     contrary : ⊥
     contrary = elim (U.turn image s.order p l ready) [
@@ -157,49 +139,22 @@ pub none_so : {P : Type 0} (image : Image) (s : Parts P) → PartsOk s → s.fau
 none_so image s ok going none world began formed sound stand =
     none_goes image world formed sound began s ok stand going none
 
-if_some : (b : Bool) (x r : ℕ) → cond b (Some x) None ≡ Some r → b ≡ true
-if_some true x r e = refl
-if_some false x r e = absurd (let f : None ≡ Some r = e in cc)
-
-load_not_store : (image : Image) (i : ℕ) → is_store_op (instr_at image i).op ≡ true →
-    is_load_op (instr_at image i).op ≡ true → ⊥
-unfolding is_load
-load_not_store image i store load = both_ways (is_load image i) (O.store_no_load image i store) load
-
 -- the rules let a load go before its turn
 pub early_rule : {P : Type 0} (image : Image) (s : Parts P) → PartsFiled image s → (p : ℕ) →
     GoesEarly image s.order p → rule_flag image s (kept_at s.order p) ≡ true
-early_rule image s filed p early =
-    let k = kept_at s.order p in
-    let l = and_parts (is_load_op (instr_at image k.instr).op) (not (is_past_at image k))
-    (if_some (is_load_op (instr_at image k.instr).op && not (is_past_at image k))
-    ((note_of image k.instr).ripple) early.ripple early.is) in
-    go (is_in s.bare k.wave k.instr) refl l.0 l.1
-  where
-    go : (b : Bool) → is_in s.bare (kept_at s.order p).wave (kept_at s.order p).instr ≡ b →
-        is_load_op (instr_at image (kept_at s.order p).instr).op ≡ true →
-        not (is_past_at image (kept_at s.order p)) ≡ true → rule_flag image s (kept_at s.order p) ≡ true
-    go true e load within = absurd (load_not_store image (kept_at s.order p).instr
-        (filed.stores (kept_at s.order p).wave (kept_at s.order p).instr e) load)
-    go false e load within = ap (λ (b : Bool). cond b (not (is_past_at image (kept_at s.order p)) &&
-        (ltb (open_queues s.queues.entries.items) 16 || holds_op s.queues.entries.items
-        (instr_at image (kept_at s.order p).instr).op (kept_at s.order p).first))
-        (nat_eq (length s.queues.entries.items) 0 || not (is_past_at image (kept_at s.order p)))) e
-        ∙ or_right (nat_eq (length s.queues.entries.items) 0) _ within
+early_rule image s filed p early = grind arith
 
 -- a first one that may not go is so wherever what waits is found
 pub first_on : {P : Type 0} (image : Image) (s : Parts P) (o : Order) → o ≡ record s.order { near = o.near } →
     (q : ℕ) → IsForemost image s.order q → go_flag image s (kept_at s.order q) ≡ false →
     (p : ℕ) → WaitsHere o p → (x : ℕ) × IsForemost image o x
     × (go_flag image (record s { order = o }) (kept_at o x) ≡ false)
-first_on image s o same q is held = subst (λ (n : Order). (p : ℕ) → WaitsHere n p
-    → (x : ℕ) × IsForemost image n x
-    × (go_flag image (record s { order = n }) (kept_at n x) ≡ false)) (sym same) (λ p h. (
+first_on image s o same q is held = subst (λ (n : Order). (p : ℕ) → WaitsHere n p → (x : ℕ) × IsForemost image
+    n x × (go_flag image (record s { order = n }) (kept_at n x) ≡ false)) (sym same) (λ p h. (
       q,
       record {
         here = record { within = is.here.within; current = is.here.current; waits = is.here.waits };
-        least = λ z w. is.least z
-            (record { within = w.within; current = w.current; waits = w.waits });
+        least = λ z w. is.least z (record { within = w.within; current = w.current; waits = w.waits });
       },
       held,
     ))
@@ -208,20 +163,9 @@ pub sought_early : {P : Type 0} (image : Image) (s : Parts P) (r : Option ℕ) �
     MatchOption r (NoneEarly image s.order) (GoesEarly image s.order) → IfSome r (MayAt image s.order) →
     ((p : ℕ) → WaitsHere s.order p → (q : ℕ) × IsForemost image s.order q
     × (go_flag image s (kept_at s.order q) ≡ false)) → MatchOption r (NoneSought image s) (GoesAt image s)
-sought_early image s None filed early may first = record { early = early; first = first }
-sought_early image s (Some p) filed early may first =
-    record { may = may; rule = early_rule image s filed p early }
+sought_early image s r filed early may first = grind (arith, early_rule)
 
 -- an address that gets its data is as it was, but for what it stores
 pub refilled : (image : Image) (k x : Kept) → is_store_op (instr_at image x.instr).op ≡ true →
     k.instr ≡ x.instr → ripple_of image k ≡ ripple_of image x
-refilled image k x store same = none_of k (subst (λ (i : ℕ). is_store_op (instr_at image i).op ≡ true)
-    (sym same) store) ∙ sym (none_of x store)
-  where
-    none_of : (y : Kept) → is_store_op (instr_at image y.instr).op ≡ true → ripple_of image y ≡ None
-    none_of y e = go (is_load_op (instr_at image y.instr).op) refl
-      where
-        go : (b : Bool) → is_load_op (instr_at image y.instr).op ≡ b → ripple_of image y ≡ None
-        go true f = absurd (load_not_store image y.instr e f)
-        go false f = ap (λ (b : Bool). cond (b && not (is_past_at image y))
-            (Some ((note_of image y.instr).ripple)) None) f
+refilled image k x store same = grind arith

@@ -1,6 +1,6 @@
 -- What comes of a request where no address is without data.
 use Rattle.std.proofs.Common.{ℕ, ◌≡◌, ◌⊎◌, Bool, true, false, cond, List, Option, Some, None, Result, Ok, Err}
-use Rattle.std.proofs.Common.{refl, sym, ap, ◌∙◌, subst, inl, inr}
+use Rattle.std.proofs.Common.{refl, sym, ap, ◌∙◌, subst, inl, inr, arith}
 use Rattle.std.specs.List.{list_any}
 use Rattle.std.proofs.lemmas.Bool.{both_ways}
 use Rattle.ws_words.specs.Outside.{Outside, World}
@@ -25,8 +25,7 @@ use Rattle.store_buf.proofs.Coming.{entry_push, issued_push, kept_push}
 use Rattle.part_store.specs.Contents.{NoBare, is_bare, whole_of, PartContent}
 use Rattle.part_store.specs.Parted.{Parted}
 use Rattle.part_store.specs.Rules.{ComesIn}
-use Rattle.part_store.specs.Calls.{ComesWhole, SameAs, SubmittedSo, request_of, PartTookSo}
-use Rattle.part_store.specs.Calls.{comes, fills}
+use Rattle.part_store.specs.Calls.{SameAs, SubmittedSo, request_of, PartTookSo}
 use Rattle.part_store.proofs.Queueing.Keys.{key_cases}
 use Rattle.part_store.proofs.Queueing.Standing as S
 use Rattle.part_store.proofs.Told.Wholly as W
@@ -56,11 +55,7 @@ module _ (image : Image) (world : World) (formed : Formed image) (sound : Sound 
     running = took.0.0
 
     come : ComesIn old (request_of r) false took.1.0
-    come = go took.1.1
-      where
-        go : ComesWhole old (request_of r) took.1.0 → ComesIn old (request_of r) false took.1.0
-        go (comes c) = c
-        go (fills c) = absurd (both_ways (is_bare old r.wave r.instr) (none r.wave r.instr) c.bare)
+    come = grind arith
 
     issued_same : issued_in took.1.0.kept ≡ issued_in old.kept
     issued_same j = λ w i. (ap (λ (x : List Kept). issued_in x w i) come.kept
@@ -87,23 +82,20 @@ module _ (image : Image) (world : World) (formed : Formed image) (sound : Sound 
         ];
         queued = come.queued ∙ on_old.queued;
         halts = ap has come.fault ∙ on_old.halts;
-        legal = subst (λ (x : (ℕ → ℕ → Option ℕ) × Chain).
-            Legal image world x.0 (waiting_in image took.1.0.kept) false x.1 m)
-            (λ j. (sym issued_same j, sym come.chain j))
-            (record {
+        legal = subst (λ (x : (ℕ → ℕ → Option ℕ) × Chain). Legal image world x.0 (waiting_in image
+            took.1.0.kept) false x.1 m) (λ j. (sym issued_same j, sym come.chain j)) (record {
               cut = l.cut;
               ordered = l.ordered;
               settled = l.settled;
               halted = λ e. absurd (both_ways false refl e);
             });
         right = λ w i x e. elim (with_key_cases r.wave r.instr (Some k) (entry_of old.kept) w i) [
-          | inl h ↦ (let q : Some k ≡ Some x =
-              sym (ap (λ (ks : List Kept). entry_of ks w i) come.kept ∙ entry_push old.kept k come.fresh w i
-              ∙ h.1) ∙ e in let z : k ≡ x = cc in
+          | inl h ↦ (let q : Some k ≡ Some x = sym (ap (λ (ks : List Kept). entry_of ks w i) come.kept ∙
+              entry_push old.kept k come.fresh w i ∙ h.1) ∙ e in
+              let z : k ≡ x = cc in
               subst (λ (y : Kept). IsAsked image world (asked_of y)) z ask)
-          | inr h ↦ on_old.right w i x (sym
-              (ap (λ (ks : List Kept). entry_of ks w i) come.kept ∙ entry_push old.kept k come.fresh w i
-              ∙ h.1) ∙ e)
+          | inr h ↦ on_old.right w i x (sym (ap (λ (ks : List Kept). entry_of ks w i) come.kept ∙ entry_push
+              old.kept k come.fresh w i ∙ h.1) ∙ e)
         ];
         outside = subst (HoldsOut began m) (sym come.outside) on_old.outside;
       }
@@ -177,16 +169,14 @@ module _ (image : Image) (world : World) (formed : Formed image) (sound : Sound 
 
     new_or_none : (entry_of old.kept r.wave r.instr ≡ None) ⊎ (is_bare old r.wave r.instr ≡ true) →
         entry_of old.kept r.wave r.instr ≡ None
-    new_or_none (inl e) = e
-    new_or_none (inr b) = absurd (both_ways (is_bare old r.wave r.instr) (none r.wave r.instr) b)
+    new_or_none x = grind arith
 
     pub submit_so : (a : Result (List Token) BufFault) → SubmittedSo image old (request_of r) a new →
         whole.SubmitSo image world began (whole_of old) r a (whole_of new)
     submit_so (Ok tokens) x = (
       said tokens None None false x.0,
-      W.idle_so image world formed sound began new
-          (has new.fault) after.0.memory (W.on_now image world formed sound began new
-          (bare_after (Ok tokens) x) after) x.1,
+      W.idle_so image world formed sound began new (has new.fault) after.0.memory (W.on_now image world
+          formed sound began new (bare_after (Ok tokens) x) after) x.1,
     )
     submit_so (Err (fault.Index array)) x = (x.0, said x.0 (Some array) None false x.1)
     submit_so (Err (fault.Port port)) x = ((x.0, said x.0 None (Some port) false x.1.0), x.1.1, x.1.2)

@@ -1,10 +1,9 @@
 -- What a run leaves, in the words of the walk.
 use Rattle.std.proofs.Common.{ℕ, suc, ◌+◌, ◌≡◌, ◌<◌, ◌≤◌, Bool, true, false, List, [], ◌∷◌, length, Option}
-use Rattle.std.proofs.Common.{Some, None, refl, sym, ap, ◌∙◌, subst, inl, inr, arith}
-use Rattle.std.proofs.lemmas.Bool.{both_ways, cases_Bool, cases_lt}
+use Rattle.std.proofs.Common.{Some, None, sym, ap, ◌∙◌, subst, inl, inr, arith}
+use Rattle.std.proofs.lemmas.Bool.{cases_Bool, cases_lt}
 use Rattle.ws_words.specs.Outside.{Outside, World}
 use Rattle.ws_isa.specs.declared.instr.Op.{Op}
-use Rattle.ws_isa.specs.declared.instr.Op.TheVariants.{Store}
 use Rattle.ws_isa.specs.Image.{Image, Token, is_memory, instr_at, note_of}
 use Rattle.ws_isa.specs.Formed.{Formed}
 use Rattle.ws_isa.specs.Walk.{Inst, fires, mem, walk, CostAtMost}
@@ -15,8 +14,7 @@ use Rattle.df_core.specs.Fit.{FiresAt, NoOp, RightToken, StoppedAt, chain_at}
 use Rattle.df_core.specs.Ends.{FirstWithin}
 use Rattle.df_core.specs.Shown.{Tables, TablesOk}
 use Rattle.df_core.proofs.Telling.Counting.{keys_of, once_length, walk_has, walk_from, walk_once}
-use Rattle.df_core.proofs.Telling.Counting.{count_within}
-use Rattle.df_core.proofs.Telling.Counting.{has_same}
+use Rattle.df_core.proofs.Telling.Counting.{count_within, has_same}
 use Rattle.df_core.proofs.Walked.Effects.{effect_is}
 use Rattle.df_core.proofs.Telling.Ends.{one_fault}
 use Rattle.df_core.proofs.Walked.Facts.{WalkFacts}
@@ -26,7 +24,6 @@ use Rattle.df_core.proofs.Telling.Firings.{none_fires}
 use Rattle.df_core.specs.Began.{Began}
 use Rattle.df_core.specs.Rights.{IsRight}
 use Rattle.port_set.specs.Ports.{Told}
-use Rattle.store_buf.specs.Requests.{issued_in, answer_if}
 use Rattle.store_buf.specs.Outdoors.{HoldsOut, RoseAt, SlotsAre, began_of, port_of}
 use Rattle.store_buf.specs.Contents.{FaultIs, PortWaits}
 use Rattle.store_buf.specs.Ended.{PortFailed, RunWhole, Spent, Starved, Tripped}
@@ -36,7 +33,6 @@ use Rattle.part_store.specs.Contents.{is_bare, PartContent}
 use Rattle.part_store.specs.Parted.{Fronts, IsKept, Parting, is_store_op}
 use Rattle.part_store.specs.Rules.{NoRule}
 use Rattle.part_store.specs.Runs.{Paid}
-use Rattle.part_store.specs.Queues as Q
 use Rattle.part_store.proofs.Queueing.Ops as O
 use Rattle.part_store.proofs.Queueing.Times as T
 use Rattle.part_store.proofs.Told.Whole as W
@@ -48,8 +44,7 @@ few_keys (x ∷ xs) n l = let r = few_keys xs (length (keys_of xs)) (omega arith
 
 -- an operation on a port is no store
 store_no_port : (op : Op) (port : ℕ) → is_store_op op ≡ true → port_of op ≡ Some port → ⊥
-store_no_port (Store a) port e f = (let g : None ≡ Some port = f in cc)
-store_no_port _ port e f = both_ways false refl e
+store_no_port op port e f = grind arith
 
 module _ (image : Image) (world : World) (formed : Formed image) (sound : Sound image) (t : Tables)
     (tok : TablesOk image world t) (once : Once t.fired) where
@@ -76,11 +71,9 @@ module _ (image : Image) (world : World) (formed : Formed image) (sound : Sound 
       (P.not_fired image world formed sound t tok x right missing, once) (λ w i h. elim h [
         | inl e ↦ (
           suc right.time,
-          has_same
-              (keys_of (walk image world (suc right.time))) right.inst.wave right.inst.instr w i
-              (right.at.wave ∙ e.0) (right.at.instr ∙ e.1)
-              (walk_has image world facts (suc right.time) right.time right.inst
-              (omega arith) right.at.fires),
+          has_same (keys_of (walk image world (suc right.time))) right.inst.wave right.inst.instr w i
+              (right.at.wave ∙ e.0) (right.at.instr ∙ e.1) (walk_has image world facts (suc right.time)
+              right.time right.inst (omega arith) right.at.fires),
         )
         | inr e ↦ walk_fired w i e
       ]) in
@@ -106,10 +99,7 @@ module _ (image : Image) (world : World) (began : List (Option Began)) (c : Part
   -- of steps whose operations are all passed
   passed_within : (n : ℕ) → ((u : ℕ) (x : Inst) → u < n → fires image world u ≡ Some x →
       is_memory image x.instr ≡ true → u < cut) → FirstWithin image world n
-  passed_within n below u x l fx = past_is image x ∙ elim (cases_Bool (is_memory image x.instr)) [
-    | inl mx ↦ s.legal.ordered.within u x (below u x l fx mx) fx mx
-    | inr mx ↦ plain_within image x.instr x.operands mx
-  ]
+  passed_within n below u x l fx = grind (arith, past_is, cases_Bool, plain_within)
 
   cut_within : FirstWithin image world cut
   cut_within = passed_within cut (λ u x l fx mx. l)
@@ -123,15 +113,11 @@ module _ (image : Image) (world : World) (began : List (Option Began)) (c : Part
 
   cells_at : (n : ℕ) → effect_at image world n ≡ s.memory → c.queued ≡ [] →
       c.outside.cells ≡ (mem image world n).cells
-  cells_at n e none =
-      Wholly.rows_alike c.outside.cells s.memory.cells s.partly.rows s.partly.shape
-      (λ r j. s.partly.free r j (ap (λ es. Q.holds es r j) none))
-      ∙ ap (λ (o : Outside). o.cells) (sym e ∙ effect_is image world n)
+  cells_at n e none = grind (arith, Wholly.rows_alike, effect_is)
 
   slots_at : (handed : List (Option Told)) → began ≡ began_of handed → (n : ℕ) →
       effect_at image world n ≡ s.memory → SlotsAre (began_of handed) (mem image world n) c.outside.ports
-  slots_at handed e n g = subst (λ (b : List (Option Began)). SlotsAre b (mem image world n) c.outside.ports)
-      e (out_at n g).slots_are
+  slots_at handed e n g = grind (arith, out_at)
 
   at_cut : effect_at image world cut ≡ s.memory
   at_cut = sym s.legal.ordered.memory
@@ -142,13 +128,7 @@ module _ (image : Image) (world : World) (began : List (Option Began)) (c : Part
 
   pub spent : (fired : ℕ) → (CostAtMost image world fired → ⊥) → (handed : List (Option Told)) →
       began ≡ began_of handed → Spent image world handed fired c.outside.printed c.outside.ports
-  spent fired dear handed e = record {
-    dear = dear;
-    time = cut;
-    within = cut_within;
-    printed_are = sym (out_at cut at_cut).printed_are;
-    ports = slots_at handed e cut at_cut;
-  }
+  spent fired dear handed e = grind (arith, dear, cut_within, out_at, at_cut, slots_at)
 
   module _ (formed : Formed image) (sound : Sound image) where
     abbrev known : WalkFacts image world
@@ -193,20 +173,8 @@ module _ (image : Image) (world : World) (began : List (Option Began)) (c : Part
       memory : is_memory image right.inst.instr ≡ true
       memory = ap (is_memory image) right.at.instr ∙ right.memory
 
-      fresh : s.counts waits.request.wave waits.request.instr ≡ None
-      fresh = O.no_more (s.counts waits.request.wave waits.request.instr)
-          (issued_in c.kept waits.request.wave waits.request.instr)
-          (s.partly.same waits.request.wave waits.request.instr) (ap answer_if waits.is_kept ∙ waits.waits)
-
       from : cut ≤ right.time
-      from = elim (cases_lt right.time cut) [
-        | inl l ↦ absurd (let e : s.counts waits.request.wave waits.request.instr ≡ Some right.inst.result =
-            subst (λ (k : ℕ × ℕ). s.counts k.0 k.1 ≡ Some right.inst.result)
-            (λ j. (right.at.wave j, right.at.instr j))
-            (s.legal.ordered.passed right.time right.inst l right.at.fires memory) in
-            let f : None ≡ Some right.inst.result = sym fresh ∙ e in cc)
-        | inr l ↦ l
-      ]
+      from = grind arith
 
       next : IsNext (chain_at image world cut) (note_of image right.inst.instr)
       next = subst (λ (q : Chain × ℕ). IsNext q.0 (note_of image q.1))

@@ -3,8 +3,7 @@ use Rattle.std.proofs.Common.{ℕ, zero, suc, ◌≡◌, ◌<◌, ◌≤◌, ◌
 use Rattle.std.proofs.Common.{Option, Some, None, refl, sym, ap, ◌∙◌, subst, inl, inr, arith}
 use Rattle.std.proofs.lemmas.Bool.{both_ways, cases_Bool, cases_lt}
 use Rattle.ws_words.specs.Outside.{World}
-use Rattle.ws_isa.specs.Image.{Image, Token, ports, is_memory, is_load, is_writing, note_of}
-use Rattle.ws_isa.specs.Image.{result_of, sends}
+use Rattle.ws_isa.specs.Image.{Image, ports, is_memory, is_load, note_of, result_of, sends}
 use Rattle.ws_isa.specs.Formed.{Formed}
 use Rattle.ws_isa.specs.Walk.{Inst, fires}
 use Rattle.ws_isa.specs.Operations.{NoFault}
@@ -33,7 +32,6 @@ use Rattle.part_store.specs.Runs.{Paid}
 use Rattle.part_store.proofs.Queueing.Fronts as F
 use Rattle.part_store.proofs.Queueing.Ops as O
 use Rattle.part_store.proofs.Queueing.Times as T
-use Rattle.df_core.proofs.Telling.Owing.{nothing}
 use Rattle.ws_isa.proofs.Images.{writing_memory}
 use Rattle.ws_words.specs.Items.{nth, In}
 use Rattle.ws_words.proofs.Places.{nth_there}
@@ -112,10 +110,9 @@ module _ (image : Image) (world : World) (formed : Formed image) (sound : Sound 
         (paid.answered (sends image x.wave x.instr (operands_of (ports image x.instr) k.kept.first
         k.kept.second) a.0) (x.wave, x.instr, a.0, k.kept, k.entry, answer, d.left m, refl)) in
         reach_none t.held _ all w i p v h)
-    | inr m ↦ (let ops : operands_in image t.held x.wave x.instr ≡ x.operands =
-        right_operands image world facts t.held x.wave x.instr u x
-        (record { fires = fx; wave = refl; instr = refl }) (tok.right x.wave x.instr)
-        (tok.fired_full x.wave x.instr d.fired).1 in
+    | inr m ↦ (let ops : operands_in image t.held x.wave x.instr ≡ x.operands = right_operands image world
+        facts t.held x.wave x.instr u x (record { fires = fx; wave = refl; instr = refl }) (tok.right x.wave
+        x.instr) (tok.fired_full x.wave x.instr d.fired).1 in
         let all : AllReach t.held [] (sends image x.wave x.instr x.operands
         (result_of image x.instr x.operands)) =
         subst (λ (xs : List ℕ). AllReach t.held []
@@ -146,15 +143,13 @@ module _ (image : Image) (world : World) (formed : Formed image) (sound : Sound 
         on.0,
         on.1.inst,
         on.1.at,
-        ap (is_memory image) on.1.at.instr
-            ∙ T.row_memory image e.instr e.row on.1.row,
+        ap (is_memory image) on.1.at.instr ∙ T.row_memory image e.instr e.row on.1.row,
       )
 
   -- and isn't done
   not_left : (e : Queued) → In e c.queued → (x : Inst) → x.wave ≡ e.wave → x.instr ≡ e.instr →
       is_queued c.queued x.wave x.instr ≡ false → ⊥
-  not_left e i x ew ei f = both_ways (is_queued c.queued x.wave x.instr) f
-      (F.in_queued c.queued x.wave x.instr e i (record { wave = sym ew; instr = sym ei }))
+  not_left e i x ew ei f = grind (arith, both_ways, F.in_queued)
 
   -- what waits in a queue before the cut isn't done
   none_before : (u : ℕ) → DoneBelow u → (e : Queued) → In e c.queued → (n : ℕ) (x : Inst) →
@@ -177,8 +172,7 @@ module _ (image : Image) (world : World) (formed : Formed image) (sound : Sound 
     where
       entry_there : (o : Option Kept) → entry_of c.kept e.wave e.instr ≡ o → (n : ℕ) →
           issued_in c.kept e.wave e.instr ≡ Some n → (k : Kept) × (entry_of c.kept e.wave e.instr ≡ Some k)
-      entry_there None g n h = absurd (nothing n (sym (ap answer_if g) ∙ h))
-      entry_there (Some k) g n h = (k, g)
+      entry_there o g n h = grind arith
 
   -- where all before the cut are done no queue is open
   no_queue : (u : ℕ) → DoneBelow u → cut ≤ u → c.queued ≡ []
@@ -262,10 +256,8 @@ module _ (image : Image) (world : World) (formed : Formed image) (sound : Sound 
       is_memory image x.instr ≡ true → (o : Option ℕ) → s.counts x.wave x.instr ≡ o →
       (a : ℕ) × (s.counts x.wave x.instr ≡ Some a)
   has_counted u x below fx mx (Some a) e = (a, e)
-  has_counted u x below fx mx None e = elim (cases_lt u cut) [
-    | inl l ↦ (x.result, s.legal.ordered.passed u x l fx mx)
-    | inr l ↦ absurd (no_wait u x below fx mx l (asked u x fx mx (has_fired u x below fx)) e)
-  ]
+  has_counted u x below fx mx None e =
+      grind (arith, cases_lt u cut, no_wait, asked u x fx mx (has_fired u x below fx), has_fired u x below fx)
 
   -- a whole request isn't the first of a queue, and those before it are done
   has_left : (u : ℕ) (x : Inst) → DoneBelow u → fires image world u ≡ Some x →
@@ -332,7 +324,4 @@ module _ (image : Image) (world : World) (formed : Formed image) (sound : Sound 
 
   -- behind the cut nothing is written
   pub no_write : (u : ℕ) → NoWrite image world cut u
-  no_write u k x a b fx w = elim (counted_place k x fx (writing_memory image x.instr w)) [
-    | inl l ↦ absurd (omega (arith, a, l))
-    | inr e ↦ both_ways (is_writing image x.instr) (load_quiet image x.instr e.1.load) w
-  ]
+  no_write u k x a b fx w = grind (arith, counted_place, writing_memory, both_ways, load_quiet)

@@ -5,7 +5,6 @@ use Rattle.std.proofs.Common.{inr, arith}
 use Rattle.std.proofs.lemmas.Bool.{both_ways, cases_Bool}
 use Rattle.ws_words.specs.Outside.{Outside, World, row}
 use Rattle.ws_isa.specs.declared.instr.Op.{Op}
-use Rattle.ws_isa.specs.declared.instr.Op.TheVariants.{Load, Store}
 use Rattle.ws_isa.specs.Image.{Image, Token, after, after_op, answer, instr_at, is_past, sends}
 use Rattle.ws_isa.specs.Formed.{Formed}
 use Rattle.ws_isa.specs.Sound.{Sound}
@@ -30,7 +29,7 @@ use Rattle.store_buf.specs.Contents as whole
 use Rattle.store_buf.specs.Stores.{asked_of}
 use Rattle.store_buf.proofs.Found.{entry_case}
 use Rattle.part_store.specs.declared.entry.Queued.{Queued}
-use Rattle.part_store.specs.Queues.{front, holds, is_queued, open_queues}
+use Rattle.part_store.specs.Queues.{front, open_queues}
 use Rattle.part_store.specs.Contents.{NoBare, asking, cell, holds_op, is_bare, whole_of, PartContent}
 use Rattle.part_store.specs.Parted.{Fronts, IsKept, Parted, RisingEntries}
 use Rattle.part_store.specs.Rules.{Counted, GoesByChain, Moves, NoRule, Waits, stays, opens, joins, issues}
@@ -47,28 +46,23 @@ use Rattle.store_buf.proofs.Coming.{listed_from}
 words_alike : (xs ys : List ℕ) → length xs ≡ length ys → ((j : ℕ) → slice_index xs j ≡ slice_index ys j) →
     xs ≡ ys
 words_alike [] [] n f = refl
-words_alike [] (y ∷ ys) n f = absurd (omega (arith, n))
-words_alike (x ∷ xs) [] n f = absurd (omega (arith, n))
 words_alike (x ∷ xs) (y ∷ ys) n f = let a : x ≡ y = f 0 in let b =
     words_alike xs ys (omega (arith, n)) (λ j. f (suc j)) in λ i. a i ∷ b i
+words_alike xs ys n f = absurd (omega (arith, n))
 
 pub rows_alike : (cs ds : List (List ℕ)) → length cs ≡ length ds →
     ((r : ℕ) → length (row cs r) ≡ length (row ds r)) → ((r j : ℕ) → cell cs r j ≡ cell ds r j) → cs ≡ ds
 rows_alike [] [] n f g = refl
-rows_alike [] (d ∷ ds) n f g = absurd (omega (arith, n))
-rows_alike (c ∷ cs) [] n f g = absurd (omega (arith, n))
 rows_alike (c ∷ cs) (d ∷ ds) n f g = let a : c ≡ d = words_alike c d (f 0) (g 0) in let b =
     rows_alike cs ds (omega (arith, n)) (λ r. f (suc r)) (λ r. g (suc r)) in λ i. a i ∷ b i
+rows_alike cs ds n f g = absurd (omega (arith, n))
 
 none_front : (es : List Queued) → ((e : Queued) (r j : ℕ) → front es r j ≡ Some e → ⊥) → es ≡ []
 none_front [] f = refl
-none_front (e ∷ es) f = absurd (f e e.row e.index
-    (F.front_here e es e.row e.index (record { row = refl; index = refl })))
+none_front (e ∷ es) f = grind (arith, F.front_here e es e.row e.index (record { row = refl; index = refl }))
 
 none_held : (op : Op) (j : ℕ) → holds_op [] op j ≡ false
-none_held (Load a) j = refl
-none_held (Store a) j = refl
-none_held _ j = refl
+none_held op j = grind arith
 
 effect_cells : (image : Image) (i : ℕ) (xs : List ℕ) (o : Outside) →
     (effect_after image i xs o).cells ≡ (after_op (instr_at image i).op xs o).cells
@@ -110,48 +104,16 @@ Own ks = All (λ (k : Kept). entry_of ks k.wave k.instr ≡ Some k) ks
 
 listed_to : (ks : List Kept) → Own ks → (w i : ℕ) → HasFired (issued_keys ks) w i →
     (a : ℕ) × (issued_in ks w i ≡ Some a)
-listed_to ks own w i h =
-    let r = fired_at ks w i h in
-    let e : entry_of ks (slice_index_or ks r.place no_request).wave
-    (slice_index_or ks r.place no_request).instr ≡ Some (slice_index_or ks r.place no_request) =
-    own r.place no_request r.within in (
-      r.answer,
-      subst (λ (n : ℕ). issued_in ks n i ≡ Some r.answer) r.wave
-          (subst (λ (n : ℕ). issued_in ks (slice_index_or ks r.place no_request).wave n ≡ Some r.answer)
-          r.instr
-          (ap answer_if e ∙ r.is)),
-    )
+listed_to ks own w i h = grind (arith, fired_at)
 
 -- a request that waits
 waits_so : (image : Image) (e : Option Kept) (xs : List ℕ) →
     waits_if (answer_if e) (operands_if image e) None ≡ Some xs →
     (k : Kept) × (e ≡ Some k) × (k.answer ≡ None) × (operands_at image k ≡ xs)
-waits_so image None xs w = absurd (let f : None ≡ Some xs = w in cc)
-waits_so image (Some k) xs w = go k.answer refl w
-  where
-    go : (a : Option ℕ) → k.answer ≡ a → waits_if k.answer (Some (operands_at image k)) None ≡ Some xs →
-        (l : Kept) × (Some k ≡ Some l) × (l.answer ≡ None) × (operands_at image l ≡ xs)
-    go (Some a) e v = absurd (let f : None ≡ Some xs =
-        sym (ap (λ (b : Option ℕ). waits_if b (Some (operands_at image k)) None) e) ∙ v in cc)
-    go None e v = (
-      k,
-      refl,
-      e,
-      (let f : Some (operands_at image k) ≡ Some xs =
-          sym (ap (λ (b : Option ℕ). waits_if b (Some (operands_at image k)) None) e) ∙ v in cc),
-    )
+waits_so image e xs w = grind arith
 
 key_of : (ks : List Kept) (w i : ℕ) (k : Kept) → entry_of ks w i ≡ Some k → SameKey k.wave k.instr w i
-key_of ks w i k e = elim (entry_case ks w i) [
-  | inl n ↦ absurd (let g : None ≡ Some k = sym n ∙ e in cc)
-  | inr s ↦ (let q : Some (slice_index_or ks s.place no_request) ≡ Some k = sym s.is ∙ e in
-      let z : slice_index_or ks s.place no_request ≡ k = cc in
-      record {
-        wave = ap (λ (x : Kept). x.wave) (sym z) ∙ s.wave;
-        instr = ap (λ (x : Kept). x.instr) (sym z)
-            ∙ s.instr;
-      })
-]
+key_of ks w i k e = grind (arith, entry_case)
 
 -- no queue is open
 pub empty : (c : PartContent) → NoBare c → Fronts c → c.queued ≡ []
@@ -188,20 +150,11 @@ module _ (image : Image) (world : World) (formed : Formed image) (sound : Sound 
   }
     where
       some_entry : (e : Option Kept) (a : ℕ) → answer_if e ≡ Some a → (k : Kept) × (e ≡ Some k)
-      some_entry None a h = absurd (let f : None ≡ Some a = h in cc)
-      some_entry (Some k) a h = (k, refl)
+      some_entry e a h = grind arith
 
       by_entry : (w i : ℕ) (xs : List ℕ) → kept_in image c.kept w i ≡ Some xs → (o : Option Kept) →
           entry_of c.kept w i ≡ o → RightRequest image world w i xs
-      by_entry w i xs h None e = absurd (let f : None ≡ Some xs = sym (ap (operands_if image) e) ∙ h in cc)
-      by_entry w i xs h (Some k) e =
-          let q : Some (operands_at image k) ≡ Some xs = sym (ap (operands_if image) e) ∙ h in
-          let z : operands_at image k ≡ xs = cc in
-          let key = key_of c.kept w i k e in
-          subst (λ (ys : List ℕ). RightRequest image world w i ys) z
-          (subst (λ (n : ℕ). RightRequest image world w n (operands_at image k)) key.instr
-          (subst (λ (n : ℕ). RightRequest image world n k.instr (operands_at image k)) key.wave
-          (on.right w i k e)))
+      by_entry w i xs h o e = grind (arith, key_of)
 
   -- a buffer that keeps what is true of parted ones
   module _ (c : PartContent) (none : NoBare c) (parted : Parted image world began c) where
@@ -212,15 +165,11 @@ module _ (image : Image) (world : World) (formed : Formed image) (sound : Sound 
     count_is w i = go (issued_in c.kept w i) refl
       where
         go : (o : Option ℕ) → issued_in c.kept w i ≡ o → parted.0.counts w i ≡ issued_in c.kept w i
-        go None e = O.no_more (parted.0.counts w i) (issued_in c.kept w i) (parted.0.partly.same w i) e
-            ∙ sym e
-        go (Some a) e = parted.0.partly.told w i a (ap (λ (es : List Queued). is_queued es w i) no_queue) e
-            ∙ sym e
+        go None e = grind arith
+        go (Some a) e = grind (arith, no_queue)
 
     cells_are : parted.0.memory.cells ≡ c.outside.cells
-    cells_are = sym (rows_alike c.outside.cells parted.0.memory.cells parted.0.partly.rows
-        parted.0.partly.shape (λ r j. parted.0.partly.free r j
-        (ap (λ (es : List Queued). holds es r j) no_queue)))
+    cells_are = grind (arith, rows_alike, no_queue)
 
     pub on_now : On c (has c.fault) parted.0.memory
     on_now = record {
@@ -250,8 +199,7 @@ module _ (image : Image) (world : World) (formed : Formed image) (sound : Sound 
     fresh = ap answer_if g.waits.kept ∙ g.waits.waits
 
     waits_here : waiting_in image c.kept k.wave k.instr ≡ Some (operands_at image k)
-    waits_here = ap (λ (o : Option ℕ). waits_if o (kept_in image c.kept k.wave k.instr) None) fresh
-        ∙ ap (λ (o : Option (List ℕ)). waits_if None o None) (ap (operands_if image) g.waits.kept)
+    waits_here = grind arith
 
     within : is_past image k.instr (operands_at image k) ≡ false
     within = O.past_is image k (operands_at image k) (O.first_of image k) ∙ g.within
@@ -263,8 +211,7 @@ module _ (image : Image) (world : World) (formed : Formed image) (sound : Sound 
       k' = record { wave = k.wave; instr = k.instr; first = k.first; second = k.second; answer = Some word }
 
       word_is : word ≡ answer image k.instr (operands_at image k) m
-      word_is = answers.answer ∙ sym ((O.operands_alike image k m).0)
-          ∙ sym (O.answer_is image k.instr (operands_at image k) m)
+      word_is = grind (arith, O.operands_alike, O.answer_is)
 
       issued_step : (w i : ℕ) → issued_in d.kept w i ≡ issued_with image (issued_in c.kept) m k.wave k.instr
           (operands_at image k) w i
@@ -284,8 +231,7 @@ module _ (image : Image) (world : World) (formed : Formed image) (sound : Sound 
       ]
 
       here_at : (w i : ℕ) → SameKey k.wave k.instr w i → entry_of c.kept w i ≡ Some k
-      here_at w i key = subst (λ (n : ℕ). entry_of c.kept w n ≡ Some k) key.instr
-          (subst (λ (n : ℕ). entry_of c.kept n k.instr ≡ Some k) key.wave g.waits.kept)
+      here_at w i key = grind arith
 
       kept_step : (w i : ℕ) → kept_in image d.kept w i ≡ kept_in image c.kept w i
       kept_step w i = elim (with_key_cases k.wave k.instr (Some k') (entry_of c.kept) w i) [
@@ -366,12 +312,8 @@ module _ (image : Image) (world : World) (formed : Formed image) (sound : Sound 
       → (m : Outside) →
       On c false m → Way c m tokens d
   way c _ _ stays going m on = record { memory = m; issues = Holds.stays; on = going_on c m on }
-  way c d _ (opens {rest = rest} k fronts o go more) going m on =
-      absurd (both_ways (is_bare c k.wave k.instr) (on.bare k.wave k.instr) o.waits.bare_is)
-  way c d _ (joins {rest = rest} k fronts g held go more) going m on =
-      absurd (both_ways (holds_op c.queued (instr_at image k.instr).op k.first)
-      (ap (λ (es : List Queued). holds_op es (instr_at image k.instr).op k.first) on.queued
-      ∙ none_held (instr_at image k.instr).op k.first) held)
+  way c d _ (opens {rest = rest} k fronts o go more) going m on = grind arith
+  way c d _ (joins {rest = rest} k fronts g held go more) going m on = grind (arith, both_ways, none_held)
   way c d _ (issues {d = e} {rest = rest} k word left fronts g free told go more) going m on =
       let answers = told began m on.outside in
       let step = on_step c m on going k g word left answers e go in
@@ -382,9 +324,7 @@ module _ (image : Image) (world : World) (formed : Formed image) (sound : Sound 
         issues = Holds.goes k.wave k.instr (issued_so c m on going k g word left answers e go) r.issues;
         on = r.on;
       }
-  way c d _ (follows first f going' fol more) going m on =
-      absurd (let e : None ≡ Some first =
-      sym (ap (λ (es : List Queued). front es first.row first.index) on.queued) ∙ f.first in cc)
+  way c d _ (follows first f going' fol more) going m on = grind arith
   way c _ _ (stops k f) going m on = record {
     memory = m;
     issues = Holds.stops k.wave k.instr stopped Holds.stays;
@@ -408,8 +348,7 @@ module _ (image : Image) (world : World) (formed : Formed image) (sound : Sound 
       fresh' = ap answer_if f.waits.kept ∙ f.waits.waits
 
       waits : waiting_in image c.kept k.wave k.instr ≡ Some (operands_at image k)
-      waits = ap (λ (o : Option ℕ). waits_if o (kept_in image c.kept k.wave k.instr) None) fresh'
-          ∙ ap (λ (o : Option (List ℕ)). waits_if None o None) (ap (operands_if image) f.waits.kept)
+      waits = grind arith
 
       past : is_past image k.instr (operands_at image k) ≡ true
       past = O.past_is image k (operands_at image k) (O.first_of image k) ∙ f.past
@@ -474,18 +413,13 @@ module _ (image : Image) (world : World) (formed : Formed image) (sound : Sound 
   module _ (c : PartContent) (none : NoBare c) (free : c.queued ≡ []) (m : Outside)
       (is : IsBuffer image world began (whole_of c) m) where
     no_front : (e : Queued) (r j : ℕ) → front c.queued r j ≡ Some e → ⊥
-    no_front e r j h = absurd (let z : None ≡ Some e = sym (ap (λ (es : List Queued). front es r j) free)
-        ∙ h in cc)
+    no_front e r j h = grind arith
 
     asking_are : waiting_in image c.kept ≡ asking image c
     asking_are j = λ w i. cond (sym (none w i) j) None (waiting_in image c.kept w i)
 
     asked_here : (w i : ℕ) (k : Kept) → entry_of c.kept w i ≡ Some k → IsAsked image world (asked_of k)
-    asked_here w i k e =
-        let key = key_of c.kept w i k e in
-        subst (λ (n : ℕ). RightRequest image world k.wave n (operands_at image k)) (sym key.instr)
-        (subst (λ (n : ℕ). RightRequest image world n i (operands_at image k)) (sym key.wave)
-        (is.ok.right w i (operands_at image k) (ap (operands_if image) e)))
+    asked_here w i k e = grind (arith, key_of c.kept w i k e)
 
     pub parted_so : Parted image world began c
     parted_so = (

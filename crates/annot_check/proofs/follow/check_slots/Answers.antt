@@ -20,11 +20,9 @@ follow-requires-clause-between c =
     omega (arith, c.len-count.ensures, count_is c.args.image.now) in
     record {
       ready = opening_ready _ c.requires.formed (rw c.as_slice.ensures.value c.in_ok-starts.ensures)
-          c.in_ok-held.ensures.ok
-          (c.in_ok-held.ensures.size ∙ board_is
-          (view.image c.args.image.now) c.in_ok-starts.starts.items c.len-count.result c.index.result.now
-          c.in_ok-starts.ensures n c.index.ensures)
-          (c.in_ok-table.ensures.size ∙ ap (λ (m : ℕ). m + 1) n) c.in_ok-table.ensures.blank;
+          c.in_ok-held.ensures.ok (c.in_ok-held.ensures.size ∙ board_is (view.image c.args.image.now)
+          c.in_ok-starts.starts.items c.len-count.result c.index.result.now c.in_ok-starts.ensures n
+          c.index.ensures) (c.in_ok-table.ensures.size ∙ ap (λ (m : ℕ). m + 1) n) c.in_ok-table.ensures.blank;
       shut = c.in_ok-held.ensures.shut;
       blank = c.in_ok-table.ensures.blank;
       no_todo = c.new.ensures.items;

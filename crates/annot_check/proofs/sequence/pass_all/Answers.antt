@@ -92,9 +92,8 @@ loop-instr-preserved c =
     c.in-Ok.ensures.kept c.in-Ok.ensures.ok in
     record {
       op = omega (arith, c.loop-instr.invariant.op);
-      state = subst (λ (m : ℕ). PassState (view.image c.args.image.now) c.args.number c.args.start
-          (op_with c.args.seen.now) m c.in-Ok.more (op_with c.pass.new.seen))
-          (sym (add-one c.loop-instr.op)) next;
+      state = subst (λ (m : ℕ). PassState (view.image c.args.image.now) c.args.number c.args.start (op_with
+          c.args.seen.now) m c.in-Ok.more (op_with c.pass.new.seen)) (sym (add-one c.loop-instr.op)) next;
     }
 
 pub returns-clause-state : goal.returns-clause-state

@@ -60,10 +60,8 @@ loop-block-preserved c =
     record {
       size = ap length c.in_ok-push-2.ensures.items ∙ (length-append c.loop-block.starts.items
           (c.loop-block.number ∷ []) ∙ omega (arith, c.loop-block.invariant.size));
-      starts = λ b k. pushed
-          (first_number
-          (view.image c.args.image.now)) c.loop-block.starts.items c.push-in-loop-block.new.self.items
-          c.loop-block.number (c.loop-block.block-index + 1)
+      starts = λ b k. pushed (first_number (view.image c.args.image.now)) c.loop-block.starts.items
+          c.push-in-loop-block.new.self.items c.loop-block.number (c.loop-block.block-index + 1)
           c.in_ok-push-2.ensures.items c.loop-block.invariant.size (λ q m. c.loop-block.invariant.starts q
           (omega arith)) c.loop-block.invariant.number b (omega arith);
       number = omega (arith, s, c.loop-block.invariant.number);

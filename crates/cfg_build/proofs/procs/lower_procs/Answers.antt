@@ -32,11 +32,9 @@ loop-proc-preserved c =
     ≡ suc (c.loop-proc.first + begun (source.proc c.proc-item.result).body) = omega (arith, n) in
     record {
       made = one_more view.proc c.loop-proc.list.items c.push.new.self.items c.in_ok-made.made _ _ _
-          c.in_ok-push.ensures.items
-          (next_made c.args.procs.now c.loop-proc.proc-index c.proc-item.result c.loop-proc-test.true
-          c.proc-item.is c.loop-proc.first (c.loop-proc.first + c.len.result) c.in_ok-made.made next
-          c.in_ok-made.ensures)
-          c.loop-proc.invariant.made;
+          c.in_ok-push.ensures.items (next_made c.args.procs.now c.loop-proc.proc-index c.proc-item.result
+          c.loop-proc-test.true c.proc-item.is c.loop-proc.first (c.loop-proc.first + c.len.result)
+          c.in_ok-made.made next c.in_ok-made.ensures) c.loop-proc.invariant.made;
       count = omega (arith, n, m, c.loop-proc.invariant.count);
       fit = (fit_now c.args.procs.now c.loop-proc.proc-index c.proc-item.result c.loop-proc-test.true
           c.proc-item.is c.loop-proc.invariant.fit).1;

@@ -20,7 +20,6 @@ loop-place-preserved c =
     ]
 
 pub returns : goal.returns
-returns c =
-    least_found (image_of c.args.program.now) c.args.flow.now c.loop-place.place c.loop-place.first
-    (omega (arith, c.loop-place-test.false, c.loop-place.auto.place-end, c.len-place-end.ensures))
-    (sym c.is_some.ensures ∙ c.if-is_some.false) c.loop-place.invariant
+returns c = least_found (image_of c.args.program.now) c.args.flow.now c.loop-place.place c.loop-place.first
+    (omega (arith, c.loop-place-test.false, c.loop-place.auto.place-end, c.len-place-end.ensures)) (sym
+    c.is_some.ensures ∙ c.if-is_some.false) c.loop-place.invariant

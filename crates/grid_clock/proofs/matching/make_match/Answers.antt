@@ -10,7 +10,6 @@ arrive-requires-clause-going c = same_going (image_of c.args.program.now) (token
     c.args.flow.now c.prepare.new.self c.prepare.ensures.same c.requires.going
 
 pub returns-clause-leads : goal.returns-clause-leads
-returns-clause-leads c =
-    same_leads (image_of c.args.program.now) (Match c.args.token.wave c.args.token.instr c.args.token.port)
-    (token_of c.args.token ∷ []) c.args.flow.now c.prepare.new.self c.arrive.new.self
+returns-clause-leads c = same_leads (image_of c.args.program.now) (Match c.args.token.wave c.args.token.instr
+    c.args.token.port) (token_of c.args.token ∷ []) c.args.flow.now c.prepare.new.self c.arrive.new.self
     c.prepare.ensures.same c.arrive.ensures.leads

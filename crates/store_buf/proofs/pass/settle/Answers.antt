@@ -56,28 +56,25 @@ loop-number-preserved c =
       settles = λ d left s. c.loop-number.invariant.settles d left (elim c.if-number-position.branch [
         | then-number-position+else-not-is_next+else-is_nothing w ↦ E.first_goes image c.loop-number.early
             c.in-Some.number i c.loop-number.invariant.numbered c.in-Some.ensures c.drop_top.new.self others
-            c.drop_top.ensures.back
-            at (chain_of c.if-number-position.at) d left
-            (subst (IsNext at) w.note-note.ensures
-            (next_is at w.note-note.result (sym w.is_next.ensures ∙ w.if-not-is_next.false)))
-            (ap chain_of w.at-is ∙ w.pass-at.ensures ∙ ap (pass at) w.note-note.ensures)
-            (all_by (note_of image i).succ (early_ops c.drop_top.new.self)
-            (ap (λ n. is_nothing n.succ) (sym w.note-note.ensures) ∙ sym w.is_nothing.ensures
-            ∙ w.if-is_nothing.false)) s
+            c.drop_top.ensures.back at (chain_of c.if-number-position.at) d left (subst (IsNext at)
+            w.note-note.ensures (next_is at w.note-note.result (sym w.is_next.ensures ∙
+            w.if-not-is_next.false))) (ap chain_of w.at-is ∙ w.pass-at.ensures ∙ ap (pass at)
+            w.note-note.ensures) (all_by (note_of image i).succ (early_ops c.drop_top.new.self) (ap (λ n.
+            is_nothing n.succ) (sym w.note-note.ensures) ∙ sym w.is_nothing.ensures ∙ w.if-is_nothing.false))
+            s
         | else-number-position w ↦ E.first_drops image c.loop-number.early c.in-Some.number i
             c.loop-number.invariant.numbered c.in-Some.ensures c.drop_top.new.self others
-            c.drop_top.ensures.back
-            at d left (let e = c.position.ensures in let l = w.if-number-position.false in
+            c.drop_top.ensures.back at d left (let e = c.position.ensures in let l =
+            w.if-number-position.false in
             omega (arith, e, l))
             (subst (λ x. Settles image x (early_ops c.drop_top.new.self) d left) (ap chain_of w.at-is) s)
       ]);
       numbered = E.rest_numbered image c.loop-number.early c.in-Some.number i c.loop-number.invariant.numbered
           c.in-Some.ensures c.drop_top.new.self others c.drop_top.ensures.back;
       wave = elim c.if-number-position.branch [
-        | then-number-position+else-not-is_next+else-is_nothing w ↦ ap (λ x. x.wave) (ap chain_of w.at-is)
-            ∙ ap (λ (x : plain.Chain). x.wave) w.pass-at.ensures
-            ∙ same_wave at w.note-note.result (sym w.is_nothing.ensures ∙ w.if-is_nothing.false)
-            ∙ c.loop-number.invariant.wave
+        | then-number-position+else-not-is_next+else-is_nothing w ↦ ap (λ x. x.wave) (ap chain_of w.at-is) ∙
+            ap (λ (x : plain.Chain). x.wave) w.pass-at.ensures ∙ same_wave at w.note-note.result (sym
+            w.is_nothing.ensures ∙ w.if-is_nothing.false) ∙ c.loop-number.invariant.wave
         | else-number-position w ↦ ap (λ x. x.wave) w.at-is ∙ c.loop-number.invariant.wave
       ];
       fewer = (let a = c.drop_top.ensures.fewer c.in-Some.number i c.in-Some.ensures in

@@ -22,43 +22,38 @@ returns-in-None-clause-no c x shape = halt_broken
     c.requires.facts.ops c.loop-at.at) c.stops_at-stops.ensures c.in-None.ensures.none shape
 
 pub returns-then-halted-ne0-clause-yes : goal.returns-then-halted-ne0-clause-yes
-returns-then-halted-ne0-clause-yes c x = halt_shape
-    (view.image c.args.image.now) c.args.number c.args.first c.loop-at.at c.loop-at.halted c.loop-at.invariant
-    c.requires.first
-    (omega (
+returns-then-halted-ne0-clause-yes c x = halt_shape (view.image c.args.image.now) c.args.number c.args.first
+    c.loop-at.at c.loop-at.halted c.loop-at.invariant c.requires.first (omega (
       arith,
       c.requires.next,
       c.requires.first,
       c.loop-at.auto.at,
       c.loop-at.auto.at-end,
-      first_le (view.image c.args.image.now) c.args.number (suc c.args.number)
-          (omega arith),
+      first_le (view.image c.args.image.now)
+          c.args.number (suc c.args.number) (omega arith),
     )) c.requires.one (inl (omega arith))
 
 pub returns-clause-yes : goal.returns-clause-yes
-returns-clause-yes c x = halt_shape
-    (view.image c.args.image.now) c.args.number c.args.first c.loop-at.at c.loop-at.halted c.loop-at.invariant
-    c.requires.first
-    (omega (
+returns-clause-yes c x = halt_shape (view.image c.args.image.now) c.args.number c.args.first c.loop-at.at
+    c.loop-at.halted c.loop-at.invariant c.requires.first (omega (
       arith,
       c.requires.next,
       c.requires.first,
       c.loop-at.auto.at,
       c.loop-at.auto.at-end,
-      first_le (view.image c.args.image.now) c.args.number (suc c.args.number)
-          (omega arith),
+      first_le (view.image c.args.image.now) c.args.number (suc
+          c.args.number) (omega arith),
     )) c.requires.one (inr (sym c.stops_at-stops.ensures ∙ not_true _ x))
 
 pub returns-clause-no : goal.returns-clause-no
-returns-clause-no c x shape = halt_lacks
-    (view.image c.args.image.now) c.args.number c.args.first c.loop-at.at c.loop-at.halted c.loop-at.invariant
-    c.requires.first
-    (omega (
+returns-clause-no c x shape = halt_lacks (view.image c.args.image.now) c.args.number c.args.first c.loop-at.at
+    c.loop-at.halted c.loop-at.invariant c.requires.first (omega (
       arith,
       c.requires.next,
       c.requires.first,
       c.loop-at.auto.at,
       c.loop-at.auto.at-end,
-      first_le (view.image c.args.image.now) c.args.number (suc c.args.number)
-          (omega arith),
-    )) c.requires.one (omega arith) (sym c.stops_at-stops.ensures ∙ not_false _ x) shape
+      first_le (view.image c.args.image.now) c.args.number (suc
+          c.args.number) (omega arith),
+    )) c.requires.one (omega arith) (sym c.stops_at-stops.ensures ∙ not_false _ x)
+    shape

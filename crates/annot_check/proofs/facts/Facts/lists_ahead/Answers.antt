@@ -96,17 +96,15 @@ loop-instr-preserved c =
       op = omega (arith, c.loop-instr.invariant.op);
       dests = λ n j q i l h. elim (cases_eq n c.loop-instr.op) [
         | inl f ↦ subst (λ m. IsAhead (view.image c.args.image.now) c.args.number m j) (sym f)
-            (c.all_ahead.ensures.yes c.if-not-all_ahead.false j q (rw c.deref.ensures.value
-            (subst (λ (x : Instr). HasDest x.dests j q) (ap (instr_at (view.image c.args.image.now)) f ∙ at)
-            h)))
+            (c.all_ahead.ensures.yes c.if-not-all_ahead.false j q (rw c.deref.ensures.value (subst (λ (x :
+            Instr). HasDest x.dests j q) (ap (instr_at (view.image c.args.image.now)) f ∙ at) h)))
         | inr d ↦ c.loop-instr.invariant.dests n j q i (omega arith) h
       ];
       others = λ n j q i l h. elim (cases_eq n c.loop-instr.op) [
         | inl f ↦ subst (λ m. IsAhead (view.image c.args.image.now) c.args.number m j) (sym f)
-            (c.all_ahead-in-loop-instr.ensures.yes c.if-not-all_ahead-2.false j q
-            (rw c.deref-in-loop-instr.ensures.value
-            (subst (λ (x : Instr). HasDest x.others j q) (ap (instr_at (view.image c.args.image.now)) f ∙ at)
-            h)))
+            (c.all_ahead-in-loop-instr.ensures.yes c.if-not-all_ahead-2.false j q (rw
+            c.deref-in-loop-instr.ensures.value (subst (λ (x : Instr). HasDest x.others j q) (ap (instr_at
+            (view.image c.args.image.now)) f ∙ at) h)))
         | inr d ↦ c.loop-instr.invariant.others n j q i (omega arith) h
       ];
     }

@@ -11,9 +11,8 @@ pub loop-choice-init : goal.loop-choice-init
 loop-choice-init c = record {
   same = (refl, refl, refl);
   ready = c.requires.ready;
-  left =
-      leave_init (order_image c.args.self.now)
-      (lasts_at c.args.self.now.table.items) c.args.number c.args.lasts.now;
+  left = leave_init (order_image c.args.self.now) (lasts_at c.args.self.now.table.items) c.args.number
+      c.args.lasts.now;
 }
 
 pub leave_by-requires-clause-block : goal.leave_by-requires-clause-block
@@ -38,13 +37,12 @@ loop-choice-preserved c =
     record {
       same = (is.0 ∙ was.0, is.1 ∙ was.1, is.2 ∙ was.2);
       ready = c.in_ok-leave_by.ensures.ready;
-      left = leave_next (order_image c.args.self.now) (lasts_at c.args.self.now.table.items)
-          (lasts_at c.loop-choice.self.table.items)
-          (lasts_at c.leave_by.new.self.table.items) c.args.number c.loop-choice.choice c.args.lasts.now
-          c.requires.ready.shape c.requires.block c.requires.goes_on c.loop-choice.invariant.left
-          (λ f. (let x = (subst (λ (y : Image). is_first y (target y c.args.number c.loop-choice.choice) ≡
-          true → (c.leave_by.new.self.table.items ≡ c.loop-choice.self.table.items) ×
-          EndOk c.args.lasts.now) i c.in_ok-leave_by.ensures.crosses) f in
+      left = leave_next (order_image c.args.self.now) (lasts_at c.args.self.now.table.items) (lasts_at
+          c.loop-choice.self.table.items) (lasts_at c.leave_by.new.self.table.items) c.args.number
+          c.loop-choice.choice c.args.lasts.now c.requires.ready.shape c.requires.block c.requires.goes_on
+          c.loop-choice.invariant.left (λ f. (let x = (subst (λ (y : Image). is_first y (target y
+          c.args.number c.loop-choice.choice) ≡ true → (c.leave_by.new.self.table.items ≡
+          c.loop-choice.self.table.items) × EndOk c.args.lasts.now) i c.in_ok-leave_by.ensures.crosses) f in
           ((λ n. ap (λ (t : List (Option Lasts)). lasts_at t n) x.0), x.1)))
           (subst (λ (y : Image). is_first y (target y c.args.number c.loop-choice.choice) ≡ false →
           Delivered y (lasts_at c.loop-choice.self.table.items) (lasts_at c.leave_by.new.self.table.items)
@@ -52,9 +50,6 @@ loop-choice-preserved c =
     }
 
 pub returns-clause-left : goal.returns-clause-left
-returns-clause-left c = subst (λ (n : ℕ). LeaveState (order_image c.args.self.now)
-    (lasts_at c.args.self.now.table.items)
-    (lasts_at c.loop-choice.self.table.items) c.args.number n c.args.lasts.now) (omega (
-      arith,
-      c.choices-choice-end.ensures,
-    )) c.loop-choice.invariant.left
+returns-clause-left c = subst (λ (n : ℕ). LeaveState (order_image c.args.self.now) (lasts_at
+    c.args.self.now.table.items) (lasts_at c.loop-choice.self.table.items) c.args.number n c.args.lasts.now)
+    (omega (arith, c.choices-choice-end.ensures)) c.loop-choice.invariant.left

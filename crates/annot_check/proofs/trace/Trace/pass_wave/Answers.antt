@@ -20,8 +20,7 @@ loop-number-init c = record {
   shut = c.in_ok-begin_wave.ensures.shut;
   all_passed = begun_wave c.args.self.now c.begin_wave.new.self c.args.first _ c.requires.between.blank
       c.in_ok-begin_wave.ensures.grows;
-  todo_in =
-      begun_in c.args.self.now c.begin_wave.new.self c.requires.between.no_todo
+  todo_in = begun_in c.args.self.now c.begin_wave.new.self c.requires.between.no_todo
       c.in_ok-begin_wave.ensures.grows;
   passed_in = λ b h. absurd (none_has _ b c.new-passed.ensures.items h);
   entered = c.in_ok-begin_wave.ensures.entered;
@@ -29,11 +28,9 @@ loop-number-init c = record {
 
 pub pass-requires-clause-ready : goal.pass-requires-clause-ready
 pass-requires-clause-ready c = ready_stays c.loop-number.self _ c.loop-number.invariant.ready (record {
-  ok =
-      c.loop-number.invariant.ready.held.nodes;
+  ok = c.loop-number.invariant.ready.held.nodes;
   more = omega arith;
-  same =
-      λ s l. refl;
+  same = λ s l. refl;
 }) refl refl refl refl c.loop-number.invariant.ready.held refl
 
 pub pass-requires-clause-block : goal.pass-requires-clause-block
@@ -45,15 +42,12 @@ pass-requires-clause-block c =
 pub loop-number-preserved : goal.loop-number-preserved
 loop-number-preserved c =
     let t : Trace = record c.loop-number.self {
-      todo =
-          c.pop.new.self;
+      todo = c.pop.new.self;
     } in
     let r : Ready t = ready_stays c.loop-number.self t c.loop-number.invariant.ready (record {
-      ok =
-          c.loop-number.invariant.ready.held.nodes;
+      ok = c.loop-number.invariant.ready.held.nodes;
       more = omega arith;
-      same =
-          λ s l. refl;
+      same = λ s l. refl;
     }) refl refl refl refl c.loop-number.invariant.ready.held refl in
     let g = c.in_ok-pass.ensures.grows in
     let i : InTable c.loop-number.self c.in-Some.number = c.loop-number.invariant.todo_in c.in-Some.number
@@ -67,19 +61,17 @@ loop-number-preserved c =
           c.loop-number.invariant.all_passed c.in_ok-pass.ensures.done;
       todo_in = todo_in t c.pass.new.self g (all_in_front c.loop-number.self c.loop-number.self.todo.items
           c.pop.new.self.items c.in-Some.number c.in-Some.ensures.items c.loop-number.invariant.todo_in);
-      passed_in = all_in_grown t c.pass.new.self _ g
-          (all_in_more c.loop-number.self c.loop-number.passed.items _ c.in-Some.number c.in_ok-add.ensures
-          c.loop-number.invariant.passed_in i);
+      passed_in = all_in_grown t c.pass.new.self _ g (all_in_more c.loop-number.self
+          c.loop-number.passed.items _ c.in-Some.number c.in_ok-add.ensures c.loop-number.invariant.passed_in
+          i);
       entered = let e = c.loop-number.invariant.entered in (e.0, g.table.keeps c.args.first e.0 e.1);
     }
 
 pub returns-clause-ready : goal.returns-clause-ready
 returns-clause-ready c = ready_stays c.loop-number.self _ c.loop-number.invariant.ready (record {
-  ok =
-      c.loop-number.invariant.ready.held.nodes;
+  ok = c.loop-number.invariant.ready.held.nodes;
   more = omega arith;
-  same =
-      λ s l. refl;
+  same = λ s l. refl;
 }) refl refl refl refl c.loop-number.invariant.ready.held refl
 
 pub returns-clause-all : goal.returns-clause-all
@@ -94,19 +86,14 @@ returns-clause-blocks c b h =
     (c.loop-number.invariant.ready.table_ok b i.0 i.1).here
 
 pub returns-clause-came : goal.returns-clause-came
-returns-clause-came c b h f =
-    subst (λ (x : CodeImage). CameTo (view.image x) b) c.loop-number.invariant.image
-    (came_in c.loop-number.self b c.loop-number.invariant.ready (c.loop-number.invariant.passed_in b h)
-    (ap (λ (x : CodeImage). is_first (view.image x) b) c.loop-number.invariant.image ∙ f))
+returns-clause-came c b h f = subst (λ (x : CodeImage). CameTo (view.image x) b) c.loop-number.invariant.image
+    (came_in c.loop-number.self b c.loop-number.invariant.ready (c.loop-number.invariant.passed_in b h) (ap (λ
+    (x : CodeImage). is_first (view.image x) b) c.loop-number.invariant.image ∙ f))
 
 pub returns-clause-done : goal.returns-clause-done
-returns-clause-done c =
-    subst (λ (x : CodeImage). WaveDone (view.image x) (λ b. HasNumber c.loop-number.passed.items b)
-    c.args.first)
-    c.loop-number.invariant.image
-    (wave_done c.loop-number.self c.args.first c.loop-number.passed.items
-    (nil_left c.loop-number.self.todo.items c.pop.new.self.items _
-    (search rules) c.in_default.ensures.items c.in_default.ensures.rest)
-    c.loop-number.invariant.ready c.loop-number.invariant.all_passed c.loop-number.invariant.entered
-    (ap (λ (x : CodeImage). is_first (view.image x) c.args.first) c.loop-number.invariant.image ∙
-    c.requires.came.first))
+returns-clause-done c = subst (λ (x : CodeImage). WaveDone (view.image x) (λ b. HasNumber
+    c.loop-number.passed.items b) c.args.first) c.loop-number.invariant.image (wave_done c.loop-number.self
+    c.args.first c.loop-number.passed.items (nil_left c.loop-number.self.todo.items c.pop.new.self.items _
+    (search rules) c.in_default.ensures.items c.in_default.ensures.rest) c.loop-number.invariant.ready
+    c.loop-number.invariant.all_passed c.loop-number.invariant.entered (ap (λ (x : CodeImage). is_first
+    (view.image x) c.args.first) c.loop-number.invariant.image ∙ c.requires.came.first))

@@ -8,8 +8,7 @@ use Rattle.annot_check.proofs.worklist.Waves.come_into_all.Goals as goal
 use Rattle.ws_words.specs.Items.{flag_at}
 
 pub come_into-requires-clause-block : goal.come_into-requires-clause-block
-come_into-requires-clause-block c =
-    c.requires.blocks (get_or c.args.numbers.now c.loop-number.number-index 0)
+come_into-requires-clause-block c = c.requires.blocks (get_or c.args.numbers.now c.loop-number.number-index 0)
     (number_there c.args.numbers.now c.loop-number.number-index 0 c.loop-number-test.true)
 
 pub loop-number-preserved : goal.loop-number-preserved

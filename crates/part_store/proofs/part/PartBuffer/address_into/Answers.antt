@@ -19,16 +19,13 @@ invariant_of-self g c = (A.address_told (image_of c.program.result.now) g.J.Job.
 
 pub invariant_of-answers : goal.invariant_of-answers
 invariant_of-answers g c = (
-  (let e = c.answers.invariant.0 in let k = c.clear.ensures.capacity in
-      let m = c.address.ensures.room in omega (arith, e, k, m)),
-  all_right g.J.Job.image g.J.Job.world (tokens_of c.address.new.told.items)
-      (A.address_told (image_of c.program.result.now) g.J.Job.image g.J.Job.world
-      g.J.Job.began c.program.ensures.image c.program.ensures.formed c.program.ensures.sound
-      c.self.inside.parts
-      c.address.new.self c.kept_address-kept.result (address_of c.args.token)
-      (tokens_of c.address.new.told.items) c.address.result c.kept_address-kept.ensures.kept
-      c.address.ensures.ok
-      c.address.ensures.filed
+  (let e = c.answers.invariant.0 in let k = c.clear.ensures.capacity in let m = c.address.ensures.room in
+      omega (arith, e, k, m)),
+  all_right g.J.Job.image g.J.Job.world (tokens_of c.address.new.told.items) (A.address_told (image_of
+      c.program.result.now) g.J.Job.image g.J.Job.world g.J.Job.began c.program.ensures.image
+      c.program.ensures.formed c.program.ensures.sound c.self.inside.parts c.address.new.self
+      c.kept_address-kept.result (address_of c.args.token) (tokens_of c.address.new.told.items)
+      c.address.result c.kept_address-kept.ensures.kept c.address.ensures.ok c.address.ensures.filed
       c.self.invariant c.kept_address-kept.ensures.right c.address.ensures.leads).1,
 )
 

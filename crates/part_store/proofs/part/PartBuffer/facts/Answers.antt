@@ -19,8 +19,6 @@ returns-clause-failed g c = subst (PartFailedSo g.J.Job.image g.J.Job.began) c.s
     c.self.invariant.failed
 
 pub returns-clause-once : goal.returns-clause-once
-returns-clause-once g c =
-    subst (λ (x : PartContent). All (λ k. entry_of x.kept k.wave k.instr ≡ Some k) x.kept)
-    c.self.view_is
-    (own c.self.inside.parts.order.kept.items
-    (place_in c.self.inside.parts.order.index) c.self.inside.parts.order.ok.index)
+returns-clause-once g c = subst (λ (x : PartContent). All (λ k. entry_of x.kept k.wave k.instr ≡ Some k)
+    x.kept) c.self.view_is (own c.self.inside.parts.order.kept.items (place_in
+    c.self.inside.parts.order.index) c.self.inside.parts.order.ok.index)

@@ -28,10 +28,8 @@ returns-clause-ok g c =
       queues = c.requires.ok.queues;
       lines = c.requires.ok.lines;
       counted = c.requires.ok.counted;
-      bare = λ w i e. U.still_kept (record { arrays = []; blocks = [] }) o c.args.place
-          c.requires.within c.args.word _
-          (ap (λ (k : Kept). slice_set o.kept.items c.args.place
-          (record {
+      bare = λ w i e. U.still_kept (record { arrays = []; blocks = [] }) o c.args.place c.requires.within
+          c.args.word _ (ap (λ (k : Kept). slice_set o.kept.items c.args.place (record {
             wave = k.wave;
             instr = k.instr;
             first = k.first;

@@ -22,11 +22,10 @@ pub returns-in_default-clause-leads : goal.returns-in_default-clause-leads
 returns-in_default-clause-leads g c = (
   [],
   sym (append-nil (tokens_of c.args.told.now.items)),
-  λ world began formed sound st going fol.
-      let e = c.args.entry in
-      let q = N.counts (image_of c.args.program.now) world began (content_of c.args.self.now) st.parting e
-      (F.front_in c.args.self.now.queues.entries.items e.row e.index e fol.first).0 in
-      absurd (c.in_default.ensures.none q.request q.answer q.is_kept q.answered),
+  λ world began formed sound st going fol. let e = c.args.entry in let q = N.counts (image_of
+      c.args.program.now) world began (content_of c.args.self.now) st.parting e (F.front_in
+      c.args.self.now.queues.entries.items e.row e.index e fol.first).0 in absurd
+      (c.in_default.ensures.none q.request q.answer q.is_kept q.answered),
 )
 
 pub tell-requires : goal.tell-requires
@@ -42,9 +41,8 @@ tell-requires g c = let f = few_sent (image_of c.args.program.now) c.requires.fo
     )
 
 pub returns-clause-room : goal.returns-clause-room
-returns-clause-room g c = let f = few_sent
-    (image_of c.args.program.now) c.requires.formed c.destinations.result.now c.args.entry.instr
-    c.destinations.ensures in
+returns-clause-room g c = let f = few_sent (image_of c.args.program.now) c.requires.formed
+    c.destinations.result.now c.args.entry.instr c.destinations.ensures in
     let q : length c.answer_at.new.self.queues.entries.items ≡ length c.leave.new.self.entries.items =
     ap (λ (x : _). length x.entries.items) c.answer_at.ensures.queues in
     omega (
@@ -93,8 +91,7 @@ returns-clause-leads g c = (
         early = b.early;
         waiting = b.waiting;
         bare = b.bare;
-        ports = b.ports
-            ∙ c.use_cell-word.ensures.ports;
+        ports = b.ports ∙ c.use_cell-word.ensures.ports;
         fault = b.fault;
         failed = b.failed;
         starved = b.starved;

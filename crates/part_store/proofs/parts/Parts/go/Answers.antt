@@ -56,11 +56,10 @@ returns-then-is_past-clause-leads g c =
     c.op-op.ensures c.request-kept.ensures in (
       [],
       sym (append-nil (tokens_of c.args.told.now.items)),
-      λ world began formed sound calm. subst
-          (λ (n : ℕ). Moves image (content_of old) [] (record (content_of old) { fault = Some n }) ×
-          Calm image world began (record old { fault = Some n })) a
-          (G.stops_now image world formed sound began old c.requires.ok calm c.requires.going c.args.place
-          c.requires.goes past),
+      λ world began formed sound calm. subst (λ (n : ℕ). Moves image (content_of old) [] (record (content_of
+          old) { fault = Some n }) × Calm image world began (record old { fault = Some n })) a (G.stops_now
+          image world formed sound began old c.requires.ok calm c.requires.going c.args.place c.requires.goes
+          past),
     )
 
 bare_so : {P : Type 0} (s : Parts P) (k m : Kept) (b r : Bool) → r ≡ is_in s.bare k.wave k.instr → r ≡ b →
@@ -99,9 +98,8 @@ returns-then-is_alone-clause-leads g c =
       sym (append-nil (tokens_of c.args.told.now.items)),
       λ world began formed sound calm. G.waits_on image world formed sound began old c.requires.ok calm
           c.requires.going c.args.place c.requires.goes c.wait_on.new.self within c.wait_on.ensures.kept
-          c.wait_on.ensures.passed
-          c.wait_on.ensures.bare c.wait_on.ensures.fault c.wait_on.ensures.outer c.wait_on.ensures.queued
-          which,
+          c.wait_on.ensures.passed c.wait_on.ensures.bare c.wait_on.ensures.fault c.wait_on.ensures.outer
+          c.wait_on.ensures.queued which,
     )
 
 pub run-requires-clause-port : goal.run-requires-clause-port
@@ -134,15 +132,13 @@ silent_so : (image : Image) {P : Type 0} (old new : Parts P) (op : Op) (k : Kept
     op ≡ (instr_at image k.instr).op →
     new.order ≡ old.order → SilentAt op old.outer.ports new.outer.ports why → PartsSilentSo image old new why
 silent_so image old new op k (Failed p) q l ready is at same s = (
-  subst (λ o. PortWaits image o.kept.items (chain_of o.chain) p) (sym same)
-      (port_waits image old.order q l ready p
-      (ap (λ x. port_of (instr_at image x.instr).op) (sym is) ∙ ap port_of (sym at) ∙ s.0)),
+  subst (λ o. PortWaits image o.kept.items (chain_of o.chain) p) (sym same) (port_waits image old.order q
+      l ready p (ap (λ x. port_of (instr_at image x.instr).op) (sym is) ∙ ap port_of (sym at) ∙ s.0)),
   s.1,
 )
-silent_so image old new op k (NoMemory p) q l ready is at same s =
-    subst (λ o. PortWaits image o.kept.items (chain_of o.chain) p) (sym same)
-    (port_waits image old.order q l ready p
-    (ap (λ x. port_of (instr_at image x.instr).op) (sym is) ∙ ap port_of (sym at) ∙ s))
+silent_so image old new op k (NoMemory p) q l ready is at same s = subst (λ o. PortWaits image o.kept.items
+    (chain_of o.chain) p) (sym same) (port_waits image old.order q l ready p (ap (λ x. port_of (instr_at image
+    x.instr).op) (sym is) ∙ ap port_of (sym at) ∙ s))
 
 pub returns-in_err-word-clause-silent : goal.returns-in_err-word-clause-silent
 returns-in_err-word-clause-silent g c = let o = c.args.self.now.order in
@@ -219,20 +215,16 @@ returns-clause-leads g c =
     c.op-op.ensures c.request-kept.ensures in (
       tokens_to k.wave word c.destinations.result.now,
       c.tell.ensures.tokens,
-      λ world began formed sound calm.
-          let told : tokens_to k.wave word c.destinations.result.now ≡ sends image m.wave m.instr
-          (operands_at image m) word =
-          ap (tokens_to k.wave word) c.destinations.ensures
-          ∙ ap (λ (x : Kept). tokens_to x.wave word (destinations image x.instr 0)) c.request-kept.ensures
-          ∙ N.sent image m word (G.is_memory_now image world formed sound began old c.requires.ok calm
-          c.requires.going c.args.place c.requires.goes whole) in
-          subst (λ (ts : List Token). Moves image (content_of old) ts (content_of n) ×
-          Calm image world began n) (sym told)
-          (G.issues_now image world formed sound began old c.requires.ok calm c.requires.going c.args.place
-          c.requires.goes n word within c.issue.ensures.kept c.issue.ensures.passed refl refl refl whole
-          held
-          (λ b o h. subst (λ (x : Kept). Performed b (instr_at image x.instr).op
-          (x.first ∷ x.second ∷ 0 ∷ []) o word (holding c.run.new.self)) c.request-kept.ensures
-          (subst (λ (op : Op). Performed b op (k.first ∷ k.second ∷ 0 ∷ []) o word (holding c.run.new.self))
+      λ world began formed sound calm. let told : tokens_to k.wave word c.destinations.result.now ≡ sends
+          image m.wave m.instr (operands_at image m) word = ap (tokens_to k.wave word)
+          c.destinations.ensures ∙ ap (λ (x : Kept). tokens_to x.wave word (destinations image x.instr 0))
+          c.request-kept.ensures ∙ N.sent image m word (G.is_memory_now image world formed sound began old
+          c.requires.ok calm c.requires.going c.args.place c.requires.goes whole) in subst (λ (ts : List
+          Token). Moves image (content_of old) ts (content_of n) × Calm image world began n) (sym told)
+          (G.issues_now image world formed sound began old c.requires.ok calm c.requires.going
+          c.args.place c.requires.goes n word within c.issue.ensures.kept c.issue.ensures.passed refl refl
+          refl whole held (λ b o h. subst (λ (x : Kept). Performed b (instr_at image x.instr).op (x.first
+          ∷ x.second ∷ 0 ∷ []) o word (holding c.run.new.self)) c.request-kept.ensures (subst (λ (op :
+          Op). Performed b op (k.first ∷ k.second ∷ 0 ∷ []) o word (holding c.run.new.self))
           c.op-op.ensures (c.in_ok-word.ensures.answer b o 0 h)))),
     )

@@ -13,8 +13,7 @@ returns-clause-ok g c =
     let m : n.waiting ≤ o.waiting + 1 = C.at_most c.add.result n.waiting o.waiting c.add.ensures.waiting
     c.add.ensures.still in
     record {
-      early = C.both c.add.result c.add.ensures.room
-          (C.map_err c.add.result (λ (w : n.waiting ≡ o.waiting).
+      early = C.both c.add.result c.add.ensures.room (C.map_err c.add.result (λ (w : n.waiting ≡ o.waiting).
           let e = as_long n.early o.early c.add.ensures.early in
           omega (arith, w, e, c.add.ensures.grown, c.requires.ok.early))
           c.add.ensures.still);

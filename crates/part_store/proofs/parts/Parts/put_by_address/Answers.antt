@@ -28,7 +28,6 @@ returns-in-Err-clause-leads g c = λ world began formed sound right calm idle.
       inl (
         (c.requires.running, c.requires.working),
         c.requires.fresh,
-        C.same_as image world began old new
-            c.in-Err.ensures.unchanged c.in-Err.ensures.still,
+        C.same_as image world began old new c.in-Err.ensures.unchanged c.in-Err.ensures.still,
       ),
     )

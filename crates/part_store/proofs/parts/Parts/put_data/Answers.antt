@@ -37,10 +37,9 @@ returns-clause-ok g c =
       queues = c.requires.ok.queues;
       lines = c.requires.ok.lines;
       counted = c.requires.ok.counted;
-      bare = λ w i e. A.kept_still o p _ l (ap (λ (k : Kept). k.wave) q)
-          (ap (λ (k : Kept). k.instr) q) w i
-          (c.requires.ok.bare w i (A.still_in (same_key c.args.kept.wave c.args.kept.instr w i)
-          (is_in c.args.self.now.bare w i) _ (c.forget.ensures w i) e));
+      bare = λ w i e. A.kept_still o p _ l (ap (λ (k : Kept). k.wave) q) (ap (λ (k : Kept). k.instr) q) w i
+          (c.requires.ok.bare w i (A.still_in (same_key c.args.kept.wave c.args.kept.instr w i) (is_in
+          c.args.self.now.bare w i) _ (c.forget.ensures w i) e));
     }
 
 pub returns-clause-filled : goal.returns-clause-filled
@@ -58,15 +57,13 @@ returns-clause-filled g c =
         was = subst (λ (x : ℕ × ℕ). entry_of o.kept.items x.0 x.1 ≡ Some (kept_at o p)) (λ j. (f.0 j, f.1 j))
             (A.found_at o p l);
         bare = c.requires.bare;
-        kept = subst (λ (x : ℕ × ℕ × Option ℕ). (w i : ℕ) →
-            entry_of (slice_set o.kept.items p
-            (record {
-              wave = c.index-old.result.now.wave;
-              instr = c.index-old.result.now.instr;
-              first = k.first;
-              second = k.second;
-              answer = c.index-old.result.now.answer;
-            })) w i
+        kept = subst (λ (x : ℕ × ℕ × Option ℕ). (w i : ℕ) → entry_of (slice_set o.kept.items p (record {
+          wave = c.index-old.result.now.wave;
+          instr = c.index-old.result.now.instr;
+          first = k.first;
+          second = k.second;
+          answer = c.index-old.result.now.answer;
+        })) w i
             ≡ with_key x.0 x.1 (Some (record
             { wave = x.0; instr = x.1; first = k.first; second = k.second; answer = x.2 }))
             (entry_of o.kept.items) w i)
@@ -118,19 +115,18 @@ returns-clause-filed g c = λ image f.
         first = k.first;
         second = k.second;
         answer = c.index-old.result.now.answer;
-      }) l refl f.filed.early
-          (λ e. (
-            ap (λ (x : Kept). x.answer) (sym q) ∙ e,
-            ap (λ (x : Kept). x.wave) q,
-            ap (λ (x : Kept). x.instr) q,
-            S.refilled image (record {
-              wave = c.index-old.result.now.wave;
-              instr = c.index-old.result.now.instr;
-              first = k.first;
-              second = k.second;
-              answer = c.index-old.result.now.answer;
-            }) (kept_at o p) store (ap (λ (x : Kept). x.instr) q),
-          )) refl refl refl;
-      stores = λ w i e. f.stores w i (A.still_in (same_key c.args.kept.wave c.args.kept.instr w i)
-          (is_in c.args.self.now.bare w i) _ (c.forget.ensures w i) e);
+      }) l refl f.filed.early (λ e. (
+        ap (λ (x : Kept). x.answer) (sym q) ∙ e,
+        ap (λ (x : Kept). x.wave) q,
+        ap (λ (x : Kept). x.instr) q,
+        S.refilled image (record {
+          wave = c.index-old.result.now.wave;
+          instr = c.index-old.result.now.instr;
+          first = k.first;
+          second = k.second;
+          answer = c.index-old.result.now.answer;
+        }) (kept_at o p) store (ap (λ (x : Kept). x.instr) q),
+      )) refl refl refl;
+      stores = λ w i e. f.stores w i (A.still_in (same_key c.args.kept.wave c.args.kept.instr w i) (is_in
+          c.args.self.now.bare w i) _ (c.forget.ensures w i) e);
     }

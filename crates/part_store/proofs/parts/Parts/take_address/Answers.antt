@@ -21,15 +21,14 @@ returns-in-Ok-clause-leads g c = λ world began formed sound right calm idle.
     right calm in
     let led = lead.2 world began formed sound now in (
       led.1,
-      subst (RightTokens image world) (sym told)
-          (C.right_now image world began formed sound old mid c.args.kept true c.requires.fresh
-          c.requires.waits c.in-Ok.ensures.keeps c.in-Ok.ensures.bare c.requires.running c.requires.working
-          right calm c.settle.new.self lead.0 led),
+      subst (RightTokens image world) (sym told) (C.right_now image world began formed sound old mid
+          c.args.kept true c.requires.fresh c.requires.waits c.in-Ok.ensures.keeps c.in-Ok.ensures.bare
+          c.requires.running c.requires.working right calm c.settle.new.self lead.0 led),
       subst (λ (ts : List Token). AddressSo image (content_of old) c.args.kept ts c.settle.result
-          (content_of c.settle.new.self)) (sym told)
-          (C.said image world began formed sound old mid c.args.kept true c.requires.fresh c.requires.waits
-          c.in-Ok.ensures.keeps c.in-Ok.ensures.bare c.requires.running c.requires.working right calm
-          c.settle.new.self lead.0 led refl c.settle.result c.settle.ensures.settled),
+          (content_of c.settle.new.self)) (sym told) (C.said image world began formed sound old mid
+          c.args.kept true c.requires.fresh c.requires.waits c.in-Ok.ensures.keeps c.in-Ok.ensures.bare
+          c.requires.running c.requires.working right calm c.settle.new.self lead.0 led refl
+          c.settle.result c.settle.ensures.settled),
     )
 
 pub returns-in-Err-clause-leads : goal.returns-in-Err-clause-leads
@@ -43,7 +42,6 @@ returns-in-Err-clause-leads g c = λ world began formed sound right calm idle.
       inl (
         (c.requires.running, c.requires.working),
         c.requires.fresh,
-        C.same_as image world began old new
-            c.in-Err.ensures.unchanged c.in-Err.ensures.still,
+        C.same_as image world began old new c.in-Err.ensures.unchanged c.in-Err.ensures.still,
       ),
     )

@@ -24,17 +24,11 @@ pub returns-clause-ok : goal.returns-clause-ok
 returns-clause-ok g c = let o = c.args.self.now.order in record {
   early = c.issue.ensures.room;
   printed = omega (arith, c.issue.ensures.fewer, c.requires.ok.printed);
-  queues = omega (
-    arith,
-    c.issue.ensures.fewer,
-    c.requires.ok.queues,
-    c.join.ensures.more,
-    c.join.ensures.room,
-  );
+  queues =
+      omega (arith, c.issue.ensures.fewer, c.requires.ok.queues, c.join.ensures.more, c.join.ensures.room);
   lines = omega (arith, c.issue.ensures.fewer, c.requires.ok.lines, c.join.ensures.lines);
   counted = c.join.ensures.ok;
-  bare = λ w i e. U.still_kept (image_of c.args.program.now) o
-      c.args.place c.requires.may.within 0
+  bare = λ w i e. U.still_kept (image_of c.args.program.now) o c.args.place c.requires.may.within 0
       c.issue.new.self.kept.items c.issue.ensures.kept w i (c.requires.ok.bare w i e);
 }
 

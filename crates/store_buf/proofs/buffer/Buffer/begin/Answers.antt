@@ -28,8 +28,7 @@ invariant_of-result g c =
       };
       fault = None;
       failed = None;
-      starved =
-          false;
+      starved = false;
     } in
     let cells : c.in-Ok.cells ≡ cells_of image.arrays = c.in-Ok.ensures
     ∙ ap (λ xs. cells_of (map view.array xs)) c.deref.ensures.value
@@ -76,8 +75,7 @@ returns-clause-stands g c =
       };
       fault = None;
       failed = None;
-      starved =
-          false;
+      starved = false;
     } in
     let is : content_of s ≡ opening_content image world c.new-2.result = λ j. record {
       kept = c.new-3.ensures.kept j;

@@ -25,8 +25,7 @@ invariant_of-self-2 c = let ns = c.args.self.now.nodes.items in let rs = c.args.
     record {
       linked = subst (λ (ms : List Node). TreesOk ms rs) (sym (λ j. slice_set (y j) c.args.at (x j)))
           (P.hung_linked ns rs c.args.wave c.args.instr c.args.place c.args.at c.args.key
-          c.args.self.now.linked (omega (arith, e, c.if-next.false)) c.requires.0 c.requires.1
-          c.requires.2);
+          c.args.self.now.linked (omega (arith, e, c.if-next.false)) c.requires.0 c.requires.1 c.requires.2);
     }
 
 pub returns-clause-ok : goal.returns-clause-ok

@@ -72,9 +72,8 @@ returns-then-is_past-clause-leads g c = (
         memory = m;
         event = inr (rw c.requires.going r.0, refl);
         right = λ w i p v e. absurd e;
-        fault = subst (λ a. FaultIs image world (Some a)) (sym array_is)
-            (S.fault_is image world formed sound began o (holding c.args.self.now.outer) m hold p
-            c.requires.may.within c.requires.may.ready past);
+        fault = subst (λ a. FaultIs image world (Some a)) (sym array_is) (S.fault_is image world formed sound
+            began o (holding c.args.self.now.outer) m hold p c.requires.may.within c.requires.may.ready past);
         stands = r.1;
       },
 )
@@ -130,24 +129,20 @@ returns-clause-leads g c = (
         wave = (kept_at o c.args.place).wave;
         instr = (kept_at o c.args.place).instr;
         memory = effect_after image (kept_at o c.args.place).instr xs m;
-        event = inl
-            (subst (λ ts. Issued image (part image o.kept.items (chain_of o.chain) (has c.args.self.now.fault)
-            m) (kept_at o c.args.place).wave (kept_at o c.args.place).instr ts
-            (part image c.issue.new.self.kept.items (chain_of c.issue.new.self.chain)
-            (has c.args.self.now.fault) (effect_after image (kept_at o c.args.place).instr xs m)))
-            (sym told)
-            (subst (λ f. Issued image (part image o.kept.items (chain_of o.chain) f m)
-            (kept_at o c.args.place).wave (kept_at o c.args.place).instr
-            (sends image (kept_at o c.args.place).wave (kept_at o c.args.place).instr xs
-            (answer image (kept_at o c.args.place).instr xs m))
-            (part image c.issue.new.self.kept.items (chain_of c.issue.new.self.chain) f
-            (effect_after image (kept_at o c.args.place).instr xs m))) e r.0));
+        event = inl (subst (λ ts. Issued image (part image o.kept.items (chain_of o.chain) (has
+            c.args.self.now.fault) m) (kept_at o c.args.place).wave (kept_at o c.args.place).instr ts (part
+            image c.issue.new.self.kept.items (chain_of c.issue.new.self.chain) (has c.args.self.now.fault)
+            (effect_after image (kept_at o c.args.place).instr xs m))) (sym told) (subst (λ f. Issued image
+            (part image o.kept.items (chain_of o.chain) f m) (kept_at o c.args.place).wave (kept_at o
+            c.args.place).instr (sends image (kept_at o c.args.place).wave (kept_at o c.args.place).instr xs
+            (answer image (kept_at o c.args.place).instr xs m)) (part image c.issue.new.self.kept.items
+            (chain_of c.issue.new.self.chain) f (effect_after image (kept_at o c.args.place).instr xs m))) e
+            r.0));
         right = subst (RightTokens image world) (sym told) (S.sent_right image world formed sound began o
-            (holding c.args.self.now.outer) m hold p c.requires.may.within
-            c.requires.may.ready);
+            (holding c.args.self.now.outer) m hold p c.requires.may.within c.requires.may.ready);
         fault = subst (FaultIs image world) (sym c.requires.going) tt;
-        stands = subst (λ f. Holds image world began c.issue.new.self f (holding c.run.new.self)
-            (effect_after image (kept_at o c.args.place).instr xs m)) e r.1;
+        stands = subst (λ f. Holds image world began c.issue.new.self f (holding c.run.new.self) (effect_after
+            image (kept_at o c.args.place).instr xs m)) e r.1;
       },
 )
 
@@ -170,23 +165,20 @@ silent_so : (image : Image) {P : Type 0} (old new : Store P) (op : Op) (k : Kept
     → op ≡ (instr_at image k.instr).op →
     new.order ≡ old.order → SilentAt op old.outer.ports new.outer.ports why → SilentSo image old new why
 silent_so image old new op k (Failed p) q l ready is at same s = (
-  subst (λ o. PortWaits image o.kept.items (chain_of o.chain) p) (sym same)
-      (port_waits image old.order q l ready p (ap (λ x. port_of (instr_at image x.instr).op) (sym is)
-      ∙ ap port_of (sym at) ∙ s.0)),
+  subst (λ o. PortWaits image o.kept.items (chain_of o.chain) p) (sym same) (port_waits image old.order q
+      l ready p (ap (λ x. port_of (instr_at image x.instr).op) (sym is) ∙ ap port_of (sym at) ∙ s.0)),
   s.1,
 )
-silent_so image old new op k (NoMemory p) q l ready is at same s =
-    subst (λ o. PortWaits image o.kept.items (chain_of o.chain) p) (sym same)
-    (port_waits image old.order q l ready p (ap (λ x. port_of (instr_at image x.instr).op) (sym is)
-    ∙ ap port_of (sym at) ∙ s))
+silent_so image old new op k (NoMemory p) q l ready is at same s = subst (λ o. PortWaits image o.kept.items
+    (chain_of o.chain) p) (sym same) (port_waits image old.order q l ready p (ap (λ x. port_of (instr_at image
+    x.instr).op) (sym is) ∙ ap port_of (sym at) ∙ s))
 
 less : (a b n : ℕ) → a < b → a + n < b + n
 less a b n l = omega arith
 
 pub returns-then-is_past-clause-fewer : goal.returns-then-is_past-clause-fewer
-returns-then-is_past-clause-fewer g c =
-    subst (λ f. c.args.self.now.order.waiting + 0 < c.args.self.now.order.waiting + cond (has f) 0 1)
-    (sym c.requires.going) (omega arith)
+returns-then-is_past-clause-fewer g c = subst (λ f. c.args.self.now.order.waiting + 0 <
+    c.args.self.now.order.waiting + cond (has f) 0 1) (sym c.requires.going) (omega arith)
 
 pub returns-clause-fewer : goal.returns-clause-fewer
 returns-clause-fewer g c = less c.issue.new.self.waiting c.args.self.now.order.waiting

@@ -68,7 +68,6 @@ returns-in-None-clause-lead g c =
     (tokens_of c.loop-next.told.items)) (sym c.this_or_issuable.ensures.same) sought
 
 pub returns-in-None-clause-none : goal.returns-in-None-clause-none
-returns-in-None-clause-none g c =
-    inr (M.none_so (image_of c.args.program.now)
-    (record c.loop-next.self { order = c.this_or_issuable.new.self }) c.loop-next-test.ensures
-    c.in-None.ensures.may)
+returns-in-None-clause-none g c = inr (M.none_so (image_of c.args.program.now) (record c.loop-next.self {
+  order = c.this_or_issuable.new.self;
+}) c.loop-next-test.ensures c.in-None.ensures.may)
