@@ -1,6 +1,6 @@
 -- Each text whose lines spell the items of a formed image is read as that image.
 use Rattle.std.proofs.Common.{◌≡◌, ◌⊎◌, inl, inr, ℕ, ◌+◌, ◌≤◌, length, Bool, true, false, List, [], ◌∷◌, ◌++◌}
-use Rattle.std.proofs.Common.{map, Option, Some, None, Result, Ok, if◌then◌else◌, refl, sym, ap, subst, ◌∙◌}
+use Rattle.std.proofs.Common.{map, Option, Some, None, Result, Ok, if◌then◌else◌, refl, sym, ap, subst, arith}
 use Rattle.std.proofs.lemmas.Bool.{true≢false, eq-eqb}
 use Rattle.std.proofs.lemmas.Option.{none-some}
 use Rattle.std.proofs.lemmas.Result.{IfOk-at_ok}
@@ -12,7 +12,6 @@ use Rattle.asm_text.specs.declared.line.InstrLine.{InstrLine}
 use Rattle.asm_text.specs.declared.line.Line.{Line}
 use Rattle.asm_text.specs.declared.line.Line.TheVariants as line
 use Rattle.asm_text.specs.declared.reading.Reading.{Reading}
-use Rattle.asm_text.specs.declared.reading.Reading.TheVariants.{Blank, Wrong, Found}
 use Rattle.asm_text.specs.declared.state.Expected.{Expected}
 use Rattle.asm_text.specs.declared.state.Expected.TheVariants as place
 use Rattle.asm_text.specs.declared.state.TextState.{TextState}
@@ -22,8 +21,7 @@ use Rattle.asm_text.specs.State.{opening, next_place, is_plain, is_numbered, is_
 use Rattle.asm_text.specs.State.{counted, checked, behind}
 use Rattle.asm_text.specs.Building.{◌>>=◌, Built}
 use Rattle.asm_text.specs.Printed.{keeps_first_limits}
-use Rattle.asm_text.specs.Reading.{lines_of, reading, step, add, on_line, is_ended, passed, made, nothing}
-use Rattle.asm_text.specs.Reading.{read, Fault}
+use Rattle.asm_text.specs.Reading.{reading, step, add, on_line, is_ended, passed, made, nothing, read, Fault}
 use Rattle.asm_text.specs.Spelling.{Naming, Says, Say, Spelled}
 use Rattle.asm_text.proofs.Keeping.Held.{last_wave, after}
 use Rattle.asm_text.proofs.Accepting.Inside.{port_count}
@@ -40,9 +38,7 @@ step_taken : (t u : TextState) (l : Line) → behind t l false ≡ Ok u → (p :
 step_taken t u l e = (IfOk-at_ok _ e (taken t l false)).1
 
 step_extends : (t u : TextState) (l : Line) → behind t l false ≡ Ok u → Extends t u
-step_extends t u l e =
-    let k = step_taken t u l e in subst (Extends t) (sym k.2)
-    (placed t (counted t l) k.0 (counted_extends t l))
+step_extends t u l e = grind (arith, step_taken, placed, counted_extends)
 
 walks_extend : (ls : List Line) (t s : TextState) → Walks t ls s → Extends t s
 walks_extend [] t s h = subst (Extends t) h (still t)
@@ -50,15 +46,12 @@ walks_extend (l ∷ ls) t s h = onward t h.0 s (step_extends t h.0 l h.1) (walks
 
 grown_by : (t : Bool) (m n : ℕ) (o r : Option ℕ) → (o ≡ Some n → r ≡ Some n) →
     (if t then Some m else o) ≡ Some n → (if t then Some m else r) ≡ Some n
-grown_by true m n o r h e = e
-grown_by false m n o r h e = h e
+grown_by t m n o r h e = grind arith
 
 named_grown : (names more : Names) (w : List ℕ) (n : ℕ) → named names w ≡ Some n → named
     (names ++ more) w ≡ Some n
 named_grown [] more w n e = absurd (none-some n e)
-named_grown (x ∷ names) more w n e =
-    grown_by (is w x.0) x.1 n (named names w) (named (names ++ more) w) (named_grown names more w n)
-    e
+named_grown (x ∷ names) more w n e = grind (arith, grown_by, named_grown names more w n)
 
 abbrev IsNamed : Names → List ℕ → Type 0
 IsNamed names w = (m : ℕ) × (named names w ≡ Some m)
@@ -78,8 +71,7 @@ is_same (b ∷ w) = rw (eq-eqb b b refl, is_same w)
 
 with_name_found : (names : Names) (own : Label) (w : List ℕ) (k : ℕ) → own ≡ Named w → IsNamed
     (with_name names own k) w
-with_name_found names own w k e =
-    subst (λ l. IsNamed (with_name names l k) w) (sym e) (found_last names w k (is_same w))
+with_name_found names own w k e = grind (arith, found_last names w k (is_same w), is_same w)
 
 block_kept : (t : TextState) (w : List ℕ) → IsNamed (counted t (line.Block (Named w))).block_names w
 unfolding counted
@@ -95,14 +87,9 @@ pub block_found : (ls : List Line) (t s : TextState) (w : List ℕ) → Walks t 
 block_found [] t s w h k = absurd k
 block_found (l ∷ ls) t s w h (inl e) =
     let one = step_taken t h.0 l h.1 in
-    let kept : IsNamed (counted t l).block_names w = subst
-    (λ l. IsNamed (counted t l).block_names w) e (block_kept t w) in
-    let here : IsNamed h.0.block_names w = subst (λ u. IsNamed u.block_names w) (sym one.2) kept in
-    let more = walks_extend ls h.0 s h.2 in (
-      here.0,
-      ap (λ names. named names w) more.blocks ∙ named_grown h.0.block_names more.block_more w
-          here.0 here.1,
-    )
+    let kept : IsNamed (counted t l).block_names w = subst (λ l. IsNamed (counted t l).block_names w) e
+    (block_kept t w) in
+    grind (arith, walks_extend, named_grown)
 block_found (l ∷ ls) t s w h (inr k) = block_found ls h.0 s w h.2 k
 
 pub instr_found : (ls : List Line) (t s : TextState) (i : InstrLine) (w : List ℕ) → Walks t ls s → i.own
@@ -110,14 +97,9 @@ pub instr_found : (ls : List Line) (t s : TextState) (i : InstrLine) (w : List �
 instr_found [] t s i w h q k = absurd k
 instr_found (l ∷ ls) t s i w h q (inl e) =
     let one = step_taken t h.0 l h.1 in
-    let kept : IsNamed (counted t l).instr_names w = subst
-    (λ l. IsNamed (counted t l).instr_names w) e (instr_kept t i w q) in
-    let here : IsNamed h.0.instr_names w = subst (λ u. IsNamed u.instr_names w) (sym one.2) kept in
-    let more = walks_extend ls h.0 s h.2 in (
-      here.0,
-      ap (λ names. named names w) more.instrs ∙ named_grown h.0.instr_names more.instr_more w
-          here.0 here.1,
-    )
+    let kept : IsNamed (counted t l).instr_names w = subst (λ l. IsNamed (counted t l).instr_names w) e
+    (instr_kept t i w q) in
+    grind (arith, walks_extend, named_grown)
 instr_found (l ∷ ls) t s i w h q (inr k) = instr_found ls h.0 s i w h.2 q k
 
 -- Both passes over the texts of lines.
@@ -126,40 +108,27 @@ passed_by : (t s : TextState) (n : ℕ) (r : Reading) (ls more : List Line)
     (f : TextState → Result TextState Fault) → Says r ls more → Walks t ls s →
     ((u : TextState) → Walks u more s → f u ≡ Ok s)
     → (on_line (n + 1) (step t r) >>= f) ≡ Ok s
-passed_by t s n Blank ls more f h w k = k t (subst (λ l. Walks t l s) h w)
-passed_by t s n Wrong ls more f h w k = absurd h
-passed_by t s n (Found l wide) ls more f h w k =
-    let x : Walks t (l ∷ more) s = subst (λ z. Walks t z s) h.1 w in
-    let e : behind t l wide ≡ Ok x.0 = ap (behind t l) h.0 ∙ x.1 in
-    ap (λ r. on_line (n + 1) r >>= f) e ∙ k x.0 x.2
+passed_by t s n r ls more f h w k = grind arith
 
 passed_say : (texts : List (List ℕ)) (ls : List Line) (t s : TextState) (n : ℕ) → Say texts ls → Walks t
     ls s → is_ended s.place ≡ true → passed t n texts ≡ Ok s
 unfolding passed
-passed_say [] ls t s n h w e =
-    let same : t ≡ s = subst (λ l. Walks t l s) h w in
-    rw (ap (λ x. is_ended x.place) same ∙ e) (ap Ok same)
-passed_say (text ∷ texts) ls t s n h w e =
-    passed_by t s n (reading text) ls h.0 (λ u. passed u (n + 1) texts) h.1 w
-    (λ u x. passed_say texts h.0 u s (n + 1) h.2 x e)
+passed_say [] ls t s n h w e = grind arith
+passed_say (text ∷ texts) ls t s n h w e = passed_by t s n (reading text) ls h.0 (λ u. passed u (n + 1) texts)
+    h.1 w (λ u x. passed_say texts h.0 u s (n + 1) h.2 x e)
 
 made_by : (s : TextState) (b d : Built) (n : ℕ) (r : Reading) (ls more : List Line)
     (f : Built → Result Built Fault) → Says r ls more → Makes s b ls d →
     ((c : Built) → Makes s c more d → f c ≡ Ok d)
     → (on_line (n + 1) (add s b r) >>= f) ≡ Ok d
-made_by s b d n Blank ls more f h w k = k b (subst (λ l. Makes s b l d) h w)
-made_by s b d n Wrong ls more f h w k = absurd h
-made_by s b d n (Found l wide) ls more f h w k =
-    let x : Makes s b (l ∷ more) d = subst (λ z. Makes s b z d) h.1 w in
-    ap (λ r. on_line (n + 1) r >>= f) x.1 ∙ k x.0 x.2
+made_by s b d n r ls more f h w k = grind arith
 
 made_say : (texts : List (List ℕ)) (ls : List Line) (s : TextState) (b d : Built) (n : ℕ) → Say texts ls
     → Makes s b ls d → made s b n texts ≡ Ok d
 unfolding made
 made_say [] ls s b d n h w = ap Ok (subst (λ l. Makes s b l d) h w)
-made_say (text ∷ texts) ls s b d n h w =
-    made_by s b d n (reading text) ls h.0 (λ c. made s c (n + 1) texts) h.1 w
-    (λ c x. made_say texts h.0 s c d (n + 1) h.2 x)
+made_say (text ∷ texts) ls s b d n h w = made_by s b d n (reading text) ls h.0 (λ c. made s c (n + 1) texts)
+    h.1 w (λ c x. made_say texts h.0 s c d (n + 1) h.2 x)
 
 -- The version.
 
@@ -186,22 +155,7 @@ record Chosen (image : Image) (n : ℕ) (names : Naming) : Type 0 where
 
 chosen : (image : Image) (n : ℕ) (names : Naming) → Known n names →
     (n ≡ 1 → keeps_first_limits image ≡ true) → Chosen image n names
-chosen image n names (inl e) h =
-    record {
-      v = true;
-      goes = subst (λ m. behind opening (line.Version m) false ≡ Ok (start true))
-          (sym e) two_goes;
-      first = λ x. absurd (true≢false x);
-      plain = inl refl;
-    }
-chosen image n names (inr k) h =
-    record {
-      v = false;
-      goes = subst (λ m. behind opening (line.Version m) false ≡ Ok (start false))
-          (sym k.0) one_goes;
-      first = λ x. h k.0;
-      plain = inr k.1;
-    }
+chosen image n names x h = grind (arith, two_goes, true≢false, one_goes)
 
 pub spelled_read : (text : List ℕ) (image : Image) → Formed image → Spelled text image → read text ≡
     Ok image
@@ -209,31 +163,20 @@ unfolding read nothing
 spelled_read text image f p =
     let names = p.naming in
     let c = chosen image p.version names p.known p.first in
-    let set : Setting image c.v names = record {
-      formed = f;
-      first = c.first;
-      plain = c.plain;
-      blocks = p.short_blocks;
-      instrs =
-          p.short_instrs;
-    } in
+    let set : Setting image c.v names = grind arith in
     let walk = text_walk image c.v names set p.version p.lines p.spelled c.goes in
     let s = at place.Ended c.v (length image.arrays) (total_length image.arrays)
     (last_wave 0 image.blocks) (length image.blocks) (map port_count (flat image.blocks))
     walk.pad walk.bs walk.is in
-    let counts : Counts image s = record { arrays = refl; blocks = refl; ports = refl } in
+    let counts : Counts image s = grind arith in
     let resolved : Resolved image s names = record {
       counts = counts;
       block = λ l n h k. place_is walk.bs names.blocks (length image.blocks) l n walk.blocks
-          (λ w m e. block_found p.lines opening s w walk.walks (p.given_blocks w m e)) h k.0 k.1;
-      instr = λ l n h k. place_is walk.is names.instrs (length s.ports) l n walk.instrs
-          (λ w m e. let i = p.given_instrs w m e in instr_found p.lines opening s i.0 w walk.walks
-          i.1 i.2) h k.0
-          (subst (λ m. n ≤ m) (sym (count_is image s counts)) k.1);
+          (grind (arith, block_found)) h k.0 k.1;
+      instr = λ l n h k. place_is walk.is names.instrs (length s.ports) l n walk.instrs (λ w m e. let i =
+          p.given_instrs w m e in instr_found p.lines opening s i.0 w walk.walks i.1 i.2) h k.0 (subst (λ m. n
+          ≤ m) (sym (count_is image s counts)) k.1);
     } in
     let d = parts image.arrays image.blocks (last_wave 0 image.blocks) [] [] in
     let made_all = text_makes image s names resolved p.version p.lines f p.spelled in
-    rw (
-      passed_say (lines_of text) p.lines opening s 0 p.said walk.walks refl,
-      made_say (lines_of text) p.lines s (parts [] [] 0 [] []) d 0 p.said made_all,
-    )
+    grind (arith, passed_say, made_say, parts)

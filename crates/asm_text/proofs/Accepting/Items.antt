@@ -1,15 +1,13 @@
 -- What a formed image says of each of its blocks, pads and instructions.
-use Rattle.std.proofs.Common.{◌≡◌, ◌^◌, ◌<◌, ◌≤◌, nat_le, ◌&&◌, length, Bool, true, List, [], ◌∷◌, ◌++◌}
-use Rattle.std.proofs.Common.{arith}
+use Rattle.std.proofs.Common.{◌≡◌, ◌^◌, ◌<◌, ◌≤◌, length, Bool, true, List, [], ◌∷◌, ◌++◌, arith}
 use Rattle.std.specs.List.{AllByRecursion, list_all}
-use Rattle.std.proofs.lemmas.Bool.{and_parts, leb-true}
+use Rattle.std.proofs.lemmas.Bool.{and_parts}
 use Rattle.ws_isa.specs.declared.instr.Dest.{Dest}
-use Rattle.ws_isa.specs.Image.{Instr, Block, Image, flat, ports, instr_at}
+use Rattle.ws_isa.specs.Image.{Instr, Block, Image, flat, ports}
 use Rattle.ws_isa.specs.Formed.{most_instrs, DestIn, DestsIn, OpIn, ExitIn, DestsSuit, OthersSuit}
 use Rattle.ws_isa.specs.Formed.{SomeLanding, PadsRise, NoteSuits, InstrWithin, BlockWithin, Formed}
 use Rattle.asm_text.specs.Limits.{first_most_instrs, first_most_blocks}
 use Rattle.asm_text.specs.Printed.{keeps_first_block, keeps_first_limits}
-use Rattle.ws_isa.proofs.Images.{three_ports}
 
 pub record InstrIn (image : Image) (i : Instr) : Type 0 where
   pub within : InstrWithin i
@@ -36,10 +34,7 @@ instrs_in : (image : Image) (is : List Instr) → AllByRecursion InstrWithin is
     → AllByRecursion (λ i. OthersSuit i.op i.others) is
     → AllByRecursion (λ i. NoteSuits i.op i.note) is → AllByRecursion (InstrIn image) is
 instrs_in image [] w d o p l s n = tt
-instrs_in image (i ∷ is) w d o p l s n = (
-  record { within = w.0; dests = d.0; others = o.0; op = p.0; list = l.0; other = s.0; note = n.0 },
-  instrs_in image is w.1 d.1 o.1 p.1 l.1 s.1 n.1,
-)
+instrs_in image (i ∷ is) w d o p l s n = grind (arith, instrs_in image is w.1 d.1 o.1 p.1 l.1 s.1 n.1)
 
 all_split : {A : Type 0} (P : A → Type 0) (xs ys : List A) → AllByRecursion P (xs ++ ys)
     → AllByRecursion P xs × AllByRecursion P ys
@@ -60,19 +55,8 @@ blocks_in : (image : Image) (first : Bool) (bs : List Block) → AllByRecursion 
     → AllByRecursion (λ b. PadsRise b.pads) bs
     → AllByRecursion (BlockIn image first) bs
 blocks_in image first [] w k i p e l r = tt
-blocks_in image first (b ∷ bs) w k i p e l r = (
-  record {
-    within = w.0;
-    keeps = λ f. (and_parts (keeps_first_block b) (list_all keeps_first_block bs) (k f)).0;
-    instrs = i.0;
-    pads = p.0;
-    exit = e.0;
-    landing = l.0;
-    rise = r.0;
-  },
-  blocks_in image first bs w.1
-      (λ f. (and_parts (keeps_first_block b) (list_all keeps_first_block bs) (k f)).1) i.1 p.1 e.1 l.1 r.1,
-)
+blocks_in image first (b ∷ bs) w k i p e l r =
+    (grind (arith, and_parts), blocks_in image first bs w.1 (grind (arith, and_parts)) i.1 p.1 e.1 l.1 r.1)
 
 -- What an image within the limits of version 1 keeps.
 pub record First (image : Image) : Type 0 where
@@ -82,23 +66,11 @@ pub record First (image : Image) : Type 0 where
 
 pub firsts_of : (image : Image) → keeps_first_limits image ≡ true → First image
 unfolding keeps_first_limits
-firsts_of image h =
-    let n = nat_le (length (flat image.blocks)) first_most_instrs in
-    let m = nat_le (length image.blocks) first_most_blocks in
-    let p = and_parts (n && m) (list_all keeps_first_block image.blocks) h in
-    let q = and_parts n m p.0 in
-    record { instrs = leb-true _ _ q.0; blocks = leb-true _ _ q.1; each = p.1 }
+firsts_of image h = grind arith
 
 pub blocks_formed : (image : Image) → Formed image
     → AllByRecursion (BlockIn image (keeps_first_limits image)) image.blocks
-blocks_formed image f =
-    let r = f.suited.references in
-    let instrs =
-    instrs_in image (flat image.blocks) f.instrs r.dests r.others r.ops f.suited.lists.dests
-    f.suited.lists.others f.notes
-    in
-    blocks_in image (keeps_first_limits image) image.blocks f.blocks (λ k. (firsts_of image k).each)
-    (all_flat (InstrIn image) image.blocks instrs) r.pads r.exits f.suited.landings f.pads
+blocks_formed image f = grind (arith, instrs_in, blocks_in, firsts_of, all_flat)
 
 -- a destination that is there has small numbers
 pub record Small (d : Dest) : Type 0 where
@@ -107,9 +79,7 @@ pub record Small (d : Dest) : Type 0 where
 
 pub dest_small : (image : Image) (d : Dest) → Formed image → DestIn image d → Small d
 unfolding most_instrs ports
-dest_small image d f h =
-    let p = three_ports (instr_at image d.instr).op in
-    record { instr = omega (arith, f.few_instrs, h.0.1); port = omega (arith, h.1, p) }
+dest_small image d f h = grind arith
 
 pub dests_small : (image : Image) (ds : List Dest) → Formed image → DestsIn image ds → AllByRecursion Small ds
 dests_small image [] f h = tt

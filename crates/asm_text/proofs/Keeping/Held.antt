@@ -104,10 +104,8 @@ Exited t b = Shut t b × (t.waves ≡ last_wave 0 b.blocks) × (1 ≤ t.waves) �
 
 -- in a block, which isn't in the list yet
 abbrev pub Inside : TextState → Built → Type 0
-Inside t b =
-    (t.blocks ≡ length b.blocks + 1) ×
-    ((t.waves ≡ last_wave 0 b.blocks) ⊎ (t.waves ≡ suc (last_wave 0 b.blocks))) × (1 ≤ t.waves) ×
-    (t.pad ≡ last_pad None b.pads)
+Inside t b = (t.blocks ≡ length b.blocks + 1) × ((t.waves ≡ last_wave 0 b.blocks) ⊎ (t.waves ≡ suc (last_wave
+    0 b.blocks))) × (1 ≤ t.waves) × (t.pad ≡ last_pad None b.pads)
 
 abbrev pub Stands : Expected → TextState → Built → Type 0
 Stands place.Start t b = Shut t b × (t.waves ≡ last_wave 0 b.blocks)

@@ -1,18 +1,16 @@
 -- Each kind of line keeps what holds of the state and of what is built.
-use Rattle.std.proofs.Common.{◌≡◌, ◌⊎◌, inl, inr, ℕ, suc, ◌+◌, ◌<◌, ◌≤◌, ◌&&◌, nat_lt, nat_le, Bool, true}
-use Rattle.std.proofs.Common.{false, IfOk, List, [], ◌∷◌, ◌++◌, length, Option, Some, None, Ok, Err, refl}
-use Rattle.std.proofs.Common.{sym, ap, subst, ◌∙◌, append_assoc, append-nil, arith}
-use Rattle.std.specs.List.{list_all}
-use Rattle.std.proofs.lemmas.Bool.{false≢true, and_parts, ltb-true, leb-true, eqb-true}
+use Rattle.std.proofs.Common.{◌≡◌, ℕ, suc, ◌+◌, ◌<◌, ◌≤◌, ◌&&◌, nat_lt, nat_le, Bool, true, IfOk, List, []}
+use Rattle.std.proofs.Common.{◌∷◌, ◌++◌, length, Option, Some, None, refl, ap, subst, ◌∙◌, append_assoc}
+use Rattle.std.proofs.Common.{append-nil, arith}
+use Rattle.std.proofs.lemmas.Bool.{and_parts, ltb-true, eqb-true}
 use Rattle.std.proofs.lemmas.Bool.Decides.{nat_tests}
 use Rattle.std.proofs.lemmas.Option.{none-some, same_Some}
 use Rattle.ws_isa.specs.declared.instr.Op.{Op}
 use Rattle.ws_isa.specs.declared.instr.Op.TheVariants as op
 use Rattle.ws_isa.specs.declared.instr.Dest.{Dest}
-use Rattle.ws_isa.specs.Image.{Array, Block, Pad, Instr, Exit, flat, ports_of, Goto, Branch, Landings, Stop}
+use Rattle.ws_isa.specs.Image.{Array, Block, Pad, Instr, Exit, flat, ports_of, Stop}
 use Rattle.ws_isa.specs.Formed.{most_arrays, most_length, most_cells, most_instrs, most_waves, most_dests}
-use Rattle.ws_isa.specs.Formed.{most_pads, most_landings, most_name, NameFormed, SendWithin, ExitWithin}
-use Rattle.ws_isa.specs.Formed.{SomeLanding}
+use Rattle.ws_isa.specs.Formed.{most_landings, most_name, NameFormed, SendWithin, ExitWithin, SomeLanding}
 use Rattle.asm_text.specs.declared.line.Label.{Label}
 use Rattle.asm_text.specs.declared.line.Target.{Target}
 use Rattle.asm_text.specs.declared.line.InstrLine.{InstrLine}
@@ -22,18 +20,17 @@ use Rattle.asm_text.specs.declared.state.Expected.{Expected}
 use Rattle.asm_text.specs.declared.state.Expected.TheVariants as place
 use Rattle.asm_text.specs.declared.state.TextState.{TextState}
 use Rattle.asm_text.specs.Limits.{first_most_instrs, first_most_landings}
-use Rattle.asm_text.specs.State.{next_place, is_numbered, is_above, are_ports, is_within, is_within_cells}
-use Rattle.asm_text.specs.State.{is_within_op, is_short, is_short_name, are_few, are_short, limit, counted}
-use Rattle.asm_text.specs.Building.{Maybe, Built, instr_of, block_of, blocks_of, dests_of, is_known}
-use Rattle.asm_text.specs.Building.{with_array, with_pad, with_instr, closed, exit_of, with_exit, built}
+use Rattle.asm_text.specs.State.{next_place, is_numbered, is_within, is_within_cells, is_within_op, is_short}
+use Rattle.asm_text.specs.State.{are_few, limit, counted}
+use Rattle.asm_text.specs.Building.{Maybe, Built, dests_of, is_known, with_array, with_pad, with_instr}
+use Rattle.asm_text.specs.Building.{closed, exit_of, with_exit, built}
 use Rattle.asm_text.proofs.Keeping.Counts.{waves_few, blocks_few, instrs_few}
 use Rattle.asm_text.proofs.Scanning.FormedLines.{LineFits, InstrFits}
 use Rattle.asm_text.proofs.Keeping.HeldSteps.{if_ok, then_ok}
-use Rattle.asm_text.proofs.Keeping.HeldNames.{NamesThere, Among, DestFor, EachOf, instr_in, block_in}
-use Rattle.asm_text.proofs.Keeping.HeldNames.{dests_in}
+use Rattle.asm_text.proofs.Keeping.HeldNames.{NamesThere, DestFor, EachOf, instr_in, block_in, dests_in}
 use Rattle.asm_text.proofs.Keeping.HeldNames.{blocks_in, dests_suit, others_suit}
-use Rattle.asm_text.proofs.Keeping.Held.{ExitFor, OpFor, ExitHeld, InstrHeld, PadHeld, InstrsHeld, last_pad}
-use Rattle.asm_text.proofs.Keeping.Held.{last_wave, Shut, Inside, Stands, so_far, Held, after}
+use Rattle.asm_text.proofs.Keeping.Held.{ExitFor, OpFor, ExitHeld, InstrHeld, InstrsHeld, last_pad, last_wave}
+use Rattle.asm_text.proofs.Keeping.Held.{Inside, Stands, so_far, Held, after}
 use Rattle.asm_text.proofs.Keeping.HeldLists.{arrays_more, instrs_more, flat_snoc, last_pad_snoc, pads_more}
 use Rattle.asm_text.proofs.Keeping.HeldLists.{last_wave_snoc, blocks_more}
 
@@ -48,21 +45,7 @@ nowhere p e = absurd (none-some p e)
 version_held : (s t : TextState) (b : Built) (n : ℕ) (p : Expected) → Held s t b
     → next_place t.place (line.Version n) ≡ Some p → Held s (after t (line.Version n) p) b
 unfolding counted next_place
-version_held s t b n p h e =
-    record {
-      arrays = h.arrays;
-      instrs = h.instrs;
-      pads = h.pads;
-      blocks = h.blocks;
-      wave = h.wave;
-      few = h.few;
-      stands = by t.place e h.stands;
-    }
-  where
-    by : (q : Expected) → next_place q (line.Version n) ≡ Some p → Stands q t b
-        → Stands p (after t (line.Version n) p) b
-    by place.Start e k = at_place (λ p. Stands p (after t (line.Version n) p) b) place.Arrays p e k
-    by q e k = nowhere p e
+version_held s t b n p h e = grind arith
 
 cells_keep : (t : TextState) (n : ℕ) → is_within_cells t n ≡ true
     → (t.arrays < most_arrays) × (n ≤ most_length) × (t.cells + n ≤ most_cells)
@@ -95,42 +78,18 @@ array_stands : (t : TextState) (b : Built) (w : List ℕ) (o : Option (List ℕ)
     → next_place q (line.Array w n) ≡ Some p → Stands q t b
     → Stands p (with_cells t n p) (with_array b o n)
 unfolding next_place
-array_stands t b w o n place.Arrays p e k =
-    at_place (λ p. Stands p (with_cells t n p) (with_array b o n)) place.Arrays p e k
-array_stands t b w o n q p e k = nowhere p e
+array_stands t b w o n q p e k = grind arith
 
 hidden_place : (q : Expected) (n : ℕ) → next_place q (line.Hidden n) ≡ next_place q (line.Array [] n)
 unfolding next_place
-hidden_place place.Arrays n = refl
-hidden_place q n = refl
+hidden_place q n = grind arith
 
 wave_held : (s t : TextState) (b : Built) (k : ℕ) (p : Expected) → Held s t b
     → next_place t.place (line.Wave k) ≡ Some p → is_numbered t (line.Wave k) ≡ true
     → is_within t (line.Wave k) ≡ true
     → Held s (after t (line.Wave k) p) (record b { wave = k })
 unfolding counted next_place is_numbered
-wave_held s t b k p h e n w =
-    let next : k ≡ t.waves + 1 = eqb-true k (t.waves + 1) n in
-    let few = waves_few t k w in
-    record {
-      arrays = h.arrays;
-      instrs = h.instrs;
-      pads = h.pads;
-      blocks = h.blocks;
-      wave = (sym next, omega arith);
-      few = h.few;
-      stands = by t.place e h.stands;
-    }
-  where
-    by : (q : Expected) → next_place q (line.Wave k) ≡ Some p → Stands q t b
-        → Stands p (after t (line.Wave k) p) (record b { wave = k })
-    by place.Arrays e l =
-        at_place (λ p. Stands p (after t (line.Wave k) p) (record b { wave = k })) place.Wave p e
-        (l.0, omega arith)
-    by place.Exited e l =
-        at_place (λ p. Stands p (after t (line.Wave k) p) (record b { wave = k })) place.Wave p e
-        (l.0, omega arith)
-    by q e l = nowhere p e
+wave_held s t b k p h e n w = grind (arith, eqb-true, waves_few, after, at_place, nowhere)
 
 -- A block begins.
 
@@ -138,42 +97,13 @@ block_held : (s t : TextState) (b : Built) (l : Label) (p : Expected) → Held s
     → next_place t.place (line.Block l) ≡ Some p → is_within t (line.Block l) ≡ true
     → Held s (after t (line.Block l) p) b
 unfolding counted next_place
-block_held s t b l p h e w =
-    let few = blocks_few t l w in
-    record {
-      arrays = h.arrays;
-      instrs = h.instrs;
-      pads = h.pads;
-      blocks = h.blocks;
-      wave = h.wave;
-      few = omega arith;
-      stands = by t.place e h.stands;
-    }
-  where
-    no_pad : Shut t b → None ≡ last_pad None b.pads
-    no_pad k = sym (ap (last_pad None) k.0)
-
-    one_more : Shut t b → t.blocks + 1 ≡ length b.blocks + 1
-    one_more k = ap (λ n. n + 1) k.2
-
-    by : (q : Expected) → next_place q (line.Block l) ≡ Some p → Stands q t b
-        → Stands p (after t (line.Block l) p) b
-    by place.Wave e k =
-        at_place (λ p. Stands p (after t (line.Block l) p) b) place.Pads p e
-        (one_more k.0, inr k.1, omega arith, no_pad k.0)
-    by place.Exited e k =
-        at_place (λ p. Stands p (after t (line.Block l) p) b) place.Pads p e
-        (one_more k.0, inl k.1, k.2, no_pad k.0)
-    by q e k = nowhere p e
+block_held s t b l p h e w = grind (arith, blocks_few, last_pad, after, at_place, nowhere)
 
 -- Inside a block.
 
 few_targets : (ts : List Target) (ds : List Dest) → length ds ≡ length ts → are_few ts ≡ true
     → length ds ≤ most_dests
-few_targets ts ds e h =
-    let few = (and_parts (nat_le (length ts) most_dests) (are_short ts) h).0 in
-    let l = leb-true (length ts) most_dests few in
-    omega arith
+few_targets ts ds e h = grind arith
 
 pad_held : (s t : TextState) (b : Built) (k : ℕ) (ts : List Target) (ds : List Dest) (p : Expected)
     → Held s t b
@@ -182,57 +112,28 @@ pad_held : (s t : TextState) (b : Built) (k : ℕ) (ts : List Target) (ds : List
     → is_within t (line.Pad k ts) ≡ true
     → Held s (after t (line.Pad k ts) p) (with_pad b k ds)
 unfolding counted next_place is_numbered is_within
-pad_held s t b k ts ds p h each e n w =
-    let x : Pad = record { number = k; dests = ds } in
-    let above = (and_parts (is_above t.pad k) (are_ports ts) n).0 in
-    let within = and_parts (nat_lt k most_pads) (are_few ts) w in
-    let held : PadHeld s x = record {
-      number = ltb-true k most_pads within.0;
-      few = few_targets ts ds each.many within.1;
-      dests = each.all;
-    } in
-    record {
-      arrays = h.arrays;
-      instrs = h.instrs;
-      pads =
-          pads_more s b.pads x h.pads held (subst (λ o. is_above o k ≡ true) (last t.place e h.stands) above);
-      blocks = h.blocks;
-      wave = h.wave;
-      few = h.few;
-      stands = by t.place e h.stands;
-    }
-  where
-    last : (q : Expected) → next_place q (line.Pad k ts) ≡ Some p → Stands q t b
-        → t.pad ≡ last_pad None b.pads
-    last place.Pads e l = l.3
-    last q e l = nowhere p e
-
-    by : (q : Expected) → next_place q (line.Pad k ts) ≡ Some p → Stands q t b
-        → Stands p (after t (line.Pad k ts) p) (with_pad b k ds)
-    by place.Pads e l =
-        at_place (λ p. Stands p (after t (line.Pad k ts) p) (with_pad b k ds)) place.Pads p e
-        (l.0, l.1, l.2, sym (last_pad_snoc None b.pads (record { number = k; dests = ds })))
-    by q e l = nowhere p e
+pad_held s t b k ts ds p h each e n w = grind (
+  arith,
+  and_parts,
+  ltb-true,
+  few_targets,
+  pads_more,
+  last_pad,
+  nowhere,
+  after,
+  at_place,
+  last_pad_snoc,
+)
 
 -- the array of an operation is there, and its port is one of the seven
 op_for : (s : TextState) (o : Op) → is_known s o ≡ true → is_within_op o ≡ true → OpFor s o
-op_for s (op.Load a) k w =
-    let p = and_parts (nat_le 1 a) (nat_le a s.arrays) k in (leb-true 1 a p.0, leb-true a s.arrays p.1)
-op_for s (op.Store a) k w =
-    let p = and_parts (nat_le 1 a) (nat_le a s.arrays) k in (leb-true 1 a p.0, leb-true a s.arrays p.1)
-op_for s (op.Give n) k w =
-    let p = and_parts (nat_le 1 n) (nat_le n 7) w in (leb-true 1 n p.0, leb-true n 7 p.1)
-op_for s (op.Take n) k w =
-    let p = and_parts (nat_le 1 n) (nat_le n 7) w in (leb-true 1 n p.0, leb-true n 7 p.1)
-op_for s o k w = tt
+op_for s o k w = grind arith
 
 send_within : (o : Op) → is_within_op o ≡ true → SendWithin o
-send_within (op.Send k) w = ltb-true k most_pads w
-send_within o w = tt
+send_within o w = grind arith
 
 six : (a b c d e f : Bool) → (a && b && c && d && e && f) ≡ true → (c ≡ true) × (e ≡ true) × (f ≡ true)
-six true true true true true true h = (refl, refl, refl)
-six a b c d e f h = absurd (false≢true h)
+six a b c d e f h = grind arith
 
 -- an instruction with its destinations
 abbrev resolved : InstrLine → List Dest → List Dest → Instr
@@ -250,28 +151,11 @@ instr_held s t b i ds os p h fits known each other e w =
     six (nat_lt (length t.ports) (limit t.named first_most_instrs most_instrs)) (is_short i.own)
     (is_within_op i.op) i.fits (are_few i.dests) (are_few i.others) w
     in
-    let held : InstrHeld s x = record {
-      within =
-          record {
-            dests = few_targets i.dests ds each.many parts.1;
-            others = few_targets i.others os other.many parts.2;
-            const = fits.const;
-            send = send_within i.op parts.0;
-            note = fits.within;
-          };
-      op = op_for s i.op known parts.0;
-      dests = each.all;
-      others = other.all;
-      dests_suit = dests_suit i.op i.dests ds each.many fits.dests;
-      others_suit = others_suit i.op i.others os other.many fits.others;
-      note = fits.note;
-    } in
+    let held : InstrHeld s x = grind (arith, few_targets, send_within, op_for, dests_suit, others_suit) in
     record {
       arrays = h.arrays;
-      instrs =
-          subst (InstrsHeld s (t.ports ++ ports_of i.op ∷ []))
-          (append_assoc (flat b.blocks) b.instrs (x ∷ []))
-          (instrs_more s t.ports (so_far b) x h.instrs (instrs_few t i w) held);
+      instrs = subst (InstrsHeld s (t.ports ++ ports_of i.op ∷ [])) (grind (arith, append_assoc)) (instrs_more
+          s t.ports (so_far b) x h.instrs (instrs_few t i w) held);
       pads = h.pads;
       blocks = h.blocks;
       wave = h.wave;
@@ -284,9 +168,7 @@ instr_held s t b i ds os p h fits known each other e w =
 
     by : (q : Expected) → next_place q (line.Instr i) ≡ Some p → Stands q t b
         → Stands p (after t (line.Instr i) p) more
-    by place.Pads e k = at_place (λ p. Stands p (after t (line.Instr i) p) more) place.Instrs p e k
-    by place.Instrs e k = at_place (λ p. Stands p (after t (line.Instr i) p) more) place.Instrs p e k
-    by q e k = nowhere p e
+    by q e k = grind arith
 
 -- A block ends.
 
@@ -306,18 +188,7 @@ closed_held s t b exit h k held =
     let most : t.waves ≤ most_waves = h.wave.1 in
     let some : 1 ≤ t.waves = k.2 in
     let many = length_more b.blocks x in
-    record {
-      arrays = h.arrays;
-      instrs = subst (InstrsHeld s t.ports) (sym (closed_so_far b exit)) h.instrs;
-      pads = record { all = tt; rise = tt };
-      blocks =
-          blocks_more s b.blocks x h.blocks
-          (record { wave = (omega arith, omega arith); pads = h.pads; exit = held })
-          (subst (λ n. (n ≡ last_wave 0 b.blocks) ⊎ (n ≡ suc (last_wave 0 b.blocks))) w k.1);
-      wave = h.wave;
-      few = h.few;
-      stands = ((refl, refl, k.0 ∙ sym many), w ∙ sym (last_wave_snoc 0 b.blocks x), some, omega arith);
-    }
+    grind (arith, closed_so_far, blocks_more, last_wave, last_wave_snoc)
   where
     length_more : (bs : List Block) (x : Block) → length (bs ++ x ∷ []) ≡ length bs + 1
     length_more [] x = refl
@@ -333,85 +204,52 @@ SomeExit s (Some exit) = ExitHeld s exit
 exit_held : (s t : TextState) (b : Built) (e : Maybe (Option Exit)) (p : Expected) → Held s t b
     → IfOk e (SomeExit s) → (place.Exited ≡ p) × Inside t b
     → IfOk (with_exit b e) (Held s (record t { place = p }))
-exit_held s t b (Err k) p h x i = tt
-exit_held s t b (Ok None) p h x i = absurd x
-exit_held s t b (Ok (Some exit)) p h x i =
-    subst (λ p. Held s (record t { place = p }) (closed b exit)) i.0 (closed_held s t b exit h i.1 x)
-
-exit_at : (P : Type 0) (p : Expected) → Some place.Exited ≡ Some p → P → (place.Exited ≡ p) × P
-exit_at P p e k = (same_Some place.Exited p e, k)
+exit_held s t b e p h x i = grind (arith, closed_held)
 
 go_at : (t : TextState) (b : Built) (l : Label) (q p : Expected) → next_place q (line.Go l) ≡ Some p
     → Stands q t b
     → (place.Exited ≡ p) × Inside t b
 unfolding next_place
-go_at t b l place.Pads p e k = exit_at (Inside t b) p e k
-go_at t b l place.Instrs p e k = exit_at (Inside t b) p e k
-go_at t b l q p e k = nowhere p e
+go_at t b l q p e k = grind arith
 
 branch_at : (t : TextState) (b : Built) (l m n : Label) (q p : Expected)
     → next_place q (line.If l m n) ≡ Some p
     → Stands q t b → (place.Exited ≡ p) × Inside t b
 unfolding next_place
-branch_at t b l m n place.Pads p e k = exit_at (Inside t b) p e k
-branch_at t b l m n place.Instrs p e k = exit_at (Inside t b) p e k
-branch_at t b l m n q p e k = nowhere p e
+branch_at t b l m n q p e k = grind arith
 
 send_at : (t : TextState) (b : Built) (l : Label) (ls : List Label) (q p : Expected)
     → next_place q (line.Send l ls) ≡ Some p → Stands q t b → (place.Exited ≡ p) × Inside t b
 unfolding next_place
-send_at t b l ls place.Pads p e k = exit_at (Inside t b) p e k
-send_at t b l ls place.Instrs p e k = exit_at (Inside t b) p e k
-send_at t b l ls q p e k = nowhere p e
+send_at t b l ls q p e k = grind arith
 
 stop_at : (t : TextState) (b : Built) (q p : Expected) → next_place q line.Stop ≡ Some p → Stands q t b
     → (place.Exited ≡ p) × Inside t b
 unfolding next_place
-stop_at t b place.Pads p e k = exit_at (Inside t b) p e k
-stop_at t b place.Instrs p e k = exit_at (Inside t b) p e k
-stop_at t b q p e k = nowhere p e
+stop_at t b q p e k = grind arith
 
 end_held : (s t : TextState) (b : Built) (p : Expected) → Held s t b → next_place t.place line.End ≡ Some p
     → Held s (after t line.End p) b
 unfolding counted next_place
-end_held s t b p h e =
-    record {
-      arrays = h.arrays;
-      instrs = h.instrs;
-      pads = h.pads;
-      blocks = h.blocks;
-      wave = h.wave;
-      few = h.few;
-      stands = by t.place e h.stands;
-    }
-  where
-    by : (q : Expected) → next_place q line.End ≡ Some p → Stands q t b → Stands p (after t line.End p) b
-    by place.Exited e k = at_place (λ p. Stands p (after t line.End p) b) place.Ended p e k
-    by q e k = nowhere p e
+end_held s t b p h e = grind arith
 
 few_landings : (b : Bool) (n : ℕ) → nat_le n (limit b first_most_landings most_landings) ≡ true
     → n ≤ most_landings
 unfolding first_most_landings most_landings
-few_landings true n h = leb-true n most_landings h
-few_landings false n h = let l = leb-true n first_most_landings h in omega arith
+few_landings b n h = grind arith
 
 middle : (a b c : Bool) → (a && b && c) ≡ true → b ≡ true
-middle true true true h = refl
-middle a b c h = absurd (false≢true h)
+middle a b c h = grind arith
 
 send_few : (t : TextState) (l : Label) (ls : List Label) → is_within t (line.Send l ls) ≡ true
     → length ls ≤ most_landings
 unfolding is_within
-send_few t l ls w =
-    few_landings t.named (length ls)
-    (middle (is_short l) (nat_le (length ls) (limit t.named first_most_landings most_landings))
-    (list_all is_short ls) w)
+send_few t l ls w = grind (arith, few_landings, middle)
 
 array_parts : (t : TextState) (v : List ℕ) (n : ℕ) → is_within t (line.Array v n) ≡ true
     → (is_within_cells t n ≡ true) × (length v ≤ most_name)
 unfolding is_within
-array_parts t v n w =
-    let p = and_parts (is_within_cells t n) (is_short_name v) w in (p.0, leb-true (length v) most_name p.1)
+array_parts t v n w = grind arith
 
 hidden_part : (t : TextState) (n : ℕ) → is_within t (line.Hidden n) ≡ true → is_within_cells t n ≡ true
 unfolding is_within
@@ -424,46 +262,41 @@ pub line_held : (s t : TextState) (b : Built) (l : Line) (p : Expected) → Name
     → IfOk (built s b l) (Held s (after t l p))
 unfolding built exit_of counted
 line_held s t b (line.Version n) p names h f e d w = version_held s t b n p h e
-line_held s t b (line.Array v n) p names h f e d w =
-    let parts = array_parts t v n w in
-    array_held s t b (Some v) n p h (f, parts.1) parts.0 (array_stands t b v (Some v) n t.place p e h.stands)
-line_held s t b (line.Hidden n) p names h f e d w =
-    array_held s t b None n p h tt (hidden_part t n w)
-    (array_stands t b [] None n t.place p (sym (hidden_place t.place n) ∙ e) h.stands)
+line_held s t b (line.Array v n) p names h f e d w = let parts = array_parts t v n w in array_held s t b (Some
+    v) n p h (f, parts.1) parts.0 (grind (arith, array_stands))
+line_held s t b (line.Hidden n) p names h f e d w = array_held s t b None n p h tt (hidden_part t n w) (grind
+    (arith, array_stands, hidden_place))
 line_held s t b (line.Wave k) p names h f e d w = wave_held s t b k p h e d w
 line_held s t b (line.Block l) p names h f e d w = block_held s t b l p h e w
-line_held s t b (line.Pad k ts) p names h f e d w =
-    then_ok (EachOf (DestFor s) ts) (Held s (after t (line.Pad k ts) p)) (dests_of s ts) _
-    (dests_in s ts names) (λ ds each. pad_held s t b k ts ds p h each e d w)
-line_held s t b (line.Instr i) p names h f e d w =
-    if_ok (Held s (after t (line.Instr i) p)) (is_known s i.op) _ _
-    (λ known. then_ok (EachOf (DestFor s) i.dests) (Held s (after t (line.Instr i) p)) (dests_of s i.dests)
-    _ (dests_in s i.dests names) (λ ds each.
-    then_ok (EachOf (DestFor s) i.others) (Held s (after t (line.Instr i) p)) (dests_of s i.others) _
-    (dests_in s i.others names) (λ os other.
-    instr_held s t b i ds os p h f known each other e w)))
-    (λ _. tt)
+line_held s t b (line.Pad k ts) p names h f e d w = then_ok (EachOf (DestFor s) ts) (Held s (after t (line.Pad
+    k ts) p)) (dests_of s ts) _ (dests_in s ts names) (λ ds each. pad_held s t b k ts ds p h each e d w)
+line_held s t b (line.Instr i) p names h f e d w = if_ok (Held s (after t (line.Instr i) p)) (is_known s i.op)
+    _ _ (λ known. then_ok (EachOf (DestFor s) i.dests) (Held s (after t (line.Instr i) p)) (dests_of s
+    i.dests) _ (dests_in s i.dests names) (λ ds each. then_ok (EachOf (DestFor s) i.others) (Held s (after t
+    (line.Instr i) p)) (dests_of s i.others) _ (dests_in s i.others names) (λ os other. instr_held s t b i ds
+    os p h f known each other e w))) (λ _. tt)
 line_held s t b (line.Go l) p names h f e d w =
-    exit_held s t b (exit_of s (line.Go l)) p h
-    (then_ok (Among s.blocks) (SomeExit s) (block_of s l) _ (block_in s l names) (λ n k.
-    exit_of_parts s (Goto n) k tt tt))
-    (go_at t b l t.place p e h.stands)
-line_held s t b (line.If l m o) p names h f e d w =
-    exit_held s t b (exit_of s (line.If l m o)) p h
-    (then_ok (Among (length s.ports)) (SomeExit s) (instr_of s l) _ (instr_in s l names) (λ n k.
-    then_ok (Among s.blocks) (SomeExit s) (block_of s m) _ (block_in s m names) (λ n' k'.
-    then_ok (Among s.blocks) (SomeExit s) (block_of s o) _ (block_in s o names) (λ n'' k''.
-    exit_of_parts s (Branch n n' n'') (k, k', k'') tt tt))))
-    (branch_at t b l m o t.place p e h.stands)
-line_held s t b (line.Send l ls) p names h f e d w =
-    exit_held s t b (exit_of s (line.Send l ls)) p h
-    (then_ok (Among (length s.ports)) (SomeExit s) (instr_of s l) _ (instr_in s l names) (λ n k.
-    then_ok (EachOf (Among s.blocks) ls) (SomeExit s) (blocks_of s ls) _ (blocks_in s ls names) (λ bs each.
-    exit_of_parts s (Landings n bs) (k, each.all)
-    (subst (λ n. n ≤ most_landings) (sym each.many) (send_few t l ls w))
-    (subst (λ n. 1 ≤ n) (sym each.many) f))))
-    (send_at t b l ls t.place p e h.stands)
-line_held s t b line.Stop p names h f e d w =
-    exit_held s t b (exit_of s line.Stop) p h (exit_of_parts s Stop tt tt tt)
-    (stop_at t b t.place p e h.stands)
+    grind (arith, exit_held, then_ok, block_in s l names, exit_of_parts, go_at t b l t.place p e h.stands)
+line_held s t b (line.If l m o) p names h f e d w = grind (
+  arith,
+  exit_held,
+  then_ok,
+  instr_in s l names,
+  block_in s m names,
+  block_in s o names,
+  exit_of_parts,
+  branch_at t b l m o t.place p e h.stands,
+)
+line_held s t b (line.Send l ls) p names h f e d w = grind (
+  arith,
+  exit_held,
+  then_ok,
+  instr_in s l names,
+  blocks_in s ls names,
+  exit_of_parts,
+  send_few t l ls w,
+  send_at t b l ls t.place p e h.stands,
+)
+line_held s t b line.Stop p names h f e d w = exit_held s t b (exit_of s line.Stop) p h (exit_of_parts s Stop
+    tt tt tt) (stop_at t b t.place p e h.stands)
 line_held s t b line.End p names h f e d w = end_held s t b p h e

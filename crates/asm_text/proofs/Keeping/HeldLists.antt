@@ -1,6 +1,6 @@
 -- Lists with one more item.
 use Rattle.std.proofs.Common.{◌≡◌, ◌⊎◌, ℕ, suc, ◌+◌, ◌<◌, ◌≤◌, true, List, [], ◌∷◌, ◌++◌, length, Option}
-use Rattle.std.proofs.Common.{Some, None, refl, sym, ap, ◌∙◌, append_assoc, append-nil, arith}
+use Rattle.std.proofs.Common.{Some, None, refl, append_assoc, append-nil, arith}
 use Rattle.std.specs.List.{AllByRecursion}
 use Rattle.ws_isa.specs.Image.{Array, Block, Pad, Instr, flat, ports_of}
 use Rattle.ws_isa.specs.Formed.{most_arrays, most_length, most_cells, most_instrs, total_length, NameFormed}
@@ -9,8 +9,7 @@ use Rattle.asm_text.specs.declared.state.TextState.{TextState}
 use Rattle.asm_text.specs.State.{is_above}
 use Rattle.asm_text.proofs.Keeping.HeldNames.{length_snoc}
 use Rattle.asm_text.proofs.Keeping.Held.{Rises, last_pad, last_wave, ArraysHeld, InstrHeld, InstrsHeld}
-use Rattle.asm_text.proofs.Keeping.Held.{PadHeld}
-use Rattle.asm_text.proofs.Keeping.Held.{PadsHeld, BlockHeld, BlocksHeld}
+use Rattle.asm_text.proofs.Keeping.Held.{PadHeld, PadsHeld, BlockHeld, BlocksHeld}
 use Rattle.ws_words.proofs.Lists.{all_append, map_push}
 
 pub all_snoc : {A : Type 0} (P : A → Type 0) (xs : List A) (x : A) → AllByRecursion P xs → P x
@@ -27,39 +26,18 @@ pub arrays_more : (count cells : ℕ) (as' : List Array) (x : Array) → ArraysH
     → NameFormed x.name
     → count < most_arrays → x.length ≤ most_length → cells + x.length ≤ most_cells
     → ArraysHeld (count + 1) (cells + x.length) (as' ++ x ∷ [])
-arrays_more count cells as' x h name few long all =
-    let m = length_snoc as' x in
-    let t = total_snoc as' x in
-    let many : count ≡ length as' = h.many in
-    let total : cells ≡ total_length as' = h.total in
-    record {
-      many = omega arith;
-      total = omega arith;
-      formed = record {
-        few = omega arith;
-        names = all_snoc (λ a. NameFormed a.name) as' x h.formed.names name;
-        lengths = all_snoc (λ a. a.length ≤ most_length) as' x h.formed.lengths long;
-        cells = omega arith;
-      };
-    }
+arrays_more count cells as' x h name few long all = grind (arith, length_snoc, total_snoc, all_snoc)
 
 -- Instructions.
 
 pub instrs_more : (s : TextState) (ports : List ℕ) (is : List Instr) (x : Instr) → InstrsHeld s ports is
     → length ports < most_instrs → InstrHeld s x
     → InstrsHeld s (ports ++ ports_of x.op ∷ []) (is ++ x ∷ [])
-instrs_more s ports is x h few k =
-    let m = length_snoc ports (ports_of x.op) in
-    record {
-      same = ap (λ ps. ps ++ ports_of x.op ∷ []) h.same ∙ sym (map_push (λ i. ports_of i.op) is x);
-      few = omega arith;
-      all = all_snoc (InstrHeld s) is x h.all k;
-    }
+instrs_more s ports is x h few k = grind (arith, length_snoc, map_push, all_snoc)
 
 pub flat_snoc : (bs : List Block) (x : Block) → flat (bs ++ x ∷ []) ≡ flat bs ++ x.instrs
 flat_snoc [] x = append-nil x.instrs
-flat_snoc (b ∷ bs) x =
-    ap (λ is. b.instrs ++ is) (flat_snoc bs x) ∙ sym (append_assoc b.instrs (flat bs) x.instrs)
+flat_snoc (b ∷ bs) x = grind (arith, append_assoc, flat_snoc bs x)
 
 -- Pads.
 
@@ -74,8 +52,7 @@ last_pad_snoc o (p ∷ ps) x = last_pad_snoc (Some p.number) ps x
 
 pub pads_more : (s : TextState) (ps : List Pad) (x : Pad) → PadsHeld s ps → PadHeld s x
     → is_above (last_pad None ps) x.number ≡ true → PadsHeld s (ps ++ x ∷ [])
-pads_more s ps x h k above =
-    record { all = all_snoc (PadHeld s) ps x h.all k; rise = rises_snoc None ps x h.rise above }
+pads_more s ps x h k above = grind (arith, all_snoc, rises_snoc)
 
 -- Blocks.
 
@@ -90,5 +67,4 @@ last_wave_snoc w (b ∷ bs) x = last_wave_snoc b.wave bs x
 
 pub blocks_more : (s : TextState) (bs : List Block) (x : Block) → BlocksHeld s bs → BlockHeld s x
     → (x.wave ≡ last_wave 0 bs) ⊎ (x.wave ≡ suc (last_wave 0 bs)) → BlocksHeld s (bs ++ x ∷ [])
-blocks_more s bs x h k next =
-    record { all = all_snoc (BlockHeld s) bs x h.all k; order = waves_snoc 0 bs x h.order next }
+blocks_more s bs x h k next = grind (arith, all_snoc, waves_snoc)

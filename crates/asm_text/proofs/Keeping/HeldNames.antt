@@ -1,22 +1,16 @@
 -- Each name that the first pass keeps stands for a block or an instruction that is there.
-use Rattle.std.proofs.Common.{◌≡◌, ℕ, suc, ◌+◌, ◌<◌, ◌≤◌, nat_lt, nat_le, ◌&&◌, IfSome, IfOk, List, [], ◌∷◌}
-use Rattle.std.proofs.Common.{◌++◌, length, length-append, Option, Some, None, refl, ap, arith}
+use Rattle.std.proofs.Common.{◌≡◌, ℕ, ◌+◌, ◌<◌, ◌≤◌, IfSome, IfOk, List, [], ◌∷◌, ◌++◌, length, length-append}
+use Rattle.std.proofs.Common.{Option, refl, ap, arith}
 use Rattle.std.specs.List.{AllByRecursion}
 use Rattle.std.proofs.lemmas.Bool.{and_parts, ltb-true, leb-true}
 use Rattle.ws_isa.specs.declared.instr.Dest.{Dest}
 use Rattle.ws_isa.specs.declared.instr.Op.{Op}
-use Rattle.ws_isa.specs.declared.instr.Op.TheVariants as op
-use Rattle.ws_isa.specs.Image as plain
 use Rattle.ws_isa.specs.Formed.{DestsSuit, OthersSuit}
 use Rattle.asm_text.specs.Names.{Names, named}
-use Rattle.asm_text.specs.Words.{is}
 use Rattle.asm_text.specs.declared.line.Label.{Label}
-use Rattle.asm_text.specs.declared.line.Label.TheVariants.{At, Named}
 use Rattle.asm_text.specs.declared.line.Target.{Target}
 use Rattle.asm_text.specs.declared.line.Line.{Line}
-use Rattle.asm_text.specs.declared.line.Line.TheVariants.{Block, Instr}
 use Rattle.asm_text.specs.declared.reading.Reading.{Reading}
-use Rattle.asm_text.specs.declared.reading.Reading.TheVariants.{Blank, Wrong, Found}
 use Rattle.asm_text.specs.declared.state.TextState.{TextState}
 use Rattle.asm_text.specs.State.{counted, with_name, opening}
 use Rattle.asm_text.specs.Building.{Maybe, by_name, place_of, instr_of, block_of, ports_at, dest_of, dests_of}
@@ -41,40 +35,24 @@ names_more m n (x ∷ names) h k = ((k.0.0, omega arith), names_more m n names h
 
 with_name_in : (names : Names) (l : Label) (n : ℕ) → NamesIn n names
     → NamesIn (n + 1) (with_name names l (n + 1))
-with_name_in names (At k) n h = names_more n (n + 1) names (omega arith) h
-with_name_in names (Named w) n h =
-    all_append (λ x. (1 ≤ x.1) × (x.1 ≤ n + 1)) names ((w, n + 1) ∷ [])
-    (names_more n (n + 1) names (omega arith) h) ((omega arith, omega arith), tt)
+with_name_in names l n h = grind (arith, names_more, all_append)
 
 pub length_snoc : {A : Type 0} (xs : List A) (x : A) → length (xs ++ x ∷ []) ≡ length xs + 1
 length_snoc xs x = length-append xs (x ∷ [])
 
 counted_names : (t : TextState) (l : Line) → NamesThere t → NamesThere (counted t l)
 unfolding counted
-counted_names t (Block l) h =
-    record { instrs = h.instrs; blocks = with_name_in t.block_names l t.blocks h.blocks }
-counted_names t (Instr i) h =
-    record {
-      instrs = rw (length_snoc t.ports (plain.ports_of i.op))
-          (with_name_in t.instr_names i.own (length t.ports) h.instrs);
-      blocks = h.blocks;
-    }
-counted_names t l h = record { instrs = h.instrs; blocks = h.blocks }
+counted_names t l h = grind (arith, with_name_in, length_snoc)
 
 step_names : (t : TextState) (r : Reading) → NamesThere t → IfOk (step t r) NamesThere
-step_names t Blank h = h
-step_names t Wrong h = tt
-step_names t (Found l wide) h =
-    behind_ok t l wide NamesThere
-    (λ p e n w. let k = counted_names t l h in record { instrs = k.instrs; blocks = k.blocks })
+step_names t r h = grind (arith, behind_ok, counted_names)
 
 lines_names : (t : TextState) (n : ℕ) (lines : List (List ℕ)) → NamesThere t
     → IfOk (passed t n lines) NamesThere
 unfolding passed
 lines_names t n [] h = if_ok NamesThere (is_ended t.place) _ _ (λ _. h) (λ _. tt)
-lines_names t n (line ∷ lines) h =
-    line_ok NamesThere NamesThere (n + 1) (step t (reading line)) _ (step_names t (reading line) h)
-    (λ u k. lines_names u (n + 1) lines k)
+lines_names t n (line ∷ lines) h = line_ok NamesThere NamesThere (n + 1) (step t (reading line)) _ (step_names
+    t (reading line) h) (λ u k. lines_names u (n + 1) lines k)
 
 no_names : NamesThere opening
 unfolding opening
@@ -92,21 +70,15 @@ Among count n = (1 ≤ n) × (n ≤ count)
 named_in : (names : Names) (w : List ℕ) (count : ℕ) → NamesIn count names
     → IfSome (named names w) (Among count)
 named_in [] w count h = tt
-named_in (n ∷ names) w count h =
-    either (Among count) (is w n.0) _ _ (λ _. h.0) (λ _. named_in names w count h.1)
+named_in (n ∷ names) w count h = grind (arith, either, named_in names w count h.1)
 
 by_name_in : (o : Option ℕ) (count : ℕ) → IfSome o (Among count) → IfOk (by_name o) (Among count)
-by_name_in None count h = tt
-by_name_in (Some n) count h = h
+by_name_in o count h = grind arith
 
 place_in : (names : Names) (count : ℕ) (l : Label) → NamesIn count names
     → IfOk (place_of names count l) (Among count)
 unfolding place_of
-place_in names count (At n) h =
-    if_ok (Among count) (nat_le 1 n && nat_le n count) _ _
-    (λ e. let a = and_parts (nat_le 1 n) (nat_le n count) e in (leb-true 1 n a.0, leb-true n count a.1))
-    (λ _. tt)
-place_in names count (Named w) h = by_name_in (named names w) count (named_in names w count h)
+place_in names count l h = grind (arith, if_ok, and_parts, leb-true, by_name_in, named_in)
 
 pub instr_in : (s : TextState) (l : Label) → NamesThere s → IfOk (instr_of s l) (Among (length s.ports))
 instr_in s l h = place_in s.instr_names (length s.ports) l h.instrs
@@ -120,10 +92,7 @@ DestFor s d = Among (length s.ports) d.instr × (d.port < ports_at s.ports d.ins
 
 dest_in : (s : TextState) (t : Target) → NamesThere s → IfOk (dest_of s t) (DestFor s)
 unfolding dest_of
-dest_in s t h =
-    then_ok (Among (length s.ports)) (DestFor s) (instr_of s t.instr) _ (instr_in s t.instr h) (λ n k.
-    if_ok (DestFor s) (nat_lt t.port (ports_at s.ports n)) _ _
-    (λ e. (k, ltb-true t.port (ports_at s.ports n) e)) (λ _. tt))
+dest_in s t h = grind (arith, then_ok, instr_in s t.instr h, if_ok, ltb-true)
 
 -- as many as there were, and each is so
 pub record EachOf {A B : Type 0} (P : B → Type 0) (xs : List A) (ys : List B) : Type 0 where
@@ -134,10 +103,7 @@ each_in : {A B : Type 0} (f : A → Maybe B) (P : B → Type 0) → ((a : A) →
     → IfOk (each f xs) (EachOf P xs)
 unfolding each
 each_in f P h [] = record { all = tt; many = refl }
-each_in f P h (x ∷ xs) =
-    then_ok P (EachOf P (x ∷ xs)) (f x) _ (h x) (λ y p.
-    then_ok (EachOf P xs) (EachOf P (x ∷ xs)) (each f xs) _ (each_in f P h xs)
-    (λ ys q. record { all = (p, q.all); many = ap suc q.many }))
+each_in f P h (x ∷ xs) = grind (arith, then_ok, each_in f P h xs)
 
 pub dests_in : (s : TextState) (ts : List Target) → NamesThere s
     → IfOk (dests_of s ts) (EachOf (DestFor s) ts)
@@ -155,10 +121,8 @@ none_of xs (y ∷ ys) e h = let z : length xs ≡ 0 = ap length h in absurd (ome
 
 pub dests_suit : (o : Op) (ts : List Target) (ds : List Dest) → length ds ≡ length ts → DestsGiven o ts
     → DestsSuit o ds
-dests_suit (op.Send k) ts ds e h = none_of ts ds e h
-dests_suit o ts ds e h = λ silent. none_of ts ds e (h silent)
+dests_suit o ts ds e h = grind (arith, none_of)
 
 pub others_suit : (o : Op) (ts : List Target) (ds : List Dest) → length ds ≡ length ts → OthersGiven o ts
     → OthersSuit o ds
-others_suit op.Steer ts ds e h = tt
-others_suit o ts ds e h = none_of ts ds e h
+others_suit o ts ds e h = grind (arith, none_of)

@@ -1,6 +1,6 @@
 -- The printed lexemes of a line spell it.
 use Rattle.std.proofs.Common.{◌≡◌, ℕ, ◌^◌, ◌<◌, true, false, List, [], ◌∷◌, ◌++◌, map, codes, Option, Some}
-use Rattle.std.proofs.Common.{None, refl, sym, ap, ◌∙◌, append_assoc, append-nil}
+use Rattle.std.proofs.Common.{refl, sym, ap, ◌∙◌, append_assoc, append-nil, arith}
 use Rattle.ws_isa.specs.declared.instr.Op.{Op}
 use Rattle.ws_isa.specs.declared.instr.Note.{Note}
 use Rattle.ws_isa.specs.declared.instr.Dest.{Dest}
@@ -15,26 +15,23 @@ use Rattle.asm_text.specs.declared.line.Line.{Line}
 use Rattle.asm_text.specs.declared.line.Line.TheVariants as line
 use Rattle.asm_text.specs.declared.reading.Reading.TheVariants.{Found}
 use Rattle.asm_text.specs.declared.writer.After.TheVariants as after
-use Rattle.asm_text.specs.Words.{number_in, head_of}
+use Rattle.asm_text.specs.Words.{head_of}
 use Rattle.asm_text.specs.Forms.{targets_at, labels_at, expect, number_at, word_at, label_at, noted, lists_at}
 use Rattle.asm_text.specs.Forms.{instr_line, last_number, last_label, headed, word_line, branch_line}
 use Rattle.asm_text.specs.Forms.{send_line, array_line, pad_line, line_of}
-use Rattle.asm_text.specs.Printed.{dest_lexemes, numbers, note_lexemes, number_lexemes, list_lexemes}
-use Rattle.asm_text.specs.Printed.{instr_lexemes, pad_lexemes, exit_lexemes, array_lexemes, array_by}
-use Rattle.asm_text.specs.Printed.{numbered, text_of}
+use Rattle.asm_text.specs.Printed.{dest_lexemes, numbers, note_lexemes, list_lexemes, instr_lexemes}
+use Rattle.asm_text.specs.Printed.{pad_lexemes, exit_lexemes, array_lexemes, numbered, text_of}
 use Rattle.asm_text.specs.Reading.{reading}
 use Rattle.asm_text.specs.Spelling.{array_line_of}
 use Rattle.asm_text.specs.Spelled.{AreLexemes}
 use Rattle.asm_text.proofs.Scanning.Spelt.{lexed_text}
 use Rattle.asm_text.proofs.Printing.Again.{byte_fits, word_fits, target_of, AreNarrow, targets_again, OpFits}
-use Rattle.asm_text.proofs.Printing.Again.{op_again}
-use Rattle.asm_text.proofs.Printing.Again.{note_again}
+use Rattle.asm_text.proofs.Printing.Again.{op_again, note_again}
 
 noted_again : (op : Op) (note : Option Note) (more : List Lexeme) → NoteSuits op note → NoteWithin note
     → noted op (note_lexemes note ++ more) ≡ Some ((note, true), more)
 unfolding noted note_lexemes
-noted_again op None more s h = rw s
-noted_again op (Some n) more s h = rw (s, note_again n more h)
+noted_again op note more s h = grind (arith, note_again)
 
 -- a steer alone has two lists, and an operation without a result, or a send, none
 pub record ListsFit (op : Op) (ds os : List Dest) : Type 0 where
@@ -55,18 +52,7 @@ first_targets ds more h = targets_again ds (Mark Bar ∷ more) h refl
 pub lists_again : (op : Op) (ds os : List Dest) → ListsFit op ds os
     → lists_at op (list_lexemes op ds os) ≡ Some (map target_of ds, map target_of os)
 unfolding lists_at list_lexemes expect
-lists_again op ds os h =
-    (elim (is_steer_op op) as
-    (λ t. is_steer_op op ≡ t → lists_at op (list_lexemes op ds os) ≡ Some
-    (map target_of ds, map target_of os)) [
-      | true ↦ λ e. rw (e, first_targets ds (dest_lexemes os) h.dests, last_targets os h.others)
-      | false ↦ λ e. (elim (is_giving_op op) as
-          (λ t. is_giving_op op ≡ t → lists_at op (list_lexemes op ds os) ≡ Some
-          (map target_of ds, map target_of os)) [
-            | true ↦ λ g. rw (e, g, last_targets ds h.dests, h.one e)
-            | false ↦ λ g. rw (e, g, h.one e, h.none e g)
-          ]) refl
-    ]) refl
+lists_again op ds os h = grind (arith, target_of, first_targets, last_targets)
 
 pub instr_again : (n : ℕ) (i : plain.Instr) → n < 2 ^ 32 → OpFits i.op → NoteSuits i.op i.note
     → NoteWithin i.note → ListsFit i.op i.dests i.others
@@ -80,15 +66,7 @@ pub instr_again : (n : ℕ) (i : plain.Instr) → n < 2 ^ 32 → OpFits i.op →
       others = map target_of i.others;
     }))
 unfolding line_of instr_lexemes label_at expect instr_line
-instr_again n i h f s w l =
-    rw (
-      word_fits n h,
-      append_assoc (number_lexemes (number_in i.op)) (note_lexemes i.note)
-          (list_lexemes i.op i.dests i.others),
-      op_again i.op (note_lexemes i.note ++ list_lexemes i.op i.dests i.others) f,
-      noted_again i.op i.note (list_lexemes i.op i.dests i.others) s w,
-      lists_again i.op i.dests i.others l,
-    )
+instr_again n i h f s w l = grind (arith, word_fits, append_assoc, op_again, noted_again, lists_again)
 
 pub pad_again : (p : plain.Pad) → p.number < 256 → AreNarrow p.dests
     → line_of (pad_lexemes p) ≡ Some (line.Pad p.number (map target_of p.dests))
@@ -114,11 +92,7 @@ end_again = refl
 pub array_again : (a : plain.Array) → a.length < 2 ^ 32
     → line_of (array_lexemes a) ≡ Some (array_line_of a.name a.length)
 unfolding line_of array_lexemes word_line word_at head_of headed last_number number_at array_line
-array_again a h = by a.name
-  where
-    by : (name : Option (List ℕ)) → line_of (array_by name a.length) ≡ Some (array_line_of name a.length)
-    by None = rw (word_fits a.length h)
-    by (Some w) = rw (word_fits a.length h)
+array_again a h = grind arith
 
 -- What a printed line says.
 pub reading_again : (l : Lexeme) (ls : List Lexeme) (x : Line) → AreLexemes (l ∷ ls)

@@ -2,24 +2,18 @@
 use Rattle.std.proofs.Common.{◌≡◌, ℕ, ◌^◌, ◌<◌, ◌≤◌, length, true, false, List, [], ◌∷◌, ◌++◌, map, codes}
 use Rattle.std.proofs.Common.{Option, Some, None, refl, arith}
 use Rattle.std.specs.List.{AllByRecursion}
-use Rattle.std.proofs.lemmas.Bool.{true≢false}
 use Rattle.ws_words.specs.declared.alu.Alu as alus
-use Rattle.ws_words.specs.declared.alu.Alu.TheVariants as alu
 use Rattle.ws_isa.specs.declared.instr.Op.{Op}
-use Rattle.ws_isa.specs.declared.instr.Op.TheVariants.{Const, Alu, Merge, Advance, Steer, Phi, Send, Load}
-use Rattle.ws_isa.specs.declared.instr.Op.TheVariants.{Store, Input, Output, Give, Take, Nop, Halt}
-use Rattle.ws_isa.specs.declared.instr.Link.{Link}
-use Rattle.ws_isa.specs.declared.instr.Link.TheVariants as link
+use Rattle.ws_isa.specs.declared.instr.Op.TheVariants.{Alu, Send}
 use Rattle.ws_isa.specs.declared.instr.Note.{Note}
 use Rattle.ws_isa.specs.declared.instr.Dest.{Dest}
 use Rattle.ws_isa.specs.Image as plain
 use Rattle.ws_isa.specs.Image.{is_giving_op, IsBlock, is_steer_op}
 use Rattle.ws_isa.specs.Formed.{most_instrs, most_blocks, most_arrays, most_length, most_pads, NameFormed}
-use Rattle.ws_isa.specs.Formed.{OpIn, ExitIn, SomeLanding, DestsIn, DestsSuit, OthersSuit, LinkWithin}
-use Rattle.ws_isa.specs.Formed.{NoteWithin, ConstWithin, SendWithin, Formed}
-use Rattle.asm_text.specs.declared.lexeme.Mark.TheVariants.{Bar}
+use Rattle.ws_isa.specs.Formed.{OpIn, ExitIn, SomeLanding, DestsIn, DestsSuit, OthersSuit, NoteWithin}
+use Rattle.ws_isa.specs.Formed.{ConstWithin, SendWithin, Formed}
 use Rattle.asm_text.specs.declared.lexeme.Lexeme.{Lexeme}
-use Rattle.asm_text.specs.declared.lexeme.Lexeme.TheVariants.{Word, Mark}
+use Rattle.asm_text.specs.declared.lexeme.Lexeme.TheVariants.{Word}
 use Rattle.asm_text.specs.declared.line.Label.TheVariants.{At}
 use Rattle.asm_text.specs.declared.line.Line.{Line}
 use Rattle.asm_text.specs.declared.line.Line.TheVariants as line
@@ -27,18 +21,16 @@ use Rattle.asm_text.specs.declared.reading.Reading.TheVariants.{Found}
 use Rattle.asm_text.specs.declared.writer.After.TheVariants as after
 use Rattle.asm_text.specs.Words.{op_word, alu_word, number_in}
 use Rattle.asm_text.specs.Forms.{line_of}
-use Rattle.asm_text.specs.Printed.{dest_lexemes, numbers, link_lexeme, note_lexemes, number_lexemes}
-use Rattle.asm_text.specs.Printed.{op_lexemes, list_lexemes, instr_lexemes, pad_lexemes, exit_lexemes}
-use Rattle.asm_text.specs.Printed.{array_lexemes, array_by, numbered, text_of}
+use Rattle.asm_text.specs.Printed.{dest_lexemes, numbers, note_lexemes, number_lexemes, op_lexemes}
+use Rattle.asm_text.specs.Printed.{list_lexemes, instr_lexemes, pad_lexemes, exit_lexemes, array_lexemes}
+use Rattle.asm_text.specs.Printed.{array_by, numbered, text_of}
 use Rattle.asm_text.specs.Reading.{reading}
 use Rattle.asm_text.specs.Spelling.{array_line_of}
-use Rattle.asm_text.specs.Spelled.{IsLexeme, AreLexemes}
+use Rattle.asm_text.specs.Spelled.{AreLexemes}
 use Rattle.asm_text.proofs.Printing.Again.{target_of, AreNarrow, OpFits}
 use Rattle.asm_text.proofs.Printing.AgainLines.{SmallNumbers, version_again, array_again, wave_again}
-use Rattle.asm_text.proofs.Printing.AgainLines.{block_again}
-use Rattle.asm_text.proofs.Printing.AgainLines.{pad_again, instr_again, go_again, branch_again, send_again}
-use Rattle.asm_text.proofs.Printing.AgainLines.{stop_again}
-use Rattle.asm_text.proofs.Printing.AgainLines.{end_again, reading_again}
+use Rattle.asm_text.proofs.Printing.AgainLines.{block_again, pad_again, instr_again, go_again, branch_again}
+use Rattle.asm_text.proofs.Printing.AgainLines.{send_again, stop_again, end_again, reading_again}
 use Rattle.asm_text.proofs.Accepting.Items.{InstrIn, Small, dests_small}
 use Rattle.ws_words.specs.Letters.{is_word}
 
@@ -80,12 +72,14 @@ array_says a h k = by a.name h
 
     by : (name : Option (List ℕ)) → NameFormed name
         → Says (array_by name a.length) (array_line_of name a.length)
-    by None n =
-        says _ _ _ (refl, (wide a.length small, tt))
-        (array_again (record { name = None; length = a.length }) small)
-    by (Some w) n =
-        says _ _ _ (refl, (n.0, (wide a.length small, tt)))
-        (array_again (record { name = Some w; length = a.length }) small)
+    by None n = grind (
+      arith,
+      says,
+      wide a.length small,
+      array_again (record { name = None; length = a.length }) small,
+    )
+    by (Some w) n = says _ _ _ grind (arith, wide) (array_again (record { name = Some w; length = a.length })
+        small)
 
 -- Destinations.
 
@@ -109,48 +103,17 @@ pad_line p = line.Pad p.number (map target_of p.dests)
 pub pad_says : (image : plain.Image) (p : plain.Pad) → Formed image → p.number < most_pads
     → DestsIn image p.dests → Says (pad_lexemes p) (pad_line p)
 unfolding pad_lexemes most_pads
-pad_says image p f n h =
-    let d = dests_narrow image p.dests f h in
-    says _ _ _ (refl, (omega arith, dests_lexemes p.dests d)) (pad_again p (omega arith) d)
+pad_says image p f n h = grind (arith, dests_narrow, says, dests_lexemes, pad_again)
 
 -- Instructions.
 
 alu_is_word : (a : alus.Alu) → is_word (alu_word a) ≡ true
 unfolding alu_word
-alu_is_word alu.Add = refl
-alu_is_word alu.Sub = refl
-alu_is_word alu.Mul = refl
-alu_is_word alu.Div = refl
-alu_is_word alu.Rem = refl
-alu_is_word alu.And = refl
-alu_is_word alu.Or = refl
-alu_is_word alu.Xor = refl
-alu_is_word alu.Shl = refl
-alu_is_word alu.Shr = refl
-alu_is_word alu.Eq = refl
-alu_is_word alu.Ne = refl
-alu_is_word alu.Lt = refl
-alu_is_word alu.Le = refl
-alu_is_word alu.Gt = refl
-alu_is_word alu.Ge = refl
+alu_is_word a = grind arith
 
 op_is_word : (op : Op) → is_word (op_word op) ≡ true
 unfolding op_word
-op_is_word (Const k) = refl
-op_is_word (Alu a) = alu_is_word a
-op_is_word Merge = refl
-op_is_word Advance = refl
-op_is_word Steer = refl
-op_is_word Phi = refl
-op_is_word (Send k) = refl
-op_is_word (Load a) = refl
-op_is_word (Store a) = refl
-op_is_word Input = refl
-op_is_word Output = refl
-op_is_word (Give p) = refl
-op_is_word (Take p) = refl
-op_is_word Nop = refl
-op_is_word Halt = refl
+op_is_word op = grind (arith, alu_is_word)
 
 few_arrays : (image : plain.Image) → Formed image → length image.arrays ≤ 256
 unfolding most_arrays
@@ -158,54 +121,14 @@ few_arrays image f = f.arrays.few
 
 op_fits : (image : plain.Image) (op : Op) → Formed image → OpIn image op → SendWithin op → OpFits op
 unfolding most_pads
-op_fits image (Const k) f o s = tt
-op_fits image (Alu a) f o s = tt
-op_fits image Merge f o s = tt
-op_fits image Advance f o s = tt
-op_fits image Steer f o s = tt
-op_fits image Phi f o s = tt
-op_fits image (Send k) f o s = omega (arith, s)
-op_fits image (Load a) f o s = omega (arith, o.1, few_arrays image f)
-op_fits image (Store a) f o s = omega (arith, o.1, few_arrays image f)
-op_fits image Input f o s = tt
-op_fits image Output f o s = tt
-op_fits image (Give p) f o s = omega (arith, o.1)
-op_fits image (Take p) f o s = omega (arith, o.1)
-op_fits image Nop f o s = tt
-op_fits image Halt f o s = tt
+op_fits image op f o s = grind (arith, few_arrays)
 
 op_number : (op : Op) → OpFits op → ConstWithin op → AreLexemes (number_lexemes (number_in op))
-op_number (Const k) h c = (c, tt)
-op_number (Alu a) h c = tt
-op_number Merge h c = tt
-op_number Advance h c = tt
-op_number Steer h c = tt
-op_number Phi h c = tt
-op_number (Send k) h c = (omega (arith, h), tt)
-op_number (Load a) h c = (omega (arith, h), tt)
-op_number (Store a) h c = (omega (arith, h), tt)
-op_number Input h c = tt
-op_number Output h c = tt
-op_number (Give p) h c = (omega (arith, h), tt)
-op_number (Take p) h c = (omega (arith, h), tt)
-op_number Nop h c = tt
-op_number Halt h c = tt
-
-link_is_lexeme : (l : Link) → LinkWithin l → IsLexeme (link_lexeme l)
-link_is_lexeme link.Unknown h = tt
-link_is_lexeme link.Nothing h = tt
-link_is_lexeme (link.Is n) h = wide n h
+op_number op h c = grind arith
 
 note_are_lexemes : (note : Option Note) → NoteWithin note → AreLexemes (note_lexemes note)
 unfolding note_lexemes
-note_are_lexemes None h = tt
-note_are_lexemes (Some n) h = (
-  tt,
-  (
-    link_is_lexeme n.pred h.0,
-    (tt, (wide n.seq h.1, (tt, (link_is_lexeme n.succ h.2, (tt, (tt, (wide n.ripple h.3, tt))))))),
-  ),
-)
+note_are_lexemes note h = grind arith
 
 both_lexemes : (xs ys : List Lexeme) → AreLexemes xs → AreLexemes ys → AreLexemes (xs ++ ys)
 both_lexemes [] ys h k = k
@@ -214,52 +137,24 @@ both_lexemes (x ∷ xs) ys h k = (h.0, both_lexemes xs ys h.1 k)
 list_are_lexemes : (op : Op) (ds os : List Dest) → AreNarrow ds → AreNarrow os
     → AreLexemes (list_lexemes op ds os)
 unfolding list_lexemes
-list_are_lexemes op ds os h k =
-    let P : List Lexeme → Type 0 = AreLexemes in
-    (elim (is_steer_op op) as (λ t. is_steer_op op ≡ t → P (list_lexemes op ds os)) [
-      | true ↦ λ e. rw e (
-        tt,
-        both_lexemes (dest_lexemes ds) (Mark Bar ∷ dest_lexemes os)
-            (dests_lexemes ds h) (tt, dests_lexemes os k),
-      )
-      | false ↦ λ e. (elim (is_giving_op op) as (λ t. is_giving_op op ≡ t → P (list_lexemes op ds os)) [
-        | true ↦ λ g. rw (e, g) (tt, dests_lexemes ds h)
-        | false ↦ λ g. rw (e, g) tt
-      ]) refl
-    ]) refl
+list_are_lexemes op ds os h k = grind (arith, both_lexemes, dests_lexemes)
 
 one_list : (op : Op) (os : List Dest) → OthersSuit op os → is_steer_op op ≡ false → os ≡ []
-one_list Steer os h e = absurd (true≢false e)
-one_list op os h e = h
+one_list op os h e = grind arith
 
 no_list : (op : Op) (ds : List Dest) → DestsSuit op ds → is_steer_op op ≡ false → is_giving_op op ≡ false
     → ds ≡ []
-no_list (Const k) ds h e g = absurd (true≢false g)
-no_list (Alu a) ds h e g = absurd (true≢false g)
-no_list Merge ds h e g = absurd (true≢false g)
-no_list Advance ds h e g = absurd (true≢false g)
-no_list Steer ds h e g = absurd (true≢false e)
-no_list Phi ds h e g = absurd (true≢false g)
-no_list (Send k) ds h e g = h
-no_list (Load a) ds h e g = absurd (true≢false g)
-no_list (Store a) ds h e g = h refl
-no_list Input ds h e g = absurd (true≢false g)
-no_list Output ds h e g = h refl
-no_list (Give p) ds h e g = absurd (true≢false g)
-no_list (Take p) ds h e g = h refl
-no_list Nop ds h e g = h refl
-no_list Halt ds h e g = h refl
+no_list op ds h e g = grind arith
 
 abbrev pub instr_line : ℕ → plain.Instr → Line
-instr_line n i =
-    line.Instr (record {
-      own = At n;
-      op = i.op;
-      note = i.note;
-      fits = true;
-      dests = map target_of i.dests;
-      others = map target_of i.others;
-    })
+instr_line n i = line.Instr (record {
+  own = At n;
+  op = i.op;
+  note = i.note;
+  fits = true;
+  dests = map target_of i.dests;
+  others = map target_of i.others;
+})
 
 pub instr_says : (image : plain.Image) (n : ℕ) (i : plain.Instr) → Formed image → n < 2 ^ 32 → InstrIn image i
     → Says (instr_lexemes n i) (instr_line n i)
@@ -268,22 +163,11 @@ instr_says image n i f h g =
     let ds = dests_narrow image i.dests f g.dests in
     let os = dests_narrow image i.others f g.others in
     let o = op_fits image i.op f g.op g.within.send in
-    let op : AreLexemes (op_lexemes i.op) = (op_is_word i.op, op_number i.op o g.within.const) in
+    let op : AreLexemes (op_lexemes i.op) = grind (arith, op_is_word, op_number) in
     let note = note_are_lexemes i.note g.within.note in
-    let all =
-    both_lexemes (op_lexemes i.op ++ note_lexemes i.note) (list_lexemes i.op i.dests i.others)
-    (both_lexemes (op_lexemes i.op) (note_lexemes i.note) op note)
-    (list_are_lexemes i.op i.dests i.others ds os)
-    in
-    says _ _ _ (wide n h, (tt, all))
-    (instr_again n i h o g.note g.within.note
-    (record {
-      dests = ds;
-      others = os;
-      one = one_list i.op i.others g.other;
-      none = no_list i.op i.dests
-          g.list;
-    }))
+    let all = both_lexemes (op_lexemes i.op ++ note_lexemes i.note) (list_lexemes i.op i.dests i.others)
+    (grind (arith, both_lexemes)) (list_are_lexemes i.op i.dests i.others ds os) in
+    says _ _ _ (wide n h, (tt, all)) (grind (arith, instr_again, one_list, no_list))
 
 -- Exits.
 
@@ -321,7 +205,7 @@ exit_says image (plain.Branch s b c) f h l =
     let i = instr_small image s f h.0 in
     let k = block_small image b f h.1 in
     let m = block_small image c f h.2 in
-    says _ _ _ (refl, (wide s i, (wide b k, (wide c m, tt)))) (branch_again s b c i k m)
+    says _ _ _ grind (arith, wide) (branch_again s b c i k m)
 exit_says image (plain.Landings s []) f h l = absurd (omega (arith, l))
 exit_says image (plain.Landings s (b ∷ bs)) f h l =
     let i = instr_small image s f h.0 in

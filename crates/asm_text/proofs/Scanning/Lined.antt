@@ -1,21 +1,19 @@
 -- The lines of printed lines.
-use Rattle.std.proofs.Common.{◌≡◌, ℕ, ◌==◌, ◌&&◌, not, Bool, true, false, List, [], ◌∷◌, refl, sym, ap, ◌∙◌}
-use Rattle.std.proofs.Common.{append_assoc}
+use Rattle.std.proofs.Common.{◌≡◌, ℕ, ◌==◌, ◌&&◌, not, Bool, true, false, List, [], ◌∷◌, refl, ap, ◌∙◌}
+use Rattle.std.proofs.Common.{append_assoc, arith}
 use Rattle.std.specs.List.{list_all, flat_map}
-use Rattle.std.proofs.lemmas.Bool.{and_parts, and_from, true≢false}
+use Rattle.std.proofs.lemmas.Bool.{and_parts, and_from}
 use Rattle.asm_text.specs.declared.lexeme.Mark as marks
-use Rattle.asm_text.specs.declared.lexeme.Mark.TheVariants.{Colon, Arrow, Bar, Dot, Comma, Less, More, Query}
 use Rattle.asm_text.specs.declared.lexeme.Lexeme.{Lexeme}
 use Rattle.asm_text.specs.declared.writer.After as afters
 use Rattle.asm_text.specs.declared.writer.After.TheVariants as after
 use Rattle.asm_text.specs.Printed.{mark_bytes, text_of, line_text}
 use Rattle.asm_text.specs.Reading.{lines_of, trimmed}
 use Rattle.asm_text.proofs.Scanning.Cutting.{first_line}
-use Rattle.ws_words.specs.Letters.{not_feed}
+use Rattle.ws_words.specs.Letters.{not_feed, is_word_byte}
 use Rattle.asm_text.specs.Spelled.{AreLexemes, AllLexemes, texts}
 use Rattle.asm_text.proofs.Scanning.Bytes.{text_all}
 use Rattle.asm_text.proofs.Scanning.Spelt.{other}
-use Rattle.ws_words.specs.Letters.{is_word_byte}
 
 -- neither a line feed nor a carriage return
 abbrev pub is_inner : ℕ → Bool
@@ -28,35 +26,23 @@ byte_inner : (b : ℕ) → is_word_byte b ≡ true → is_inner b ≡ true
 byte_inner b h = rw (other is_word_byte b 10 h refl, other is_word_byte b 13 h refl) refl
 
 mark_inner : (m : marks.Mark) → AreInner (mark_bytes m)
-mark_inner Colon = refl
-mark_inner Arrow = refl
-mark_inner Bar = refl
-mark_inner Dot = refl
-mark_inner Comma = refl
-mark_inner Less = refl
-mark_inner More = refl
-mark_inner Query = refl
+mark_inner m = grind arith
 
 text_inner : (a : afters.After) (ls : List Lexeme) → AreLexemes ls → AreInner (text_of a ls)
 text_inner = text_all is_inner byte_inner mark_inner refl
 
 others_of : (text : List ℕ) → AreInner text → list_all not_feed text ≡ true
 others_of [] h = refl
-others_of (b ∷ text) h =
-    let parts = and_parts (is_inner b) (list_all is_inner text) h in
-    and_from (not_feed b) (list_all not_feed text) (and_parts (not (b == 10)) (not (b == 13)) parts.0).0
-    (others_of text parts.1)
+others_of (b ∷ text) h = let parts = and_parts (is_inner b) (list_all is_inner text) h in
+    grind (arith, and_from, and_parts, others_of text parts.1)
 
 no_return : (b : ℕ) → is_inner b ≡ true → (b == 13) ≡ false
-no_return b h =
-    (elim (b == 13) as (λ t. (not (b == 10) && not t) ≡ true → t ≡ false)
-    [ true ↦ λ e. absurd (true≢false (sym (and_parts (not (b == 10)) false e).1)) | false ↦ λ e. refl ]) h
+no_return b h = grind arith
 
 trimmed_same : (text : List ℕ) → AreInner text → trimmed text ≡ text
-trimmed_same [] h = refl
-trimmed_same (b ∷ []) h = rw (no_return b (and_parts (is_inner b) true h).0)
 trimmed_same (b ∷ c ∷ text) h =
     ap (λ l. b ∷ l) (trimmed_same (c ∷ text) (and_parts (is_inner b) (list_all is_inner (c ∷ text)) h).1)
+trimmed_same text h = grind (arith, no_return, and_parts)
 
 -- The lines of printed lines are those, and an empty one behind the last line feed.
 pub lines_of_printed : (lines : List (List Lexeme)) → AllLexemes lines

@@ -1,18 +1,17 @@
 -- The printed lexemes of a line are its lexemes.
 use Rattle.std.proofs.Common.{◌≡◌, ℕ, ◌^◌, ◌<◌, ◌==◌, length, Bool, true, false, List, [], ◌∷◌, ◌++◌, Option}
-use Rattle.std.proofs.Common.{Some, None, take, drop, decimal, arith, refl, sym, ap, ◌∙◌, append_assoc}
+use Rattle.std.proofs.Common.{Some, take, drop, arith, refl, sym, ap, ◌∙◌, append_assoc}
 use Rattle.std.specs.List.{list_all, prefix_len}
 use Rattle.std.specs.Option.{option_map}
-use Rattle.std.proofs.lemmas.Bool.{and_parts, or_parts, true≢false, not-true, not_from_false, ne_eqb, lt-ltb}
+use Rattle.std.proofs.lemmas.Bool.{and_parts, true≢false, not-true, ne_eqb, lt-ltb}
 use Rattle.ws_words.specs.Digits.{is_digit, is_number}
 use Rattle.asm_text.specs.declared.lexeme.Mark as marks
-use Rattle.asm_text.specs.declared.lexeme.Mark.TheVariants.{Colon, Arrow, Bar, Dot, Comma, Less, More, Query}
 use Rattle.asm_text.specs.declared.lexeme.Lexeme.{Lexeme}
 use Rattle.asm_text.specs.declared.lexeme.Lexeme.TheVariants.{Word, Number, Mark}
 use Rattle.asm_text.specs.declared.writer.After as afters
 use Rattle.asm_text.specs.declared.writer.After.TheVariants as after
 use Rattle.asm_text.specs.Lexing.{lone, gap, front, Lexed, behind, lexed, scan}
-use Rattle.asm_text.specs.Printed.{bytes_of, mark_bytes, is_joined, text_of}
+use Rattle.asm_text.specs.Printed.{bytes_of, mark_bytes, text_of}
 use Rattle.asm_text.specs.Printed as printed
 use Rattle.asm_text.specs.Spelled.{IsLexeme, AreLexemes}
 use Rattle.asm_text.proofs.Scanning.Fronts.{lexed_behind}
@@ -23,11 +22,10 @@ use Rattle.ws_words.proofs.Decimals.{Digits, decimal_digits, no_letter}
 -- the longest run ends where the bytes do
 prefix_whole : (p : ℕ → Bool) (xs text : List ℕ) → list_all p xs ≡ true → starts_without p text ≡ true
     → prefix_len p (xs ++ text) ≡ length xs
-prefix_whole p [] [] h k = refl
-prefix_whole p [] (b ∷ text) h k = rw (not-true (p b) k)
 prefix_whole p (x ∷ xs) text h k =
     let parts = and_parts (p x) (list_all p xs) h in
     rw (parts.0, prefix_whole p xs text parts.1 k) (one_more (length xs))
+prefix_whole p [] text h k = grind (arith, not-true)
 
 take_front : (xs ys : List ℕ) → take (length xs) (xs ++ ys) ≡ xs
 take_front [] ys = refl
@@ -50,8 +48,7 @@ word_front_is (b ∷ w) text h k =
     rw (
       other is_letter b 32 parts.0 refl,
       other is_letter b 9 parts.0 refl,
-      other is_letter b 35 parts.0
-          refl,
+      other is_letter b 35 parts.0 refl,
       parts.0,
       prefix_whole is_word_byte w text parts.1 k,
       one_more (length w),
@@ -59,9 +56,7 @@ word_front_is (b ∷ w) text h k =
     )
 
 no_digit : (text : List ℕ) → starts_without is_word_byte text ≡ true → starts_without is_digit text ≡ true
-no_digit [] h = refl
-no_digit (b ∷ bytes) h =
-    not_from_false (is_digit b) (or_parts (is_letter b) (is_digit b) (not-true (is_word_byte b) h)).1
+no_digit text h = grind arith
 
 digits_front : (n : ℕ) (ds text : List ℕ) → Digits n ds → n < 2 ^ 64 → starts_without is_word_byte text ≡ true
     → front (ds ++ text) ≡ Some (lone (Number n) (length ds))
@@ -76,8 +71,7 @@ digits_front n (b ∷ ds) text d h k =
       no_letter b parts.0,
       parts.0,
       prefix_whole is_digit ds text parts.1 (no_digit text k),
-      one_more
-          (length ds),
+      one_more (length ds),
       take_front ds text,
       ← d.value,
       lt-ltb n (2 ^ 64) h,
@@ -86,14 +80,7 @@ digits_front n (b ∷ ds) text d h k =
 mark_front : (m : marks.Mark) (text : List ℕ)
     → front (mark_bytes m ++ text) ≡ Some (lone (Mark m) (length (mark_bytes m)))
 unfolding front
-mark_front Colon text = refl
-mark_front Arrow text = refl
-mark_front Bar text = refl
-mark_front Dot text = refl
-mark_front Comma text = refl
-mark_front Less text = refl
-mark_front More text = refl
-mark_front Query text = refl
+mark_front m text = grind arith
 
 -- what a lexeme needs to end where it does
 abbrev Ends : Lexeme → List ℕ → Type 0
@@ -103,43 +90,38 @@ Ends (Mark m) text = Unit {0}
 
 lexeme_front : (l : Lexeme) (text : List ℕ) → IsLexeme l → Ends l text
     → front (bytes_of l ++ text) ≡ Some (lone l (length (bytes_of l)))
-lexeme_front (Word w) text h k = word_front_is w text h k
-lexeme_front (Number n) text h k = digits_front n (decimal n) text (decimal_digits n h) h k
-lexeme_front (Mark m) text h k = mark_front m text
+lexeme_front l text h k = grind (arith, word_front_is, digits_front, decimal_digits, mark_front)
 
 some_digit : (ds : List ℕ) → is_number ds ≡ true → 0 < length ds
-some_digit [] h = absurd (true≢false (sym h))
-some_digit (b ∷ ds) h = omega arith
+some_digit ds h = grind arith
 
 some_letter : (w : List ℕ) → is_word w ≡ true → 0 < length w
-some_letter [] h = absurd (true≢false (sym h))
-some_letter (b ∷ w) h = omega arith
+some_letter w h = grind arith
 
 some_mark : (m : marks.Mark) → 0 < length (mark_bytes m)
-some_mark Colon = omega arith
-some_mark m = omega arith
+some_mark m = grind arith
 
 some_bytes : (l : Lexeme) → IsLexeme l → 0 < length (bytes_of l)
-some_bytes (Word w) h = some_letter w h
-some_bytes (Number n) h = some_digit (decimal n) (decimal_digits n h).digits
-some_bytes (Mark m) h = some_mark m
+some_bytes l h = grind (arith, some_letter, some_digit, decimal_digits, some_mark)
 
 same_behind : (l : Lexeme) (n : ℕ) (more : Option Lexed)
     → option_map (behind (lone l n)) more ≡ option_map (behind (lone l 0)) more
-same_behind l n None = refl
-same_behind l n (Some m) = refl
+same_behind l n more = grind arith
 
 lexed_lexeme : (l : Lexeme) (text : List ℕ) → IsLexeme l → Ends l text
     → lexed (bytes_of l ++ text) ≡ option_map (behind (lone l 0)) (lexed text)
-lexed_lexeme l text h k =
-    lexed_behind (bytes_of l ++ text) (lone l (length (bytes_of l))) (lexeme_front l text h k)
-    (some_bytes l h)
-    ∙ ap (λ t. option_map (behind (lone l (length (bytes_of l)))) (lexed t)) (drop_front (bytes_of l) text) ∙
-    same_behind l (length (bytes_of l)) (lexed text)
+lexed_lexeme l text h k = grind (
+  arith,
+  lexed_behind,
+  lexeme_front l text h k,
+  some_bytes l h,
+  drop_front
+      (bytes_of l) text,
+  same_behind l (length (bytes_of l)) (lexed text),
+)
 
 gap_behind : (more : Option Lexed) → option_map (behind (gap 1)) more ≡ more
-gap_behind None = refl
-gap_behind (Some m) = refl
+gap_behind more = grind arith
 
 space_front : (text : List ℕ) → front (32 ∷ text) ≡ Some (gap 1)
 unfolding front
@@ -152,27 +134,16 @@ lexed_gap false text =
 
 close_mark : (m : marks.Mark) (text : List ℕ)
     → starts_without is_word_byte (printed.gap (printed.is_close m) ++ mark_bytes m ++ text) ≡ true
-close_mark Colon text = refl
-close_mark Arrow text = refl
-close_mark Bar text = refl
-close_mark Dot text = refl
-close_mark Comma text = refl
-close_mark Less text = refl
-close_mark More text = refl
-close_mark Query text = refl
+close_mark m text = grind arith
 
 -- behind a word or a number no byte of a word stands
 loose : (ls : List Lexeme) → starts_without is_word_byte (text_of after.Loose ls) ≡ true
 unfolding text_of
-loose [] = refl
-loose (Word w ∷ ls) = refl
-loose (Number n ∷ ls) = refl
 loose (Mark m ∷ ls) = close_mark m (text_of (printed.behind (Mark m)) ls)
+loose ls = refl
 
 ends : (l : Lexeme) (ls : List Lexeme) → Ends l (text_of (printed.behind l) ls)
-ends (Word w) ls = loose ls
-ends (Number n) ls = loose ls
-ends (Mark m) ls = tt
+ends l ls = grind (arith, loose)
 
 lexed_nil : lexed [] ≡ Some (record { items = []; wide = false })
 unfolding lexed scan
@@ -184,7 +155,4 @@ pub lexed_text : (a : afters.After) (ls : List Lexeme) → AreLexemes ls
 unfolding text_of
 lexed_text a [] h = lexed_nil
 lexed_text a (l ∷ ls) h =
-    ap lexed (append_assoc (printed.gap (is_joined a l)) (bytes_of l) (text_of (printed.behind l) ls))
-    ∙ lexed_gap (is_joined a l) (bytes_of l ++ text_of (printed.behind l) ls) ∙ lexed_lexeme l
-    (text_of (printed.behind l) ls) h.0 (ends l ls)
-    ∙ ap (option_map (behind (lone l 0))) (lexed_text (printed.behind l) ls h.1)
+    grind (arith, append_assoc, lexed_gap, lexed_lexeme, ends, lexed_text (printed.behind l) ls h.1)

@@ -1,6 +1,6 @@
 -- Lists that are printed one by one.
-use Rattle.std.proofs.Common.{◌≡◌, ℕ, suc, ◌+◌, ◌<◌, length, length-append, Bool, List, [], ◌∷◌, map, drop}
-use Rattle.std.proofs.Common.{get_or, drop-cons, arith, refl, sym, ap, ◌∙◌}
+use Rattle.std.proofs.Common.{◌≡◌, ℕ, ◌+◌, ◌<◌, length, length-append, Bool, List, [], ◌∷◌, map, drop, get_or}
+use Rattle.std.proofs.Common.{drop-cons, arith, refl, ap, ◌∙◌}
 use Rattle.std.proofs.Math.Seq.{drop-length}
 use Rattle.std.specs.List.{list_all}
 use Rattle.ws_isa.specs.declared.instr.Dest.{Dest}
@@ -16,10 +16,7 @@ use Rattle.ws_words.proofs.Lists.{length_map}
 -- the rest of a list at a place
 pub rest_at : {A : Type 0} (xs : List A) (i : ℕ) (x d : A) → i < length xs → x ≡ get_or xs i d
     → drop i xs ≡ x ∷ drop (i + 1) xs
-rest_at xs i x d h e = drop-cons xs i d h ∙ (λ j. sym e j ∷ drop (plus_one i j) xs)
-  where
-    plus_one : (i : ℕ) → suc i ≡ i + 1
-    plus_one i = omega arith
+rest_at xs i x d h e = grind (arith, drop-cons)
 
 pub rest_end : {A : Type 0} (xs : List A) (i : ℕ) → i ≡ length xs → drop i xs ≡ []
 rest_end xs i e = ap (λ n. drop n xs) e ∙ drop-length xs
@@ -79,10 +76,7 @@ pub blocks_step : {A : Type 0} (v : A → Block) (s : Written) (w b n : ℕ) (xs
     → put_lines s (blocks_lines w b n (map v (drop i xs))) ≡ put_lines (put_lines s (block_lines w b n (v x)))
     (blocks_lines (v x).wave (b + 1) (n + length (v x).instrs) (map v (drop (i + 1) xs)))
 unfolding put_lines blocks_lines
-blocks_step v s w b n xs i x d h e =
-    ap (λ l. put_lines s (blocks_lines w b n (map v l))) (rest_at xs i x d h e)
-    ∙ put_lines-append s (block_lines w b n (v x))
-    (blocks_lines (v x).wave (b + 1) (n + length (v x).instrs) (map v (drop (i + 1) xs)))
+blocks_step v s w b n xs i x d h e = grind (arith, rest_at, put_lines-append)
 
 pub blocks_end : {A : Type 0} (v : A → Block) (s : Written) (w b n : ℕ) (xs : List A) (i : ℕ) → i ≡ length xs
     → put_lines s (blocks_lines w b n (map v (drop i xs))) ≡ s
@@ -94,8 +88,7 @@ pub flat_step : {A : Type 0} (v : A → Block) (xs : List A) (i : ℕ) (x d : A)
     → x ≡ get_or xs i d
     → length (flat (map v (drop i xs))) ≡ length (v x).instrs + length (flat (map v (drop (i + 1) xs)))
 flat_step v xs i x d h e =
-    ap (λ l. length (flat (map v l))) (rest_at xs i x d h e) ∙ length-append (v x).instrs
-    (flat (map v (drop (i + 1) xs)))
+    grind (arith, rest_at xs i x d h e, length-append (v x).instrs (flat (map v (drop (i + 1) xs))))
 
 pub flat_end : {A : Type 0} (v : A → Block) (xs : List A) (i : ℕ) → i ≡ length xs
     → length (flat (map v (drop i xs))) ≡ 0
