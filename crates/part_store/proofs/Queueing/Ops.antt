@@ -2,7 +2,7 @@
 use Rattle.std.proofs.Common.{ℕ, ◌-◌, ◌≡◌, ◌⊎◌, true, false, List, [], ◌∷◌, ◌++◌, Option, Some, None}
 use Rattle.std.proofs.Common.{slice_index, refl, sym, ◌∙◌, subst, inl, inr, eqb, eq-eqb, arith}
 use Rattle.std.proofs.lemmas.Bool.{both_ways}
-use Rattle.ws_words.specs.Outside.{Act, loads, stores, Outside, row, printed_words}
+use Rattle.ws_words.specs.Outside.{Act, loads, stores, Outside, printed_words}
 use Rattle.ws_words.specs.Plain.{took_words}
 use Rattle.ws_isa.specs.declared.instr.Op.{Op}
 use Rattle.ws_isa.specs.declared.instr.Op.TheVariants.{Load, Store}
@@ -17,7 +17,7 @@ use Rattle.df_core.specs.Began.{Began}
 use Rattle.df_core.specs.Rights.{operands_of}
 use Rattle.df_core.proofs.Parts.Issuing.{printed_alike, took_alike}
 use Rattle.store_buf.specs.declared.kept.Kept.{Kept}
-use Rattle.store_buf.specs.Requests.{entry_of, answer_if}
+use Rattle.store_buf.specs.Requests.{entry_of}
 use Rattle.store_buf.specs.Outdoors.{Holding, HoldsOut}
 use Rattle.part_store.specs.declared.entry.Queued.{Queued}
 use Rattle.part_store.specs.Queues.{holds}
@@ -27,15 +27,6 @@ use Rattle.part_store.specs.Rules.{operands_at, is_past_at}
 use Rattle.ws_words.proofs.Acts.{printed_same}
 use Rattle.store_buf.proofs.Outside.{took_same as took_quiet}
 use Rattle.store_buf.proofs.Stepping.{out_effect}
-
--- a load or store is on its array's row; another operation is on none
-pub record OnRow (es : List Queued) (op : Op) (j : ℕ) : Type 0 where
-  pub row : is_on_row op (array_of_op op - 1) ≡ true
-  pub held : holds_op es op j ≡ holds es (array_of_op op - 1) j
-
-pub record NoRow (es : List Queued) (op : Op) (j : ℕ) : Type 0 where
-  pub row : (r : ℕ) → is_on_row op r ≡ false
-  pub held : holds_op es op j ≡ false
 
 store_row_op : (op : Op) → is_store_op op ≡ true → is_on_row op (array_of_op op - 1) ≡ true
 store_row_op op e = grind arith
@@ -218,6 +209,3 @@ outside_after began image i xs o cs h is = grind (
   out_effect
       began (after_op (instr_at image i).op xs (with_cells o cs)) h is,
 )
-
-abbrev pub answer_in : Option Kept → Option ℕ
-answer_in e = answer_if e
