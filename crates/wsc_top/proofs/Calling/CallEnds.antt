@@ -1,7 +1,6 @@
 -- What a call comes to, by how its answer was made and went out.
-use Rattle.std.specs.Prelude.{◌≡◌, false, true, ℕ, ◌≤◌, List, length, take, Option, Result, Ok, Err, IsOk}
-use Rattle.std.specs.Prelude.{Some, OnErr, refl}
-use Rattle.std.proofs.Common.{subst, inl, inr}
+use Rattle.std.specs.Prelude.{◌≡◌, ℕ, ◌≤◌, List, length, take, Option, Result, Err, IsOk, Some, OnErr, refl}
+use Rattle.std.proofs.Common.{inl, inr, arith}
 use Rattle.ws_io.specs.Streams.{Rose, Adds, Flushes}
 use Rattle.src_ast.specs.Syntax.{Part}
 use Rattle.ws_isa.specs.Image.{Image}
@@ -13,7 +12,7 @@ use Rattle.wsc_top.specs.declared.status.Status.{Status}
 use Rattle.wsc_top.specs.declared.status.Status.TheVariants.{Usage, ReadFault, WriteFault, PortFault}
 use Rattle.wsc_top.specs.declared.status.Status.TheVariants.{NoMemory}
 use Rattle.wsc_top.specs.declared.task.Task.{Task}
-use Rattle.wsc_top.specs.declared.task.Task.TheVariants.{Job, Assembly, Generate, Bench, Multi}
+use Rattle.wsc_top.specs.declared.task.Task.TheVariants.{Job, Assembly, Bench, Multi}
 use Rattle.wsc_top.specs.declared.task.BenchOptions.{BenchOptions}
 use Rattle.wsc_top.specs.declared.task.JobTask.{JobTask}
 use Rattle.wsc_top.specs.declared.task.JobTask.TheVariants.{Run}
@@ -80,12 +79,10 @@ pub record Decided : Type 0 where
 
 -- what an answer that there is none says
 pub starved_reply : {X E Q : Type 0} (answer : Result X E) (e : E) → answer ≡ Err e → OnErr answer Q → Q
-starved_reply (Ok x) e is h = absurd cc
-starved_reply (Err f) e is h = h
+starved_reply answer e is h = grind arith
 
 pub not_ok : {X E : Type 0} (answer : Result X E) (e : E) → answer ≡ Err e → IsOk answer → ⊥
-not_ok (Ok x) e is h = cc
-not_ok (Err f) e is h = let bad : false ≡ true = h in absurd cc
+not_ok answer e is h = grind arith
 
 -- words whose first is no command are no line
 no_command : (words : List (List ℕ)) → (HasCommand words → ⊥) → IsNoLine words
@@ -98,18 +95,13 @@ module _ (words : List (List ℕ)) (reads : SourceCall) (writes : Writing) (hand
       (r : Replies words reads.left reads.after reads.faults reads.counted handed status text image images
       back) where
     well_read : (Rose reads.faults reads.counted → ⊥) → status ≡ ReadFault → ⊥
-    well_read none e = none (reply_read_rose words reads.left reads.after reads.faults reads.counted handed
-        status text image images back r e)
+    well_read none e = grind (arith, reply_read_rose)
 
     rose_at : (port : ℕ) → status ≡ PortFault port → RoseAt port handed back
-    rose_at = reply_port_rose words reads.left reads.after reads.faults reads.counted handed status text image
-        images back r
+    rose_at = grind (arith, reply_port_rose)
 
     no_line_of : IsNoLine words → status ≡ Usage
-    no_line_of none = no_line_usage words reads.left reads.after reads.faults reads.counted handed status text
-        image back
-        (reply_no_line words reads.left reads.after reads.faults reads.counted handed status text image images
-        back none r) none
+    no_line_of none = grind (arith, no_line_usage, reply_no_line)
 
     answer_of : (task : Task) → AsksFor words task → ((o : RunOptions) → Multi o ≡ task → ⊥)
         → Answers words reads.left reads.after reads.faults reads.counted handed status text image back
@@ -132,62 +124,51 @@ module _ (words : List (List ℕ)) (reads : SourceCall) (writes : Writing) (hand
 
     jobs_end : (options : RunOptions) (jobs : List ProgramAndInput) → AreToldJobs words reads.left options
         jobs → (Rose reads.faults reads.counted → ⊥) → MultiEndsSo options jobs handed status
-    jobs_end options jobs told_jobs source =
-        law.threads words reads.left reads.after reads.faults reads.counted handed back status text image
-        images options jobs r told_jobs told (well_read source)
+    jobs_end options jobs told_jobs source = law.threads words reads.left reads.after reads.faults
+        reads.counted handed back status text image images options jobs r told_jobs told (well_read source)
 
     pub call_answered : (sent : List ℕ) → sent ≡ text → Adds writes.held sent writes.holds
         → Flushes writes.holds writes.flushed writes.covered → CallEnds words reads writes handed status image
         images back
     call_answered sent same adds flushes = record {
-      answered = λ a b. (text, r, subst (λ (t : List ℕ). Adds writes.held t writes.holds) same adds, flushes);
-      cut = λ e. absurd (reply_not_write_fault words reads.left reads.after reads.faults reads.counted handed
-          status text image images back r e);
-      memory = λ e. absurd (reply_not_memory words reads.left reads.after reads.faults reads.counted handed
-          status text image images back r e);
-      read_fault = reply_read_rose words reads.left reads.after reads.faults reads.counted handed status text
-          image images back r;
-      write_fault = λ e. absurd (reply_not_write_fault words reads.left reads.after reads.faults reads.counted
-          handed status text image images back r e);
+      answered = grind arith;
+      cut = grind (arith, reply_not_write_fault);
+      memory = grind (arith, reply_not_memory);
+      read_fault = grind (arith, reply_read_rose);
+      write_fault = grind (arith, reply_not_write_fault);
       port_fault = rose_at;
       usage = λ none sink. inl (no_line_of none);
       unknown = λ none sink. no_line_of (no_command words none);
       generated = λ number line sink. inl (generates words reads.left reads.after reads.faults reads.counted
-          handed one status text image back (answer_of (Generate number) line (λ o e. absurd cc)) number
-          line);
-      benched = λ options parts line job sink.
-          inl (law.bench words reads.left reads.after reads.faults reads.counted handed back status text image
-          options parts (answer_of (Bench options) line (λ o e. absurd cc)) line job told);
+          handed one status text image back (grind (arith, answer_of)) number line);
+      benched = λ options parts line job sink. inl (law.bench words reads.left reads.after reads.faults
+          reads.counted handed back status text image options parts (grind (arith, answer_of)) line job told);
       done = λ task parts input t ends source sink ports. unfailed handed back status _ rose_at ports
           ((job_ends task parts input t source).done ends);
       fault = λ task parts input t meets source sink ports. unfailed handed back status _ rose_at ports
           ((job_ends task parts input t source).fault meets);
       budget = λ task parts input t wants source sink ports. unfailed handed back status _ rose_at ports
           ((job_ends task parts input t source).budget wants);
-      refused = λ task t source sink.
-          inl (told_refused one words reads.left reads.after reads.faults reads.counted handed status text
-          image back (job_of task t.line) task t (well_read source));
-      assembled = λ task i input t source sink.
-          inl (law.assembly words reads.left reads.after reads.faults reads.counted handed back status text
-          image task i input (assembly_of task t.line) t (well_read source));
-      unassembled = λ task t source sink.
-          inl (told_unassembled one words reads.left reads.after reads.faults reads.counted handed status text
-          image back (assembly_of task t.line) task t (well_read source));
-      multiplied = λ options jobs t source sink. inl (jobs_end options jobs t source);
+      refused = λ task t source sink. inl (told_refused one words reads.left reads.after reads.faults
+          reads.counted handed status text image back (job_of task t.line) task t (well_read source));
+      assembled = λ task i input t source sink. inl (law.assembly words reads.left reads.after reads.faults
+          reads.counted handed back status text image task i input (assembly_of task t.line) t (well_read
+          source));
+      unassembled = λ task t source sink. inl (told_unassembled one words reads.left reads.after reads.faults
+          reads.counted handed status text image back (assembly_of task t.line) task t (well_read source));
+      multiplied = grind (arith, jobs_end);
       multiplied_done = λ options jobs t ends source sink ports. unfailed handed back status _ rose_at ports
           (ends_done options jobs handed status (jobs_end options jobs t source) ends);
-      unmultiplied = λ options t source sink.
-          inl (told_unjobs one words reads.left reads.after reads.faults reads.counted handed options t status
-          text image images back r (well_read source));
-      decided = λ options parts input ran t is source sink.
-          inl (law.walk words reads.left reads.after reads.faults reads.counted handed back status text image
-          ran options parts input (job_of (Run options) t.line) t is);
-      bench_decided = λ options ran line is sink.
-          inl (law.bench_walk words reads.left reads.after reads.faults reads.counted handed back status text
-          image ran options (answer_of (Bench options) line (λ o e. absurd cc)) line is);
-      multi_decided = λ options jobs t source sink.
-          inl (law.walks words reads.left reads.after reads.faults reads.counted handed back status text image
-          images options jobs r t (well_read source));
+      unmultiplied = λ options t source sink. inl (told_unjobs one words reads.left reads.after reads.faults
+          reads.counted handed options t status text image images back r (well_read source));
+      decided = λ options parts input ran t is source sink. inl (law.walk words reads.left reads.after
+          reads.faults reads.counted handed back status text image ran options parts input (job_of (Run
+          options) t.line) t is);
+      bench_decided = λ options ran line is sink. inl (law.bench_walk words reads.left reads.after
+          reads.faults reads.counted handed back status text image ran options (grind (arith, answer_of)) line
+          is);
+      multi_decided = λ options jobs t source sink. inl (law.walks words reads.left reads.after reads.faults
+          reads.counted handed back status text image images options jobs r t (well_read source));
     }
 
   -- a front of it went out, and writing failed
@@ -199,15 +180,7 @@ module _ (words : List (List ℕ)) (reads : SourceCall) (writes : Writing) (hand
       → CallEnds words reads writes handed WriteFault image images back
   call_cut would text n image images back r sent same few adds kept rose = record {
     answered = λ a b. absurd (a refl);
-    cut = λ e. (
-      would,
-      text,
-      n,
-      subst (λ (t : List ℕ). n ≤ length t) same few,
-      r,
-      subst (λ (t : List ℕ). Adds writes.held (take n t) writes.holds) same adds,
-      kept,
-    );
+    cut = grind arith;
     memory = λ e. absurd cc;
     read_fault = λ e. absurd cc;
     write_fault = λ e. rose;
@@ -266,13 +239,5 @@ pub ends_alone : (words others : List (List ℕ)) (reads : SourceCall) (writes :
     (back : List (Option Told)) (code : ℕ)
     → words ≡ others → handed ≡ in_first port → CallEnds words reads writes handed status image images back
     → code ≡ code_of status → EndsWithCode others reads writes port code
-ends_alone words others reads writes handed port status image images back code same alone ends is = (
-  status,
-  image,
-  images,
-  back,
-  subst (λ (ws : List (List ℕ)). CallEnds ws reads writes (in_first port) status image images back) same
-      (subst (λ (hs : List (Option Told)). CallEnds words reads writes hs status image images back) alone
-      ends),
-  is,
-)
+ends_alone words others reads writes handed port status image images back code same alone ends is =
+    grind arith

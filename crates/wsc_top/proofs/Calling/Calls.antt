@@ -1,7 +1,7 @@
 -- The words of a call, and the answer to them.
-use Rattle.std.specs.Prelude.{◌≡◌, ℕ, ◌+◌, ◌≤◌, List, [], length, Option, Some, None, IfNone, Result, Ok, Err}
-use Rattle.std.specs.Prelude.{IfErr, IsErrAnd, IfSome, refl}
-use Rattle.std.proofs.Common.{sym, ap, ◌∙◌, subst, arith, length-append, append-nil, inl, inr}
+use Rattle.std.specs.Prelude.{◌≡◌, ℕ, ◌+◌, ◌≤◌, List, [], length, Option, Some, None, IfNone, Result, IfErr}
+use Rattle.std.specs.Prelude.{IsErrAnd, IfSome, refl}
+use Rattle.std.proofs.Common.{sym, ◌∙◌, subst, arith, length-append, append-nil, inl, inr}
 use Rattle.ws_words.specs.Outside.{World}
 use Rattle.ws_io.specs.Streams.{Rose, Takes, TakesAll}
 use Rattle.src_ast.specs.Syntax.{Part}
@@ -31,24 +31,20 @@ use Rattle.work_gen.specs.Job.{words_of, job_text}
 use Rattle.wsc_top.specs.Tasks.{AsksFor, IsNoLine}
 use Rattle.wsc_top.specs.Job.{job_limit, IsJob}
 use Rattle.wsc_top.specs.Texts.{usage_text, unread_text, long_text, asm_refusal_text}
-use Rattle.wsc_top.specs.Executions.{Executes, rested, spent, stopped, failed, OrFailed}
+use Rattle.wsc_top.specs.Executions.{Executes, OrFailed}
 use Rattle.wsc_top.specs.Generated.{IsGeneratedJob}
 use Rattle.trace_check.specs.declared.recording.TraceEnd.{TraceEnd}
-use Rattle.trace_check.specs.declared.recording.TraceEnd.TheVariants as end
 use Rattle.df_core.specs.declared.drive.Finish.{Finish}
 use Rattle.df_core.specs.declared.drive.Finish.TheVariants as finish
 use Rattle.wsc_top.specs.Clocked.{clocked_status}
-use Rattle.wsc_top.specs.Traced as traces
-use Rattle.wsc_top.specs.Traced.{IsReplayed, HasTrace, missing, faulty, illegal, made, trace_status}
+use Rattle.wsc_top.specs.Traced.{IsReplayed, HasTrace, trace_status}
 use Rattle.wsc_top.specs.Answers as answers
-use Rattle.wsc_top.specs.Answers.{SomeRose, OrNoMemory, IsCompiled, Yields, ran, formatted, compiled, ended}
-use Rattle.wsc_top.specs.Answers.{faulted, going, Answered, refused, done, IsReader, limit_of, assembly_text}
-use Rattle.wsc_top.specs.Answers.{AssemblyYields, checked, listed, executed, traced, replayed, gridded}
-use Rattle.wsc_top.specs.Answers.{AssemblyAnswered, Answers, usage, generated, unread, long, read, assembled}
-use Rattle.wsc_top.specs.Answers.{RunsClosed, written, closed, RunsOut, unbegun, begun, WereRead, IsToldOther}
-use Rattle.wsc_top.specs.Answers.{IsToldNoAssembly, Benched, benched, IsDue}
-use Rattle.wsc_top.specs.Jobs.{RefusesJobs}
-use Rattle.wsc_top.specs.Threads.{Replies, alone, together, AreThreads}
+use Rattle.wsc_top.specs.Answers.{SomeRose, OrNoMemory, IsCompiled, Yields, Answered, refused, done, IsReader}
+use Rattle.wsc_top.specs.Answers.{limit_of, assembly_text, AssemblyYields, checked, listed, executed, traced}
+use Rattle.wsc_top.specs.Answers.{replayed, gridded, AssemblyAnswered, Answers, usage, generated, unread}
+use Rattle.wsc_top.specs.Answers.{long, read, assembled, RunsClosed, written, closed, RunsOut, unbegun, begun}
+use Rattle.wsc_top.specs.Answers.{WereRead, IsToldOther, IsToldNoAssembly, Benched, benched, IsDue}
+use Rattle.wsc_top.specs.Threads.{Replies, alone, together}
 use Rattle.wsc_top.specs.Threads as threads
 use Rattle.wsc_top.specs.Steps.{AssemblyYieldStep, IsBegun, JobStep, JobBegun, JobsStep, AssemblyStep}
 use Rattle.wsc_top.specs.Steps.{AssemblyBegun, StepSo}
@@ -76,48 +72,30 @@ module _ (words : List (List ℕ)) (left after : Option (List ℕ)) (m n : ℕ) 
   pub read_step : (text same : List ℕ) (c : JobTask) (step : CallStep) → AsksFor words (Job c)
       → length text ≤ job_limit → TakesAll left text after → same ≡ text
       → JobStep c same step → StepSo words left after m n step
-  read_step text same c (Ready status out image) r l t e a =
-      λ handed.
-      alone (read c text r l t (subst (λ x. Answered c x handed status out image handed) e (a handed)))
-  read_step text same c (Due options image input) r l t e a =
-      answers.IsDue.job text a.1 (subst (λ (d : JobTask). AsksFor words (Job d)) a.0 r) l t
-      (subst (λ x. IsJob x a.1 input) e a.2) a.3
+  read_step text same c (Ready status out image) r l t e a = λ handed. alone (read c text r l t (grind arith))
+  read_step text same c (Due options image input) r l t e a = answers.IsDue.job text a.1 (grind arith) l t
+      (grind arith) a.3
   read_step text same c (Many options jobs) r l t e a = absurd a
 
   pub assembled_step : (text same : List ℕ) (c : AssemblyTask) (step : CallStep) → AsksFor words (Assembly c)
       → length text ≤ assembly_limit → TakesAll left text after → same ≡ text
       → AssemblyStep c same step → StepSo words left after m n step
-  assembled_step text same c (Ready status out image) r l t e a = λ handed.
-      alone (assembled c text r l t (subst (λ x. AssemblyAnswered c x handed status out image handed) e
-      (a handed)))
-  assembled_step text same c (Due options image input) r l t e a =
-      answers.IsDue.assembly text (subst (λ (d : AssemblyTask). AsksFor words (Assembly d)) a.0 r) l t
-      (subst (λ x. IsAssembly x image input) e a.1)
+  assembled_step text same c (Ready status out image) r l t e a = λ handed. alone (assembled c text r l t
+      (grind arith))
+  assembled_step text same c (Due options image input) r l t e a = answers.IsDue.assembly text (grind arith) l
+      t (grind arith)
   assembled_step text same c (Many options jobs) r l t e a = absurd a
 
   pub jobs_step : (text same : List ℕ) (options : RunOptions) (step : CallStep)
       → AsksFor words (Multi options) → length text ≤ job_limit → TakesAll left text after → same ≡ text
       → JobsStep options same step → StepSo words left after m n step
-  jobs_step text same options (Ready status out image) r l t e a = λ handed.
-      subst (λ (s : Status). Replies words left after m n handed s out image [] handed) (sym a.0)
-      (subst (λ (i : Option Image). Replies words left after m n handed Refused out i [] handed) (sym a.1)
-      (subst (λ (o : List ℕ). Replies words left after m n handed Refused o None [] handed) (sym a.4)
-      (together options text r l t
-      (threads.MultiAnswered.refused a.2 (subst (λ x. RefusesJobs x a.2) e a.3)))))
+  jobs_step text same options (Ready status out image) r l t e a = λ handed. subst (λ (s : Status). Replies
+      words left after m n handed s out image [] handed) (sym a.0) (subst (λ (i : Option Image). Replies words
+      left after m n handed Refused out i [] handed) (sym a.1) (subst (λ (o : List ℕ). Replies words left
+      after m n handed Refused o None [] handed) (sym a.4) (together options text r l t
+      (threads.MultiAnswered.refused a.2 (grind arith)))))
   jobs_step text same options (Due found image input) r l t e a = absurd a
-  jobs_step text same options (Many found jobs) r l t e a = (
-    a.1.threads,
-    record {
-      text = text;
-      line = subst (λ (o : RunOptions). AsksFor words (Multi o)) (sym a.0) r;
-      short = l;
-      takes = t;
-      jobs = subst (λ x. AreThreads x a.1.threads) e a.1.jobs;
-      compiled = a.1.compiled;
-    },
-    a.1.images_are,
-    a.1.inputs_are,
-  )
+  jobs_step text same options (Many found jobs) r l t e a = grind arith
 
 -- where the words are no line
 pub usage_step : (words : List (List ℕ)) (left : Option (List ℕ)) (m n : ℕ) → IsNoLine words
@@ -128,26 +106,23 @@ usage_step words left m n h handed = alone (usage h refl)
 pub generated_step : (words : List (List ℕ)) (left : Option (List ℕ)) (m n number : ℕ) (out : List ℕ)
     → AsksFor words (Generate number) → out ≡ job_text number
     → StepSo words left left m n (Ready Done out None)
-generated_step words left m n number out h e handed =
-    alone (subst (λ o. Answers words left left m n handed Done o None handed) (sym e)
-    (generated number h refl))
+generated_step words left m n number out h e handed = alone (subst (λ o. Answers words left left m n handed
+    Done o None handed) (sym e) (generated number h refl))
 
 -- where one is to be run
 pub bench_step : (words : List (List ℕ)) (left : Option (List ℕ)) (options : BenchOptions) (image : Image)
     (input : List ℕ) → AsksFor words (Bench options)
     → (parts : List Part) × IsGeneratedJob options.number parts × IsCompiled parts image
     × (input ≡ words_of options.number) → IsDue words left left options.run image input
-bench_step words left options image input h b =
-    subst (λ (ws : List ℕ). IsDue words left left options.run image ws) (sym b.3)
-    (answers.IsDue.generated options b.0 h refl b.1 b.2)
+bench_step words left options image input h b = subst (λ (ws : List ℕ). IsDue words left left options.run
+    image ws) (sym b.3) (answers.IsDue.generated options b.0 h refl b.1 b.2)
 
 -- what is to be done where an assembly is refused
 pub unsound_step : (task : AssemblyTask) (text out : List ℕ) (f : AssemblyFault) (why : AsmRefusal)
     → f ≡ fault.Refused why → IsAssemblyFault (assembly_text task text) f → out ≡ asm_refusal_text why
     → AssemblyStep task text (Ready Refused out None)
-unsound_step task text out f why is h e handed =
-    subst (λ o. AssemblyAnswered task text handed Refused o None handed) (sym e)
-    (answers.AssemblyAnswered.refused why (subst (λ x. IsAssemblyFault (assembly_text task text) x) is h))
+unsound_step task text out f why is h e handed = subst (λ o. AssemblyAnswered task text handed Refused o None
+    handed) (sym e) (answers.AssemblyAnswered.refused why (grind arith))
 
 -- and where it is sound
 pub sound_step : (task : AssemblyTask) (text : List ℕ) (image : Image) (input : List ℕ) (step : CallStep)
@@ -156,12 +131,7 @@ pub sound_step : (task : AssemblyTask) (text : List ℕ) (image : Image) (input 
 sound_step task text image input (Ready status out again) a y = λ handed. answers.AssemblyAnswered.done image
     input a (y handed)
 sound_step task text image input (Many options jobs) a y = absurd y
-sound_step task text image input (Due options found words) a y = (
-  y.0,
-  subst (λ (ws : List ℕ). IsAssembly text found ws) (sym y.2)
-      (subst (λ (i : Image). IsAssembly text i input) (sym y.1)
-      (subst (λ (t : AssemblyTask). IsAssembly (assembly_text t text) image input) y.0 a)),
-)
+sound_step task text image input (Due options found words) a y = grind arith
 
 module _ (one : OneLine) (words : List (List ℕ)) where
   -- any told text that is no job is refused
@@ -178,13 +148,12 @@ module _ (one : OneLine) (words : List (List ℕ)) where
       let same : Bench o ≡ Job c = same_task_by one words (Bench o) (Job c) q r in absurd cc
   other_refused c text after m n handed status out image back (unread d bytes q is rose k t) r b f =
       absurd (f refl)
-  other_refused c text after m n handed status out image back (long d bytes q is k t) r b f = refl
-  other_refused c text after m n handed status out image back (read d other q k t (refused x h)) r b f = refl
   other_refused c text after m n handed status out image back (read d other q k t (done ps input a y)) r b f =
       absurd (b (subst (λ x. length x ≤ job_limit) (sym t.0) k) ps input
       (subst (λ x. IsJob x ps input) (sym t.0) a))
   other_refused c text after m n handed status out image back (assembled d other q k t a) r b f =
       let same : Assembly d ≡ Job c = same_task_by one words (Assembly d) (Job c) q r in absurd cc
+  other_refused c text after m n handed status out image back x r b f = refl
 
   -- any told text that is no assembly is refused
   none_refused : (c : AssemblyTask) (text : List ℕ) (after : Option (List ℕ)) (m n : ℕ)
@@ -200,11 +169,8 @@ module _ (one : OneLine) (words : List (List ℕ)) where
       let same : Bench o ≡ Assembly c = same_task_by one words (Bench o) (Assembly c) q r in absurd cc
   none_refused c text after m n handed status out again back (unread d bytes q is rose k t) r b f =
       absurd (f refl)
-  none_refused c text after m n handed status out again back (long d bytes q is k t) r b f = refl
   none_refused c text after m n handed status out again back (read d other q k t a) r b f =
       let same : Job d ≡ Assembly c = same_task_by one words (Job d) (Assembly c) q r in absurd cc
-  none_refused c text after m n handed status out again back
-      (assembled d other q k t (answers.AssemblyAnswered.refused x h)) r b f = refl
   none_refused c text after m n handed status out again back
       (assembled d other q k t (answers.AssemblyAnswered.done image input a y)) r b f =
       let whole : Assembly d ≡ Assembly c = same_task_by one words (Assembly d) (Assembly c) q r in
@@ -212,6 +178,7 @@ module _ (one : OneLine) (words : List (List ℕ)) where
       absurd (b (subst (λ x. length x ≤ assembly_limit) (sym t.0) k) image input
       (subst (λ x. IsAssembly (assembly_text c x) image input) (sym t.0)
       (subst (λ e. IsAssembly (assembly_text e other) image input) same a)))
+  none_refused c text after m n handed status out again back x r b f = refl
 
   module _ (left after : Option (List ℕ)) (m n : ℕ) (handed : List (Option Told)) (status : Status)
       (out : List ℕ) (image : Option Image) (back : List (Option Told))
@@ -231,8 +198,7 @@ module _ (one : OneLine) (words : List (List ℕ)) where
 pub too_much : (limit : ℕ) (left : Option (List ℕ)) (text bytes : List ℕ) (after : Option (List ℕ))
     → left ≡ Some text
     → length text ≤ limit → length bytes ≡ limit + 1 → Takes left bytes after → ⊥
-too_much limit left text bytes after e h l t =
-    let u = subst (λ x. Takes x bytes after) e t in omega (arith, ap length u.1, length-append bytes u.0)
+too_much limit left text bytes after e h l t = grind (arith, length-append)
 
 -- what is read whole is what is told
 pub told_text : (left : Option (List ℕ)) (text same : List ℕ) (after : Option (List ℕ)) → left ≡ Some text
@@ -250,48 +216,29 @@ IsOfText handed back _ = Unit {0}
 executes_status : (options : RunOptions) (image : Image) (world : World) (handed : List (Option Told))
     (status : Status) (out : List ℕ) (back : List (Option Told))
     → Executes options image world handed status out back → IsOfText handed back status
-executes_status options image world handed status out back (rested t n k w ports) = tt
-executes_status options image world handed status out back (spent t s ports) = tt
-executes_status options image world handed status out back (stopped t f ports) = tt
-executes_status options image world handed status out back (failed t port x e is within rose ports) = rose
+executes_status options image world handed status out back x = grind arith
 
 pub yields_status : (c : JobTask) (parts : List Part) (input : List ℕ) (handed : List (Option Told))
     (status : Status) (out : List ℕ) (image : Option Image) (back : List (Option Told))
     → Yields c parts input handed status out image back → IsOfText handed back status
-yields_status c parts input handed status out some back (ran {options} image i e tells) =
-    executes_status options image (world_with input handed) handed status out back e
-yields_status c parts input handed status out image back (formatted r) = tt
-yields_status c parts input handed status out some back (compiled i h) = tt
-yields_status c parts input handed status out image back (ended n e r w) = tt
-yields_status c parts input handed status out image back (faulted n x s f w) = tt
-yields_status c parts input handed status out image back (going now g) = tt
+yields_status c parts input handed status out some back x = grind (arith, executes_status)
 
 -- an answer to a text has one of them
 text_status : (c : JobTask) (text : List ℕ) (handed : List (Option Told)) (status : Status) (out : List ℕ)
     (image : Option Image) (back : List (Option Told))
     → Answered c text handed status out image back → IsOfText handed back status
-text_status c text handed status out image back (refused x y) = tt
-text_status c text handed status out image back (done ps input a y) = yields_status c ps input handed status
-    out image back y
+text_status c text handed status out image back x = grind (arith, yields_status)
 
 trace_ends : (handed back : List (Option Told)) (how : TraceEnd) → IsOfText handed back (trace_status how)
-trace_ends handed back end.Rest = tt
-trace_ends handed back end.Budget = tt
-trace_ends handed back end.Fault = tt
+trace_ends handed back how = grind arith
 
 grid_ends : (handed back : List (Option Told)) (how : Finish) → IsOfText handed back (clocked_status how)
-grid_ends handed back finish.Rest = tt
-grid_ends handed back finish.Budget = tt
-grid_ends handed back (finish.Fault array) = tt
+grid_ends handed back how = grind arith
 
 replay_status : (handed back : List (Option Told)) (text : List ℕ) (image : Image) (input : List ℕ)
     (status : Status) (out : List ℕ) (again : Option Image)
     → IsReplayed text image input status out again → IsOfText handed back status
-replay_status handed back text image input status out again (missing e) = tt
-replay_status handed back text image input status out again (faulty kind line n e) = tt
-replay_status handed back text image input status out again
-    (traces.IsReplayed.read trace h (illegal line s)) = tt
-replay_status handed back text image input status out again (traces.IsReplayed.read trace h (made r s)) = tt
+replay_status handed back text image input status out again x = grind arith
 
 yield_status : (c : AssemblyTask) (text : List ℕ) (image : Image) (input : List ℕ)
     (handed : List (Option Told)) (status : Status) (out : List ℕ) (again : Option Image)
@@ -303,81 +250,66 @@ yield_status c text image input handed status out again back (executed {options}
     executes_status options image (world_with input handed) handed status out back e
 yield_status c text image input handed status out again back (traced t e) =
     subst (IsOfText handed handed) (sym t.status_is) (trace_ends handed handed t.how)
-yield_status c text image input handed status out again back (replayed r e) =
-    replay_status handed handed text image input status out again r
+yield_status c text image input handed status out again back (replayed r e) = grind (arith, replay_status)
 yield_status c text image input handed status out again back (gridded r e) =
     subst (IsOfText handed handed) (sym r.status_is) (grid_ends handed handed r.run.finish)
 
 assembly_status : (c : AssemblyTask) (text : List ℕ) (handed : List (Option Told)) (status : Status)
     (out : List ℕ) (again : Option Image) (back : List (Option Told))
     → AssemblyAnswered c text handed status out again back → IsOfText handed back status
-assembly_status c text handed status out again back (answers.AssemblyAnswered.refused x h) = tt
-assembly_status c text handed status out again back (answers.AssemblyAnswered.done image input a y) =
-    yield_status c text image input handed status out again back y
+assembly_status c text handed status out again back x = grind (arith, yield_status)
 
 bench_status : (o : BenchOptions) (handed : List (Option Told)) (status : Status) (out : List ℕ)
     (image : Option Image) (back : List (Option Told))
     → Benched o handed status out image back → IsOfText handed back status
-bench_status o handed status out image back b = yields_status _ b.parts _ handed status out image back
-    b.yields
+bench_status o handed status out image back b = grind (arith, yields_status)
 
 module _ (words : List (List ℕ)) (left after : Option (List ℕ)) (m n : ℕ) (handed : List (Option Told)) where
   -- no answer has this status
   pub not_memory : (status : Status) (out : List ℕ) (image : Option Image) (back : List (Option Told))
       → Answers words left after m n handed status out image back → status ≡ NoMemory → ⊥
-  not_memory status out image back (usage g e) h = cc
-  not_memory status out image back (generated k q e) h = cc
   not_memory status out image back (benched o q e x) h = subst (IsOfText handed back) h
       (bench_status o handed status out image back x)
-  not_memory status out image back (unread c bytes q is f k t) h = cc
-  not_memory status out image back (long c bytes q is k t) h = cc
   not_memory status out image back (read c text q k t a) h = subst (IsOfText handed back) h
       (text_status c text handed status out image back a)
   not_memory status out image back (assembled c text q k t a) h = subst (IsOfText handed back) h
       (assembly_status c text handed status out image back a)
+  not_memory status out image back x h = cc
 
   -- nor this one
   pub not_write_fault : (status : Status) (out : List ℕ) (image : Option Image) (back : List (Option Told))
       → Answers words left after m n handed status out image back → status ≡ WriteFault → ⊥
-  not_write_fault status out image back (usage g e) h = cc
-  not_write_fault status out image back (generated k q e) h = cc
   not_write_fault status out image back (benched o q e x) h = subst (IsOfText handed back) h
       (bench_status o handed status out image back x)
-  not_write_fault status out image back (unread c bytes q is f k t) h = cc
-  not_write_fault status out image back (long c bytes q is k t) h = cc
   not_write_fault status out image back (read c text q k t a) h = subst (IsOfText handed back) h
       (text_status c text handed status out image back a)
   not_write_fault status out image back (assembled c text q k t a) h = subst (IsOfText handed back) h
       (assembly_status c text handed status out image back a)
+  not_write_fault status out image back x h = cc
 
   -- where the answer is that reading failed, the count rose
   pub read_rose : (status : Status) (out : List ℕ) (image : Option Image) (back : List (Option Told))
       → Answers words left after m n handed status out image back → status ≡ ReadFault → Rose m n
-  read_rose status out image back (usage g e) h = cc
-  read_rose status out image back (generated k q e) h = cc
   read_rose status out image back (benched o q e x) h =
       absurd (subst (IsOfText handed back) h (bench_status o handed status out image back x))
   read_rose status out image back (unread c bytes q is rose k t) h = rose
-  read_rose status out image back (long c bytes q is k t) h = cc
   read_rose status out image back (read c text q k t a) h =
       absurd (subst (IsOfText handed back) h (text_status c text handed status out image back a))
   read_rose status out image back (assembled c text q k t a) h =
       absurd (subst (IsOfText handed back) h (assembly_status c text handed status out image back a))
+  read_rose status out image back x h = cc
 
   -- where it is that a port failed, that port's count rose
   pub port_rose : (status : Status) (out : List ℕ) (image : Option Image) (back : List (Option Told))
       → Answers words left after m n handed status out image back → (port : ℕ) → status ≡ PortFault port
       → RoseAt port handed back
-  port_rose status out image back (usage g e) port h = cc
-  port_rose status out image back (generated k q e) port h = cc
   port_rose status out image back (benched o q e x) port h = subst (IsOfText handed back) h
       (bench_status o handed status out image back x)
-  port_rose status out image back (unread c bytes q is rose k t) port h = cc
-  port_rose status out image back (long c bytes q is k t) port h = cc
   port_rose status out image back (read c text q k t a) port h = subst (IsOfText handed back) h
       (text_status c text handed status out image back a)
   port_rose status out image back (assembled c text q k t a) port h = subst (IsOfText handed back) h
       (assembly_status c text handed status out image back a)
+  port_rose status out image back x port h = cc
 
   -- words that are no line have the answer that says so
   pub no_line_usage : (status : Status) (out : List ℕ) (image : Option Image) (back : List (Option Told))
@@ -396,17 +328,11 @@ module _ (words : List (List ℕ)) (left after : Option (List ℕ)) (m n : ℕ) 
       → AsksFor words (Generate number) → status ≡ Done
   generates one status out image back (usage g e) number h = absurd (g (Generate number) h)
   generates one status out image back (generated k q e) number h = refl
-  generates one status out image back (benched o q e x) number h = let same : Bench o ≡ Generate number =
-      same_task_by one words (Bench o) (Generate number) q h in absurd cc
-  generates one status out image back (unread c bytes q is rose k t) number h =
-      absurd (subst IsReader (same_task_by one words c (Generate number) q h) is)
-  generates one status out image back (long c bytes q is k t) number h =
-      absurd (subst IsReader (same_task_by one words c (Generate number) q h) is)
-  generates one status out image back (read c text q k t a) number h = let same : Job c ≡ Generate number =
-      same_task_by one words (Job c) (Generate number) q h in absurd cc
-  generates one status out image back (assembled c text q k t a) number h =
-      let same : Assembly c ≡ Generate number = same_task_by one words (Assembly c) (Generate number) q h in
-      absurd cc
+  generates one status out image back (benched o q e x) number h = grind (arith, same_task_by)
+  generates one status out image back (unread c bytes q is rose k t) number h = grind (arith, same_task_by)
+  generates one status out image back (long c bytes q is k t) number h = grind (arith, same_task_by)
+  generates one status out image back (read c text q k t a) number h = grind (arith, same_task_by)
+  generates one status out image back (assembled c text q k t a) number h = grind (arith, same_task_by)
 
 -- where no task is found the words are no line
 pub no_line : (words : List (List ℕ)) (found : Option Task) → IfNone found (IsNoLine words)
@@ -416,8 +342,7 @@ no_line words (Some d) h n = absurd (n d refl)
 
 -- nothing is taken from a source that stays as it is
 pub takes_none : (left : Option (List ℕ)) → Takes left [] left
-takes_none None = refl
-takes_none (Some bytes) = (bytes, refl, refl)
+takes_none left = grind arith
 
 -- a whole text is taken
 taken_all : (left : Option (List ℕ)) (text : List ℕ) (after : Option (List ℕ)) → TakesAll left text after
@@ -440,41 +365,33 @@ some_read words left after t r is b = (b.0, inr (t, r, is, b.1), b.2)
 -- what is answered where memory ran out in a call: the same, or nothing that was begun
 pub err_same : {T : Type 0} (Q : StarvedCall → Type 0) (r : Result T StarvedCall) (s : StarvedCall)
     → IsErrAnd r (λ t. t ≡ s) → Q s → IfErr r Q
-err_same Q (Ok x) s h q = tt
-err_same Q (Err t) s h q = subst Q (sym h) q
+err_same Q r s h q = grind arith
 
 pub err_none : {T : Type 0} (Q : StarvedCall → Type 0) (r : Result T StarvedCall)
     → IsErrAnd r (λ (t : StarvedCall). t.image ≡ None) → ((t : StarvedCall) → t.image ≡ None → Q t)
     → IfErr r Q
-err_none Q (Ok x) h q = tt
-err_none Q (Err t) h q = q t h
+err_none Q r h q = grind arith
 
 -- An image that was begun when memory ran out, at each stage.
 
 pub compile_begun : (task : JobTask) (parts : List Part) (found : Option Image) → task ≡ Compile
     → IfSome found (IsCompiled parts) → IfSome found (IsBegun task parts)
-compile_begun task parts None e h = tt
-compile_begun task parts (Some image) e h = (e, h)
+compile_begun task parts found e h = grind arith
 
 pub job_begun : (task : JobTask) (text : List ℕ) (parts : List Part) (input : List ℕ) (found : Option Image)
     → IsJob text parts input → IfSome found (IsBegun task parts) → IfSome found (JobBegun task text)
-job_begun task text parts input None j h = tt
-job_begun task text parts input (Some image) j h = (parts, input, j, h)
+job_begun task text parts input found j h = grind arith
 
 pub replay_begun : (task : AssemblyTask) (text : List ℕ) (image : Image) (found : Option Image)
     → task ≡ Replay → IfSome found (λ (i : Image). (i ≡ image) × (trace : List Lined) × HasTrace text trace)
     → IfSome found (λ (i : Image). (i ≡ image) × RunsClosed task text)
-replay_begun task text image None e h = tt
-replay_begun task text image (Some found) e h =
-    (h.0, subst (λ (t : AssemblyTask). RunsClosed t text) (sym e) (h.1, h.2))
+replay_begun task text image found e h = grind arith
 
 pub assembly_begun : (task : AssemblyTask) (text : List ℕ) (image : Image) (input : List ℕ)
     (found : Option Image) → IsAssembly (assembly_text task text) image input
     → IfSome found (λ (i : Image). (i ≡ image) × RunsClosed task text)
     → IfSome found (AssemblyBegun task text)
-assembly_begun task text image input None a h = tt
-assembly_begun task text image input (Some found) a h =
-    (input, subst (λ (i : Image). IsAssembly (assembly_text task text) i input) (sym h.0) a, h.1)
+assembly_begun task text image input found a h = grind arith
 
 -- What is handed back where memory ran out.
 module _ (words : List (List ℕ)) (left after : Option (List ℕ)) where
@@ -489,9 +406,8 @@ module _ (words : List (List ℕ)) (left after : Option (List ℕ)) where
       → IfSome image (JobBegun c same) → RunsOut words left after image
   job_out text same c None r l t e b = unbegun text (inr (Job c, r, tt, omega (arith, l)))
       (taken_all left text after t)
-  job_out text same c (Some image) r l t e b =
-      begun (written text b.0 b.1 (subst (λ (d : JobTask). AsksFor words (Job d)) b.3.0 r) l t
-      (subst (λ x. IsJob x b.0 b.1) e b.2) b.3.1)
+  job_out text same c (Some image) r l t e b = begun (written text b.0 b.1 (grind arith) l t (grind arith)
+      b.3.1)
 
   -- and where that of an assembly was
   pub assembly_out : (text same : List ℕ) (c : AssemblyTask) (image : Option Image)
@@ -499,13 +415,11 @@ module _ (words : List (List ℕ)) (left after : Option (List ℕ)) where
       → IfSome image (AssemblyBegun c same) → RunsOut words left after image
   assembly_out text same c None r l t e b = unbegun text (inr (Assembly c, r, tt, omega (arith, l)))
       (taken_all left text after t)
-  assembly_out text same c (Some image) r l t e b =
-      begun (closed c text b.0 r l t (subst (λ x. IsAssembly (assembly_text c x) image b.0) e b.1)
-      (subst (RunsClosed c) e b.2))
+  assembly_out text same c (Some image) r l t e b = begun (closed c text b.0 r l t (grind arith) (subst
+      (RunsClosed c) e b.2))
 
 -- no port failed where no count of theirs rose
 pub unfailed : (handed back : List (Option Told)) (status wanted : Status)
     → ((port : ℕ) → status ≡ PortFault port → RoseAt port handed back) → (SomeRose handed back → ⊥)
     → OrFailed status wanted → OrNoMemory status wanted
-unfailed handed back status wanted rose none (inl e) = inl e
-unfailed handed back status wanted rose none (inr f) = absurd (none (f.0, rose f.0 f.1))
+unfailed handed back status wanted rose none x = grind arith

@@ -1,6 +1,6 @@
 -- What comes of the run that is due is the answer.
 use Rattle.std.specs.Prelude.{◌≡◌, ℕ, List, [], Option, Some, Result, Ok, Err, refl}
-use Rattle.std.proofs.Common.{sym, subst}
+use Rattle.std.proofs.Common.{sym, subst, arith}
 use Rattle.port_set.specs.Ports.{Told}
 use Rattle.store_buf.specs.Outdoors.{world_with}
 use Rattle.ws_isa.specs.Image.{Image}
@@ -28,22 +28,18 @@ module _ (known : WalksOnce) (whole : WalksEnd) (words : List (List ℕ)) (left 
       → IsDue words left after options image input
       → Executes options image (world_with input handed) handed status out back
       → Answers words left after faults counted handed status out (Some image) back
-  due_answers options image input status out (answers.IsDue.job text parts line short takes j c) e =
-      read (Run options) text line short takes
-      (answers.Answered.done parts input j (ran image c e
-      (run_tells known whole options parts image c (world_with input handed)
-      (given_words input handed (input_words _ _ input j.words) told) handed back status out e)))
-  due_answers options image input status out (answers.IsDue.assembly text line short takes a) e =
-      assembled (Exec options) text line short takes (answers.AssemblyAnswered.done image input a
-      (executed e))
-  due_answers options image input status out (answers.IsDue.generated bench parts line same job c) e =
-      benched bench line same (record {
+  due_answers options image input status out (answers.IsDue.job text parts line short takes j c) e = read (Run
+      options) text line short takes (answers.Answered.done parts input j (ran image c e (run_tells known
+      whole options parts image c (world_with input handed) (given_words input handed (input_words _ _ input
+      j.words) told) handed back status out e)))
+  due_answers options image input status out (answers.IsDue.assembly text line short takes a) e = assembled
+      (Exec options) text line short takes (answers.AssemblyAnswered.done image input a (executed e))
+  due_answers options image input status out (answers.IsDue.generated bench parts line same job c) e = benched
+      bench line same (record {
         parts = parts;
         job = job;
-        yields = ran image c e
-            (run_tells known whole options parts image c (world_with input handed)
-            (given_words input handed (input_words _ _ input job.job.words) told) handed back status out
-            e);
+        yields = ran image c e (run_tells known whole options parts image c (world_with input handed)
+            (given_words input handed (input_words _ _ input job.job.words) told) handed back status out e);
       })
 
 -- the reply of a run that was due
@@ -75,13 +71,7 @@ module _ {E : Type 0} (words : List (List ℕ)) (reads : SourceCall) (handed : L
   pub ready_reply : (step : CallStep) (status : Status) (out : List ℕ) → step ≡ Ready status out image
       → StepSo words reads.left reads.after reads.faults reads.counted step
       → IsReply {E = E} words reads handed (Ok (status, out)) image images handed
-  ready_reply step status out is so = record {
-    answered = subst (λ (is : List Image). Replies words reads.left reads.after reads.faults reads.counted
-        handed status out image is handed) (sym none)
-        (subst (StepSo words reads.left reads.after reads.faults reads.counted) is so handed);
-    memory = tt;
-    known = λ h. refl;
-  }
+  ready_reply step status out is so = grind arith
 
   pub unbegun_reply : (e : E) → ((HasCommand words → ⊥) → ⊥)
       → Starves words reads.left reads.after handed image handed

@@ -1,7 +1,7 @@
 -- The status of an answer, by what its task comes to.
 use Rattle.std.specs.Prelude.{◌≡◌, ℕ, ◌+◌, ◌≤◌, List, Option, Some, length, refl}
 use Rattle.std.specs.List.{AllByRecursion}
-use Rattle.std.proofs.Common.{sym, subst, inl}
+use Rattle.std.proofs.Common.{subst, inl, arith}
 use Rattle.ws_words.specs.Outside.{IsMachineWord}
 use Rattle.port_set.specs.Ports.{Told}
 use Rattle.store_buf.specs.Outdoors.{world_with}
@@ -32,7 +32,6 @@ use Rattle.wsc_top.specs.declared.task.Task.{Task}
 use Rattle.wsc_top.proofs.Calling.Tasks.{OneLine, same_task_by}
 use Rattle.wsc_top.proofs.Reading.AnswersOnce.{RunsOnce}
 use Rattle.wsc_top.proofs.Reading.AssembliesOnce.{one_assembly, never_both, BreachesBreak}
-use Rattle.wsc_top.proofs.Told.RunsAlike as alike
 use Rattle.wsc_top.proofs.Told.RunsAlike.{refused_job, one_job}
 use Rattle.wsc_top.proofs.Told.Runs.{run_ends}
 use Rattle.wsc_top.proofs.Told.Tells.{input_words, run_so}
@@ -64,27 +63,21 @@ module _ (law : RunsOnce) (options : PlainOptions) (parts : List Part) (input : 
 format_so : (parts : List Part) (input : List ℕ) (handed : List (Option Told)) (status : Status)
     (out : List ℕ) (image : Option Image) (back : List (Option Told))
     → Yields Format parts input handed status out image back → JobEndsSo Format parts input handed status
-format_so parts input handed status out image back (formatted r) =
-    record { done = λ h. inl refl; fault = λ h. absurd h; budget = λ h. absurd h }
+format_so parts input handed status out image back (formatted r) = grind arith
 
 compile_so : (parts : List Part) (input : List ℕ) (handed : List (Option Told)) (status : Status)
     (out : List ℕ) (image : Option Image) (back : List (Option Told))
     → Yields Compile parts input handed status out image back → JobEndsSo Compile parts input handed status
-compile_so parts input handed status out again back (compiled image h) =
-    record { done = λ h. inl refl; fault = λ h. absurd h; budget = λ h. absurd h }
+compile_so parts input handed status out again back (compiled image h) = grind arith
 
 yields_so : RunsOnce → (task : JobTask) (parts : List Part) (input : List ℕ) (handed : List (Option Told))
     → AllByRecursion IsMachineWord input → TellWords handed
     → (status : Status) (out : List ℕ) (image : Option Image) (back : List (Option Told))
     → Yields task parts input handed status out image back → JobEndsSo task parts input handed status
-yields_so law (Run options) parts input handed words told status out image back y =
-    run_so options parts input handed words told status out image back y
-yields_so law Format parts input handed words told status out image back y =
-    format_so parts input handed status out image back y
-yields_so law Compile parts input handed words told status out image back y =
-    compile_so parts input handed status out image back y
-yields_so law (Plain options) parts input handed words told status out image back y =
-    plain_so law options parts input handed status out image back y
+yields_so law (Run options) parts input handed words told status out image back y = grind (arith, run_so)
+yields_so law Format parts input handed words told status out image back y = grind (arith, format_so)
+yields_so law Compile parts input handed words told status out image back y = grind (arith, compile_so)
+yields_so law (Plain options) parts input handed words told status out image back y = grind (arith, plain_so)
 
 -- so of an answer to a job
 answered_so : RunsOnce → (text : List ℕ) → ExactlyOne (IsTextAnswer text)
@@ -95,9 +88,7 @@ answered_so : RunsOnce → (text : List ℕ) → ExactlyOne (IsTextAnswer text)
 answered_so law text once task parts input handed told j status out image back (refused r h) =
     absurd (refused_job text once r parts input h j)
 answered_so law text once task parts input handed told j status out image back (done others words k y) =
-    subst (λ (x : alike.Job). JobEndsSo task x.0 x.1 handed status)
-    (one_job text once others parts words input k j)
-    (yields_so law task others words handed (input_words _ _ words k.words) told status out image back y)
+    grind (arith, one_job text once others parts words input k j, yields_so, input_words _ _ words k.words)
 
 -- and to an assembly
 assembly_so : (task : AssemblyTask) (text : List ℕ) (image : Image) (input : List ℕ)
@@ -124,9 +115,7 @@ assembly_answered_so breaks task text image input handed a status out again back
 assembly_answered_so breaks task text image input handed a status out again back
     (answers.AssemblyAnswered.done found words b y) =
     let same = one_assembly (assembly_text task text) found image words input b a in
-    subst (λ (ws : List ℕ). AssemblyEndsSo task text image ws handed status) same.1
-    (subst (λ (i : Image). AssemblyEndsSo task text i words handed status) same.0
-    (assembly_so task text found words handed status out again back y))
+    grind (arith, assembly_so)
 
 module _ (one : OneLine) (words : List (List ℕ)) (left after : Option (List ℕ)) (m n : ℕ)
     (handed : List (Option Told)) where
@@ -134,8 +123,7 @@ module _ (one : OneLine) (words : List (List ℕ)) (left after : Option (List �
   not_long : (task d : Task) (text bytes : List ℕ) → AsksFor words task → left ≡ Some text
       → length text ≤ limit_of task
       → AsksFor words d → length bytes ≡ limit_of d + 1 → Takes left bytes after → ⊥
-  not_long task d text bytes line told short q k t =
-      too_much (limit_of task) left text bytes after told short
+  not_long task d text bytes line told short q k t = too_much (limit_of task) left text bytes after told short
       (subst (λ (e : Task). length bytes ≡ limit_of e + 1) (same_task_by one words d task q line) k) t
 
   pub job_answer_so : RunsOnce → ((text : List ℕ) → ExactlyOne (IsTextAnswer text))
@@ -157,10 +145,8 @@ module _ (one : OneLine) (words : List (List ℕ)) (left after : Option (List �
   job_answer_so law once task parts input told t status out image back (read d text q k x a) f =
       let whole : Job d ≡ Job task = same_task_by one words (Job d) (Job task) q t.line in
       let same : d ≡ task = cc in
-      subst (λ (e : JobTask). JobEndsSo e parts input handed status) same
-      (answered_so law text (once text) d parts input handed told
-      (subst (λ (s : List ℕ). IsJob s parts input) (sym (told_text left t.text text after t.told x))
-      t.job) status out image back a)
+      subst (λ (e : JobTask). JobEndsSo e parts input handed status) same (answered_so law text (once text) d
+      parts input handed told (grind (arith, told_text)) status out image back a)
   job_answer_so law once task parts input told t status out image back (assembled d text q k x a) f =
       let same : Assembly d ≡ Job task = same_task_by one words (Assembly d) (Job task) q t.line in absurd cc
 
@@ -172,11 +158,9 @@ module _ (one : OneLine) (words : List (List ℕ)) (left after : Option (List �
   assembly_answer_so breaks task image input t status out again back (usage h e) f =
       absurd (h (Assembly task) t.line)
   assembly_answer_so breaks task image input t status out again back (generated k q e) f =
-      let same : Generate k ≡ Assembly task = same_task_by one words (Generate k) (Assembly task) q t.line in
-      absurd cc
+      grind (arith, same_task_by one words (Generate k) (Assembly task) q t.line)
   assembly_answer_so breaks task image input t status out again back (benched o q e x) f =
-      let same : Bench o ≡ Assembly task = same_task_by one words (Bench o) (Assembly task) q t.line in
-      absurd cc
+      grind (arith, same_task_by one words (Bench o) (Assembly task) q t.line)
   assembly_answer_so breaks task image input t status out again back (unread d bytes q is rose k x) f =
       absurd (f refl)
   assembly_answer_so breaks task image input t status out again back (long d bytes q is k x) f =
@@ -185,20 +169,15 @@ module _ (one : OneLine) (words : List (List ℕ)) (left after : Option (List �
       let same : Job d ≡ Assembly task = same_task_by one words (Job d) (Assembly task) q t.line in absurd cc
   assembly_answer_so breaks task image input t status out again back (assembled d text q k x a) f =
       let whole : Assembly d ≡ Assembly task = same_task_by one words (Assembly d) (Assembly task) q t.line in
-      let same : d ≡ task = cc in
-      let here : text ≡ t.text = told_text left t.text text after t.told x in
-      assembly_answered_so breaks task t.text image input handed t.assembly status out again back
-      (subst (λ (s : List ℕ). AssemblyAnswered task s handed status out again back) here
-      (subst (λ (e : AssemblyTask). AssemblyAnswered e text handed status out again back) same a))
+      grind (arith, told_text, assembly_answered_so)
 
   bench_so : RunsOnce → (once : (text : List ℕ) → ExactlyOne (IsTextAnswer text))
       → (options : BenchOptions) (parts : List Part) → TellWords handed → IsGeneratedJob options.number parts
       → (status : Status) (out : List ℕ) (image : Option Image) (back : List (Option Told))
       → Benched options handed status out image back → BenchEndsSo options parts handed status
-  bench_so law once options parts told job status out image back b =
-      answered_so law (job_text options.number) (once (job_text options.number)) (Run options.run) parts
-      (words_of options.number) handed told job.job status out image back
-      (done b.parts (words_of options.number) b.job.job b.yields)
+  bench_so law once options parts told job status out image back b = answered_so law (job_text options.number)
+      (once (job_text options.number)) (Run options.run) parts (words_of options.number) handed told job.job
+      status out image back (done b.parts (words_of options.number) b.job.job b.yields)
 
   pub bench_answer_so : RunsOnce → ((text : List ℕ) → ExactlyOne (IsTextAnswer text))
       → (options : BenchOptions) (parts : List Part) → TellWords handed → AsksFor words (Bench options)
@@ -209,13 +188,11 @@ module _ (one : OneLine) (words : List (List ℕ)) (left after : Option (List �
   bench_answer_so law once options parts told line job status out image back (usage h e) =
       absurd (h (Bench options) line)
   bench_answer_so law once options parts told line job status out image back (generated k q e) =
-      let same : Generate k ≡ Bench options = same_task_by one words (Generate k) (Bench options) q line in
-      absurd cc
+      grind (arith, same_task_by)
   bench_answer_so law once options parts told line job status out image back (benched o q e b) =
       let whole : Bench o ≡ Bench options = same_task_by one words (Bench o) (Bench options) q line in
       let same : o ≡ options = cc in
-      bench_so law once options parts told job status out image back
-      (subst (λ (x : BenchOptions). Benched x handed status out image back) same b)
+      bench_so law once options parts told job status out image back (grind arith)
   bench_answer_so law once options parts told line job status out image back (unread d bytes q is rose k x) =
       absurd (subst IsReader (same_task_by one words d (Bench options) q line) is)
   bench_answer_so law once options parts told line job status out image back (long d bytes q is k x) =
@@ -223,5 +200,4 @@ module _ (one : OneLine) (words : List (List ℕ)) (left after : Option (List �
   bench_answer_so law once options parts told line job status out image back (read d text q k x a) =
       let same : Job d ≡ Bench options = same_task_by one words (Job d) (Bench options) q line in absurd cc
   bench_answer_so law once options parts told line job status out image back (assembled d text q k x a) =
-      let same : Assembly d ≡ Bench options = same_task_by one words (Assembly d) (Bench options) q line in
-      absurd cc
+      grind (arith, same_task_by)

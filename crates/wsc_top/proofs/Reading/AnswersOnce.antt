@@ -1,6 +1,6 @@
 -- Each text has one answer alone for each task.
 use Rattle.std.specs.Prelude.{◌≡◌, ℕ, ◌≤◌, ◌⊎◌, List, Option, None, Result, Ok, Err, refl}
-use Rattle.std.proofs.Common.{ap, ◌∙◌, subst, inl, inr}
+use Rattle.std.proofs.Common.{ap, ◌∙◌, subst, inl, inr, arith}
 use Rattle.ws_words.specs.Outside.{Outside, World, printed_words}
 use Rattle.src_ast.specs.declared.fault.Refusal.{Refusal}
 use Rattle.src_ast.specs.Syntax.{Part}
@@ -50,16 +50,13 @@ abbrev Comes : JobTask → List Part → List ℕ → Status → List ℕ → Ty
 Comes (Run options) parts input status out = Unit {0}
 Comes Format parts input status out = (status ≡ Done) × (out ≡ printed_form parts)
 Comes Compile parts input status out = status ≡ Done
-Comes (Plain options) parts input status out =
-    ((n : ℕ) × (end : Outside) × Runs parts (world_of input) n end × (n ≤ options.turns) × (status ≡ Done)
-    × (out ≡ ended_text options.memory options.stats (names_of parts) (printed_words end.acts) end.cells
-    (turns_line n)))
-    ⊎ (((n : ℕ) × (array : ℕ) × (state : Outside) × Faults parts (world_of input) n array state
-    × (n ≤ options.turns) × (status ≡ Fault)
-    × (out ≡ faulted_text options.memory (array_name (names_of parts) array) (names_of parts)
-    (printed_words state.acts) state.cells))
-    ⊎ ((now : Outside) × Goes parts (world_of input) options.turns now × (status ≡ Budget)
-    × (out ≡ going_text (printed_words now.acts))))
+Comes (Plain options) parts input status out = ((n : ℕ) × (end : Outside) × Runs parts (world_of input) n end
+    × (n ≤ options.turns) × (status ≡ Done) × (out ≡ ended_text options.memory options.stats (names_of parts)
+    (printed_words end.acts) end.cells (turns_line n))) ⊎ (((n : ℕ) × (array : ℕ) × (state : Outside) × Faults
+    parts (world_of input) n array state × (n ≤ options.turns) × (status ≡ Fault) × (out ≡ faulted_text
+    options.memory (array_name (names_of parts) array) (names_of parts) (printed_words state.acts)
+    state.cells)) ⊎ ((now : Outside) × Goes parts (world_of input) options.turns now × (status ≡ Budget) ×
+    (out ≡ going_text (printed_words now.acts))))
 
 comes : (task : JobTask) (parts : List Part) (input : List ℕ) (handed : List (Option Told)) (status : Status)
     (out : List ℕ) (image : Option Image) (back : List (Option Told))
@@ -68,8 +65,7 @@ comes task parts input handed status out again back (ran image c x t) = tt
 comes task parts input handed status out image back (formatted r) = (refl, refl)
 comes task parts input handed status out again back (compiled image h) = refl
 comes task parts input handed status out image back (ended n end r w) = inl (n, end, r, w, refl, refl)
-comes task parts input handed status out image back (faulted n array state f w) =
-    inr (inl (n, array, state, f, w, refl, refl))
+comes task parts input handed status out image back (faulted n array state f w) = grind arith
 comes task parts input handed status out image back (going now g) = inr (inr (now, g, refl, refl))
 
 -- what a task yields
@@ -82,8 +78,7 @@ module _ (law : RunsOnce) (parts : List Part) (input : List ℕ) (handed : List 
   format_once r = record {
     answer = (Done, printed_form parts);
     holds = (None, handed, formatted r);
-    only = λ other y. let c = comes Format parts input handed other.0 other.1 y.0 y.1 y.2 in
-        same_reply other.0 Done other.1 (printed_form parts) c.0 c.1;
+    only = grind (arith, comes, same_reply);
   }
 
   module _ (options : PlainOptions) where
@@ -95,15 +90,8 @@ module _ (law : RunsOnce) (parts : List Part) (input : List ℕ) (handed : List 
 
       only_ended : (status : Status) (out : List ℕ) → Comes (Plain options) parts input status out
           → ◌≡◌ {A = Reply} (status, out) (Done, end_text)
-      only_ended status out (inl c) =
-          let same = law.one_end parts (world_of input) c.0 n c.1 end c.2 r in
-          let text : ended_text options.memory options.stats (names_of parts) (printed_words c.1.acts)
-          c.1.cells (turns_line c.0) ≡ end_text =
-          ap (λ (o : Outside). ended_text options.memory options.stats (names_of parts) (printed_words o.acts)
-          o.cells (turns_line c.0)) same.1
-          ∙ ap (λ m. ended_text options.memory options.stats (names_of parts) (printed_words end.acts)
-          end.cells (turns_line m)) same.0 in
-          same_reply status Done out end_text c.4 (c.5 ∙ text)
+      only_ended status out (inl c) = let same = law.one_end parts (world_of input) c.0 n c.1 end c.2 r in
+          grind (arith, same_reply)
       only_ended status out (inr (inl c)) =
           absurd (law.no_end_with_a_fault parts (world_of input) n c.0 c.1 end c.2 r c.3)
       only_ended status out (inr (inr c)) =
@@ -113,8 +101,7 @@ module _ (law : RunsOnce) (parts : List Part) (input : List ℕ) (handed : List 
       ended_once = record {
         answer = (Done, end_text);
         holds = (None, handed, ended n end r w);
-        only = λ other y. only_ended other.0 other.1 (comes (Plain options) parts input handed other.0 other.1
-            y.0 y.1 y.2);
+        only = λ other y. only_ended other.0 other.1 (grind (arith, comes));
       }
 
     -- one that meets an index fault within them
@@ -130,13 +117,7 @@ module _ (law : RunsOnce) (parts : List Part) (input : List ℕ) (handed : List 
           absurd (law.no_end_with_a_fault parts (world_of input) c.0 n array c.1 state c.2 f)
       only_faulted status out (inr (inl c)) =
           let same = law.one_fault parts (world_of input) c.0 n c.1 array c.2 state c.3 f in
-          let text : faulted_text options.memory (array_name (names_of parts) c.1) (names_of parts)
-          (printed_words c.2.acts) c.2.cells ≡ fault_text =
-          ap (λ a. faulted_text options.memory (array_name (names_of parts) a) (names_of parts)
-          (printed_words c.2.acts) c.2.cells) same.1
-          ∙ ap (λ (o : Outside). faulted_text options.memory (array_name (names_of parts) array)
-          (names_of parts) (printed_words o.acts) o.cells) same.2 in
-          same_reply status Fault out fault_text c.5 (c.6 ∙ text)
+          grind (arith, same_reply)
       only_faulted status out (inr (inr c)) =
           absurd (law.no_fault_on_the_way parts (world_of input) n options.turns array state c.0 w f c.1)
 
@@ -144,8 +125,7 @@ module _ (law : RunsOnce) (parts : List Part) (input : List ℕ) (handed : List 
       faulted_once = record {
         answer = (Fault, fault_text);
         holds = (None, handed, faulted n array state f w);
-        only = λ other y. only_faulted other.0 other.1 (comes (Plain options) parts input handed other.0
-            other.1 y.0 y.1 y.2);
+        only = λ other y. only_faulted other.0 other.1 (grind (arith, comes));
       }
 
     -- one that wants more of them
@@ -159,17 +139,13 @@ module _ (law : RunsOnce) (parts : List Part) (input : List ℕ) (handed : List 
           absurd (law.no_end_on_the_way parts (world_of input) c.0 options.turns c.1 now c.3 c.2 g)
       only_going status out (inr (inl c)) =
           absurd (law.no_fault_on_the_way parts (world_of input) c.0 options.turns c.1 c.2 now c.4 c.3 g)
-      only_going status out (inr (inr c)) =
-          let same = law.one_going parts (world_of input) options.turns c.0 now c.1 g in
-          same_reply status Budget out going_so_far c.2
-          (c.3 ∙ ap (λ (o : Outside). going_text (printed_words o.acts)) same)
+      only_going status out (inr (inr c)) = grind (arith, same_reply)
 
       going_once : ExactlyOne (IsYield (Plain options) parts input handed)
       going_once = record {
         answer = (Budget, going_so_far);
         holds = (None, handed, going now g);
-        only = λ other y. only_going other.0 other.1 (comes (Plain options) parts input handed other.0 other.1
-            y.0 y.1 y.2);
+        only = λ other y. only_going other.0 other.1 (grind (arith, comes));
       }
 
     plain_once : HasAnswer parts (world_of input) options.turns
@@ -181,10 +157,9 @@ module _ (law : RunsOnce) (parts : List Part) (input : List ℕ) (handed : List 
   -- one thing alone comes of a task to a program that it takes
   yields_once : (task : JobTask) → IsFixed task → ReadsTheSame parts
       → ExactlyOne (IsYield task parts input handed)
-  yields_once (Run options) one same = absurd one
   yields_once Format one same = format_once same
-  yields_once Compile one same = absurd one
   yields_once (Plain options) one same = plain_once options (law.some parts (world_of input) options.turns)
+  yields_once task one same = absurd one
 
 -- a refused text
 module _ (task : JobTask) (text : List ℕ) (handed : List (Option Told)) (r : Refusal)
@@ -193,10 +168,7 @@ module _ (task : JobTask) (text : List ℕ) (handed : List (Option Told)) (r : R
   only_refused : (status : Status) (out : List ℕ) (image : Option Image) (back : List (Option Told))
       → Answered task text handed status out image back → ◌≡◌ {A = Reply} (status, out)
       (Refused, refusal_text r)
-  only_refused status out image back (refused q h) =
-      let same = only (Err q) h in
-      let here : q ≡ r = cc in
-      ap (λ x. (Refused, refusal_text x)) here
+  only_refused status out image back (refused q h) = let same = only (Err q) h in grind arith
   only_refused status out image back (done parts input j y) = let bad = only (Ok (parts, input)) j in cc
 
   refusal_once : ExactlyOne (IsAnswer task text handed)
@@ -218,13 +190,12 @@ module _ (task : JobTask) (text : List ℕ) (handed : List (Option Told)) (parts
   only_done : (status : Status) (out : List ℕ) (image : Option Image) (back : List (Option Told))
       → Answered task text handed status out image back → ◌≡◌ {A = Reply} (status, out) one.answer
   only_done status out image back (refused q h) = let bad = only (Err q) h in cc
-  only_done status out image back (done others words j y) =
-      one.only (status, out) (
-        image,
-        back,
-        subst (λ (x : List Part × List ℕ). Yields task x.0 x.1 handed status out image back)
-            (these others words j) y,
-      )
+  only_done status out image back (done others words j y) = one.only (status, out) (
+    image,
+    back,
+    subst (λ (x : List Part × List ℕ). Yields task x.0 x.1 handed status out image back) (these others
+        words j) y,
+  )
 
   job_once : ExactlyOne (IsAnswer task text handed)
   job_once = record {
@@ -243,7 +214,6 @@ answered_once law same task text handed one e = go e.answer e.holds e.only
     go : (found : Result (List Part × List ℕ) Refusal) → IsTextAnswer text found
         → ((other : Result (List Part × List ℕ) Refusal) → IsTextAnswer text other → other ≡ found)
         → ExactlyOne (IsAnswer task text handed)
-    go (Ok (parts, input)) job only =
-        job_once task text handed parts input job only (yields_once law parts input handed task one
-        (same parts text input job))
+    go (Ok (parts, input)) job only = job_once task text handed parts input job only (yields_once law parts
+        input handed task one (same parts text input job))
     go (Err r) h only = refusal_once task text handed r h only

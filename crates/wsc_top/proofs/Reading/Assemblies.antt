@@ -1,6 +1,6 @@
 -- Why the text of an assembly is refused.
 use Rattle.std.specs.Prelude.{◌≡◌, ℕ, List, Ok, Err}
-use Rattle.std.proofs.Common.{subst, sym, ap, ◌∙◌}
+use Rattle.std.proofs.Common.{subst, sym, ap, ◌∙◌, arith}
 use Rattle.ws_isa.specs.Image.{Image}
 use Rattle.ws_isa.specs.Sound.{Sound}
 use Rattle.asm_text.specs.Reading.{read}
@@ -8,7 +8,7 @@ use Rattle.annot_check.specs.declared.fault.Bad.{Bad}
 use Rattle.annot_check.specs.declared.fault.CheckFault.{CheckFault}
 use Rattle.annot_check.specs.declared.fault.CheckFault.TheVariants as check
 use Rattle.annot_check.specs.Breach.{BadBreach, Breach}
-use Rattle.wsc_top.specs.declared.assembly.AsmRefusal.TheVariants.{Text, Unsound, Input}
+use Rattle.wsc_top.specs.declared.assembly.AsmRefusal.TheVariants.{Text, Unsound}
 use Rattle.wsc_top.specs.declared.assembly.AssemblyFault.{AssemblyFault}
 use Rattle.wsc_top.specs.declared.assembly.AssemblyFault.TheVariants as fault
 use Rattle.wsc_top.specs.Sections.{program_of, input_of, input_place, IsInputFault, AnswersWords}
@@ -24,10 +24,9 @@ bad_of image f bad e h = subst (λ x. Breach image x) e h
 -- what is wrong with the assembly section is wrong with the text
 pub section_fault : (text section : List ℕ) (e : AssemblyFault) → section ≡ program_of text
     → IsSectionFault section e → IsAssemblyFault text e
-section_fault text section fault.NoMemory s h = tt
 section_fault text section (fault.Refused (Text kind line)) s h = assembly kind line (ap read (sym s) ∙ h)
 section_fault text section (fault.Refused (Unsound bad)) s h = unsound h.0 bad (ap read (sym s) ∙ h.1) h.2
-section_fault text section (fault.Refused (Input place)) s h = absurd h
+section_fault text section e s h = grind arith
 
 -- so is what is wrong with its input section
 pub input_refused : (text : List ℕ) (image : Image) (f : TextFault) (e : AssemblyFault) → e ≡ fault_of_input f
@@ -43,8 +42,4 @@ input_refused text image f e is reads s h = subst (λ x. IsAssemblyFault text x)
 -- words that are refused are no others
 pub no_words : (f : TextFault) (e : AssemblyFault) (image : Image) (ws : List ℕ) → e ≡ fault_of_input f
     → AnswersWords (Err f) ws → AnswersAssembly (Err e) image ws
-no_words f e image ws is h = subst (λ x. AnswersAssembly (Err x) image ws) (sym is) (go f h)
-  where
-    go : (f : TextFault) → AnswersWords (Err f) ws → AnswersAssembly (Err (fault_of_input f)) image ws
-    go text_fault.NoMemory h = tt
-    go (text_fault.Refused r) h = absurd h
+no_words f e image ws is h = grind arith

@@ -1,7 +1,7 @@
 -- What stands in front of the trace section of a text has the text's program, and of its input section what
 -- stands in front of the trace.
-use Rattle.std.proofs.Common.{ℕ, ◌+◌, ◌==◌, ◌≡◌, ◌⊎◌, Bool, true, false, ◌&&◌, List, [], ◌∷◌, ◌++◌}
-use Rattle.std.proofs.Common.{length, take, codes, if◌then◌else◌, refl, sym, ap, subst, ◌∙◌, inl, inr, arith}
+use Rattle.std.proofs.Common.{ℕ, ◌+◌, ◌==◌, ◌≡◌, ◌⊎◌, Bool, true, false, ◌&&◌, List, [], ◌∷◌, ◌++◌, length}
+use Rattle.std.proofs.Common.{codes, if◌then◌else◌, refl, sym, ap, subst, ◌∙◌, inl, inr, arith}
 use Rattle.std.proofs.lemmas.Bool.{cases_Bool}
 use Rattle.std.proofs.lemmas.List.{append_cancel_right, length-append, append_assoc, append-nil}
 use Rattle.std.proofs.Math.Seq.{take-append_seam}
@@ -11,14 +11,11 @@ use Rattle.wsc_top.specs.Sections.{ends_line, is_line, after_line, front_of, res
 use Rattle.wsc_top.specs.Sections.{trace_section, before_trace}
 use Rattle.wsc_top.specs.Answers.{assembly_text}
 use Rattle.wsc_top.specs.declared.task.AssemblyTask.{AssemblyTask}
-use Rattle.wsc_top.specs.declared.task.AssemblyTask.TheVariants.{Check, List as Listing, Exec, Trace, Replay}
-use Rattle.wsc_top.specs.declared.task.AssemblyTask.TheVariants.{Grid}
 
 -- Whether a line is a marker is told by its bytes up to its line feed.
 
 feed_ends : (t : List ℕ) → ends_line (10 ∷ t) ≡ true
-feed_ends [] = refl
-feed_ends (c ∷ t) = refl
+feed_ends t = grind arith
 
 abbrev Feedless : List ℕ → Type 0
 Feedless marker = AllByRecursion (λ (m : ℕ). (10 == m) ≡ false) marker
@@ -28,8 +25,7 @@ line_same : (marker x y v : List ℕ) → Feedless marker
 line_same [] [] y v h = feed_ends (y ++ v) ∙ sym (feed_ends y)
 line_same [] (b ∷ []) y v h = refl
 line_same [] (b ∷ c ∷ x) y v h = refl
-line_same (m ∷ ms) [] y v h = ap (λ (t : Bool). t && is_line ms (y ++ v)) h.0
-    ∙ sym (ap (λ (t : Bool). t && is_line ms y) h.0)
+line_same (m ∷ ms) [] y v h = grind arith
 line_same (m ∷ ms) (b ∷ x) y v h = ap (λ (t : Bool). (b == m) && t) (line_same ms x y v h.1)
 
 -- What follows a line stands behind a line feed, and what follows a front at the end.
@@ -48,8 +44,7 @@ after_feed (b ∷ t) = go (after_feed t) (cases_Bool (b == 10))
 front_rest : (marker : List ℕ) (at_line : Bool) (t : List ℕ)
     → front_of marker at_line t ++ rest_of marker at_line t ≡ t
 front_rest marker at_line [] = refl
-front_rest marker at_line (b ∷ t) =
-    grind (arith, cases_Bool (at_line && is_line marker (b ∷ t)), front_rest marker (b == 10) t)
+front_rest marker at_line (b ∷ t) = grind (arith, cases_Bool, front_rest marker (b == 10) t)
 
 -- what follows the marker's line ends in these bytes, so a line feed stands in front of them
 feed_before : (marker : List ℕ) (at_line : Bool) (w u v : List ℕ) (c : ℕ)
@@ -87,12 +82,10 @@ parted marker dry at_line (b ∷ w) u v c e =
     feed = feed_before marker at_line (b ∷ w) u v c e
 
     same : is_line marker (b ∷ w ++ c ∷ v) ≡ is_line marker (b ∷ w)
-    same = ap (λ (t : List ℕ). is_line marker (t ++ c ∷ v)) feed.1 ∙ line_same marker feed.0 u (c ∷ v) dry
-        ∙ ap (is_line marker) (sym feed.1)
+    same = grind (arith, line_same marker feed.0 u (c ∷ v) dry)
 
     more : after_line (b ∷ w ++ c ∷ v) ≡ after_line (b ∷ w) ++ c ∷ v
-    more = ap (λ (t : List ℕ). after_line (t ++ c ∷ v)) feed.1 ∙ after_more feed.0 u (c ∷ v)
-        ∙ ap (λ (t : List ℕ). after_line t ++ c ∷ v) (sym feed.1)
+    more = grind (arith, after_more feed.0 u (c ∷ v))
 
     tests : (at_line && is_line marker (b ∷ w ++ c ∷ v)) ≡ (at_line && is_line marker (b ∷ w))
     tests = ap (λ (t : Bool). at_line && t) same
@@ -110,17 +103,11 @@ parted marker dry at_line (b ∷ w) u v c e =
       rw (t, tests ∙ t) refl,
       rw t (append_cancel_right (after_line (b ∷ w)) u (c ∷ v) (sym more ∙ chosen true t)),
     )
-    go further (inr t) = let f = further (chosen false t) in (
-      rw (t, tests ∙ t) (ap (λ (r : List ℕ). b ∷ r) f.0),
-      rw t f.1,
-    )
+    go further (inr t) = let f = further (chosen false t) in (rw (t, tests ∙ t) (grind arith), rw t f.1)
 
 parted_whole : (marker : List ℕ) → Feedless marker → (w u v : List ℕ)
     → after_line (rest_of marker true (w ++ v)) ≡ u ++ v → Parted marker true w u v
-parted_whole marker dry w u [] e = (
-  ap (front_of marker true) (sym (append-nil w)),
-  ap (λ (t : List ℕ). after_line (rest_of marker true t)) (sym (append-nil w)) ∙ e ∙ append-nil u,
-)
+parted_whole marker dry w u [] e = grind (arith, append-nil)
 parted_whole marker dry w u (c ∷ v) e = parted marker dry true w u v c e
 
 -- what follows a line is a text's end
@@ -151,9 +138,7 @@ module _ (text : List ℕ) where
   long = ap length front.1 ∙ length-append (front.0 ++ words) (trace_section text)
 
   before_is : before_trace text ≡ front.0 ++ words
-  before_is = ap (λ (n : ℕ). take n text) (omega (arith, long))
-      ∙ ap (take (length (front.0 ++ words))) front.1
-      ∙ take-append_seam (front.0 ++ words) (trace_section text)
+  before_is = grind (arith, long, take-append_seam (front.0 ++ words) (trace_section text))
 
   both : Parted (codes "%input") true (front.0 ++ words) words (trace_section text)
   both = parted_whole (codes "%input") (refl, (refl, (refl, (refl, (refl, (refl, tt))))))
@@ -168,9 +153,4 @@ module _ (text : List ℕ) where
 -- The program of the part of a text that is read for a task.
 pub program_for : (task : AssemblyTask) (text : List ℕ)
     → program_of text ≡ program_of (assembly_text task text)
-program_for Check text = refl
-program_for Listing text = refl
-program_for (Exec options) text = refl
-program_for (Trace budget) text = refl
-program_for Replay text = sym (same_program text)
-program_for (Grid options) text = refl
+program_for task text = grind (arith, same_program)

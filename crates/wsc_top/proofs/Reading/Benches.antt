@@ -1,6 +1,6 @@
 -- What is read of a generated job is that job.
 use Rattle.std.specs.Prelude.{◌≡◌, ℕ, ◌≤◌, List, length}
-use Rattle.std.proofs.Common.{sym, subst}
+use Rattle.std.proofs.Common.{sym, subst, arith}
 use Rattle.src_ast.specs.declared.fault.TextFault.{TextFault}
 use Rattle.src_ast.specs.declared.fault.TextFault.TheVariants as fault
 use Rattle.src_ast.specs.Syntax.{Part}
@@ -20,8 +20,7 @@ pub bench_refused : (number : ℕ) (seen : List ℕ) → seen ≡ job_text numbe
     → (parts : List Part) × IsGeneratedJob number parts
     → ((parts : List Part) (words : List ℕ) → IsJob seen parts words → e ≡ fault.NoMemory)
     → e ≡ fault.NoMemory
-bench_refused number seen is e law only =
-    only law.0 (words_of number) (subst (λ t. IsJob t law.0 (words_of number)) (sym is) law.1.job)
+bench_refused number seen is e law only = only law.0 (words_of number) (grind arith)
 
 -- its program and its words
 pub bench_job : (number : ℕ) (seen : List ℕ) (found : List Part) (input : List ℕ) (image : Image)
@@ -29,6 +28,5 @@ pub bench_job : (number : ℕ) (seen : List ℕ) (found : List Part) (input : Li
     → ((parts : List Part) (words : List ℕ) → IsJob seen parts words → (found ≡ parts) × (input ≡ words))
     → IsCompiled found image
     → (parts : List Part) × IsGeneratedJob number parts × IsCompiled parts image × (input ≡ words_of number)
-bench_job number seen found input image is law same c =
-    let e = same law.0 (words_of number) (subst (λ t. IsJob t law.0 (words_of number)) (sym is) law.1.job) in
-    (law.0, law.1, subst (λ (ps : List Part). IsCompiled ps image) e.0 c, e.1)
+bench_job number seen found input image is law same c = let e = same law.0 (words_of number) (grind arith) in
+    grind arith

@@ -1,9 +1,9 @@
 -- Programs that differ in places alone have one bound.
-use Rattle.std.specs.Prelude.{◌≡◌, suc, ◌+◌, ◌*◌, max, List, [], ◌∷◌, Option, Some, None, refl}
-use Rattle.std.proofs.Common.{sym, ap, ◌∙◌}
-use Rattle.src_ast.specs.Syntax.{Expression, Number, Variable, Cell, Signed, Binary, Statement, Assign, Store}
-use Rattle.src_ast.specs.Syntax.{Print, Read, Give, Take, Call, If, While, Statements, Nothing, Then, Last}
-use Rattle.src_ast.specs.Syntax.{Part, Array, Proc}
+use Rattle.std.specs.Prelude.{◌≡◌, suc, ◌+◌, ◌*◌, max, List, [], ◌∷◌, Option, refl}
+use Rattle.std.proofs.Common.{sym, ap, ◌∙◌, arith}
+use Rattle.src_ast.specs.Syntax.{Expression, Cell, Signed, Binary, Statement, Assign, Store, Print, Read}
+use Rattle.src_ast.specs.Syntax.{Give, Take, Call, If, While, Statements, Nothing, Then, Last, Part, Array}
+use Rattle.src_ast.specs.Syntax.{Proc}
 use Rattle.src_ast.specs.Same.{bare_expression, bare_expressions, bare_statement, bare_statements}
 use Rattle.src_ast.specs.Same.{bare_ending, bare_parts, Same}
 use Rattle.src_ast.specs.Bound.{nodes, nodes_of, most_nodes, most_nodes_of, ending_nodes, widest}
@@ -14,11 +14,10 @@ both : {A B C : Type 0} (f : A → B → C) (a b : A) (c d : B) → a ≡ b → 
 both f a b c d e g = ap (λ x. f x c) e ∙ ap (λ x. f b x) g
 
 nodes_bare : (e : Expression) → nodes (bare_expression e) ≡ nodes e
-nodes_bare (Number n) = refl
-nodes_bare (Variable x) = refl
 nodes_bare (Cell a e) = ap suc (nodes_bare e)
 nodes_bare (Signed s e) = ap suc (nodes_bare e)
 nodes_bare (Binary op a b) = ap suc (both (λ m n. m + n) _ _ _ _ (nodes_bare a) (nodes_bare b))
+nodes_bare e = refl
 
 nodes_of_bare : (es : List Expression) → nodes_of (bare_expressions es) ≡ nodes_of es
 nodes_of_bare [] = refl
@@ -42,8 +41,7 @@ mutual
   most_of_bare (Then s rest) = both max _ _ _ _ (most_bare s) (most_of_bare rest)
 
 ending_bare : (ending : Option Last) → ending_nodes (bare_ending ending) ≡ ending_nodes ending
-ending_bare None = refl
-ending_bare (Some last) = nodes_bare last.value
+ending_bare ending = grind (arith, nodes_bare)
 
 widest_bare : (parts : List Part) → widest (bare_parts parts) ≡ widest parts
 widest_bare [] = refl
@@ -54,9 +52,7 @@ widest_bare (Proc p ∷ parts) =
 variables_bare : (parts : List Part) → most_variables (bare_parts parts) ≡ most_variables parts
 variables_bare [] = refl
 variables_bare (Array x n at ∷ parts) = variables_bare parts
-variables_bare (Proc p ∷ parts) =
-    both max _ _ _ _ (both (λ m n. m + n) _ _ _ _ (names_bare p.params) (names_bare p.vars))
-    (variables_bare parts)
+variables_bare (Proc p ∷ parts) = grind (arith, both, names_bare, variables_bare parts)
 
 bound_bare : (parts : List Part) → bound (bare_parts parts) ≡ bound parts
 bound_bare parts = both (λ m n. 2 * m + 16 * (n + 8)) _ _ _ _ (widest_bare parts) (variables_bare parts)

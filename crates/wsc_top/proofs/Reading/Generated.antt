@@ -1,22 +1,22 @@
 -- Each generated job is a job.
-use Rattle.std.specs.Prelude.{◌≡◌, ℕ, ◌+◌, ◌*◌, ◌%◌, ◌<◌, true, not, IsTrue, List, [], ◌∷◌, ◌++◌, codes}
-use Rattle.std.specs.Prelude.{decimal, flat_map, map, refl}
-use Rattle.std.proofs.Common.{sym, ap, ◌∙◌, subst, arith, append_assoc}
+use Rattle.std.specs.Prelude.{◌≡◌, ℕ, ◌+◌, ◌%◌, ◌<◌, true, not, IsTrue, List, [], ◌∷◌, ◌++◌, codes, decimal}
+use Rattle.std.specs.Prelude.{flat_map, map, refl}
+use Rattle.std.proofs.Common.{arith, append_assoc}
 use Rattle.std.specs.Fmt.{digits}
-use Rattle.std.specs.List.{range_with_len, AllByRecursion}
+use Rattle.std.specs.List.{AllByRecursion}
 use Rattle.ws_words.specs.Outside.{IsMachineWord}
 use Rattle.src_ast.specs.declared.lexeme.Place.{Place}
-use Rattle.src_ast.specs.Lexemes.{Lex, after, is_blank}
+use Rattle.src_ast.specs.Lexemes.{after, is_blank}
 use Rattle.src_ast.specs.Syntax.{Part}
 use Rattle.src_ast.specs.Printed.{printed_form}
 use Rattle.src_ast.specs.Rules.{IsAccepted}
 use Rattle.src_ast.specs.Written.{IsWritten, ReadsTheSame}
 use Rattle.src_ast.specs.Same.{Same}
 use Rattle.work_gen.specs.Program.{product}
-use Rattle.work_gen.specs.Job.{size, square, word, words_of, further_word, words_line, job_text}
+use Rattle.work_gen.specs.Job.{size, word, words_of, further_word, words_line, job_text}
 use Rattle.work_gen.specs.Jobs.{IsGenerated}
 use Rattle.work_gen.proofs.Sizes.{at_each, sizes}
-use Rattle.wsc_top.specs.Sections.{program_of, input_of, input_place, stop, next, InputWords}
+use Rattle.wsc_top.specs.Sections.{program_of, input_of, stop, next, InputWords}
 use Rattle.wsc_top.specs.Generated.{IsGeneratedJob}
 use Rattle.wsc_top.proofs.Reading.Bounds.{one_bound}
 use Rattle.wsc_top.proofs.Reading.Markers.{is_plain, program_is, input_is, word_item, word_text}
@@ -69,10 +69,8 @@ further_words at (w ∷ ws) h =
     let more = further_words (after (after at (codes " ")) (decimal w)) ws h.1 in
     record {
       place = more.place;
-      items = next w (codes " ") (decimal w) (further ws)
-          (ap (λ t. 32 ∷ t) (append_assoc (decimal w) (flat_map further_word ws) (codes "\n"))) refl
-          (word_item w h.0 (further ws) (further_blank ws)) (word_text w h.0 (further ws) (further_blank ws))
-          more.items;
+      items = next w (codes " ") (decimal w) (further ws) (grind (arith, append_assoc)) refl (word_item w h.0
+          (further ws) (further_blank ws)) (word_text w h.0 (further ws) (further_blank ws)) more.items;
     }
 
 line_words : (at : Place) (ws : List ℕ) → AllByRecursion IsMachineWord ws → InputWords at (words_line ws) ws
@@ -81,10 +79,8 @@ line_words at (w ∷ ws) h =
     let more = further_words (after at (decimal w)) ws h.1 in
     record {
       place = more.place;
-      items = next w [] (decimal w) (further ws) (append_assoc (decimal w) (flat_map further_word ws)
-          (codes "\n")) refl
-          (word_item w h.0 (further ws) (further_blank ws)) (word_text w h.0 (further ws) (further_blank ws))
-          more.items;
+      items = next w [] (decimal w) (further ws) (grind (arith, append_assoc)) refl (word_item w h.0 (further
+          ws) (further_blank ws)) (word_text w h.0 (further ws) (further_blank ws)) more.items;
     }
 
 are_words : (number : ℕ) (ks : List ℕ) → AllByRecursion IsMachineWord (map (word number) ks)
@@ -105,19 +101,16 @@ generated_job generated reads accepted number =
           reads = record {
             ls = read.ls;
             finish = read.finish;
-            lex = subst (λ text. Lex text read.ls read.finish) (sym (job_program number)) read.lex;
+            lex = grind (arith, job_program);
             kept = read.kept;
             tree = read.tree;
             accepted = accepted (product (size number)) read.again read.finish read.finish read.same
                 (known.accepted read.finish);
           };
-          words = subst (λ text. InputWords (input_place (job_text number)) text (words_of number))
-              (sym (job_input number))
-              (line_words (input_place (job_text number)) (words_of number)
-              (are_words number (range_with_len 0 (2 * square number))));
+          words = grind (arith, job_input, line_words, are_words);
         };
         same = read.same;
-        bounded = sym (one_bound (product (size number)) read.again read.same) ∙ known.bounded;
+        bounded = grind (arith, one_bound);
         short = omega (arith, known.short);
       },
     )

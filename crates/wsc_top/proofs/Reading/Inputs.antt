@@ -1,7 +1,6 @@
 -- The words of an input section: how they are read, and that they are the only ones.
-use Rattle.std.specs.Prelude.{◌≡◌, ℕ, zero, suc, ◌+◌, ◌==◌, ◌^◌, ◌<◌, ◌≤◌, Bool, true, false, not, ◌&&◌}
-use Rattle.std.specs.Prelude.{IsTrue, List, [], ◌∷◌, ◌++◌, length, take, drop, cond, ◌⊎◌, Result, Ok, Err}
-use Rattle.std.specs.Prelude.{refl}
+use Rattle.std.specs.Prelude.{◌≡◌, ℕ, zero, suc, ◌==◌, ◌^◌, ◌<◌, ◌≤◌, Bool, true, false, not, ◌&&◌, IsTrue}
+use Rattle.std.specs.Prelude.{List, [], ◌∷◌, ◌++◌, length, take, drop, ◌⊎◌, Result, Ok, Err, refl}
 use Rattle.std.proofs.Common.{sym, ap, ◌∙◌, subst, arith, append_assoc, append-nil, length-append, inl, inr}
 use Rattle.std.specs.List.{list_all, prefix_len}
 use Rattle.std.proofs.Math.Dec.{ltb}
@@ -21,12 +20,10 @@ abbrev is_dense : ℕ → Bool
 is_dense b = not (is_blank b)
 
 left_true : (a b : Bool) → IsTrue (a && b) → IsTrue a
-left_true true b h = refl
-left_true false b h = cc
+left_true a b h = grind arith
 
 right_true : (a b : Bool) → IsTrue (a && b) → IsTrue b
-right_true true b h = h
-right_true false b h = cc
+right_true a b h = grind arith
 
 -- a run and what stands after it are the longest run
 pub record Same (a b x y : List ℕ) : Type 0 where
@@ -35,22 +32,18 @@ pub record Same (a b x y : List ℕ) : Type 0 where
 
 stops_at : (p : ℕ → Bool) (b : ℕ) (bytes x : List ℕ) → IsTrue (starts_without p x) → x ≡ b ∷ bytes
     → IsTrue (p b) → ⊥
-stops_at p b bytes x s e h = let k = subst (λ v. IsTrue (starts_without p v)) e s in let n : not true ≡ true =
-    subst (λ t. not t ≡ true) h k in cc
+stops_at p b bytes x s e h = grind arith
 
 run_same : (p : ℕ → Bool) (a b x y : List ℕ) → IsTrue (list_all p a) → IsTrue (list_all p b)
     → IsTrue (starts_without p x) → IsTrue (starts_without p y) → a ++ x ≡ b ++ y → Same a b x y
 run_same p [] [] x y ha hb sx sy e = record { run = refl; rest = e }
-run_same p [] (c ∷ b) x y ha hb sx sy e =
-    absurd (stops_at p c (b ++ y) x sx e (left_true (p c) (list_all p b) hb))
-run_same p (c ∷ a) [] x y ha hb sx sy e =
-    absurd (stops_at p c (a ++ x) y sy (sym e) (left_true (p c) (list_all p a) ha))
 run_same p (c ∷ a) (d ∷ b) x y ha hb sx sy e =
     let one : c ≡ d = cc in
     let more : a ++ x ≡ b ++ y = cc in
     let s = run_same p a b x y (right_true (p c) (list_all p a) ha) (right_true (p d) (list_all p b) hb) sx sy
     more in
     record { run = ap (λ v. c ∷ v) s.run ∙ ap (λ n. n ∷ b) one; rest = s.rest }
+run_same p a b x y ha hb sx sy e = grind (arith, stops_at, left_true)
 
 -- an item begins with no blank
 item_starts : (bytes rest : List ℕ) → IsItem bytes rest → IsTrue (starts_without is_blank (bytes ++ rest))
@@ -74,25 +67,20 @@ same_words at text ws vs p q r s (stop a e h n o) (next w b bytes further f k i 
 same_words at text ws vs p q r s (next w b bytes further f k i t more) (stop a e h n o) x y =
     let same = run_same is_blank a b s (bytes ++ further) h k n (item_starts bytes further i) (sym e ∙ f) in
     absurd (no_item bytes further i (sym same.rest ∙ y))
-same_words at text ws vs p q r s (next {words = us} w b bytes further f k i t more)
-    (next {words = zs} v c others far g l j u rest) x y =
+same_words at text ws vs p q r s (next {words =
+    us} w b bytes further f k i t more) (next {words = zs} v c others far g l j u rest) x y =
     let same = run_same is_blank b c (bytes ++ further) (others ++ far) k l (item_starts bytes further i)
     (item_starts others far j) (sym f ∙ g) in
     let items = run_same is_dense bytes others further far i.dense j.dense i.longest j.longest same.rest in
-    let again : InputItems (after (after at b) bytes) further zs q s =
-    subst (λ z. InputItems (after (after at z) bytes) further zs q s) (sym same.run)
-    (subst (λ z. InputItems (after (after at c) z) further zs q s) (sym items.run)
-    (subst (λ z. InputItems (after (after at c) others) z zs q s) (sym items.rest) rest)) in
-    ap (λ n. n ∷ us) (word_same bytes others w v items.run t u) ∙ ap (λ z. v ∷ z)
-    (same_words _ further us zs p q r s more again x y)
+    let again : InputItems (after (after at b) bytes) further zs q s = grind arith in
+    grind (arith, word_same, same_words _ further us zs p q r s more again x y)
 
 -- a text of words has no item that is none
 no_fault : (at : Place) (text ws vs : List ℕ) (p q : Place) (r s bad far : List ℕ) → InputItems at text ws p r
     → InputItems at text vs q s → r ≡ [] → s ≡ bad ++ far → IsItem bad far → ((w : ℕ) → IsWordText bad w → ⊥)
     → ⊥
 no_fault at text ws vs p q r s bad far (stop a e h n o) (stop b f k m u) x y item wrong =
-    let same = run_same is_blank a b r s h k n m (sym e ∙ f) in
-    no_item bad far item (sym y ∙ sym same.rest ∙ x)
+    grind (arith, run_same, no_item)
 no_fault at text ws vs p q r s bad far (stop a e h n o) (next w b bytes further f k i t more) x y item wrong =
     let same = run_same is_blank a b r (bytes ++ further) h k n (item_starts bytes further i) (sym e ∙ f) in
     no_item bytes further i (sym same.rest ∙ x)
@@ -101,15 +89,12 @@ no_fault at text ws vs p q r s bad far (next w b bytes further f k i t more) (st
     let items = run_same is_dense bytes bad further far i.dense item.dense i.longest item.longest
     (same.rest ∙ y) in
     wrong w (subst (λ z. IsWordText z w) items.run t)
-no_fault at text ws vs p q r s bad far (next {words = us} w b bytes further f k i t more)
-    (next {words = zs} v c others away g l j u rest) x y item wrong =
+no_fault at text ws vs p q r s bad far (next {words =
+    us} w b bytes further f k i t more) (next {words = zs} v c others away g l j u rest) x y item wrong =
     let same = run_same is_blank b c (bytes ++ further) (others ++ away) k l (item_starts bytes further i)
     (item_starts others away j) (sym f ∙ g) in
     let items = run_same is_dense bytes others further away i.dense j.dense i.longest j.longest same.rest in
-    let again : InputItems (after (after at b) bytes) further zs q s =
-    subst (λ z. InputItems (after (after at z) bytes) further zs q s) (sym same.run)
-    (subst (λ z. InputItems (after (after at c) z) further zs q s) (sym items.run)
-    (subst (λ z. InputItems (after (after at c) others) z zs q s) (sym items.rest) rest)) in
+    let again : InputItems (after (after at b) bytes) further zs q s = grind arith in
     no_fault _ further us zs p q r s bad far more again x y item wrong
 
 pub one_list : (at : Place) (text ws vs : List ℕ) → InputWords at text ws → InputWords at text vs → ws ≡ vs
@@ -117,8 +102,7 @@ one_list at text ws vs a b = same_words at text ws vs a.place b.place [] [] a.it
 
 pub no_fault_in_words : (at : Place) (text ws : List ℕ) (p : Place) → InputWords at text ws
     → InputFault at text p → ⊥
-no_fault_in_words at text ws p a b = no_fault at text ws b.words a.place p [] (b.bytes ++ b.further) b.bytes
-    b.further a.items b.items refl refl b.item b.wrong
+no_fault_in_words at text ws p a b = grind (arith, no_fault)
 
 -- Whatever the rest leads to, the whole does.
 pub record Reading (at : Place) (text words : List ℕ) (place : Place) (rest : List ℕ) : Type 0 where
@@ -128,29 +112,13 @@ pub record Reading (at : Place) (text words : List ℕ) (place : Place) (rest : 
 -- a run of blanks that is as long as possible
 pub blank_run : (text run rest : List ℕ) (n : ℕ) → n ≡ prefix_len is_blank text → run ≡ take n text
     → rest ≡ drop n text → IsTrue (list_all is_blank run) × IsTrue (starts_without is_blank rest)
-blank_run text run rest n e f g = (
-  rw (f, e) (prefix_all is_blank text),
-  rw (g, e) (prefix_stops is_blank text),
-)
+blank_run text run rest n e f g = grind (arith, prefix_all, prefix_stops)
 
 -- an item, which has at least its first byte
 pub item_run : (text run rest : List ℕ) (n : ℕ) → 0 < length text → IsTrue (starts_without is_blank text)
     → n ≡ prefix_len is_dense text → run ≡ take n text → rest ≡ drop n text
     → (0 < length run) × IsItem run rest
-item_run [] run rest n h s e f g = absurd (omega arith)
-item_run (b ∷ text) run rest n h s e f g =
-    let first : n ≡ 1 + prefix_len is_dense text =
-    e ∙ ap (λ (t : Bool). cond t (1 + prefix_len is_dense text) 0) s in
-    let some : run ≡ b ∷ take (prefix_len is_dense text) text = f ∙ ap (λ m. take m (b ∷ text))
-    (first ∙ one_more (prefix_len is_dense text)) in (
-      subst (λ r. 0 < length r) (sym some) (omega arith),
-      record {
-        some = λ none. let bad : b ∷ take (prefix_len is_dense text) text ≡ [] = sym some ∙ none in cc;
-        dense = rw (f, e) (prefix_all is_dense (b ∷ text));
-        longest =
-            rw (g, e) (prefix_stops is_dense (b ∷ text));
-      },
-    )
+item_run text run rest n h s e f g = grind (arith, one_more, prefix_all, prefix_stops)
 
 -- blanks to the end
 pub reads_end : (at place : Place) (text words rest blanks front : List ℕ) → Reading at text words place rest
@@ -170,9 +138,8 @@ reads_fault at place after_blanks text words rest blanks front bytes further r e
   words = words;
   bytes = bytes;
   further = further;
-  items = subst (λ ws. InputItems at text ws after_blanks (bytes ++ further)) (append-nil words)
-      (r.leads [] after_blanks (bytes ++ further) (stop blanks (e ∙ ap (λ x. blanks ++ x) f) h
-      (subst (λ x. IsTrue (starts_without is_blank x)) f s) p));
+  items = subst (λ ws. InputItems at text ws after_blanks (bytes ++ further)) (append-nil words) (r.leads []
+      after_blanks (bytes ++ further) (stop blanks (e ∙ ap (λ x. blanks ++ x) f) h (grind arith) p));
   item = i;
   wrong = wrong;
 }
@@ -186,11 +153,9 @@ pub reads_word : (at place after_blanks after_item : Place)
     → Reading at text more after_item further
 reads_word at place after_blanks after_item text words more rest blanks front bytes further word r e h p f i t
     q m = record {
-      leads = λ others far x items.
-          subst (λ ws. InputItems at text ws far x) (sym (append_assoc words (word ∷ []) others)
-          ∙ ap (λ z. z ++ others) (sym m))
+      leads = λ others far x items. subst (λ ws. InputItems at text ws far x) (grind (arith, append_assoc))
           (r.leads (word ∷ others) far x (next word blanks bytes further (e ∙ ap (λ z. blanks ++ z) f) h i t
-          (subst (λ z. InputItems z further others far x) (q ∙ ap (λ z. after z bytes) p) items)));
+          (grind arith)));
     }
 
 pub empty_is : (xs : List ℕ) (b : Bool) → b ≡ (length xs == 0) → b ≡ true → xs ≡ []
@@ -202,38 +167,31 @@ same_fault : (at : Place) (text ws vs : List ℕ) (p q : Place) (r s bad far ill
     → IsItem bad far → IsItem ill away → ((w : ℕ) → IsWordText bad w → ⊥) → ((w : ℕ) → IsWordText ill w → ⊥)
     → p ≡ q
 same_fault at text ws vs p q r s bad far ill away (stop a e h n o) (stop b f k m u) x y item other wrong
-    mistaken =
-    let same = run_same is_blank a b r s h k n m (sym e ∙ f) in
-    o ∙ ap (after at) same.run ∙ sym u
+    mistaken = grind (arith, run_same)
 same_fault at text ws vs p q r s bad far ill away (stop a e h n o) (next w b bytes further f k i t more) x y
     item other wrong mistaken =
     let same = run_same is_blank a b r (bytes ++ further) h k n (item_starts bytes further i) (sym e ∙ f) in
-    let items = run_same is_dense bytes bad further far i.dense item.dense i.longest item.longest
-    (sym same.rest ∙ x) in
-    absurd (wrong w (subst (λ z. IsWordText z w) items.run t))
+    let items = run_same is_dense bytes bad further far i.dense item.dense i.longest item.longest (sym
+    same.rest ∙ x) in
+    absurd (wrong w (grind arith))
 same_fault at text ws vs p q r s bad far ill away (next w b bytes further f k i t more) (stop a e h n o) x y
     item other wrong mistaken =
     let same = run_same is_blank a b s (bytes ++ further) h k n (item_starts bytes further i) (sym e ∙ f) in
-    let items = run_same is_dense bytes ill further away i.dense other.dense i.longest other.longest
-    (sym same.rest ∙ y) in
-    absurd (mistaken w (subst (λ z. IsWordText z w) items.run t))
+    let items = run_same is_dense bytes ill further away i.dense other.dense i.longest other.longest (sym
+    same.rest ∙ y) in
+    absurd (mistaken w (grind arith))
 same_fault at text ws vs p q r s bad far ill away (next {words = us} w b bytes further f k i t more)
     (next {words = zs} v c others along g l j u rest) x y item other wrong mistaken =
     let same = run_same is_blank b c (bytes ++ further) (others ++ along) k l (item_starts bytes further i)
     (item_starts others along j) (sym f ∙ g) in
     let items = run_same is_dense bytes others further along i.dense j.dense i.longest j.longest same.rest in
-    let again : InputItems (after (after at b) bytes) further zs q s =
-    subst (λ z. InputItems (after (after at z) bytes) further zs q s) (sym same.run)
-    (subst (λ z. InputItems (after (after at c) z) further zs q s) (sym items.run)
-    (subst (λ z. InputItems (after (after at c) others) z zs q s) (sym items.rest) rest)) in
+    let again : InputItems (after (after at b) bytes) further zs q s = grind arith in
     same_fault _ further us zs p q r s bad far ill away more again x y item other wrong mistaken
 
 -- an input section has at most one first item that is no word
 pub one_fault : (at : Place) (text : List ℕ) (p q : Place) → InputFault at text p → InputFault at text q
     → p ≡ q
-one_fault at text p q a b =
-    same_fault at text a.words b.words p q (a.bytes ++ a.further) (b.bytes ++ b.further) a.bytes a.further
-    b.bytes b.further a.items b.items refl refl a.item b.item a.wrong b.wrong
+one_fault at text p q a b = grind (arith, same_fault)
 
 -- an input section has words, or a first item that is none
 abbrev Found : Place → List ℕ → Type 0
@@ -257,15 +215,13 @@ module _ (at : Place) (text blanks bytes further : List ℕ) (split : text ≡ b
 
   -- a word, and what is found after it
   found_more : (w : ℕ) → IsWordText bytes w → Found (after (after at blanks) bytes) further → Found at text
-  found_more w t (inl f) =
-      inl (
-        w ∷ f.0,
-        record {
-          place = f.1.place;
-          items = next w blanks bytes further split blank item t
-              f.1.items;
-        },
-      )
+  found_more w t (inl f) = inl (
+    w ∷ f.0,
+    record {
+      place = f.1.place;
+      items = next w blanks bytes further split blank item t f.1.items;
+    },
+  )
   found_more w t (inr f) = inr (
     f.0,
     record {
@@ -282,22 +238,19 @@ module _ (at : Place) (text blanks bytes further : List ℕ) (split : text ≡ b
   found_item : (b c : Bool) → is_number bytes ≡ b → ltb (value_of bytes) (2 ^ 64) ≡ c
       → Found (after (after at blanks) bytes) further → Found at text
   found_item false c e f rest = found_fault (λ w t. let bad : false ≡ true = sym e ∙ t.0 in cc)
-  found_item true false e f rest = found_fault (λ w t. let bad : false ≡ true = sym f
-      ∙ lt-ltb (value_of bytes) (2 ^ 64) (omega (arith, t.1, t.2)) in cc)
-  found_item true true e f rest = found_more (value_of bytes) (e, refl, ltb-true (value_of bytes) (2 ^ 64) f)
-      rest
+  found_item true false e f rest = found_fault (grind (arith, lt-ltb))
+  found_item true true e f rest = found_more (value_of bytes) grind (arith, ltb-true) rest
 
 -- a text without items
 found_end : (at : Place) (text blanks front : List ℕ) → text ≡ blanks ++ front
     → IsTrue (list_all is_blank blanks) → front ≡ [] → Found at text
-found_end at text blanks front e h n =
-    inl (
-      [],
-      record {
-        place = after at blanks;
-        items = stop blanks (e ∙ ap (λ x. blanks ++ x) n) h refl refl;
-      },
-    )
+found_end at text blanks front e h n = inl (
+  [],
+  record {
+    place = after at blanks;
+    items = stop blanks (e ∙ ap (λ x. blanks ++ x) n) h refl refl;
+  },
+)
 
 -- what is found where blanks are over, if it is known what is found in shorter texts
 found_front : (fuel : ℕ) → ((at : Place) (text : List ℕ) → length text ≤ fuel → Found at text)
@@ -311,14 +264,9 @@ found_front fuel shorter at text blanks (b ∷ rest) e h s short =
     let further = drop n (b ∷ rest) in
     let split : bytes ++ further ≡ b ∷ rest = take-append-drop n (b ∷ rest) in
     let item = item_run (b ∷ rest) bytes further n (omega arith) s refl refl refl in
-    let whole : text ≡ blanks ++ (bytes ++ further) = e ∙ ap (λ x. blanks ++ x) (sym split) in
-    let less : length further ≤ fuel = omega (
-      arith,
-      short,
-      item.0,
-      length-append bytes further,
-      ap length split,
-    ) in
+    let whole : text ≡ blanks ++ (bytes ++ further) = grind arith in
+    let less : length further ≤ fuel =
+    omega (arith, short, item.0, length-append bytes further, ap length split) in
     found_item at text blanks bytes further whole h item.1 (is_number bytes) (ltb (value_of bytes) (2 ^ 64))
     refl refl (shorter (after (after at blanks) bytes) further less)
 
@@ -329,14 +277,9 @@ found_in zero at (b ∷ text) h = absurd (omega arith)
 found_in (suc fuel) at text h =
     let n = prefix_len is_blank text in
     let split : take n text ++ drop n text ≡ text = take-append-drop n text in
-    let less : length (drop n text) ≤ suc fuel = omega (
-      arith,
-      h,
-      length-append (take n text) (drop n text),
-      ap length split,
-    ) in
-    found_front fuel (found_in fuel) at text (take n text) (drop n text) (sym split)
-    (prefix_all is_blank text) (prefix_stops is_blank text) less
+    let less : length (drop n text) ≤ suc fuel = grind (arith, length-append) in
+    found_front fuel (found_in fuel) at text (take n text) (drop n text) (sym split) (prefix_all is_blank
+    text) (prefix_stops is_blank text) less
 
 -- each input section comes to one thing alone
 pub one_answer : (at : Place) (text : List ℕ) → ExactlyOne (IsInputAnswer at text)
@@ -363,5 +306,4 @@ module _ (P : Place → List ℕ → Type 0) (text section input : List ℕ) (s 
   of_text h = subst (P (input_place text)) i (subst (λ (q : List ℕ). P (place_below q) input) s h)
 
   pub of_sections : P (input_place text) (input_of text) → P (place_below section) input
-  of_sections h = subst (λ (q : List ℕ). P (place_below q) input) (sym s)
-      (subst (P (input_place text)) (sym i) h)
+  of_sections h = grind arith

@@ -1,6 +1,6 @@
 -- The jobs of a text.
-use Rattle.std.specs.Prelude.{◌≡◌, ◌⊎◌, ℕ, zero, suc, ◌≤◌, ◌<◌, ◌&&◌, ◌==◌, Bool, true, false, if◌then◌else◌}
-use Rattle.std.specs.Prelude.{List, [], ◌∷◌, ◌++◌, length, map, refl}
+use Rattle.std.specs.Prelude.{◌≡◌, ◌⊎◌, ℕ, zero, suc, ◌≤◌, ◌<◌, ◌==◌, Bool, true, List, [], ◌∷◌, ◌++◌, length}
+use Rattle.std.specs.Prelude.{map, refl}
 use Rattle.std.specs.List.{AllByRecursion}
 use Rattle.std.proofs.Common.{sym, ap, ◌∙◌, subst, inl, inr, arith}
 use Rattle.src_ast.specs.declared.lexeme.Place.{Place}
@@ -9,7 +9,7 @@ use Rattle.ws_isa.specs.Image.{Image}
 use Rattle.wsc_top.specs.declared.batch.JobsFault.{JobsFault}
 use Rattle.wsc_top.specs.declared.batch.JobsFault.TheVariants as fault
 use Rattle.wsc_top.specs.declared.batch.JobsRefusal.TheVariants as refusal
-use Rattle.wsc_top.specs.Sections.{is_line, after_line, rest_of}
+use Rattle.wsc_top.specs.Sections.{after_line, rest_of}
 use Rattle.wsc_top.specs.Job.{IsJob, Refuses}
 use Rattle.wsc_top.specs.Answers.{IsCompiled}
 use Rattle.wsc_top.specs.Jobs.{separator, most_jobs, Piece, IsLast, first_job, behind, place_behind, JobsFrom}
@@ -23,31 +23,15 @@ use Rattle.ws_words.proofs.Lists.{map_push}
 
 after_le : (bytes : List ℕ) → length (after_line bytes) ≤ length bytes
 after_le [] = omega arith
-after_le (b ∷ bytes) = go (b == 10) (after_le bytes)
-  where
-    go : (c : Bool) → length (after_line bytes) ≤ length bytes
-        → length (if c then bytes else after_line bytes) ≤ length (b ∷ bytes)
-    go true h = omega arith
-    go false h = omega (arith, h)
+after_le (b ∷ bytes) = grind (arith, after_le bytes)
 
 after_short : (b : ℕ) (bytes : List ℕ) → length (after_line (b ∷ bytes)) ≤ length bytes
-after_short b bytes = go (b == 10) (after_le bytes)
-  where
-    go : (c : Bool) → length (after_line bytes) ≤ length bytes
-        → length (if c then bytes else after_line bytes) ≤ length bytes
-    go true h = omega arith
-    go false h = h
+after_short b bytes = grind (arith, after_le)
 
 rest_le : (marker : List ℕ) (at_line : Bool) (text : List ℕ) → length (rest_of marker at_line text)
     ≤ length text
 rest_le marker at_line [] = omega arith
-rest_le marker at_line (b ∷ bytes) = go (at_line && is_line marker (b ∷ bytes))
-    (rest_le marker (b == 10) bytes)
-  where
-    go : (c : Bool) → length (rest_of marker (b == 10) bytes) ≤ length bytes
-        → length (if c then b ∷ bytes else rest_of marker (b == 10) bytes) ≤ length (b ∷ bytes)
-    go true h = omega arith
-    go false h = omega (arith, h)
+rest_le marker at_line (b ∷ bytes) = grind (arith, rest_le marker (b == 10) bytes)
 
 pub behind_short : (text : List ℕ) → (IsLast text → ⊥) → length (behind text) < length text
 behind_short text further = go (rest_of separator true text) further (rest_le separator true text)
@@ -70,19 +54,16 @@ pub jobs_exist : (n : ℕ) (at : Place) (text : List ℕ) → length text ≤ n
     → (more : List Piece) × JobsFrom at text (piece_at at text ∷ more)
 jobs_exist zero at [] le = ([], last refl)
 jobs_exist zero at (b ∷ text) le = absurd (omega (arith, le))
-jobs_exist (suc n) at text le =
-    go (λ further. jobs_exist n (place_behind at text) (behind text) (let short = behind_short text further in
-    omega (arith, short, le))) (is_none (rest_of separator true text))
+jobs_exist (suc n) at text le = go (λ further. jobs_exist n (place_behind at text) (behind text)
+    (grind (arith, behind_short))) (is_none (rest_of separator true text))
   where
     go : ((IsLast text → ⊥) → (more : List Piece) × JobsFrom (place_behind at text) (behind text)
         (piece_at (place_behind at text) (behind text) ∷ more))
         → (rest_of separator true text ≡ []) ⊎ (rest_of separator true text ≡ [] → ⊥)
         → (more : List Piece) × JobsFrom at text (piece_at at text ∷ more)
     go there (inl e) = ([], last e)
-    go there (inr further) = let r = there further in (
-      piece_at (place_behind at text) (behind text) ∷ r.0,
-      next further r.1,
-    )
+    go there (inr further) = let r = there further in
+        (piece_at (place_behind at text) (behind text) ∷ r.0, next further r.1)
 
 pub jobs_once : (at : Place) (text : List ℕ) (ps qs : List Piece) → JobsFrom at text ps → JobsFrom at text qs
     → ps ≡ qs
@@ -90,16 +71,13 @@ jobs_once at text ps qs (last e) (last f) = refl
 jobs_once at text ps qs (last e) (next further js) = absurd (further e)
 jobs_once at text ps qs (next further js) (last e) = absurd (further e)
 jobs_once at text ps qs (next {pieces = more} further js) (next {pieces = others} again ks) =
-    ap (λ (l : List Piece). piece_at at text ∷ l) (jobs_once (place_behind at text) (behind text) more others
-    js ks)
+    grind (arith, jobs_once (place_behind at text) (behind text) more others js ks)
 
 -- a separator and the jobs behind it
 pub lift : (at place : Place) (text rest : List ℕ) (ps : List Piece) → place ≡ place_behind at text
     → rest ≡ behind text → (IsLast text → ⊥)
     → JobsFrom place rest ps → JobsFrom at text (piece_at at text ∷ ps)
-lift at place text rest ps e f further js =
-    next further (subst (λ (p : Place). JobsFrom p (behind text) ps) e
-    (subst (λ (r : List ℕ). JobsFrom place r ps) f js))
+lift at place text rest ps e f further js = next further (grind arith)
 
 -- A fourth separator.
 
@@ -108,23 +86,18 @@ last_behind text rest e further l = further (subst IsLast (sym (e ∙ ap after_l
 
 last_short : (at : Place) (text : List ℕ) (ps : List Piece) → IsLast text → JobsFrom at text ps
     → length ps ≤ 1
-last_short at text ps l (last e) = omega arith
-last_short at text ps l (next further js) = absurd (further l)
+last_short at text ps l x = grind arith
 
 more_short : (n : ℕ) (text rest : List ℕ) → rest ≡ behind text
     → ((at : Place) (ps : List Piece) → JobsFrom at rest ps → length ps ≤ n)
     → (at : Place) (ps : List Piece) → JobsFrom at text ps → length ps ≤ suc n
-more_short n text rest e h at ps (last l) = omega arith
-more_short n text rest e h at ps (next {pieces = more} further js) =
-    let le = h (place_behind at text) more (subst (λ (r : List ℕ). JobsFrom (place_behind at text) r more)
-    (sym e) js) in omega (arith, le)
+more_short n text rest e h at ps x = grind arith
 
 module _ (text second third fourth : List ℕ) (is_second : second ≡ behind text)
     (is_third : third ≡ behind second) (is_fourth : fourth ≡ behind third) where
   pub few_jobs : IsLast fourth → (ps : List Piece) → Jobs text ps → length ps ≤ most_jobs
-  few_jobs l ps js =
-      more_short 3 text second is_second (more_short 2 second third is_third
-      (more_short 1 third fourth is_fourth (λ at qs ks. last_short at fourth qs l ks))) start ps js
+  few_jobs l ps js = more_short 3 text second is_second (more_short 2 second third is_third
+      (grind (arith, more_short, last_short))) start ps js
 
   pub is_crowded : (two three four : Place) (own : List ℕ) (line : ℕ) → two ≡ place_behind start text
       → three ≡ place_behind two second → four ≡ place_behind three third
@@ -139,11 +112,9 @@ module _ (text second third fourth : List ℕ) (is_second : second ≡ behind te
         fourth = piece_at four fourth;
         fifth = piece_at (place_behind four fourth) (behind fourth);
         more = r.0;
-        split = lift start two text second _ at_two is_second none_first
-            (lift two three second third _ at_three is_third none_second
-            (lift three four third fourth _ at_four is_fourth none_third (next further r.1)));
+        split = grind (arith, lift);
         three = refl;
-        line_is = line_is ∙ ap (λ (bytes : List ℕ). (after four bytes).line) own_is;
+        line_is = grind arith;
       }
 
 -- Reading one job after another.
@@ -199,49 +170,28 @@ module _ (text : List ℕ) (images : List Image) (inputs : List (List ℕ)) (at 
 
     are_images : images_of (r.done ++ thread ∷ []) ≡ more
     unfolding thread
-    are_images = map_push (λ (x : Thread). x.image) r.done thread ∙ ap (λ (l : List Image). l ++ image ∷ [])
-        r.images_are ∙ sym images_more
+    are_images = grind (arith, map_push, thread)
 
     are_inputs : inputs_of (r.done ++ thread ∷ []) ≡ words
     unfolding thread
-    are_inputs = map_push (λ (x : Thread). x.input) r.done thread
-        ∙ ap (λ (l : List (List ℕ)). l ++ input ∷ []) r.inputs_are ∙ sym inputs_more
+    are_inputs = grind (arith, map_push, thread)
 
     lead_on : (ps : List Piece) → JobsFrom at rest (piece_at at rest ∷ ps)
         → Jobs text (pieces_of (r.done ++ thread ∷ []) ++ ps)
     unfolding thread
-    lead_on ps js = subst (λ (l : List Piece). Jobs text l) (put_between r.done thread ps)
-        (r.leads (piece_at at rest ∷ ps) js)
+    lead_on ps js = grind (arith, put_between, thread)
 
     pub reads_more : (place : Place) (further : List ℕ) → place ≡ place_behind at rest → further ≡ behind rest
         → (IsLast rest → ⊥) → Reading text more words place further
-    reads_more place further e f on = record {
-      done = r.done ++ thread ∷ [];
-      each = all_more HasJob r.done thread r.each is_job;
-      compiled = all_more Made r.done thread r.compiled is_made;
-      images_are = are_images;
-      inputs_are = are_inputs;
-      leads = λ ps js. lead_on ps (lift at place rest further ps e f on js);
-    }
+    reads_more place further e f on =
+        grind (arith, thread, all_more, is_job, is_made, are_images, are_inputs, lead_on, lift)
 
     pub reads_last : ((ps : List Piece) → Jobs text ps → length ps ≤ most_jobs) → IsLast rest
         → AreRead text more words
     reads_last few l =
         let split : Jobs text (pieces_of (r.done ++ thread ∷ [])) = subst (λ (ps : List Piece). Jobs text ps)
         (no_more (pieces_of (r.done ++ thread ∷ []))) (lead_on [] (last l)) in
-        record {
-          threads = r.done ++ thread ∷ [];
-          jobs = record {
-            split = split;
-            few = subst (λ (n : ℕ). n ≤ most_jobs)
-                (count_pieces (r.done ++ thread ∷ [])) (few _ split);
-            each =
-                all_more HasJob r.done thread r.each is_job;
-          };
-          compiled = all_more Made r.done thread r.compiled is_made;
-          images_are = are_images;
-          inputs_are = are_inputs;
-        }
+        grind (arith, thread, count_pieces, all_more, is_job, is_made, are_images, are_inputs)
       where
         no_more : (xs : List Piece) → xs ++ [] ≡ xs
         no_more [] = refl
@@ -249,8 +199,6 @@ module _ (text : List ℕ) (images : List Image) (inputs : List (List ℕ)) (at 
 
   pub reads_fault : ((ps : List Piece) → Jobs text ps → length ps ≤ most_jobs) → (e : JobsFault)
       → IsPieceFault at own e → IsJobsFault text e
-  reads_fault few fault.NoMemory h = tt
-  reads_fault few (fault.Refused (refusal.Threads line)) h = absurd h
   reads_fault few (fault.Refused (refusal.OfJob place q)) h =
       let more = jobs_exist (length rest) at rest (omega arith) in
       let split = r.leads (piece_at at rest ∷ more.0) more.1 in
@@ -258,3 +206,4 @@ module _ (text : List ℕ) (images : List Image) (inputs : List (List ℕ)) (at 
       (faulty (pieces_of r.done) (piece_at at rest) more.0 (programs_of r.done) q split (few _ split)
       (each_of r.done r.each)
       (subst (λ (t : List ℕ). Refuses t q) own_is h.1))
+  reads_fault few e h = grind arith

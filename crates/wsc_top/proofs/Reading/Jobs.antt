@@ -1,6 +1,6 @@
 -- Why the text of a job is refused, and what it is otherwise.
 use Rattle.std.specs.Prelude.{◌≡◌, ℕ, List, None, Err, refl}
-use Rattle.std.proofs.Common.{sym, subst}
+use Rattle.std.proofs.Common.{sym, subst, arith}
 use Rattle.src_ast.specs.declared.lexeme.Place.{Place}
 use Rattle.src_ast.specs.declared.fault.Refusal.{Refusal}
 use Rattle.src_ast.specs.declared.fault.TextFault.{TextFault}
@@ -13,8 +13,7 @@ use Rattle.src_ast.specs.Rules.{IsAccepted}
 use Rattle.src_ast.specs.Written.{IsWritten}
 use Rattle.wsc_top.specs.declared.task.JobTask.{JobTask}
 use Rattle.wsc_top.specs.declared.status.Status.TheVariants.{Refused}
-use Rattle.wsc_top.specs.Sections.{program_of, input_of, place_below, InputWords, InputFault, IsInputFault}
-use Rattle.wsc_top.specs.Sections.{AnswersWords}
+use Rattle.wsc_top.specs.Sections.{program_of, input_of, place_below, InputWords, IsInputFault, AnswersWords}
 use Rattle.wsc_top.specs.Texts.{refusal_text}
 use Rattle.wsc_top.specs.Job.{ReadsAs, ProgramFault, IsJob, Refuses, program, input, IsRefused}
 use Rattle.wsc_top.specs.Job.{IsProgramFault, AnswersParts}
@@ -29,8 +28,7 @@ pub program_only : (text section : List ℕ) (e : TextFault) → section ≡ pro
     → ((parts : List Part) → ReadsAs section parts → AnswersParts (Err e) parts)
     → (parts : List Part) (ws : List ℕ) → IsJob text parts ws → e ≡ fault.NoMemory
 program_only text section fault.NoMemory s h parts ws j = refl
-program_only text section (fault.Refused r) s h parts ws j =
-    absurd (h parts (subst (λ p. ReadsAs p parts) (sym s) j.reads))
+program_only text section (fault.Refused r) s h parts ws j = absurd (h parts (grind arith))
 
 pub program_refused : (text section : List ℕ) (e : TextFault) → section ≡ program_of text
     → IsProgramFault section e → IsRefused text e
@@ -42,17 +40,16 @@ pub words_only : (text section rest : List ℕ) (e : TextFault) → section ≡ 
     → ((ws : List ℕ) → InputWords (place_below section) rest ws → AnswersWords (Err e) ws)
     → (parts : List Part) (ws : List ℕ) → IsJob text parts ws → e ≡ fault.NoMemory
 words_only text section rest fault.NoMemory s i h parts ws j = refl
-words_only text section rest (fault.Refused r) s i h parts ws j =
-    absurd (h ws (of_sections (λ at t. InputWords at t ws) text section rest s i j.words))
+words_only text section rest (fault.Refused r) s i h parts ws j = absurd (h ws (grind (arith, of_sections)))
 
 pub words_refused : (text section rest : List ℕ) (found : List Part) (e : TextFault)
     → section ≡ program_of text → rest ≡ input_of text → ReadsAs section found
     → IsInputFault (place_below section) rest e → IsRefused text e
 words_refused text section rest found fault.NoMemory s i r h = tt
-words_refused text section rest found (fault.Refused x) s i r h =
-    subst (λ kind. Refuses text (record { kind = kind; place = x.place })) (sym h.0)
-    (input found x.place (subst (λ p. ReadsAs p found) s r)
-    (of_text (λ at t. InputFault at t x.place) text section rest s i h.1))
+words_refused text section rest found (fault.Refused x) s i r h = subst (λ kind. Refuses text (record {
+  kind = kind;
+  place = x.place;
+})) (sym h.0) (input found x.place (grind arith) (grind (arith, of_text)))
 
 pub job_written : (text : List ℕ) (parts : List Part) (ws : List ℕ)
     → ((bytes : List ℕ) (ls : List Lexeme) (finish : Place) (all : List Part) → Lex bytes ls finish
@@ -72,5 +69,4 @@ pub job_step : (task : JobTask) (text : List ℕ) (parts : List Part) (ws : List
     → IsJob text parts ws → YieldStep task parts ws step → JobStep task text step
 job_step task text parts ws (Ready status out image) j y = λ handed. done parts ws j (y handed)
 job_step task text parts ws (Many options jobs) j y = absurd y
-job_step task text parts ws (Due options image words) j y =
-    (y.0, parts, subst (λ (xs : List ℕ). IsJob text parts xs) (sym y.1) j, y.2)
+job_step task text parts ws (Due options image words) j y = grind arith

@@ -23,39 +23,25 @@ same_rest x y xs ys e = cc
 same_fourth : (xs ys : List Piece) (p q : Piece) (ps qs : List Piece) → length xs ≡ length ys
     → xs ++ p ∷ ps ≡ ys ++ q ∷ qs → p ≡ q
 same_fourth [] [] p q ps qs n e = same_first p q ps qs e
-same_fourth [] (y ∷ ys) p q ps qs n e = absurd (omega (arith, n))
-same_fourth (x ∷ xs) [] p q ps qs n e = absurd (omega (arith, n))
 same_fourth (x ∷ xs) (y ∷ ys) p q ps qs n e = same_fourth xs ys p q ps qs (omega (arith, n))
     (same_rest x y (xs ++ p ∷ ps) (ys ++ q ∷ qs) e)
+same_fourth xs ys p q ps qs n e = grind arith
 
 crowd_count : (text : List ℕ) (line : ℕ) (c : IsCrowded text line) (ps : List Piece) → Jobs text ps
     → length ps ≤ most_jobs → ⊥
-crowd_count text line c ps js few =
-    let same : ps ≡ c.before ++ c.fourth ∷ c.fifth ∷ c.more = jobs_once start text ps _ js c.split in
-    let all = ap length same in
-    let whole = length-append c.before (c.fourth ∷ c.fifth ∷ c.more) in
-    let three = c.three in
-    omega (arith, few, all, whole, three)
+crowd_count text line c ps js few = grind (arith, jobs_once, length-append)
 
 one_line : (text : List ℕ) (line other : ℕ) → IsCrowded text line → IsCrowded text other → line ≡ other
-one_line text line other c d =
-    let all = jobs_once start text _ _ c.split d.split in
-    let same = same_fourth c.before d.before c.fourth d.fourth (c.fifth ∷ c.more) (d.fifth ∷ d.more)
-    (c.three ∙ sym d.three) all in
-    c.line_is ∙ ap (λ (p : Piece). (after p.at p.text).line) same ∙ sym d.line_is
+one_line text line other c d = grind (arith, jobs_once, same_fourth)
 
 module _ (once : (text : List ℕ) → ExactlyOne (IsTextAnswer text)) where
   pub one_each : (ps : List Piece) (js ks : List ProgramAndInput) → EachIsJob ps js → EachIsJob ps ks
       → js ≡ ks
-  one_each [] [] [] h k = refl
-  one_each [] [] (x ∷ ks) h k = absurd k
-  one_each [] (j ∷ js) ks h k = absurd h
-  one_each (p ∷ ps) [] ks h k = absurd h
-  one_each (p ∷ ps) (j ∷ js) [] h k = absurd k
   one_each (p ∷ ps) (j ∷ js) (x ∷ ks) h k =
       let here : j ≡ x = one_job p.text (once p.text) j.0 x.0 j.1 x.1 h.0 k.0 in
       ap (λ (l : List ProgramAndInput). j ∷ l) (one_each ps js ks h.1 k.1)
       ∙ ap (λ (y : ProgramAndInput). y ∷ ks) here
+  one_each ps js ks h k = grind arith
 
   job_within : (before : List Piece) (p : Piece) (further : List Piece) (js : List ProgramAndInput)
       (r : Refusal) → EachIsJob (before ++ p ∷ further) js → Refuses p.text r → ⊥
@@ -72,30 +58,24 @@ module _ (once : (text : List ℕ) → ExactlyOne (IsTextAnswer text)) where
       let here : r ≡ s = one_refusal q.text (once q.text) r s (subst (λ (x : Piece). Refuses x.text r) same a)
       b in
       ap (λ (x : Piece). OfJob x.at r) same ∙ ap (λ (x : Refusal). OfJob q.at x) here
-  one_fault [] (y ∷ ys) p q ps qs js [] r s e h k a b = absurd k
-  one_fault [] (y ∷ ys) p q ps qs js (j ∷ ks) r s e h k a b =
-      absurd (refused_job y.text (once y.text) r j.0 j.1
-      (subst (λ (x : Piece). Refuses x.text r) (same_first p y ps (ys ++ q ∷ qs) e) a) k.0)
+  one_fault [] (y ∷ ys) p q ps qs js (j ∷ ks) r s e h k a b = absurd (refused_job y.text (once y.text) r j.0
+      j.1 (subst (λ (x : Piece). Refuses x.text r) (same_first p y ps (ys ++ q ∷ qs) e) a) k.0)
   one_fault (x ∷ xs) [] p q ps qs [] ks r s e h k a b = absurd h
-  one_fault (x ∷ xs) [] p q ps qs (j ∷ js) ks r s e h k a b =
-      absurd (refused_job x.text (once x.text) s j.0 j.1
-      (subst (λ (z : Piece). Refuses z.text s) (sym (same_first x q (xs ++ p ∷ ps) qs e)) b) h.0)
+  one_fault (x ∷ xs) [] p q ps qs (j ∷ js) ks r s e h k a b = absurd (refused_job x.text (once x.text) s j.0
+      j.1 (subst (λ (z : Piece). Refuses z.text s) (sym (same_first x q (xs ++ p ∷ ps) qs e)) b) h.0)
   one_fault (x ∷ xs) (y ∷ ys) p q ps qs [] ks r s e h k a b = absurd h
-  one_fault (x ∷ xs) (y ∷ ys) p q ps qs (j ∷ js) [] r s e h k a b = absurd k
   one_fault (x ∷ xs) (y ∷ ys) p q ps qs (j ∷ js) (i ∷ ks) r s e h k a b =
       one_fault xs ys p q ps qs js ks r s (same_rest x y (xs ++ p ∷ ps) (ys ++ q ∷ qs) e) h.1 k.1 a b
+  one_fault xs (y ∷ ys) p q ps qs js [] r s e h k a b = absurd k
 
   pub never_both : (text : List ℕ) (js : List ProgramAndInput) (r : JobsRefusal) → AreJobs text js
       → RefusesJobs text r → ⊥
   never_both text js r a (crowded line c) = crowd_count text line c a.pieces a.split a.few
   never_both text js r a (faulty before p further ks q split few each h) =
-      job_within before p further js q (subst (λ (ps : List Piece). EachIsJob ps js)
-      (jobs_once start text a.pieces (before ++ p ∷ further) a.split split) a.each) h
+      grind (arith, job_within, jobs_once)
 
   pub one_jobs : (text : List ℕ) (js ks : List ProgramAndInput) → AreJobs text js → AreJobs text ks → js ≡ ks
-  one_jobs text js ks a b =
-      one_each b.pieces js ks (subst (λ (ps : List Piece). EachIsJob ps js)
-      (jobs_once start text a.pieces b.pieces a.split b.split) a.each) b.each
+  one_jobs text js ks a b = grind (arith, one_each, jobs_once)
 
   pub one_jobs_refusal : (text : List ℕ) (r s : JobsRefusal) → RefusesJobs text r → RefusesJobs text s → r ≡ s
   one_jobs_refusal text r s (crowded line c) (crowded other d) = ap Threads (one_line text line other c d)
@@ -108,10 +88,7 @@ module _ (once : (text : List ℕ) → ExactlyOne (IsTextAnswer text)) where
 
   pub alike : (text : List ℕ) (x y : Result (List ProgramAndInput) JobsRefusal) → IsJobsAnswer text x
       → IsJobsAnswer text y → x ≡ y
-  alike text (Ok js) (Ok ks) h k = ap Ok (one_jobs text js ks h k)
-  alike text (Ok js) (Err s) h k = absurd (never_both text js s h k)
-  alike text (Err r) (Ok ks) h k = absurd (never_both text ks r k h)
-  alike text (Err r) (Err s) h k = ap Err (one_jobs_refusal text r s h k)
+  alike text x y h k = grind (arith, one_jobs, never_both, one_jobs_refusal)
 
   -- the first of them that is no job
   record FirstFault (ps : List Piece) : Type 0 where
@@ -142,17 +119,16 @@ module _ (once : (text : List ℕ) → ExactlyOne (IsTextAnswer text)) where
         each = (h, f.each);
         refuses = f.refuses;
       })
-      go (Err r) h found =
-          inr (record {
-            before = [];
-            piece = p;
-            further = ps;
-            jobs = [];
-            refusal = r;
-            whole = refl;
-            each = tt;
-            refuses = h;
-          })
+      go (Err r) h found = inr (record {
+        before = [];
+        piece = p;
+        further = ps;
+        jobs = [];
+        refusal = r;
+        whole = refl;
+        each = tt;
+        refuses = h;
+      })
 
   few_answer : (text : List ℕ) (ps : List Piece) → Jobs text ps → length ps ≤ most_jobs
       → (x : Result (List ProgramAndInput) JobsRefusal) × IsJobsAnswer text x
@@ -188,7 +164,5 @@ module _ (once : (text : List ℕ) → ExactlyOne (IsTextAnswer text)) where
   )
 
   pub jobs_answer_once : (text : List ℕ) → ExactlyOne (IsJobsAnswer text)
-  jobs_answer_once text =
-      let r = jobs_exist (length text) start text (omega arith) in
-      let found = answer text _ r.1 in
-      record { answer = found.0; holds = found.1; only = λ other h. alike text other found.0 h found.1 }
+  jobs_answer_once text = let r = jobs_exist (length text) start text (omega arith) in
+      grind (arith, answer, alike)

@@ -1,7 +1,7 @@
 -- Texts in which no marker of a section begins, and what stands before and behind one; words as items.
 use Rattle.std.specs.Prelude.{◌≡◌, ℕ, ◌^◌, ◌<◌, ◌==◌, Bool, true, false, not, ◌&&◌, IsTrue, List, [], ◌∷◌}
-use Rattle.std.specs.Prelude.{◌++◌, codes, decimal, flat_map, if◌then◌else◌, refl}
-use Rattle.std.proofs.Common.{sym, ap, ◌∙◌, append_assoc, append-nil}
+use Rattle.std.specs.Prelude.{◌++◌, codes, decimal, flat_map, refl}
+use Rattle.std.proofs.Common.{sym, ap, ◌∙◌, append_assoc, append-nil, arith}
 use Rattle.std.specs.List.{list_all, AllByRecursion}
 use Rattle.std.proofs.lemmas.Bool.{and_parts, and_from, not-true, true≢false}
 use Rattle.ws_words.specs.Outside.{IsMachineWord}
@@ -26,16 +26,14 @@ pub plain_line : (at_line : Bool) (front : List ℕ) → list_all not_percent (f
 plain_line at_line [] h = refl
 plain_line at_line (b ∷ front) h =
     let parts = and_parts (not_percent b) (list_all not_percent (front ++ codes "\n")) h in
-    and_from (not_percent b) (is_plain (b == 10) (front ++ codes "\n")) parts.0
-    (plain_line (b == 10) front parts.1)
+    grind (arith, and_from, not_percent, plain_line (b == 10) front parts.1)
 
 plain_join : (at_line : Bool) (xs ys : List ℕ) → is_plain at_line xs ≡ true → is_plain true ys ≡ true
     → is_plain at_line (xs ++ ys) ≡ true
-plain_join true [] ys h k = k
-plain_join false [] ys h k = absurd (true≢false (sym h))
 plain_join at_line (b ∷ xs) ys h k =
     let parts = and_parts (not_percent b) (is_plain (b == 10) xs) h in
     and_from (not_percent b) (is_plain (b == 10) (xs ++ ys)) parts.0 (plain_join (b == 10) xs ys parts.1 k)
+plain_join at_line [] ys h k = grind (arith, true≢false)
 
 -- a plain text, and what begins with a marker or is nothing
 module _ (name : List ℕ) where
@@ -44,41 +42,34 @@ module _ (name : List ℕ) where
 
   front_step : (at_line : Bool) (b : ℕ) (bytes : List ℕ) → (b == 37) ≡ false
       → front_of marker at_line (b ∷ bytes) ≡ b ∷ front_of marker (b == 10) bytes
-  front_step true b bytes e = rw e refl
-  front_step false b bytes e = refl
+  front_step at_line b bytes e = grind arith
 
   rest_step : (at_line : Bool) (b : ℕ) (bytes : List ℕ) → (b == 37) ≡ false
       → rest_of marker at_line (b ∷ bytes) ≡ rest_of marker (b == 10) bytes
-  rest_step true b bytes e = rw e refl
-  rest_step false b bytes e = refl
+  rest_step at_line b bytes e = grind arith
 
   pub front_end : (text : List ℕ) → is_line marker text ≡ true → front_of marker true text ≡ []
-  front_end [] m = refl
-  front_end (b ∷ bytes) m = ap (λ (t : Bool). if t then [] else b ∷ front_of marker (b == 10) bytes) m
+  front_end text m = grind arith
 
   pub rest_end : (text : List ℕ) → is_line marker text ≡ true → rest_of marker true text ≡ text
-  rest_end [] m = refl
-  rest_end (b ∷ bytes) m = ap (λ (t : Bool). if t then b ∷ bytes else rest_of marker (b == 10) bytes) m
+  rest_end text m = grind arith
 
   pub front_plain : (rest : List ℕ) → front_of marker true rest ≡ [] → (at_line : Bool) (text : List ℕ)
       → is_plain at_line text ≡ true → front_of marker at_line (text ++ rest) ≡ text
   front_plain rest e at_line [] h = ap (λ t. front_of marker t rest) h ∙ e
   front_plain rest e at_line (b ∷ bytes) h =
       let parts = and_parts (not_percent b) (is_plain (b == 10) bytes) h in
-      front_step at_line b (bytes ++ rest) (not-true (b == 37) parts.0)
-      ∙ ap (λ t. b ∷ t) (front_plain rest e (b == 10) bytes parts.1)
+      grind (arith, front_step, not-true, front_plain rest e (b == 10) bytes parts.1)
 
   pub rest_plain : (rest : List ℕ) → rest_of marker true rest ≡ rest → (at_line : Bool) (text : List ℕ)
       → is_plain at_line text ≡ true → rest_of marker at_line (text ++ rest) ≡ rest
   rest_plain rest e at_line [] h = ap (λ t. rest_of marker t rest) h ∙ e
   rest_plain rest e at_line (b ∷ bytes) h =
       let parts = and_parts (not_percent b) (is_plain (b == 10) bytes) h in
-      rest_step at_line b (bytes ++ rest) (not-true (b == 37) parts.0) ∙ rest_plain rest e (b == 10) bytes
-      parts.1
+      grind (arith, rest_step, not-true, rest_plain rest e (b == 10) bytes parts.1)
 
 pub line_ends : (text : List ℕ) → ends_line (10 ∷ text) ≡ true
-line_ends [] = refl
-line_ends (b ∷ text) = refl
+line_ends text = grind arith
 
 -- a plain program section, by itself and in front of an input section
 module _ (program : List ℕ) (plain : is_plain true program ≡ true) where
@@ -95,42 +86,28 @@ module _ (program : List ℕ) (plain : is_plain true program ≡ true) where
     marked = line_ends input
 
     pub program_is : program_of (program ++ codes "%input\n" ++ input) ≡ program
-    program_is =
-        ap program_of (append_assoc program (codes "%input\n") input)
-        ∙ front_plain (codes "input") (codes "%input\n" ++ input)
-        (front_end (codes "input") (codes "%input\n" ++ input) marked) true program plain
+    program_is = grind (arith, append_assoc, front_plain, front_end, marked)
 
     pub input_is : input_of (program ++ codes "%input\n" ++ input) ≡ input
-    input_is =
-        ap input_of (append_assoc program (codes "%input\n") input)
-        ∙ ap after_line (rest_plain (codes "input") (codes "%input\n" ++ input)
-        (rest_end (codes "input") (codes "%input\n" ++ input) marked) true program plain)
+    input_is = grind (arith, append_assoc, rest_plain, rest_end, marked)
 
 -- words in decimal are items
 
 all_by : (p q : ℕ → Bool) → ((b : ℕ) → p b ≡ true → q b ≡ true) → (bytes : List ℕ) → list_all p bytes ≡ true
     → list_all q bytes ≡ true
 all_by p q known [] h = refl
-all_by p q known (b ∷ bytes) h =
-    let parts = and_parts (p b) (list_all p bytes) h in
-    and_from (q b) (list_all q bytes) (known b parts.0) (all_by p q known bytes parts.1)
+all_by p q known (b ∷ bytes) h = let parts = and_parts (p b) (list_all p bytes) h in
+    grind (arith, and_from, all_by p q known bytes parts.1)
 
 abbrev is_dense : ℕ → Bool
 is_dense b = not (is_blank b)
 
 digit_dense : (b : ℕ) → is_digit b ≡ true → is_dense b ≡ true
-digit_dense b h = rw (
-  other is_digit b 32 h refl,
-  other is_digit b 9 h refl,
-  other is_digit b 13 h refl,
-  other is_digit b 10 h refl,
-) refl
+digit_dense b h = grind (arith, other)
 
 number_item : (bytes rest : List ℕ) → is_number bytes ≡ true → IsTrue (starts_without is_dense rest)
     → IsItem bytes rest
-number_item [] rest h s = absurd (true≢false (sym h))
-number_item (b ∷ bytes) rest h s =
-    record { some = λ e. cc; dense = all_by is_digit is_dense digit_dense (b ∷ bytes) h; longest = s }
+number_item bytes rest h s = grind (arith, true≢false, all_by, digit_dense)
 
 module _ (w : ℕ) (is : w < 2 ^ 64) (rest : List ℕ) (blank : IsTrue (starts_without is_dense rest)) where
   pub word_item : IsItem (decimal w) rest
@@ -150,18 +127,14 @@ digits_line (b ∷ bytes) h = go (b ∷ bytes) h
   where
     go : (ds : List ℕ) → list_all is_digit ds ≡ true → list_all not_percent (ds ++ codes "\n") ≡ true
     go [] k = refl
-    go (d ∷ ds) k =
-        let parts = and_parts (is_digit d) (list_all is_digit ds) k in
-        and_from (not_percent d) (list_all not_percent (ds ++ codes "\n")) (digit_other d parts.0)
-        (go ds parts.1)
+    go (d ∷ ds) k = let parts = and_parts (is_digit d) (list_all is_digit ds) k in
+        grind (arith, and_from, not_percent, digit_other, go ds parts.1)
 
 pub plain_words : (ws : List ℕ) → AllByRecursion IsMachineWord ws
     → is_plain true (flat_map word_line ws) ≡ true
 plain_words [] h = refl
 plain_words (w ∷ ws) h =
-    plain_join true (word_line w) (flat_map word_line ws)
-    (plain_line true (decimal w) (digits_line (decimal w) (decimal_digits w h.0).digits))
-    (plain_words ws h.1)
+    grind (arith, plain_join, plain_line, digits_line, decimal_digits, plain_words ws h.1)
 
 pub word_lines : (at : Place) (blanks : List ℕ) (ws : List ℕ) → list_all is_blank blanks ≡ true
     → AllByRecursion IsMachineWord ws → InputWords at (blanks ++ flat_map word_line ws) ws
@@ -171,7 +144,6 @@ word_lines at blanks (w ∷ ws) b h =
     let more = word_lines (after (after at blanks) (decimal w)) (codes "\n") ws refl h.1 in
     record {
       place = more.place;
-      items = next w blanks (decimal w) further
-          (ap (λ t. blanks ++ t) (append_assoc (decimal w) (codes "\n") (flat_map word_line ws))) b
-          (word_item w h.0 further refl) (word_text w h.0 further refl) more.items;
+      items = next w blanks (decimal w) further (grind (arith, append_assoc)) b (word_item w h.0 further refl)
+          (word_text w h.0 further refl) more.items;
     }

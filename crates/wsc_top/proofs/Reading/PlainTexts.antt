@@ -24,31 +24,19 @@ lines_more n ns (row ∷ rows) (suc k) = lines_more n ns rows k
 
 items_more : (items : List Item) (i : ℕ) (x : Item) → i < length items → x ≡ slice_index_or items i x
     → drop i items ≡ x ∷ drop (i + 1) items
-items_more items i x lt is =
-    drop-cons items i x lt ∙ ap (λ y. y ∷ drop (suc i) items) (sym is) ∙ ap (λ j. x ∷ drop j items)
-    (let e : suc i ≡ i + 1 = omega arith in e)
+items_more items i x lt is = grind (arith, drop-cons)
 
 module _ (items : List Item) (rows : List (List ℕ)) (i k : ℕ) (x : Item) (text whole : List ℕ)
     (lt : i < length items) (is : x ≡ slice_index_or items i x)
     (so : text ++ array_lines (names_of (view.parts (drop i items))) (drop k rows) ≡ whole) where
   next : text ++ array_lines (names_of (view.parts (x ∷ drop (i + 1) items))) (drop k rows) ≡ whole
-  next = ap (λ rest. text ++ array_lines (names_of (view.parts rest)) (drop k rows))
-      (sym (items_more items i x lt is)) ∙ so
+  next = grind (arith, items_more)
 
   -- after the line of an array
   pub after_array : (name : Name) (n : ℕ) (at : Place) (now : List ℕ) → x ≡ Array name n at
       → now ≡ text ++ maybe_line name.text (slice_get rows k)
       → now ++ array_lines (names_of (view.parts (drop (i + 1) items))) (drop (k + 1) rows) ≡ whole
-  after_array name n at now e h =
-      let rest = names_of (view.parts (drop (i + 1) items)) in
-      ap (λ t. t ++ array_lines rest (drop (k + 1) rows)) h
-      ∙ append_assoc text (maybe_line name.text (slice_get rows k)) (array_lines rest (drop (k + 1) rows))
-      ∙ ap (λ j. text ++ (maybe_line name.text (slice_get rows k) ++ array_lines rest (drop j rows)))
-      (let e : k + 1 ≡ suc k = omega arith in e)
-      ∙ ap (λ t. text ++ t) (sym (lines_more name.text rest rows k))
-      ∙ ap (λ y. text ++ array_lines (names_of (view.part y ∷ view.parts (drop (i + 1) items))) (drop k rows))
-      (sym e)
-      ∙ next
+  after_array name n at now e h = grind (arith, append_assoc, lines_more, next)
 
 -- after a procedure
 pub after_procedure : (items : List Item) (rows : List (List ℕ)) (i k : ℕ) (x : Item) (text whole : List ℕ)
@@ -69,13 +57,9 @@ module _ (items : List Item) (i k : ℕ) (x : Item) (whole : List ℕ) (lt : i <
 
   -- at the array that is sought
   pub name_here : (name : Name) (n : ℕ) (at : Place) → x ≡ Array name n at → k ≡ 0 → name.text ≡ whole
-  name_here name n at e z =
-      ap (λ j. name_at (name.text ∷ names_of (view.parts (drop (i + 1) items))) j) (sym z)
-      ∙ ap (λ y. name_at (names_of (view.part y ∷ view.parts (drop (i + 1) items))) k) (sym e)
-      ∙ name_next
+  name_here name n at e z = grind (arith, name_next)
 
 -- after the last item there is no name
 pub name_none : (items : List Item) (i k : ℕ) (whole : List ℕ) → length items ≤ i
     → name_at (names_of (view.parts (drop i items))) k ≡ whole → [] ≡ whole
-name_none items i k whole h so = ap (λ rest. name_at (names_of (view.parts rest)) k)
-    (sym (drop_all i items h)) ∙ so
+name_none items i k whole h so = grind (arith, drop_all)

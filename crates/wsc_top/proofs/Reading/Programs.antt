@@ -1,6 +1,6 @@
 -- The program of a job: what is answered, what else is refused, and nothing both.
 use Rattle.std.specs.Prelude.{◌≡◌, ℕ, List, Ok, Err}
-use Rattle.std.proofs.Common.{sym, subst}
+use Rattle.std.proofs.Common.{sym, subst, arith}
 use Rattle.src_ast.specs.declared.lexeme.Place.{Place}
 use Rattle.src_ast.specs.declared.lexeme.Lexeme.{Lexeme}
 use Rattle.src_ast.specs.declared.lexeme.Lexemes as code
@@ -65,8 +65,7 @@ tree_parts p = view.parts p.items.items
 pub err_tree : (section : List ℕ) (ls : List Lexeme) (finish : Place) (e : TextFault)
     → SameLexemes section ls finish → ((all : List Part) → Tree ls all → AnswersTree tree_parts (Err e) all)
     → (parts : List Part) → ReadsAs section parts → AnswersParts (Err e) parts
-err_tree section ls finish fault.NoMemory s h parts r = tt
-err_tree section ls finish (fault.Refused x) s h parts r = h parts (tree_of section ls finish parts s r)
+err_tree section ls finish e s h parts r = grind (arith, tree_of)
 
 pub err_check : (section : List ℕ) (ls : List Lexeme) (finish : Place) (tree : List Part) (e : TextFault)
     → SameLexemes section ls finish → ((all : List Part) → Tree ls all → tree ≡ all)
@@ -74,6 +73,4 @@ pub err_check : (section : List ℕ) (ls : List Lexeme) (finish : Place) (tree :
     → AnswersParts (Err e) parts
 err_check section ls finish tree fault.NoMemory s only h parts r = tt
 err_check section ls finish tree (fault.Refused x) s only h parts r =
-    let bad : fault.Refused x ≡ fault.NoMemory =
-    h (subst (λ q. IsAccepted q finish) (sym (only parts (tree_of section ls finish parts s r)))
-    (finish_of section ls finish parts s r)) in cc
+    grind (arith, tree_of section ls finish parts s r, finish_of section ls finish parts s r)

@@ -1,6 +1,6 @@
 -- What is printed is read again.
-use Rattle.std.specs.Prelude.{◌≡◌, ℕ, ◌+◌, ◌-◌, ◌==◌, not, IsTrue, true, List, [], ◌++◌, codes, length, take}
-use Rattle.std.specs.Prelude.{flat_map, Option, Some, Ok, Err, refl}
+use Rattle.std.specs.Prelude.{◌≡◌, ℕ, ◌==◌, not, IsTrue, true, List, [], ◌++◌, codes, flat_map, Option, Some}
+use Rattle.std.specs.Prelude.{Ok, Err, refl}
 use Rattle.std.proofs.Common.{sym, ap, ◌∙◌, subst, append_assoc, length-append, arith}
 use Rattle.std.proofs.lemmas.List.{take_at}
 use Rattle.std.specs.List.{list_all, AllByRecursion}
@@ -11,8 +11,7 @@ use Rattle.port_set.specs.Ports.{Told}
 use Rattle.ws_isa.specs.Image.{Image}
 use Rattle.ws_isa.specs.Formed.{Formed}
 use Rattle.ws_isa.specs.Sound.{Sound}
-use Rattle.df_core.specs.Core as law
-use Rattle.df_core.specs.Core.{Run, core_opening}
+use Rattle.df_core.specs.Core.{core_opening}
 use Rattle.df_core.specs.declared.engine.Event.{Event}
 use Rattle.asm_text.specs.Printed.{printed}
 use Rattle.asm_text.specs.Reading.{read}
@@ -30,8 +29,8 @@ use Rattle.wsc_top.specs.declared.task.JobTask.TheVariants.{Compile}
 use Rattle.wsc_top.specs.declared.task.AssemblyTask.TheVariants.{Replay}
 use Rattle.wsc_top.specs.Job.{world_of}
 use Rattle.wsc_top.specs.Assembly.{IsAssembly}
-use Rattle.wsc_top.specs.Sections.{rest_of, after_line, input_place, trace_section, before_trace, trace_of}
-use Rattle.wsc_top.specs.Sections.{trace_line, InputItems, stop, next, InputWords}
+use Rattle.wsc_top.specs.Sections.{after_line, input_place, trace_section, before_trace, trace_of, trace_line}
+use Rattle.wsc_top.specs.Sections.{InputItems, stop, next, InputWords}
 use Rattle.wsc_top.specs.Texts.{word_line, with_input}
 use Rattle.wsc_top.specs.Traced as traces
 use Rattle.wsc_top.specs.Traced.{traced_text, trace_status, replayed_text, IsTraced, illegal, made}
@@ -41,8 +40,8 @@ use Rattle.wsc_top.proofs.Reading.AssembliesOnce.{BreachesBreak, one_assembly, n
 use Rattle.wsc_top.proofs.Told.Replays.{one_trace}
 use Rattle.asm_text.proofs.Printing.Shown.{not_percent}
 use Rattle.wsc_top.proofs.Reading.Markers.{is_plain, plain_line, rest_plain, rest_end, line_ends}
-use Rattle.wsc_top.proofs.Reading.Markers.{lone_program}
-use Rattle.wsc_top.proofs.Reading.Markers.{no_input, program_is, input_is, plain_words, word_lines}
+use Rattle.wsc_top.proofs.Reading.Markers.{lone_program, no_input, program_is, input_is, plain_words}
+use Rattle.wsc_top.proofs.Reading.Markers.{word_lines}
 
 -- the sections of a text with an input and a trace section
 module _ (program : List ℕ) (plain : is_plain true program ≡ true) (input : List ℕ)
@@ -60,11 +59,7 @@ module _ (program : List ℕ) (plain : is_plain true program ≡ true) (input : 
   whole_is = append_assoc front (codes "%trace\n") events
 
   section_is : trace_section whole ≡ section
-  section_is =
-      ap trace_section (whole_is ∙ append_assoc (program ++ codes "%input\n") input section)
-      ∙ ap (rest_of (codes "%trace") true) (input_is program plain (input ++ section))
-      ∙ rest_plain (codes "trace") section (rest_end (codes "trace") section (line_ends events)) true input
-      words
+  section_is = grind (arith, whole_is, append_assoc, input_is, rest_plain, rest_end, line_ends, words)
 
   some_section : trace_section whole ≡ [] → ⊥
   some_section e = let f : [] ≡ section = sym e ∙ section_is in cc
@@ -73,12 +68,7 @@ module _ (program : List ℕ) (plain : is_plain true program ≡ true) (input : 
   events_are = ap after_line section_is
 
   before_is : before_trace whole ≡ front
-  before_is =
-      let cut = length whole - length (trace_section whole) in
-      let behind : length (trace_section whole) ≡ length section = ap length section_is in
-      let all : length whole ≡ length front + length section = ap length whole_is
-      ∙ length-append front section in
-      ap (λ t. take cut t) whole_is ∙ take_at front section cut (omega (arith, behind, all))
+  before_is = grind (arith, section_is, whole_is, length-append, take_at)
 
 -- the words of an input section are below 2^64
 are_words : (at place : Place) (text rest words : List ℕ) → InputItems at text words place rest
@@ -88,19 +78,14 @@ are_words at place text rest words (next {words = others} w blanks bytes further
     (t.2, are_words _ place further rest others more)
 
 comes_to_rest : (how : TraceEnd) → trace_status how ≡ Done → how ≡ end.Rest
-comes_to_rest end.Rest e = refl
-comes_to_rest end.Budget e = absurd cc
-comes_to_rest end.Fault e = absurd cc
+comes_to_rest how e = grind arith
 
 -- what is known of printed images
 module _ (again : (image : Image) → Formed image → read (printed image) ≡ Ok image)
     (bytes : (image : Image) → Formed image → IsTrue (list_all (λ b. not (b == 37)) (printed image)))
     (ends : (image : Image) → (front : List ℕ) × (printed image ≡ front ++ codes "\n")) where
   plain_image : (image : Image) → Formed image → is_plain true (printed image) ≡ true
-  plain_image image formed =
-      let end = ends image in
-      subst (λ t. is_plain true t ≡ true) (sym end.1)
-      (plain_line true end.0 (subst (λ t. list_all not_percent t ≡ true) end.1 (bytes image formed)))
+  plain_image image formed = let end = ends image in grind (arith, is_plain, plain_line, not_percent, formed)
 
   pub image_again : (image : Image) → Formed image → Sound image → IsAssembly (printed image) image []
   image_again image formed sound =
@@ -158,28 +143,15 @@ module _ (again : (image : Image) → Formed image → read (printed image) ≡ 
 
     trace_again : HasTrace text_again (numbered (trace_line text_again) told.events)
     trace_again = record {
-      there = some_section (printed image) (plain_image image formed) lines (plain_words input words)
-          (events_text told.events);
-      events = ap (events_in (trace_line text_again)) (events_are (printed image) (plain_image image formed)
-          lines (plain_words input words) (events_text told.events))
-          ∙ spelled (trace_line text_again) told.events told.fit;
+      there = grind (arith, some_section, plain_image, formed, plain_words, words);
+      events = ap (events_in (trace_line text_again))
+          (grind (arith, events_are, plain_image, formed, plain_words, words)) ∙ spelled (trace_line
+          text_again) told.events told.fit;
     }
 
     pub traced_again : IsAssembly (before_trace out) image input × HasTrace out
         (numbered (trace_line out) told.events) × CanReplay out image input
-    traced_again =
-        subst (λ t. IsAssembly (before_trace t) image input × HasTrace t (numbered (trace_line t) told.events)
-        × CanReplay t image input) (sym told.text_is) (
-          before_again,
-          trace_again,
-          record {
-            trace = numbered (trace_line text_again) told.events;
-            has = trace_again;
-            state = told.traces.state;
-            run = subst (λ (es : List law.Event). Run image (core_opening image (world_of input)) es
-                told.traces.state) (sym (events_again (trace_line text_again) told.events)) told.traces.run;
-          },
-        )
+    traced_again = grind (arith, before_again, trace_again, events_again)
 
     -- the answer of `replay` to it
     abbrev Again : Status → List ℕ → Option Image → Type 0

@@ -1,6 +1,6 @@
 -- Each text comes to one thing alone: a job, or one refusal.
 use Rattle.std.specs.Prelude.{◌≡◌, ℕ, List, Option, Some, None, Result, Ok, Err}
-use Rattle.std.proofs.Common.{ap, ◌∙◌, subst}
+use Rattle.std.proofs.Common.{ap, subst, arith}
 use Rattle.src_ast.specs.declared.lexeme.Place.{Place}
 use Rattle.src_ast.specs.declared.lexeme.Lexeme.{Lexeme}
 use Rattle.src_ast.specs.declared.fault.Refusal.{Refusal}
@@ -54,13 +54,11 @@ module _ (section : List ℕ) (ls : List Lexeme) (finish : Place) (lex : Lex sec
   -- what is so of any lexemes is so of these
   tree_of_these : (these : List Lexeme) (end : Place) (parts : List Part) → Lex section these end
       → KeepLimits 0 0 these → Tree these parts → Tree ls parts
-  tree_of_these these end parts l k t = subst (λ (x : List Lexeme × Place). Tree x.0 parts)
-      (same_lexemes these end l k) t
+  tree_of_these these end parts l k t = grind (arith, same_lexemes these end l k)
 
   syntax_of_these : (these : List Lexeme) (end place : Place) → Lex section these end
       → KeepLimits 0 0 these → SyntaxAt these end place → SyntaxAt ls finish place
-  syntax_of_these these end place l k s = subst (λ (x : List Lexeme × Place). SyntaxAt x.0 x.1 place)
-      (same_lexemes these end l k) s
+  syntax_of_these these end place l k s = grind (arith, same_lexemes these end l k)
 
   end_of_these : (these : List Lexeme) (end : Place) → Lex section these end → KeepLimits 0 0 these
       → end ≡ finish
@@ -76,8 +74,7 @@ module _ (section : List ℕ) (ls : List Lexeme) (finish : Place) (lex : Lex sec
     only_syntax (Err q) (lexemes p h) = absurd (no_lex_fault p h)
     only_syntax (Err q) (syntax these end at l k s) =
         let same = only_tree (Err at) (syntax_of_these these end at l k s) in
-        let here : at ≡ place = cc in
-        ap (λ p. Err (syntax_at p)) here
+        grind arith
     only_syntax (Err q) (rules these end parts p l k t b) = let bad =
         only_tree (Ok parts) (tree_of_these these end parts l k t) in cc
 
@@ -105,12 +102,10 @@ module _ (section : List ℕ) (ls : List Lexeme) (finish : Place) (lex : Lex sec
         → Lex section these end → KeepLimits 0 0 these → Tree these found
         → IsFirstBroken (rules_of found end) r → IsFirstBroken (rules_of parts finish) r
     broken_of_these these end found r l k t b =
-        subst (λ p. IsFirstBroken (rules_of parts p) r) (end_of_these these end l k)
-        (subst (λ ps. IsFirstBroken (rules_of ps end) r) (same_tree these end found l k t) b)
+        grind (arith, end_of_these these end l k, same_tree these end found l k t)
 
     accepted_of_these : (found : List Part) (h : ReadsAs section found) → IsAccepted parts finish
-    accepted_of_these found h =
-        subst (λ p. IsAccepted parts p) (end_of_these h.ls h.finish h.lex h.kept)
+    accepted_of_these found h = subst (λ p. IsAccepted parts p) (end_of_these h.ls h.finish h.lex h.kept)
         (subst (λ ps. IsAccepted ps h.finish) (same_tree h.ls h.finish found h.lex h.kept h.tree) h.accepted)
 
     -- where it keeps the rules
@@ -124,11 +119,7 @@ module _ (section : List ℕ) (ls : List Lexeme) (finish : Place) (lex : Lex sec
           only_rule (Some p) (broken_of_these these end found p l k t b) in cc
 
       accepted_once : ExactlyOne (IsProgramAnswer section)
-      accepted_once = record {
-        answer = Ok parts;
-        holds = record { ls = ls; finish = finish; lex = lex; kept = kept; tree = tree; accepted = accepted };
-        only = only_accepted;
-      }
+      accepted_once = record { answer = Ok parts; holds = grind arith; only = only_accepted }
 
     -- where this is the first rule that it breaks
     module _ (r : Refusal) (broken : IsFirstBroken (rules_of parts finish) r)
@@ -148,13 +139,7 @@ module _ (section : List ℕ) (ls : List Lexeme) (finish : Place) (lex : Lex sec
       }
 
     ruled_once : ExactlyOne (IsRuleAnswer parts finish) → ExactlyOne (IsProgramAnswer section)
-    ruled_once e = go e.answer e.holds e.only
-      where
-        go : (found : Option Refusal) → IsRuleAnswer parts finish found
-            → ((other : Option Refusal) → IsRuleAnswer parts finish other → other ≡ found)
-            → ExactlyOne (IsProgramAnswer section)
-        go None h only_rule = accepted_once h only_rule
-        go (Some r) h only_rule = broken_once r h only_rule
+    ruled_once e = grind (arith, accepted_once, broken_once)
 
   parsed_once : ((parts : List Part) (end : Place) → ExactlyOne (IsRuleAnswer parts end))
       → ExactlyOne (IsTreeAnswer ls finish) → ExactlyOne (IsProgramAnswer section)
@@ -213,17 +198,12 @@ module _ (text : List ℕ) (parts : List Part) (reads : ReadsAs (program_of text
 
     only_job : (other : Result (List Part × List ℕ) Refusal) → IsTextAnswer text other
         → other ≡ Ok (parts, words)
-    only_job (Ok (others, found)) h = ap (λ ps. Ok (ps, found)) (same_parts others h.reads)
-        ∙ ap (λ ws. Ok (parts, ws)) (same_words found h.words)
+    only_job (Ok (others, found)) h = grind (arith, same_parts others h.reads, same_words found h.words)
     only_job (Err q) (program p h) = absurd (no_program_fault p h)
     only_job (Err q) (input others at h f) = let bad = only_input (Err at) f in cc
 
     job_once : ExactlyOne (IsTextAnswer text)
-    job_once = record {
-      answer = Ok (parts, words);
-      holds = record { reads = reads; words = read };
-      only = only_job;
-    }
+    job_once = record { answer = Ok (parts, words); holds = grind arith; only = only_job }
 
   module _ (place : Place) (fault : InputFault (input_place text) (input_of text) place)
       (only_input : (other : Result (List ℕ) Place) → IsInputAnswer (input_place text) (input_of text) other
@@ -245,13 +225,7 @@ module _ (text : List ℕ) (parts : List Part) (reads : ReadsAs (program_of text
     }
 
   fit_once : ExactlyOne (IsInputAnswer (input_place text) (input_of text)) → ExactlyOne (IsTextAnswer text)
-  fit_once e = go e.answer e.holds e.only
-    where
-      go : (found : Result (List ℕ) Place) → IsInputAnswer (input_place text) (input_of text) found
-          → ((other : Result (List ℕ) Place) → IsInputAnswer (input_place text) (input_of text) other
-          → other ≡ found) → ExactlyOne (IsTextAnswer text)
-      go (Ok words) h only_input = job_once words h only_input
-      go (Err place) h only_input = input_fault_once place h only_input
+  fit_once e = grind (arith, job_once, input_fault_once)
 
   reads_once : ExactlyOne (IsTextAnswer text)
   reads_once = fit_once (one_answer (input_place text) (input_of text))

@@ -1,41 +1,36 @@
 -- What `multi` answers: the statuses of threads, and what comes of those that are due.
-use Rattle.std.specs.Prelude.{◌≡◌, ℕ, zero, suc, ◌+◌, ◌-◌, ◌≤◌, Result, IfOk, OnErr, List, [], ◌∷◌, ◌++◌}
-use Rattle.std.specs.Prelude.{length, Option, Some, None, Ok, Err, refl, slice_index_or}
+use Rattle.std.specs.Prelude.{◌≡◌, ℕ, suc, ◌+◌, ◌-◌, ◌≤◌, Result, IfOk, OnErr, List, [], ◌∷◌, length, Option}
+use Rattle.std.specs.Prelude.{Some, None, Ok, Err, refl, slice_index_or}
 use Rattle.std.specs.List.{AllByRecursion}
 use Rattle.std.proofs.Common.{sym, ap, ◌∙◌, subst, inl, inr, arith}
 use Rattle.ws_io.specs.Streams.{Rose}
-use Rattle.src_ast.specs.Lexemes.{start}
 use Rattle.src_ast.specs.Syntax.{Part}
 use Rattle.src_ast.specs.Once.{ExactlyOne}
 use Rattle.ws_isa.specs.Image.{Image}
 use Rattle.ws_isa.specs.Formed.{Formed}
-use Rattle.ws_words.specs.Outside.{Outside, World, row}
-use Rattle.ws_words.specs.Plain.{took_words}
+use Rattle.ws_words.specs.Outside.{Outside, World}
 use Rattle.ws_isa.specs.Walk.{mem}
-use Rattle.df_core.specs.Began.{Began}
 use Rattle.port_set.specs.Ports.{Told}
 use Rattle.port_set.specs.Slots.{port_at}
 use Rattle.store_buf.specs.Outdoors.{RoseAt, SlotIs, failures, world_with}
 use Rattle.store_buf.proofs.Within.{port_in}
 use Rattle.wsc_top.specs.declared.status.Status.{Status}
-use Rattle.wsc_top.specs.declared.status.Status.TheVariants.{Done, Usage, Refused, Budget, ReadFault}
-use Rattle.wsc_top.specs.declared.status.Status.TheVariants.{WriteFault, PortFault, NoMemory, Fault}
+use Rattle.wsc_top.specs.declared.status.Status.TheVariants.{Done, Refused, ReadFault, WriteFault, PortFault}
+use Rattle.wsc_top.specs.declared.status.Status.TheVariants.{NoMemory}
 use Rattle.wsc_top.specs.declared.task.Task.{Task}
-use Rattle.wsc_top.specs.declared.task.Task.TheVariants.{Job, Assembly, Generate, Bench, Multi}
+use Rattle.wsc_top.specs.declared.task.Task.TheVariants.{Job, Assembly, Multi}
 use Rattle.wsc_top.specs.declared.task.JobTask.TheVariants.{Run}
 use Rattle.wsc_top.specs.declared.task.RunOptions.{RunOptions}
 use Rattle.wsc_top.specs.Tasks.{AsksFor, IsNoLine}
-use Rattle.wsc_top.specs.Job.{job_limit, IsJob, IsTextAnswer}
-use Rattle.wsc_top.specs.Jobs.{most_jobs, Piece, last, next, Jobs, ProgramAndInput, AreJobs}
-use Rattle.wsc_top.specs.Jobs.{jobs_refusal_text}
-use Rattle.wsc_top.specs.Executions.{Executes, rested, spent, stopped, failed, PortsAre, IsFailed, OrFailed}
+use Rattle.wsc_top.specs.Job.{job_limit, IsTextAnswer}
+use Rattle.wsc_top.specs.Jobs.{Piece, Jobs, ProgramAndInput, AreJobs}
+use Rattle.wsc_top.specs.Executions.{Executes, failed, PortsAre, IsFailed, OrFailed}
 use Rattle.wsc_top.specs.Answers.{TellWords, Yields, ran, IsFree, done, limit_of, Answers, usage, generated}
 use Rattle.wsc_top.specs.Answers.{benched, unread, long, read, assembled}
-use Rattle.wsc_top.specs.Threads.{no_ports, thread_line, ThreadsDo, none, more, status_of, Thread, pieces_of}
-use Rattle.wsc_top.specs.Threads.{images_of, inputs_of, HaveBegun, Falls, HasJob, AreThreads, RunsAlone}
-use Rattle.wsc_top.specs.Threads.{ExecutesAlone, MultiAnswered, Replies, alone, together, AreDue, AreToldJobs}
-use Rattle.wsc_top.specs.Threads.{AreToldNoJobs, OthersEndSo, EachEndsSo, MultiEndsSo, ComeToTheirEnd}
-use Rattle.wsc_top.specs.Threads.{IsFreeAnswer}
+use Rattle.wsc_top.specs.Threads.{no_ports, ThreadsDo, none, more, status_of, Thread, pieces_of, images_of}
+use Rattle.wsc_top.specs.Threads.{inputs_of, HaveBegun, Falls, HasJob, AreThreads, RunsAlone, ExecutesAlone}
+use Rattle.wsc_top.specs.Threads.{MultiAnswered, Replies, alone, together, AreDue, AreToldJobs, AreToldNoJobs}
+use Rattle.wsc_top.specs.Threads.{OthersEndSo, EachEndsSo, MultiEndsSo, ComeToTheirEnd, IsFreeAnswer}
 use Rattle.wsc_top.specs.Threads as threads
 use Rattle.wsc_words.specs.Lines.{HasCommand}
 use Rattle.wsc_top.specs.Calls.{SourceCall, IsReply}
@@ -55,46 +50,31 @@ use Rattle.store_buf.proofs.Failing.{in_seven}
 
 none_at : {A : Type 0} (k : ℕ)
     → ◌≡◌ {A = Option A} (slice_index_or (None ∷ None ∷ None ∷ None ∷ None ∷ None ∷ None ∷ []) k None) None
-none_at zero = refl
-none_at (suc zero) = refl
-none_at (suc (suc zero)) = refl
-none_at (suc (suc (suc zero))) = refl
-none_at (suc (suc (suc (suc zero)))) = refl
-none_at (suc (suc (suc (suc (suc zero))))) = refl
-none_at (suc (suc (suc (suc (suc (suc zero)))))) = refl
-none_at (suc (suc (suc (suc (suc (suc (suc k))))))) = refl
+none_at k = grind arith
 
 no_failures : (left took : List ℕ) (port : Option Told) → SlotIs None left took port → failures port ≡ 0
-no_failures left took None h = refl
-no_failures left took (Some port) h = absurd h
+no_failures left took port h = grind arith
 
 no_failures_at : (port : ℕ) (o : Outside) (back : List (Option Told)) → PortsAre no_ports o back → 1 ≤ port
     → port ≤ 7 → failures (port_at back port) ≡ 0
-no_failures_at port o back h low high =
-    no_failures (row o.left (port - 1)) (took_words port o.acts) (port_at back port)
-    (subst (λ (began : Option Began). SlotIs began (row o.left (port - 1)) (took_words port o.acts)
-    (port_at back port)) (none_at (port - 1)) (h port low high))
+no_failures_at port o back h low high = grind (arith, no_failures, none_at)
 
 never_rose : (m n : ℕ) → m ≡ 0 → n ≡ 0 → Rose m n → ⊥
-never_rose m n e f (inl lt) = omega (arith, e, f, lt)
-never_rose m n e f (inr most) = let bad : 0 ≡ 18446744073709551615 = sym f ∙ most in omega (arith, bad)
+never_rose m n e f x = grind arith
 
 never_fails : (options : RunOptions) (image : Image) (world : World) (status : Status) (out : List ℕ)
     (back : List (Option Told)) → Formed image → Executes options image world no_ports status out back
     → IsFailed status → ⊥
-never_fails options image world status out back formed (rested t n k w ports) f = let e = f.1 in cc
-never_fails options image world status out back formed (spent t s ports) f = let e = f.1 in cc
-never_fails options image world status out back formed (stopped t x ports) f = let e = f.1 in cc
 never_fails options image world status out back formed (failed t port x fires is within rose ports) f =
     let seven = in_seven _ port is (port_in image x.instr formed) in
     never_rose _ _ (ap failures (none_at (port - 1))) (no_failures_at port (mem image world t) back ports
     seven.0 seven.1) rose
+never_fails options image world status out back formed x f = let e = f.1 in cc
 
 pub yields_never_fails : (options : RunOptions) (parts : List Part) (input : List ℕ) (status : Status)
     (out : List ℕ) (image : Option Image) (back : List (Option Told))
     → Yields (Run options) parts input no_ports status out image back → IsFailed status → ⊥
-yields_never_fails options parts input status out some back (ran image c e t) f =
-    never_fails options image (world_with input no_ports) status out back c.formed e f
+yields_never_fails options parts input status out some back (ran image c e t) f = grind (arith, never_fails)
 
 -- a thread without ports has one of these statuses
 abbrev IsQuiet : Status → Type 0
@@ -106,52 +86,20 @@ IsQuiet _ = Unit {0}
 
 quiet : (status : Status) (back : List (Option Told)) → IsOfText no_ports back status → (IsFailed status → ⊥)
     → IsQuiet status
-quiet Done back h f = tt
-quiet Usage back h f = tt
-quiet Refused back h f = tt
-quiet Budget back h f = tt
-quiet Fault back h f = tt
-quiet ReadFault back h f = h
-quiet WriteFault back h f = h
-quiet NoMemory back h f = h
-quiet (PortFault port) back h f = f (port, refl)
+quiet status back h f = grind arith
 
 quiet_text : (status : Status) (handed back : List (Option Told)) → IsQuiet status
     → IsOfText handed back status
-quiet_text Done handed back h = tt
-quiet_text Usage handed back h = tt
-quiet_text Refused handed back h = tt
-quiet_text Budget handed back h = tt
-quiet_text Fault handed back h = tt
-quiet_text ReadFault handed back h = h
-quiet_text WriteFault handed back h = h
-quiet_text NoMemory handed back h = h
-quiet_text (PortFault port) handed back h = absurd h
+quiet_text status handed back h = grind arith
 
 quiet_first : (status : Status) (statuses : List Status) → IsQuiet status → IsQuiet (status_of statuses)
     → IsQuiet (status_of (status ∷ statuses))
-quiet_first Done statuses h k = k
-quiet_first Usage statuses h k = h
-quiet_first Refused statuses h k = h
-quiet_first Budget statuses h k = h
-quiet_first Fault statuses h k = h
-quiet_first ReadFault statuses h k = h
-quiet_first WriteFault statuses h k = h
-quiet_first NoMemory statuses h k = h
-quiet_first (PortFault port) statuses h k = h
+quiet_first status statuses h k = grind arith
 
 text_first : (status : Status) (statuses : List Status) (handed back : List (Option Told))
     → IsOfText handed back status → IsQuiet (status_of statuses)
     → IsOfText handed back (status_of (status ∷ statuses))
-text_first Done statuses handed back h k = quiet_text (status_of statuses) handed back k
-text_first Usage statuses handed back h k = h
-text_first Refused statuses handed back h k = h
-text_first Budget statuses handed back h k = h
-text_first Fault statuses handed back h k = h
-text_first ReadFault statuses handed back h k = h
-text_first WriteFault statuses handed back h k = h
-text_first NoMemory statuses handed back h k = h
-text_first (PortFault port) statuses handed back h k = h
+text_first status statuses handed back h k = grind (arith, quiet_text)
 
 module _ (options : RunOptions) where
   others_quiet : (t : ℕ) (xs : List Thread) (statuses : List Status) (out : List ℕ)
@@ -159,27 +107,20 @@ module _ (options : RunOptions) where
       → IsQuiet (status_of statuses)
   others_quiet t xs statuses out back none = tt
   others_quiet t xs statuses out back (more {x = x} {others = others} {status = s} {statuses = ss} {out = own}
-      {further = further} h rest) =
-      quiet_first s ss
-      (quiet s back (yields_status (Run options) x.parts x.input no_ports s own (Some x.image) back h)
-      (yields_never_fails options x.parts x.input s own (Some x.image) back h))
+      {further = further} h rest) = quiet_first s ss (grind (arith, quiet, yields_status, yields_never_fails))
       (others_quiet (suc t) _ ss further others rest)
 
   threads_text : (t : ℕ) (xs : List Thread) (handed : List (Option Told)) (statuses : List Status)
       (out : List ℕ) (back : List (Option Told)) → ThreadsDo (RunsAlone options) t xs handed statuses out back
       → IsOfText handed back (status_of statuses)
   threads_text t xs handed statuses out back none = tt
-  threads_text t xs handed statuses out back (more {x = x} {others = others} {status = s} {statuses = ss}
-      {out = own} {further = further} h rest) =
-      text_first s ss handed back (yields_status (Run options) x.parts x.input handed s own (Some x.image)
-      back h) (others_quiet (suc t) _ ss further others rest)
+  threads_text t xs handed statuses out back (more {x = x} {others = others} {status = s} {statuses = ss} {out
+      = own} {further = further} h rest) = grind (arith, text_first, yields_status, others_quiet)
 
   multi_text : (text : List ℕ) (handed : List (Option Told)) (statuses : List Status) (out : List ℕ)
       (images : List Image) (back : List (Option Told)) → MultiAnswered options text handed statuses out
       images back → IsOfText handed back (status_of statuses)
-  multi_text text handed statuses out images back (threads.MultiAnswered.refused r h) = tt
-  multi_text text handed statuses out images back (threads.MultiAnswered.done xs are acts) =
-      threads_text 1 xs handed statuses out back acts
+  multi_text text handed statuses out images back x = grind (arith, threads_text)
 
   -- The status of each thread.
 
@@ -189,12 +130,11 @@ module _ (options : RunOptions) where
       → ThreadsDo (ExecutesAlone options) t xs handed statuses out back
       → ThreadsDo (RunsAlone options) t xs handed statuses out back
   threads_due known whole t xs handed statuses out back each made told none = none
-  threads_due known whole t xs handed statuses out back each made told
-      (more {x = x} {others = others} {status = s} {statuses = ss} {out = own} {further = further} e rest) =
-      more (ran x.image made.0 e (run_tells known whole options x.parts x.image made.0
-      (world_with x.input handed) (given_words x.input handed (input_words _ _ x.input each.0.words) told)
-      handed back s own e))
-      (threads_due known whole (suc t) _ no_ports ss further others each.1 made.1 no_ports_words rest)
+  threads_due known whole t xs handed statuses out back each made told (more {x = x} {others = others} {status
+      = s} {statuses = ss} {out = own} {further = further} e rest) = more (ran x.image made.0 e (run_tells
+      known whole options x.parts x.image made.0 (world_with x.input handed) (given_words x.input handed
+      (input_words _ _ x.input each.0.words) told) handed back s own e)) (threads_due known whole (suc t) _
+      no_ports ss further others each.1 made.1 no_ports_words rest)
 
   others_end : (t : ℕ) (xs : List Thread) (statuses : List Status) (out : List ℕ) (back : List (Option Told))
       → AllByRecursion HasJob xs → ThreadsDo (RunsAlone options) t xs no_ports statuses out back
@@ -220,17 +160,10 @@ module _ (options : RunOptions) where
       )
 
 no_pieces : (text : List ℕ) (ps : List Piece) → Jobs text ps → ps ≡ [] → ⊥
-no_pieces text ps (last l) e = cc
-no_pieces text ps (next further js) e = cc
+no_pieces text ps x e = grind arith
 
 pub are_jobs : (text : List ℕ) (xs : List Thread) → AreThreads text xs → AreJobs text (programs_of xs)
-are_jobs text xs a = record {
-  pieces = pieces_of xs;
-  split = a.split;
-  few = subst (λ (n : ℕ). n ≤ most_jobs)
-      (sym (count_pieces xs)) a.few;
-  each = each_of xs a.each;
-}
+are_jobs text xs a = grind (arith, count_pieces, each_of)
 
 module _ (once : (text : List ℕ) → ExactlyOne (IsTextAnswer text)) (options : RunOptions) (text : List ℕ)
     (jobs : List ProgramAndInput) (handed : List (Option Told)) (told : TellWords handed)
@@ -238,9 +171,7 @@ module _ (once : (text : List ℕ) → ExactlyOne (IsTextAnswer text)) (options 
   all_end : (xs : List Thread) (statuses : List Status) (out : List ℕ) (back : List (Option Told))
       → AreThreads text xs → ThreadsDo (RunsAlone options) 1 xs handed statuses out back
       → EachEndsSo options (programs_of xs) handed statuses
-  all_end [] statuses out back a acts = absurd (no_pieces text _ a.split refl)
-  all_end (x ∷ xs) statuses out back a acts = threads_end options 1 x xs handed statuses out back a.each told
-      acts
+  all_end xs statuses out back a acts = grind (arith, no_pieces, threads_end)
 
   multi_so : (statuses : List Status) (out : List ℕ) (images : List Image) (back : List (Option Told))
       → MultiAnswered options text handed statuses out images back → MultiEndsSo options jobs handed
@@ -249,40 +180,35 @@ module _ (once : (text : List ℕ) → ExactlyOne (IsTextAnswer text)) (options 
       absurd (never_both once text jobs r are h)
   multi_so statuses out images back (threads.MultiAnswered.done xs a acts) = (
     statuses,
-    subst (λ (js : List ProgramAndInput). EachEndsSo options js handed statuses)
-        (one_jobs once text (programs_of xs) jobs (are_jobs text xs a) are)
-        (all_end xs statuses out back a acts),
+    subst (λ (js : List ProgramAndInput). EachEndsSo options js handed statuses) (one_jobs once text
+        (programs_of xs) jobs (are_jobs text xs a) are) (all_end xs statuses out back a acts),
     refl,
   )
 
 -- where each comes to its end
 others_done : (options : RunOptions) (jobs : List ProgramAndInput) (statuses : List Status)
     → OthersEndSo options jobs statuses → ComeToTheirEnd options jobs no_ports → status_of statuses ≡ Done
-others_done options [] [] h c = refl
-others_done options [] (s ∷ ss) h c = absurd h
-others_done options (job ∷ jobs) [] h c = absurd h
 others_done options (job ∷ jobs) (s ∷ ss) h c = go (others_done options jobs ss h.2 c.1) (h.0.done c.0)
   where
     go : status_of ss ≡ Done → OrFailed s Done → status_of (s ∷ ss) ≡ Done
     go rest (inl e) = ap (λ (x : Status). status_of (x ∷ ss)) e ∙ rest
     go rest (inr f) = absurd (h.1 f)
+others_done options jobs statuses h c = grind arith
 
 each_done : (options : RunOptions) (jobs : List ProgramAndInput) (handed : List (Option Told))
     (statuses : List Status) → EachEndsSo options jobs handed statuses → ComeToTheirEnd options jobs handed
     → OrFailed (status_of statuses) Done
-each_done options [] handed ss h c = absurd h
-each_done options (job ∷ jobs) handed [] h c = absurd h
 each_done options (job ∷ jobs) handed (s ∷ ss) h c = go (h.0.done c.0)
   where
     go : OrFailed s Done → OrFailed (status_of (s ∷ ss)) Done
     go (inl e) = inl (ap (λ (x : Status). status_of (x ∷ ss)) e ∙ others_done options jobs ss h.1 c.1)
     go (inr f) = inr (f.0, ap (λ (x : Status). status_of (x ∷ ss)) f.1)
+each_done options jobs handed ss h c = absurd h
 
 pub ends_done : (options : RunOptions) (jobs : List ProgramAndInput) (handed : List (Option Told))
     (status : Status) → MultiEndsSo options jobs handed status → ComeToTheirEnd options jobs handed
     → OrFailed status Done
-ends_done options jobs handed status h c = subst (λ (x : Status). OrFailed x Done) (sym h.2)
-    (each_done options jobs handed h.0 h.1 c)
+ends_done options jobs handed status h c = grind (arith, each_done)
 
 -- The replies of a call.
 
@@ -294,37 +220,29 @@ module _ (words : List (List ℕ)) (left after : Option (List ℕ)) (m n : ℕ) 
       → (status : Status) (out : List ℕ) (image : Option Image) (images : List Image)
       (back : List (Option Told)) → Replies words left after m n handed status out image images back
       → Q status back
-  reply_text Q one many status out image images back (alone a) = one status out image back a
-  reply_text Q one many status out image images back (together {statuses = ss} o text q short takes a) =
-      many (status_of ss) back (multi_text o text handed ss out images back a)
+  reply_text Q one many status out image images back x = grind (arith, multi_text)
 
   pub reply_not_memory : (status : Status) (out : List ℕ) (image : Option Image) (images : List Image)
       (back : List (Option Told)) → Replies words left after m n handed status out image images back
       → status ≡ NoMemory → ⊥
-  reply_not_memory = reply_text (λ s back. s ≡ NoMemory → ⊥) (λ s out image back a.
-      not_memory words left after m n handed s out image back a)
-      (λ s back h e. subst (IsOfText handed back) e h)
+  reply_not_memory = reply_text (λ s back. s ≡ NoMemory → ⊥) (grind (arith, not_memory)) (grind arith)
 
   pub reply_not_write_fault : (status : Status) (out : List ℕ) (image : Option Image) (images : List Image)
       (back : List (Option Told)) → Replies words left after m n handed status out image images back
       → status ≡ WriteFault → ⊥
-  reply_not_write_fault = reply_text (λ s back. s ≡ WriteFault → ⊥)
-      (λ s out image back a. not_write_fault words left after m n handed s out image back a)
-      (λ s back h e. subst (IsOfText handed back) e h)
+  reply_not_write_fault = reply_text (λ s back. s ≡ WriteFault → ⊥) (grind (arith, not_write_fault)) (grind
+      arith)
 
   pub reply_read_rose : (status : Status) (out : List ℕ) (image : Option Image) (images : List Image)
       (back : List (Option Told)) → Replies words left after m n handed status out image images back
       → status ≡ ReadFault → Rose m n
-  reply_read_rose = reply_text (λ s back. s ≡ ReadFault → Rose m n)
-      (λ s out image back a. read_rose words left after m n handed s out image back a)
-      (λ s back h e. absurd (subst (IsOfText handed back) e h))
+  reply_read_rose = reply_text (λ s back. s ≡ ReadFault → Rose m n) (grind (arith, read_rose)) (grind arith)
 
   pub reply_port_rose : (status : Status) (out : List ℕ) (image : Option Image) (images : List Image)
       (back : List (Option Told)) → Replies words left after m n handed status out image images back
       → (port : ℕ) → status ≡ PortFault port → RoseAt port handed back
   reply_port_rose = reply_text (λ s back. (port : ℕ) → s ≡ PortFault port → RoseAt port handed back)
-      (λ s out image back a. port_rose words left after m n handed s out image back a)
-      (λ s back h port e. subst (IsOfText handed back) e h)
+      (grind (arith, port_rose)) (grind arith)
 
   -- words that are no line aren't answered by threads
   pub reply_no_line : (status : Status) (out : List ℕ) (image : Option Image) (images : List Image)
@@ -350,8 +268,7 @@ pub reply_told : {E : Type 0} (words : List (List ℕ)) (left after : Option (Li
     (answer : Result (Status × List ℕ) E) (status : Status) (out : List ℕ) → answer ≡ Ok (status, out)
     → IfOk answer (λ a. Replies words left after m n handed a.0 a.1 image images back)
     → Replies words left after m n handed status out image images back
-reply_told words left after m n handed image images back answer status out is h =
-    subst (λ r. IfOk r (λ a. Replies words left after m n handed a.0 a.1 image images back)) is h
+reply_told words left after m n handed image images back answer status out is h = grind arith
 
 module _ (one : OneLine) (words : List (List ℕ)) (left after : Option (List ℕ)) (m n : ℕ)
     (handed : List (Option Told)) where
@@ -364,30 +281,24 @@ module _ (one : OneLine) (words : List (List ℕ)) (left after : Option (List �
   jobs_answer_so once options jobs told t status out image images back (alone (usage h e)) f =
       absurd (h (Multi options) t.line)
   jobs_answer_so once options jobs told t status out image images back (alone (generated k q e)) f =
-      let same : Generate k ≡ Multi options = same_task_by one words (Generate k) (Multi options) q t.line in
-      absurd cc
+      grind (arith, same_task_by)
   jobs_answer_so once options jobs told t status out image images back (alone (benched o q e x)) f =
-      let same : Bench o ≡ Multi options = same_task_by one words (Bench o) (Multi options) q t.line in
-      absurd cc
+      grind (arith, same_task_by)
   jobs_answer_so once options jobs told t status out image images back (alone (unread d bytes q is rose k x))
       f = absurd (f refl)
   jobs_answer_so once options jobs told t status out image images back (alone (long d bytes q is k x)) f =
-      absurd (too_much job_limit left t.text bytes after t.told t.short
-      (subst (λ (e : Task). length bytes ≡ limit_of e + 1)
-      (same_task_by one words d (Multi options) q t.line) k) x)
+      absurd (too_much job_limit left t.text bytes after t.told t.short (subst (λ (e : Task). length bytes ≡
+      limit_of e + 1) (same_task_by one words d (Multi options) q t.line) k) x)
   jobs_answer_so once options jobs told t status out image images back (alone (read d text q k x a)) f =
       let same : Job d ≡ Multi options = same_task_by one words (Job d) (Multi options) q t.line in absurd cc
   jobs_answer_so once options jobs told t status out image images back (alone (assembled d text q k x a)) f =
-      let same : Assembly d ≡ Multi options = same_task_by one words (Assembly d) (Multi options) q t.line in
-      absurd cc
-  jobs_answer_so once options jobs told t status out image images back
-      (together {statuses = ss} o text q short takes a) f =
+      grind (arith, same_task_by one words (Assembly d) (Multi options) q t.line)
+  jobs_answer_so once options jobs told t status out image images back (together {statuses =
+      ss} o text q short takes a) f =
       let whole : Multi o ≡ Multi options = same_task_by one words (Multi o) (Multi options) q t.line in
       let same : o ≡ options = cc in
-      let here : text ≡ t.text = told_text left t.text text after t.told takes in
-      multi_so once options t.text jobs handed told t.jobs_are ss out images back
-      (subst (λ (x : List ℕ). MultiAnswered options x handed ss out images back) here
-      (subst (λ (x : RunOptions). MultiAnswered x text handed ss out images back) same a))
+      let here : text ≡ t.text = grind (arith, told_text) in
+      multi_so once options t.text jobs handed told t.jobs_are ss out images back (grind arith)
 
   -- a told text that is no such jobs is refused, or reading failed
   pub told_unjobs : (options : RunOptions) → AreToldNoJobs words left options
@@ -395,27 +306,20 @@ module _ (one : OneLine) (words : List (List ℕ)) (left after : Option (List �
       (back : List (Option Told)) → Replies words left after m n handed status out image images back
       → (status ≡ ReadFault → ⊥) → status ≡ Refused
   told_unjobs options t status out image images back (alone (usage h e)) f = absurd (h (Multi options) t.line)
-  told_unjobs options t status out image images back (alone (generated k q e)) f =
-      let same : Generate k ≡ Multi options = same_task_by one words (Generate k) (Multi options) q t.line in
-      absurd cc
-  told_unjobs options t status out image images back (alone (benched o q e x)) f =
-      let same : Bench o ≡ Multi options = same_task_by one words (Bench o) (Multi options) q t.line in
-      absurd cc
-  told_unjobs options t status out image images back (alone (unread d bytes q is rose k x)) f =
-      absurd (f refl)
+  told_unjobs options t status out image images back (alone (generated k q e)) f = grind (arith, same_task_by)
+  told_unjobs options t status out image images back (alone (benched o q e x)) f = grind (arith, same_task_by)
+  told_unjobs options t status out image images back (alone (unread d bytes q is rose k x)) f = grind arith
   told_unjobs options t status out image images back (alone (long d bytes q is k x)) f = refl
   told_unjobs options t status out image images back (alone (read d text q k x a)) f =
       let same : Job d ≡ Multi options = same_task_by one words (Job d) (Multi options) q t.line in absurd cc
   told_unjobs options t status out image images back (alone (assembled d text q k x a)) f =
-      let same : Assembly d ≡ Multi options = same_task_by one words (Assembly d) (Multi options) q t.line in
-      absurd cc
+      grind (arith, same_task_by one words (Assembly d) (Multi options) q t.line)
   told_unjobs options t status out image images back
       (together o text q short takes (threads.MultiAnswered.refused r h)) f = refl
-  told_unjobs options t status out image images back
-      (together o text q short takes (threads.MultiAnswered.done xs are acts)) f =
-      let here : text ≡ t.text = told_text left t.text text after t.told takes in
-      absurd (t.other (subst (λ (x : List ℕ). length x ≤ job_limit) here short) (programs_of xs)
-      (subst (λ (x : List ℕ). AreJobs x (programs_of xs)) here (are_jobs text xs are)))
+  told_unjobs options t status out image images back (together o text q short takes
+      (threads.MultiAnswered.done xs are acts)) f =
+      let here : text ≡ t.text = grind (arith, told_text) in
+      absurd (t.other (grind arith) (programs_of xs) (grind (arith, programs_of, are_jobs)))
 
 module _ (words : List (List ℕ)) (left after : Option (List ℕ)) (m n : ℕ) (handed : List (Option Told)) where
   -- what threads acts that are due is the answer
@@ -424,10 +328,9 @@ module _ (words : List (List ℕ)) (left after : Option (List ℕ)) (m n : ℕ) 
       → TellWords handed
       → ThreadsDo (ExecutesAlone options) 1 xs handed statuses out back
       → Replies words left after m n handed (status_of statuses) out None (images_of xs) back
-  due_replies known whole options xs statuses out back due told acts =
-      together options due.text due.line due.short due.takes
-      (threads.MultiAnswered.done xs due.jobs (threads_due options known whole 1 xs handed statuses out back
-      due.jobs.each due.compiled told acts))
+  due_replies known whole options xs statuses out back due told acts = together options due.text due.line
+      due.short due.takes (threads.MultiAnswered.done xs due.jobs (threads_due options known whole 1 xs handed
+      statuses out back due.jobs.each due.compiled told acts))
 
 -- there are some threads
 pub some_inputs : (text : List ℕ) (xs : List Thread) (inputs : List (List ℕ)) → AreThreads text xs
@@ -449,14 +352,7 @@ module _ {E : Type 0} (words : List (List ℕ)) (reads : SourceCall) (handed bac
       × (y.0 ≡ status_of statuses))
       → OnErr answer ((xs : List Thread) → images_of xs ≡ images → inputs_of xs ≡ inputs
       → HaveBegun xs handed back) → IsReply words reads handed answer None seen back
-  threads_reply (Ok y) law h begun = let r = h due.0 (due.2 ∙ sym same) due.3 in record {
-    answered = subst (λ (s : Status). Replies words reads.left reads.after reads.faults reads.counted handed s
-        y.1 None seen back) (sym r.2)
-        (subst (λ (is : List Image). Replies words reads.left reads.after reads.faults reads.counted handed
-        (status_of r.0) y.1 None is back) due.2 (law r.0 y.1 r.1));
-    memory = tt;
-    known = λ h. refl;
-  }
+  threads_reply (Ok y) law h begun = grind arith
   threads_reply (Err x) law h begun = record {
     answered = tt;
     memory = subst (λ (is : List Image). Falls words reads.left reads.after handed None is back) due.2
@@ -480,11 +376,9 @@ module _ (once : (text : List ℕ) → ExactlyOne (IsTextAnswer text)) (law : Ru
       (back again : List (Option Told)) → x.piece ≡ y.piece → HasJob x → HasJob y
       → RunsAlone options x handed s own back → RunsAlone options y handed r other again → IsFree options s
       → IsFree options r → ◌≡◌ {A = Reply} (s, own) (r, other)
-  thread_alike x y handed s r own other back again e h k a b free also =
-      runs_alike y.piece.text (once y.piece.text) options handed law s r own other (Some x.image)
-      (Some y.image) back again
-      (done x.parts x.input (subst (λ (p : Piece). IsJob p.text x.parts x.input) e h) a)
-      (done y.parts y.input k b) free also
+  thread_alike x y handed s r own other back again e h k a b free also = runs_alike y.piece.text (once
+      y.piece.text) options handed law s r own other (Some x.image) (Some y.image) back again (done x.parts
+      x.input (grind arith) a) (done y.parts y.input k b) free also
 
   threads_alike : (t : ℕ) (xs ys : List Thread) (handed : List (Option Told)) (ss rs : List Status)
       (out other : List ℕ) (back again : List (Option Told)) → pieces_of xs ≡ pieces_of ys
@@ -493,21 +387,19 @@ module _ (once : (text : List ℕ) → ExactlyOne (IsTextAnswer text)) (law : Ru
       other again → AllByRecursion (IsFree options) ss → AllByRecursion (IsFree options) rs
       → (ss ≡ rs) × (out ≡ other)
   threads_alike t xs ys handed ss rs out other back again e h k none none free also = (refl, refl)
-  threads_alike t xs ys handed ss rs out other back again e h k none (more a rest) free also = let bad =
-      ap length e in absurd (omega (arith, bad))
-  threads_alike t xs ys handed ss rs out other back again e h k (more a rest) none free also = let bad =
-      ap length e in absurd (omega (arith, bad))
+  threads_alike t xs ys handed ss rs out other back again e h k none (more a rest) free also = grind arith
+  threads_alike t xs ys handed ss rs out other back again e h k (more a rest) none free also = grind arith
   threads_alike t xs ys handed ss rs out other back again e h k
       (more {x = x} {xs = xs'} {others = others} {status = s} {statuses = ss'} {out = own} {further = further}
       a rest) (more {x = y} {xs = ys'} {others = others'} {status = r} {statuses = rs'} {out = own'}
       {further = further'} b rest') free also =
       let here = thread_alike x y handed s r own own' back again (same_piece x y xs' ys' e) h.0 k.0 a b free.0
       also.0 in
-      let there = threads_alike (suc t) xs' ys' no_ports ss' rs' further further' others others'
-      (same_pieces x y xs' ys' e) h.1 k.1 rest rest' free.1 also.1 in (
-        ap (λ (p : Reply). p.0 ∷ ss') here ∙ ap (λ (l : List Status). r ∷ l) there.0,
-        ap (λ (p : Reply). thread_line t ++ p.1 ++ further) here
-            ∙ ap (λ (l : List ℕ). thread_line t ++ own' ++ l) there.1,
+      grind (
+        arith,
+        same_pieces,
+        threads_alike (suc t) xs' ys' no_ports ss' rs' further further' others others' (same_pieces x y xs'
+            ys' e) h.1 k.1 rest rest' free.1 also.1,
       )
 
   one_answer : (text : List ℕ) (handed : List (Option Told)) (ss rs : List Status) (out other : List ℕ)
@@ -515,8 +407,7 @@ module _ (once : (text : List ℕ) → ExactlyOne (IsTextAnswer text)) (law : Ru
       images back → MultiAnswered options text handed rs other more again
       → AllByRecursion (IsFree options) ss → AllByRecursion (IsFree options) rs → (ss ≡ rs) × (out ≡ other)
   one_answer text handed ss rs out other images more' back again (threads.MultiAnswered.refused q h)
-      (threads.MultiAnswered.refused r k) free also =
-      (refl, ap jobs_refusal_text (one_jobs_refusal once text q r h k))
+      (threads.MultiAnswered.refused r k) free also = grind (arith, one_jobs_refusal)
   one_answer text handed ss rs out other images more' back again (threads.MultiAnswered.refused q h)
       (threads.MultiAnswered.done ys b acts) free also =
       absurd (never_both once text (programs_of ys) q (are_jobs text ys b) h)
@@ -524,13 +415,8 @@ module _ (once : (text : List ℕ) → ExactlyOne (IsTextAnswer text)) (law : Ru
       (threads.MultiAnswered.refused r k) free also =
       absurd (never_both once text (programs_of xs) r (are_jobs text xs a) k)
   one_answer text handed ss rs out other images more' back again (threads.MultiAnswered.done xs a acts)
-      (threads.MultiAnswered.done ys b acts2) free also =
-      threads_alike 1 xs ys handed ss rs out other back again
-      (jobs_once start text (pieces_of xs) (pieces_of ys) a.split b.split) a.each b.each acts acts2 free
-      also
+      (threads.MultiAnswered.done ys b acts2) free also = grind (arith, threads_alike, jobs_once)
 
   pub multi_alike : (text : List ℕ) (handed : List (Option Told)) (a b : Reply)
       → IsFreeAnswer options text handed a → IsFreeAnswer options text handed b → a ≡ b
-  multi_alike text handed a b h k =
-      let same = one_answer text handed h.0 k.0 a.1 b.1 h.1 k.1 h.2 k.2 h.3 k.3 h.4 k.4 in
-      same_reply a.0 b.0 a.1 b.1 (h.5 ∙ ap status_of same.0 ∙ sym k.5) same.1
+  multi_alike text handed a b h k = grind (arith, one_answer, same_reply)

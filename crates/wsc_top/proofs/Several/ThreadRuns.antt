@@ -1,18 +1,16 @@
 -- The run of several threads.
-use Rattle.std.specs.Prelude.{◌≡◌, ℕ, zero, suc, ◌≤◌, List, [], ◌∷◌, length, slice_get, Option}
-use Rattle.std.specs.Prelude.{Some, None, refl, All, replicate, IfSome, IfOk, OnErr, Result, Ok, Err}
+use Rattle.std.specs.Prelude.{◌≡◌, ℕ, suc, ◌≤◌, List, [], ◌∷◌, length, slice_get, Option, Some, None, refl}
+use Rattle.std.specs.Prelude.{IfSome, IfOk, OnErr, Result}
 use Rattle.std.proofs.Common.{sym, ap, ◌∙◌, subst, arith}
-use Rattle.std.proofs.lemmas.List.Elements.{All-cons, All-nil}
 use Rattle.ws_isa.specs.Image.{Image}
 use Rattle.port_set.specs.Ports.{Told}
 use Rattle.port_set.specs.declared.slots.Slots.{Slots}
 use Rattle.port_set.specs.Slots.{AllOpen, contents}
-use Rattle.store_buf.specs.Outdoors.{AllTell, TellsLeft, world_with}
+use Rattle.store_buf.specs.Outdoors.{AllTell, world_with}
 use Rattle.store_buf.specs.declared.finish.RunEnd.{RunEnd}
 use Rattle.multi_wave.specs.Parts.{Alone, EndSo, EndsAlone}
 use Rattle.wsc_top.specs.declared.status.Status.{Status}
-use Rattle.wsc_top.specs.declared.status.Status.TheVariants.{Done, Usage, Refused, Budget, ReadFault}
-use Rattle.wsc_top.specs.declared.status.Status.TheVariants.{WriteFault, PortFault, NoMemory, Fault}
+use Rattle.wsc_top.specs.declared.status.Status.TheVariants.{Done}
 use Rattle.wsc_top.specs.declared.task.RunOptions.{RunOptions}
 use Rattle.wsc_top.specs.Answers.{TellWords}
 use Rattle.wsc_top.specs.Jobs.{most_jobs}
@@ -24,11 +22,7 @@ use Rattle.wsc_top.proofs.Told.Runs.{run_executes, run_begun}
 -- Slots without ports.
 
 pub no_ports_tell : AllTell no_ports
-no_ports_tell = go 7
-  where
-    go : (n : ℕ) → All TellsLeft (replicate n None)
-    go zero = All-nil TellsLeft
-    go (suc n) = All-cons TellsLeft None (replicate n None) tt (go n)
+no_ports_tell = grind arith
 
 pub no_ports_words : TellWords no_ports
 no_ports_words = (no_ports_tell, (tt, (tt, (tt, (tt, (tt, (tt, (tt, tt))))))))
@@ -36,26 +30,10 @@ no_ports_words = (no_ports_tell, (tt, (tt, (tt, (tt, (tt, (tt, (tt, tt))))))))
 -- What is told of the parts.
 
 single : (x : Status) → status_of (x ∷ []) ≡ x
-single Done = refl
-single Usage = refl
-single Refused = refl
-single Budget = refl
-single ReadFault = refl
-single WriteFault = refl
-single (PortFault p) = refl
-single NoMemory = refl
-single Fault = refl
+single x = grind arith
 
 told_status : (s : Status) (ss : List Status) → status_of (s ∷ status_of ss ∷ []) ≡ status_of (s ∷ ss)
-told_status Done ss = single (status_of ss)
-told_status Usage ss = refl
-told_status Refused ss = refl
-told_status Budget ss = refl
-told_status ReadFault ss = refl
-told_status WriteFault ss = refl
-told_status (PortFault p) ss = refl
-told_status NoMemory ss = refl
-told_status Fault ss = refl
+told_status s ss = grind (arith, single)
 
 module _ {P : Type 0} (tells : P → Told) (options : RunOptions) where
   abbrev Fits : ℕ → List Thread → List (Option Told) → StatusText → List (Option Told) → Type 0
@@ -105,8 +83,7 @@ module _ {P : Type 0} (tells : P → Told) (options : RunOptions) where
       → Fits t [] handed told handed
   fits_none t handed told e = (
     [],
-    subst (λ (r : StatusText). ThreadsDo (ExecutesAlone options) t [] handed [] r.1 handed) (sym e)
-        none,
+    subst (λ (r : StatusText). ThreadsDo (ExecutesAlone options) t [] handed [] r.1 handed) (sym e) none,
     ap (λ (r : StatusText). r.0) e,
   )
 
@@ -114,11 +91,10 @@ module _ {P : Type 0} (tells : P → Told) (options : RunOptions) where
       (told : StatusText) → EndsOf xs handed es → ToldOf t xs es told → (back : List (Option Told))
       × Fits t xs handed told back
   fits_all t [] handed es told ends is = (handed, fits_none t handed told (silent t es told is))
-  fits_all t (x ∷ xs) handed [] told ends is = absurd ends
-  fits_all t (x ∷ xs) handed (None ∷ es) told ends is = absurd ends.0
   fits_all t (x ∷ xs) handed (Some end ∷ es) told ends is =
       let r = fits_all (suc t) xs no_ports es is.0 ends.1 is.2 in
       (contents tells end.ports, fits_one t x xs handed r.0 end is.0 told ends.0 is.1 r.1)
+  fits_all t (x ∷ xs) handed es told ends is = grind arith
 
   -- the ports are those of the first
   fits_first : (t : ℕ) (x : Thread) (xs : List Thread) (handed : List (Option Told)) (end : RunEnd P)
@@ -143,34 +119,23 @@ module _ {P : Type 0} (tells : P → Told) (options : RunOptions) where
       → length xs ≤ most_jobs → EachEnds (images_of xs) (inputs_of xs) handed ends
       → EndsOf xs handed (list_of ends)
   ends_of [] handed ends some few h = absurd (omega (arith, some))
-  ends_of (a ∷ []) handed ends some few h = (h.0, (h.1, (h.2, (h.3, tt))))
-  ends_of (a ∷ b ∷ []) handed ends some few h = (h.0, (h.1, (h.2, (h.3, tt))))
-  ends_of (a ∷ b ∷ c ∷ []) handed ends some few h = (h.0, (h.1, (h.2, (h.3, tt))))
-  ends_of (a ∷ b ∷ c ∷ d ∷ []) handed ends some few h = (h.0, (h.1, (h.2, (h.3, tt))))
   ends_of (a ∷ b ∷ c ∷ d ∷ e ∷ xs) handed ends some few h = absurd (omega (arith, few))
+  ends_of xs handed ends some few h = (h.0, (h.1, (h.2, (h.3, tt))))
 
   told_of : (xs : List Thread) (ends : RunEnds P) (told : StatusText) → 1 ≤ length xs → length xs ≤ most_jobs
       → AllTold options (images_of xs) ends told → ToldOf 1 xs (list_of ends) told
   told_of [] ends told some few h = absurd (omega (arith, some))
-  told_of (a ∷ []) ends told some few h =
-      (h.second, h.first_is, (h.third, h.second_is, (h.fourth, h.third_is, ((Done, []), h.fourth_is, refl))))
-  told_of (a ∷ b ∷ []) ends told some few h =
-      (h.second, h.first_is, (h.third, h.second_is, (h.fourth, h.third_is, ((Done, []), h.fourth_is, refl))))
-  told_of (a ∷ b ∷ c ∷ []) ends told some few h =
-      (h.second, h.first_is, (h.third, h.second_is, (h.fourth, h.third_is, ((Done, []), h.fourth_is, refl))))
-  told_of (a ∷ b ∷ c ∷ d ∷ []) ends told some few h =
-      (h.second, h.first_is, (h.third, h.second_is, (h.fourth, h.third_is, ((Done, []), h.fourth_is, refl))))
   told_of (a ∷ b ∷ c ∷ d ∷ e ∷ xs) ends told some few h = absurd (omega (arith, few))
+  told_of xs ends told some few h =
+      (h.second, h.first_is, (h.third, h.second_is, (h.fourth, h.third_is, ((Done, []), h.fourth_is, refl))))
 
   first_of' : (xs : List Thread) (handed : List (Option Told)) (first : Option (RunEnd P))
       (es : List (Option (RunEnd P))) (end : RunEnd P) (told : StatusText) → first ≡ Some end → 1 ≤ length xs
       → EndsOf xs handed (first ∷ es) → ToldOf 1 xs (first ∷ es) told
       → Fits 1 xs handed told (contents tells end.ports)
   first_of' [] handed first es end told e some ends is = absurd (omega (arith, some))
-  first_of' (x ∷ xs) handed first es end told e some ends is =
-      fits_first 1 x xs handed end es told
-      (subst (λ (f : Option (RunEnd P)). EndsOf (x ∷ xs) handed (f ∷ es)) e ends)
-      (subst (λ (f : Option (RunEnd P)). ToldOf 1 (x ∷ xs) (f ∷ es) told) e is)
+  first_of' (x ∷ xs) handed first es end told e some ends is = fits_first 1 x xs handed end es told (grind
+      arith) (grind arith)
 
   -- where all is told, it is what the threads do
   pub all_executed : (xs : List Thread) (handed : List (Option Told)) (ends : RunEnds P) (end : RunEnd P)
@@ -187,21 +152,15 @@ module _ {P : Type 0} (tells : P → Told) (options : RunOptions) where
       (end : RunEnd P) → first ≡ Some end → 1 ≤ length xs
       → EndSo tells (alone_at options.budget handed (images_of xs) (inputs_of xs) 0) first
       → HaveBegun xs handed (contents tells end.ports)
-  has_begun [] handed first end e some h = absurd (omega (arith, some))
-  has_begun (x ∷ xs) handed first end e some h =
-      let ends : EndsAlone tells (alone_of handed x) end =
-      subst (λ (f : Option (RunEnd P)). EndSo tells (Some (alone_of handed x)) f) e h in
-      run_begun options x.image (world_with x.input handed) handed (contents tells end.ports) options.budget
-      end.finish ends.0
+  has_begun xs handed first end e some h = grind (arith, run_begun)
 
 -- The first thread has a part, and so an end.
 
 first_part : (budget : ℕ) (handed : List (Option Told)) (images : List Image) (inputs : List (List ℕ))
     → 1 ≤ length inputs → length inputs ≡ length images
     → (a : Alone) × (alone_at budget handed images inputs 0 ≡ Some a)
-first_part budget handed images [] some same = absurd (omega (arith, some))
-first_part budget handed [] (w ∷ inputs) some same = absurd (omega (arith, same))
 first_part budget handed (i ∷ images) (w ∷ inputs) some same = (_, refl)
+first_part budget handed images inputs some same = grind arith
 
 -- no port of it is closed
 pub first_open : {P : Type 0} (tells : P → Told) (budget : ℕ) (handed : List (Option Told))
@@ -210,8 +169,7 @@ pub first_open : {P : Type 0} (tells : P → Told) (budget : ℕ) (handed : List
     → EndSo tells (alone_at budget handed images inputs 0) end → IfSome end (λ e. ports ≡ e.ports)
     → AllOpen (contents tells ports)
 first_open tells budget handed images inputs None ports some same h is =
-    let part = first_part budget handed images inputs some same in
-    absurd (subst (λ (a : Option Alone). EndSo tells a None) part.1 h)
+    grind (arith, first_part budget handed images inputs some same)
 first_open tells budget handed images inputs (Some end) ports some same h is =
     let part = first_part budget handed images inputs some same in
     let ends : EndsAlone tells part.0 end = subst (λ (a : Option Alone). EndSo tells a (Some end)) part.1 h in
@@ -239,58 +197,42 @@ module _ {P : Type 0} (tells : P → Told) (options : RunOptions) (images : List
       all_few = let n = count_inputs xs in let m = ap length w in omega (arith, few, n, m)
 
       own : EachEnds tells options (images_of xs) (inputs_of xs) handed ends
-      own = subst (λ (y : List (List ℕ)). EachEnds tells options (images_of xs) y handed ends) (sym w)
-          (subst (λ (y : List Image). EachEnds tells options y inputs handed ends) (sym i) each)
+      own = grind arith
 
       go : (first : Option (RunEnd P)) → ends.first ≡ first → IfSome first (λ e. ports ≡ e.ports)
           → (statuses : List Status) × ThreadsDo (ExecutesAlone options) 1 xs handed statuses told.1
           (contents tells ports) × (told.0 ≡ status_of statuses)
-      go None e p =
-          absurd (go_none xs all_some
-          (subst (λ (f : Option (RunEnd P)).
-          EndSo tells (alone_at options.budget handed (images_of xs) (inputs_of xs) 0) f) e own.0))
+      go None e p = absurd (go_none xs all_some (grind arith))
         where
           go_none : (ys : List Thread) → 1 ≤ length ys
               → EndSo tells (alone_at options.budget handed (images_of ys) (inputs_of ys) 0) None → ⊥
           go_none [] n h = omega (arith, n)
           go_none (y ∷ ys) n h = h
       go (Some end) e p =
-          let r = all_executed tells options xs handed ends end told e all_some all_few own
-          (subst (λ (y : List Image). AllTold options y ends told) (sym i) is) in
-          subst (λ (s : Slots P). (statuses : List Status) × ThreadsDo (ExecutesAlone options) 1 xs handed
-          statuses told.1 (contents tells s) × (told.0 ≡ status_of statuses)) (sym p) r
+          let r = all_executed tells options xs handed ends end told e all_some all_few own (grind arith) in
+          grind arith
 
   pub answer_runs : {E : Type 0} (answer : Result StatusText E)
       → IfOk answer (λ y. AllTold options images ends y)
       → IfOk answer (λ y. (xs : List Thread) → images_of xs ≡ images → inputs_of xs ≡ inputs
       → (statuses : List Status) × ThreadsDo (ExecutesAlone options) 1 xs handed statuses y.1
       (contents tells ports) × (y.0 ≡ status_of statuses))
-  answer_runs (Ok y) is = told_runs y is
-  answer_runs (Err e) is = tt
+  answer_runs answer is = grind (arith, told_runs)
 
   have_begun : (xs : List Thread) → images_of xs ≡ images → inputs_of xs ≡ inputs
       → HaveBegun xs handed (contents tells ports)
-  have_begun xs i w = go xs ends.first (let n = count_inputs xs in let m = ap length w in
-      omega (arith, some, n, m)) ports_are
-      (subst (λ (y : List (List ℕ)). EndSo tells (alone_at options.budget handed (images_of xs) y 0)
-      ends.first) (sym w)
-      (subst (λ (y : List Image). EndSo tells (alone_at options.budget handed y inputs 0) ends.first)
-      (sym i) each.0))
+  have_begun xs i w = go xs ends.first (grind (arith, count_inputs)) ports_are (grind arith)
     where
       go : (ys : List Thread) (first : Option (RunEnd P)) → 1 ≤ length ys
           → IfSome first (λ e. ports ≡ e.ports)
           → EndSo tells (alone_at options.budget handed (images_of ys) (inputs_of ys) 0) first
           → HaveBegun ys handed (contents tells ports)
-      go [] first n p h = absurd (omega (arith, n))
-      go (y ∷ ys) None n p h = absurd h
-      go (y ∷ ys) (Some end) n p h = subst (λ (s : Slots P). HaveBegun (y ∷ ys) handed (contents tells s))
-          (sym p) (has_begun tells options (y ∷ ys) handed (Some end) end refl n h)
+      go ys first n p h = grind (arith, has_begun)
 
   pub answer_begun : {E : Type 0} (answer : Result StatusText E)
       → OnErr answer ((xs : List Thread) → images_of xs ≡ images → inputs_of xs ≡ inputs
       → HaveBegun xs handed (contents tells ports))
-  answer_begun (Ok y) = tt
-  answer_begun (Err e) = have_begun
+  answer_begun answer = grind (arith, have_begun)
 
 -- What is told of all, and the end of each, from the calls one after another.
 
@@ -301,17 +243,7 @@ pub all_told : {P E : Type 0} (options : RunOptions) (images : List Image) (ends
     → BeforeSo options 3 i2 ends.third d c → BeforeSo options 2 i1 ends.second c b
     → IfOk answer (BeforeSo options 1 i0 ends.first b)
     → IfOk answer (AllTold options images ends)
-all_told options images ends (Err x) b c d empty i0 i1 i2 i3 e0 e1 e2 e3 e h3 h2 h1 h0 = tt
-all_told options images ends (Ok y) b c d empty i0 i1 i2 i3 e0 e1 e2 e3 e h3 h2 h1 h0 = record {
-  second = b;
-  third = c;
-  fourth = d;
-  fourth_is = subst (λ (i : Option Image). BeforeSo options 4 i ends.fourth (Done, []) d) e3
-      (subst (λ (o : List ℕ). BeforeSo options 4 i3 ends.fourth (Done, o) d) e h3);
-  third_is = subst (λ (i : Option Image). BeforeSo options 3 i ends.third d c) e2 h2;
-  second_is = subst (λ (i : Option Image). BeforeSo options 2 i ends.second c b) e1 h1;
-  first_is = subst (λ (i : Option Image). BeforeSo options 1 i ends.first b y) e0 h0;
-}
+all_told options images ends answer b c d empty i0 i1 i2 i3 e0 e1 e2 e3 e h3 h2 h1 h0 = grind arith
 
 pub each_end : {P : Type 0} (tells : P → Told) (options : RunOptions) (images seen : List Image)
     (inputs : List (List ℕ)) (handed : List (Option Told)) (ends : RunEnds P) (p0 p1 p2 p3 : Option Alone)
@@ -321,10 +253,4 @@ pub each_end : {P : Type 0} (tells : P → Told) (options : RunOptions) (images 
     inputs 3
     → EndSo tells p0 ends.first → EndSo tells p1 ends.second → EndSo tells p2 ends.third
     → EndSo tells p3 ends.fourth → EachEnds tells options images inputs handed ends
-each_end tells options images seen inputs handed ends p0 p1 p2 p3 same e0 e1 e2 e3 h0 h1 h2 h3 =
-    subst (λ (is : List Image). EachEnds tells options is inputs handed ends) same (
-      subst (λ (a : Option Alone). EndSo tells a ends.first) e0 h0,
-      subst (λ (a : Option Alone). EndSo tells a ends.second) e1 h1,
-      subst (λ (a : Option Alone). EndSo tells a ends.third) e2 h2,
-      subst (λ (a : Option Alone). EndSo tells a ends.fourth) e3 h3,
-    )
+each_end tells options images seen inputs handed ends p0 p1 p2 p3 same e0 e1 e2 e3 h0 h1 h2 h3 = grind arith

@@ -1,6 +1,5 @@
 -- Runs on a clocked grid: the numbers that a line gives it, and how it ends.
-use Rattle.std.proofs.Common.{◌≡◌, ℕ, ◌≤◌, false, List, Option, Some, None, true, refl, sym, ap, ◌∙◌, subst}
-use Rattle.std.proofs.Common.{inl, arith}
+use Rattle.std.proofs.Common.{◌≡◌, ℕ, ◌≤◌, false, List, Option, Some, None, refl, sym, ap, ◌∙◌, subst, arith}
 use Rattle.ws_words.specs.Outside.{World}
 use Rattle.ws_isa.specs.Image.{Image}
 use Rattle.df_core.specs.declared.answer.Done.{Done as Left}
@@ -23,8 +22,7 @@ use Rattle.wsc_top.specs.Clocked.{InRange, TaskInRange, clocked_status}
 use Rattle.df_core.proofs.Telling.Saying.{no_fault_at}
 
 by_text : {P : Type 0} (o : Option (List ℕ)) → (o ≡ None → P) → ((text : List ℕ) → o ≡ Some text → P) → P
-by_text None f g = f refl
-by_text (Some text) f g = g text refl
+by_text o f g = grind arith
 
 -- each number of a line is in its range
 module _ (c : Command) (given : List Given) (ranges : AreIn c given) (k : Key)
@@ -51,10 +49,6 @@ given_in_range given ranges = (
 
 task_in_range : (c : Command) (given : List Given) → AreIn c given → (t : AssemblyTask)
     → task_by c (line_of c given) ≡ Assembly t → TaskInRange t
-task_in_range command.Run given ranges t e = absurd cc
-task_in_range command.Plain given ranges t e = absurd cc
-task_in_range command.Format given ranges t e = absurd cc
-task_in_range command.Compile given ranges t e = absurd cc
 task_in_range command.Check given ranges t e = let same : task.Check ≡ t = cc in subst TaskInRange same tt
 task_in_range command.Exec given ranges t e =
     let same : task.Exec
@@ -64,14 +58,12 @@ task_in_range command.List given ranges t e = let same : task.List ≡ t = cc in
 task_in_range command.Trace given ranges t e = let same : task.Trace (line_of command.Trace given).budget
     ≡ t = cc in subst TaskInRange same tt
 task_in_range command.Replay given ranges t e = let same : task.Replay ≡ t = cc in subst TaskInRange same tt
-task_in_range command.Gen given ranges t e = absurd cc
-task_in_range command.Bench given ranges t e = absurd cc
-task_in_range command.Multi given ranges t e = absurd cc
 task_in_range command.Decouple given ranges t e =
     let same : task.Exec (decoupled_options (line_of command.Decouple given)) ≡ t = cc in
     subst TaskInRange same tt
 task_in_range command.Grid given ranges t e = let same : task.Grid (grid_options (line_of command.Grid given))
     ≡ t = cc in subst TaskInRange same (given_in_range given ranges)
+task_in_range c given ranges t e = absurd cc
 
 -- a line asks for no other grid
 pub line_in_range : (words : List (List ℕ)) (t : AssemblyTask) → AsksFor words (Assembly t) → TaskInRange t
@@ -81,21 +73,6 @@ line_in_range words t (line, l, e) = task_in_range l.command l.given l.ranges t 
 module _ (image : Image) (world : World) (budget : ℕ) (left : Left) where
   pub ends_clocked : (how : Finish) → RunSo image world budget (run_from how left)
       → EndsRun image world budget (clocked_status how)
-  ends_clocked finish.Rest r = record {
-    done = λ h. inl refl;
-    only = λ e. r.rests.0 refl;
-    fault = λ h. absurd (no_fault_at image world (r.rests.0 refl).0 h.0.0 h.0.1);
-    budget = λ h. absurd (h.1 (r.rests.0 refl).1);
-  }
-  ends_clocked finish.Budget r = record {
-    done = λ h. (let e : false ≡ true = r.rests.1 h in absurd cc);
-    only = λ e. absurd cc;
-    fault = λ h. (let e : false ≡ true = r.faults h.0.0 h.0.1 h.1 in absurd cc);
-    budget = λ h. inl refl;
-  }
-  ends_clocked (finish.Fault array) r = record {
-    done = λ h. (let e : false ≡ true = r.rests.1 h in absurd cc);
-    only = λ e. absurd cc;
-    fault = λ h. inl refl;
-    budget = λ h. absurd (no_fault_at image world h.0 r.told.time r.told.fault);
-  }
+  ends_clocked finish.Rest r = grind (arith, no_fault_at)
+  ends_clocked finish.Budget r = grind arith
+  ends_clocked (finish.Fault array) r = grind (arith, no_fault_at)

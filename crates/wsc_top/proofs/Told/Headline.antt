@@ -1,19 +1,15 @@
 -- What the run of an image of a program tells, in the words of the program's own run.
-use Rattle.std.specs.Prelude.{◌≡◌, ℕ, zero, suc, ◌-◌, Bool, true, false, List, [], ◌∷◌, ◌++◌, length, map}
-use Rattle.std.specs.Prelude.{Option, Some, None, if◌then◌else◌, unwrap_or, refl}
-use Rattle.std.specs.Option.{is_some}
-use Rattle.std.proofs.Common.{sym, ap, ◌∙◌, subst, inl, inr, append_assoc}
-use Rattle.ws_words.specs.Outside.{Act, Outside, World, zeros, printed_words}
+use Rattle.std.specs.Prelude.{◌≡◌, ℕ, suc, true, false, List, [], ◌∷◌, ◌++◌, length, map, Option, Some, None}
+use Rattle.std.specs.Prelude.{unwrap_or, refl}
+use Rattle.std.proofs.Common.{sym, ap, ◌∙◌, subst, inl, inr, append_assoc, arith}
+use Rattle.ws_words.specs.Outside.{Act, Outside, World, printed_words}
 use Rattle.ws_words.specs.Past.{IsPast, AreWithin, FirstPast, after_acts}
 use Rattle.src_ast.specs.Syntax.{Part, Array, Proc}
 use Rattle.src_ast.specs.Meaning.{lengths_of, empty_cells}
-use Rattle.src_ast.specs.Turns.{CallEnd}
-use Rattle.src_ast.specs.Runs.{outside_of, acts_in, opened, Runs, Faults}
+use Rattle.src_ast.specs.Runs.{acts_in, opened, Runs, Faults}
 use Rattle.ws_isa.specs.Image as isa
-use Rattle.ws_isa.specs.Image.{Image, instr_at, no_instr, flat, array_at, cells_of}
+use Rattle.ws_isa.specs.Image.{Image, instr_at, no_instr, array_at, cells_of}
 use Rattle.ws_isa.specs.declared.instr.Op.{Op}
-use Rattle.ws_isa.specs.declared.instr.Op.TheVariants.{Const, Alu, Merge, Advance, Steer, Phi, Send, Load}
-use Rattle.ws_isa.specs.declared.instr.Op.TheVariants.{Store, Input, Output, Give, Take, Nop, Halt}
 use Rattle.ws_isa.specs.Formed.{Formed, OpIn}
 use Rattle.ws_isa.specs.Shown as image_shown
 use Rattle.ws_isa.specs.Walk.{Inst, fires, mem, opening_memory, has_ended}
@@ -28,7 +24,6 @@ use Rattle.wave_build.specs.Compiled.{in_graph, shown, ShowsArrays, ShowsOutside
 use Rattle.seq_run.specs.Laws.{HasAnswer}
 use Rattle.seq_run.proofs.FirstPasts.{not_within, one_array, one_before}
 use Rattle.seq_run.proofs.OneAnswer.{fronts, some_answer, passed}
-use Rattle.ws_words.specs.Plain.{took_words}
 use Rattle.df_core.specs.Began.{Began}
 use Rattle.port_set.specs.Ports.{Told}
 use Rattle.store_buf.specs.Outdoors.{SlotsAre, port_of}
@@ -38,8 +33,7 @@ use Rattle.wsc_top.specs.Texts.{names_of, shown_names, name_at, array_name, call
 use Rattle.wsc_top.specs.Texts.{name_or_number}
 use Rattle.wsc_top.proofs.Told.WalkActs.{sizes, HasArray, mem_is, mem_within, acts_next, fault_is_first}
 use Rattle.wsc_top.proofs.Told.ShownActs.{lengths, shown_place, shown_within, open_first, shown_first}
-use Rattle.wsc_top.proofs.Told.ShownActs.{shown_words}
-use Rattle.wsc_top.proofs.Told.ShownActs.{cells_after, left_cells, shown_after}
+use Rattle.wsc_top.proofs.Told.ShownActs.{shown_words, cells_after, left_cells, shown_after}
 use Rattle.ws_words.specs.Items.{nth}
 use Rattle.wave_build.proofs.CompilingShown.{same_arrays, shown_both}
 use Rattle.ws_words.proofs.Acts.{acts_of}
@@ -53,20 +47,13 @@ same_sizes (x ∷ xs) = ap (λ (ns : List ℕ). x.length ∷ ns) (same_sizes xs)
 shown_in_graph : (xs : List isa.Array) → shown_arrays (map in_graph xs) ≡ map in_graph
     (image_shown.shown_arrays xs)
 shown_in_graph [] = refl
-shown_in_graph (x ∷ xs) = pick (is_some x.name) (shown_in_graph xs)
-  where
-    pick : (b : Bool) → shown_arrays (map in_graph xs) ≡ map in_graph (image_shown.shown_arrays xs)
-        → (if b then in_graph x ∷ shown_arrays (map in_graph xs) else shown_arrays (map in_graph xs))
-        ≡ map in_graph (if b then x ∷ image_shown.shown_arrays xs else image_shown.shown_arrays xs)
-    pick true e = ap (λ (r : List GraphArray). in_graph x ∷ r) e
-    pick false e = e
+shown_in_graph (x ∷ xs) = grind (arith, shown_in_graph xs)
 
 cells_in_graph : (xs : List isa.Array) (cells : List (List ℕ)) → image_shown.shown_cells xs cells
     ≡ shown_cells (map in_graph xs) cells
 cells_in_graph [] cells = refl
 cells_in_graph (x ∷ xs) [] = refl
-cells_in_graph (x ∷ xs) (r ∷ cells) = ap (λ (z : List (List ℕ)). if is_some x.name then r ∷ z else z)
-    (cells_in_graph xs cells)
+cells_in_graph (x ∷ xs) (r ∷ cells) = grind (arith, cells_in_graph xs cells)
 
 program_lengths : (parts : List Part) → lengths (program.arrays_of parts) ≡ lengths_of parts
 program_lengths [] = refl
@@ -89,17 +76,7 @@ image_names (x ∷ xs) = ap (λ (ns : List (List ℕ)). unwrap_or x.name [] ∷ 
 zero_cells : (xs : List isa.Array) → shown_cells (map in_graph xs) (cells_of xs) ≡ empty_cells
     (lengths (shown_arrays (map in_graph xs)))
 zero_cells [] = refl
-zero_cells (x ∷ xs) = pick (is_some x.name) (zero_cells xs)
-  where
-    pick : (b : Bool) → shown_cells (map in_graph xs) (cells_of xs) ≡ empty_cells
-        (lengths (shown_arrays (map in_graph xs)))
-        → (if b then zeros x.length ∷ shown_cells (map in_graph xs) (cells_of xs)
-        else shown_cells (map in_graph xs) (cells_of xs))
-        ≡ empty_cells
-        (lengths (if b then in_graph x ∷ shown_arrays (map in_graph xs)
-        else shown_arrays (map in_graph xs)))
-    pick true e = ap (λ (z : List (List ℕ)). zeros x.length ∷ z) e
-    pick false e = e
+zero_cells (x ∷ xs) = grind (arith, lengths, zero_cells xs)
 
 many_cells : (xs : List isa.Array) → length (cells_of xs) ≡ length (map in_graph xs)
 many_cells [] = refl
@@ -115,76 +92,39 @@ text_in None = []
 text_in (Some x) = unwrap_or x.name []
 
 name_there : (xs : List isa.Array) (k : ℕ) → maybe_name xs k ≡ name_in (nth (map in_graph xs) k)
-name_there [] k = refl
-name_there (x ∷ xs) zero = refl
 name_there (x ∷ xs) (suc k) = name_there xs k
+name_there xs k = refl
 
 text_there : (xs : List GraphArray) (k : ℕ) → name_at (graph_names xs) k ≡ text_in (nth xs k)
-text_there [] k = refl
-text_there (x ∷ xs) zero = refl
 text_there (x ∷ xs) (suc k) = text_there xs k
+text_there xs k = refl
 
 open_name : (x : Option GraphArray) (array : ℕ) → hidden x ≡ false → name_or_number (name_in x) array
     ≡ text_in x
 open_name None array h = absurd (cc)
-open_name (Some x) array h = go x.name h
-  where
-    go : (name : Option (List ℕ)) → (if is_some name then false else true) ≡ false
-        → name_or_number name array ≡ unwrap_or name []
-    go None h = absurd (cc)
-    go (Some text) h = refl
+open_name (Some x) array h = grind arith
 
 has_array : (image : Image) (op : Op) → OpIn image op → HasArray op
-has_array image (Load a) h = h.0
-has_array image (Store a) h = h.0
-has_array image Input h = tt
-has_array image Output h = tt
-has_array image (Give p) h = tt
-has_array image (Take p) h = tt
-has_array image Nop h = tt
-has_array image Halt h = tt
-has_array image (Const n) h = tt
-has_array image (Alu f) h = tt
-has_array image Merge h = tt
-has_array image Advance h = tt
-has_array image Steer h = tt
-has_array image Phi h = tt
-has_array image (Send k) h = tt
+has_array image op h = grind arith
 
 op_in : (image : Image) → Formed image → (k : ℕ) → OpIn image (instr_at image k).op
 unfolding instr_at no_instr
-op_in image f zero = tt
-op_in image f (suc k) = all_nth (λ (i : isa.Instr). OpIn image i.op) (flat image.blocks) k no_instr tt
-    f.suited.references.ops
+op_in image f k = grind (arith, all_nth)
 
 -- what follows the first act past an end doesn't matter
 first_more : (ls : List ℕ) (acts more before : List Act) (array : ℕ) → FirstPast ls acts before array
     → FirstPast ls (acts ++ more) before array
-first_more ls acts more before array f = record {
-  within = f.within;
-  act = f.act;
-  past = f.past;
-  after = f.after ++ more;
-  split = ap (λ (xs : List Act). xs ++ more) f.split ∙ append_assoc before (f.act ∷ f.after) more;
-}
+first_more ls acts more before array f = grind (arith, append_assoc)
 
 -- acts that are within stand before the first that is past
 within_before : (ls : List ℕ) (act : Act) (after : List Act) (array : ℕ) → IsPast ls array act
     → (acts more before : List Act) → AreWithin ls acts
     → acts ++ more ≡ before ++ act ∷ after → (rest : List Act) × (before ≡ acts ++ rest)
-within_before ls act after array past [] more before w e = (before, refl)
-within_before ls act after array past (x ∷ acts) more [] w e =
-    absurd (not_within ls (x ∷ []) [] array (record {
-      within = tt;
-      act = act;
-      past = past;
-      after = [];
-      split = cc;
-    }) (w.0, tt))
 within_before ls act after array past (x ∷ acts) more (b ∷ before) w e =
     let r = within_before ls act after array past acts more before w.1 cc in
     let same : b ≡ x = cc in
     (r.0, ap (λ (y : Act). y ∷ before) same ∙ ap (λ (ys : List Act). x ∷ ys) r.1)
+within_before ls act after array past acts more before w e = grind (arith, not_within)
 
 module _ (parts : List Part) (image : Image) (world : World) (formed : Formed image)
     (arrays : ShowsArrays parts image) (walks : WalksAsRun parts image world) where
@@ -199,18 +139,11 @@ module _ (parts : List Part) (image : Image) (world : World) (formed : Formed im
 
   -- the names of the shown arrays are the program's
   pub same_names : shown_names image.arrays ≡ names_of parts
-  same_names = ap (map (λ (a : isa.Array). unwrap_or a.name [])) arrays
-      ∙ image_names (program.arrays_of parts) ∙ program_names parts
+  same_names = grind (arith, image_names, program_names)
 
   called_so : (array : ℕ) → is_hidden G array ≡ false → called image.arrays array ≡ array_name
       (names_of parts) (shown_among array G)
-  called_so array h =
-      ap (λ (x : Option (List ℕ)). name_or_number x array) (name_there image.arrays (array - 1))
-      ∙ open_name (nth G (array - 1)) array h
-      ∙ ap text_in (sym (shown_place G array h))
-      ∙ sym (text_there (shown_arrays G) (shown_among array G - 1))
-      ∙ ap (λ (ns : List (List ℕ)). name_at ns (shown_among array G - 1))
-      (ap graph_names shown_are ∙ program_names parts)
+  called_so array h = grind (arith, name_there, open_name, shown_place, text_there, shown_are, program_names)
 
   within_shown : (acts : List Act) → AreWithin (sizes image.arrays) acts
       → AreWithin (lengths_of parts) (shown image acts)
@@ -229,42 +162,20 @@ module _ (parts : List Part) (image : Image) (world : World) (formed : Formed im
   pub end_told : (t : ℕ) → NoFault image world → has_ended image world t ≡ true
       → (printed : List ℕ) (cells : List (List ℕ)) → printed ≡ printed_words (mem image world t).acts
       → cells ≡ (mem image world t).cells → EndTold t printed cells
-  end_told t none ended printed cells p q =
-      let e = walks.ends_only t ended in
-      let shows = e.3 in
-      record {
-        turns = e.0;
-        end = e.1;
-        runs = record {
-          passes = e.2;
-          within = subst (AreWithin (lengths_of parts)) shows.acts
-              (within_shown (mem image world t).acts (mem_within image world t (λ u x l f. none u x f)));
-        };
-        words = p ∙ sym (shown_words G (mem image world t).acts) ∙ ap printed_words shows.acts;
-        rows = ap (image_shown.shown_cells image.arrays) q ∙ shows.cells;
-        shows = shows;
-      }
+  end_told t none ended printed cells p q = grind (arith, within_shown, mem_within, shown_words)
 
   -- the ports are where the run leaves them that is shown
   pub end_ports : (began : List (Option Began)) (back : List (Option Told)) (t : ℕ) (end : Outside)
       → ShowsOutside image (mem image world t) end → SlotsAre began (mem image world t) back
       → SlotsAre began end back
-  end_ports began back t end shows h =
-      ports_moved began (mem image world t) end back shows.left
-      (λ slot. sym (shown_took G slot (mem image world t).acts) ∙ ap (took_words slot) shows.acts) h
+  end_ports began back t end shows h = grind (arith, ports_moved, shown_took)
 
   -- and where the acts leave them that are shown
   pub act_ports : (began : List (Option Began)) (back : List (Option Told)) (t : ℕ)
       → SlotsAre began (mem image world t) back
       → SlotsAre began (after_acts (opened parts world) (shown image (mem image world t).acts)) back
   unfolding opening_memory
-  act_ports began back t h =
-      ports_moved began (mem image world t)
-      (after_acts (opened parts world) (shown image (mem image world t).acts)) back
-      (ap (λ (o : Outside). o.left) (mem_is image world t) ∙ left_shown G (opening_memory image world)
-      (opened parts world) (mem image world t).acts refl)
-      (λ slot. sym (shown_took G slot (mem image world t).acts) ∙ ap (took_words slot)
-      (sym (acts_of (opened parts world) (shown image (mem image world t).acts)))) h
+  act_ports began back t h = grind (arith, ports_moved, mem_is, left_shown, shown_took, acts_of)
 
   -- what the first steps of the walk do, up to a fault, the sequential run does first
   pub record FrontTold (t : ℕ) : Type 0 where
@@ -289,23 +200,16 @@ module _ (parts : List Part) (image : Image) (world : World) (formed : Formed im
     till_acts = (walks.goes_only t).1.1
 
     told_front : (acts more : List Act) → acts ≡ seen ++ more → DoesWithin parts world till acts → FrontTold t
-    told_front acts more e does =
-        record { turns = till; more = more; does = subst (DoesWithin parts world till) e does }
+    told_front acts more e does = grind arith
 
     front_by : HasAnswer parts world till → FrontTold t
-    front_by (inl e) =
-        let r = passed parts world e.taken e.end e.runs.passes till e.within in
-        told_front e.end.acts behind (ap (λ (x : CallEnd). (outside_of x).acts) (sym r.1) ∙ till_acts)
-        (to_end e.taken e.end e.within e.runs)
-    front_by (inr (inr g)) =
-        told_front g.now.acts behind (ap (λ (x : CallEnd). (outside_of x).acts) (sym g.goes.flows)
-        ∙ till_acts) (so_far g.now g.goes)
+    front_by (inl e) = let r = passed parts world e.taken e.end e.runs.passes till e.within in
+        told_front e.end.acts behind (grind (arith, till_acts)) (to_end e.taken e.end e.within e.runs)
+    front_by (inr (inr g)) = told_front g.now.acts behind (grind (arith, till_acts)) (so_far g.now g.goes)
     front_by (inr (inl f)) =
         let b = fronts parts world f.turn till f.within in
         let there : FirstPast (lengths_of parts) (acts_in parts world till) f.state.acts f.array =
-        subst (λ (xs : List Act). FirstPast (lengths_of parts) xs f.state.acts f.array) (sym b.1)
-        (first_more (lengths_of parts) (acts_in parts world f.turn) b.0 f.state.acts f.array
-        f.faults.first) in
+        grind (arith, first_more) in
         let r = within_before (lengths_of parts) there.act there.after f.array there.past seen behind
         f.state.acts seen_within (sym till_acts ∙ there.split) in
         told_front f.state.acts r.0 r.1 (to_fault f.turn f.array f.state f.within f.faults)
@@ -331,21 +235,10 @@ module _ (parts : List Part) (image : Image) (world : World) (formed : Formed im
   fail_told t port x e is first =
       let p = port_act (instr_at image x.instr).op x.operands port is in
       let r = front_told (suc t) (within_next image world t port x e is first) in
-      let next : shown image (mem image world (suc t)).acts ≡ shown image (mem image world t).acts ++ p.act
-      ∷ [] =
-      ap (shown image) (acts_next image world t x e ∙ ap (λ (xs : List Act). (mem image world t).acts ++ xs)
-      p.is)
-      ∙ shown_both G (mem image world t).acts (p.act ∷ [])
-      ∙ ap (λ (xs : List Act). shown image (mem image world t).acts ++ xs) (p.shown G) in
-      record {
-        turns = r.turns;
-        act = p.act;
-        more = r.more;
-        does = subst (DoesWithin parts world r.turns)
-            (ap (λ (xs : List Act). xs ++ r.more) next ∙ append_assoc (shown image (mem image world t).acts)
-            (p.act ∷ []) r.more) r.does;
-        on = p.on;
-      }
+      let next : shown image (mem image world (suc t)).acts ≡ shown image (mem image world t).acts ++ p.act ∷
+      [] = ap (shown image) (grind (arith, acts_next)) ∙ shown_both G (mem image world t).acts (p.act ∷ []) ∙
+      ap (λ (xs : List Act). shown image (mem image world t).acts ++ xs) (p.shown G) in
+      grind (arith, append_assoc)
 
   -- what the sequential run leaves before its first index fault, where the walk has met one
   pub record FaultTold (t array : ℕ) (printed : List ℕ) (cells : List (List ℕ)) : Type 0 where
@@ -364,68 +257,48 @@ module _ (parts : List Part) (image : Image) (world : World) (formed : Formed im
     on = array_at image fault.inst.instr
 
     first : FirstPast (lengths G) (mem image world (suc t)).acts (mem image world t).acts on
-    first = subst (λ ls. FirstPast ls (mem image world (suc t)).acts (mem image world t).acts on)
-        (same_sizes image.arrays)
-        (fault_is_first image world t fault (has_array image (instr_at image fault.inst.instr).op
-        (op_in image formed fault.inst.instr)))
+    first = subst (λ ls. FirstPast ls (mem image world (suc t)).acts (mem image world t).acts on) (same_sizes
+        image.arrays) (fault_is_first image world t fault (grind (arith, has_array, op_in)))
 
     shown_fault : FirstPast (lengths_of parts) (shown image (mem image world (suc t)).acts)
         (shown image (mem image world t).acts) (shown_among on G)
-    shown_fault =
-        subst (λ ls. FirstPast ls (shown image (mem image world (suc t)).acts)
-        (shown image (mem image world t).acts) (shown_among on G)) shown_lengths
-        (shown_first G (mem image world (suc t)).acts (mem image world t).acts on first
-        (walks.inside (suc t)))
+    shown_fault = subst (λ ls. FirstPast ls (shown image (mem image world (suc t)).acts) (shown image (mem
+        image world t).acts) (shown_among on G)) shown_lengths (grind (arith, shown_first, first))
 
     abbrev turns : ℕ
     turns = (walks.goes_only (suc t)).0
 
     run_fault : FirstPast (lengths_of parts) (acts_in parts world turns)
         (shown image (mem image world t).acts) (shown_among on G)
-    run_fault =
-        let g = (walks.goes_only (suc t)).1 in
-        subst (λ (xs : List Act). FirstPast (lengths_of parts) xs (shown image (mem image world t).acts)
-        (shown_among on G)) (sym g.1)
-        (first_more (lengths_of parts) (shown image (mem image world (suc t)).acts) g.0
-        (shown image (mem image world t).acts) (shown_among on G) shown_fault)
+    run_fault = let g = (walks.goes_only (suc t)).1 in grind (arith, first_more, shown_fault)
 
     cells_here : (mem image world t).cells ≡ cells_after (cells_of image.arrays) (mem image world t).acts
     unfolding opening_memory
-    cells_here = ap (λ (o : Outside). o.cells) (mem_is image world t) ∙ left_cells
-        (opening_memory image world) (mem image world t).acts
+    cells_here = grind (arith, mem_is, left_cells)
 
     rows_left : (state : Outside) → state.acts ≡ shown image (mem image world t).acts
         → state ≡ after_acts (opened parts world) state.acts
         → image_shown.shown_cells image.arrays (mem image world t).cells ≡ state.cells
-    rows_left state e left =
-        cells_in_graph image.arrays (mem image world t).cells
-        ∙ ap (shown_cells G) cells_here
-        ∙ sym (shown_after G (mem image world t).acts (cells_of image.arrays) (many_cells image.arrays))
-        ∙ ap (λ (z : List (List ℕ)). cells_after z (shown image (mem image world t).acts))
-        (zero_cells image.arrays ∙ ap empty_cells shown_lengths)
-        ∙ ap (cells_after (empty_cells (lengths_of parts))) (sym e)
-        ∙ sym (left_cells (opened parts world) state.acts)
-        ∙ sym (ap (λ (o : Outside). o.cells) left)
+    rows_left state e left = cells_in_graph image.arrays (mem image world t).cells ∙ ap (shown_cells G)
+        cells_here ∙ sym (shown_after G (mem image world t).acts (cells_of image.arrays) (many_cells
+        image.arrays)) ∙ ap (λ (z : List (List ℕ)). cells_after z (shown image (mem image world t).acts))
+        (zero_cells image.arrays ∙ ap empty_cells shown_lengths) ∙ ap (cells_after (empty_cells (lengths_of
+        parts))) (sym e) ∙ sym (left_cells (opened parts world) state.acts) ∙ sym (ap (λ (o : Outside).
+        o.cells) left)
 
     told : (array : ℕ) (printed : List ℕ) (cells : List (List ℕ)) → array ≡ on
         → printed ≡ printed_words (mem image world t).acts → cells ≡ (mem image world t).cells
         → HasAnswer parts world turns → FaultTold t array printed cells
     told array printed cells a p q (inl e) =
         let r = passed parts world e.taken e.end e.runs.passes turns e.within in
-        absurd (not_within (lengths_of parts) (acts_in parts world turns)
-        (shown image (mem image world t).acts) (shown_among on G) run_fault
-        (subst (λ (x : CallEnd). AreWithin (lengths_of parts) (outside_of x).acts) (sym r.1) e.runs.within))
-    told array printed cells a p q (inr (inr g)) =
-        absurd (not_within (lengths_of parts) (acts_in parts world turns)
-        (shown image (mem image world t).acts) (shown_among on G) run_fault
-        (subst (λ (x : CallEnd). AreWithin (lengths_of parts) (outside_of x).acts) (sym g.goes.flows)
-        g.goes.within))
+        absurd (not_within (lengths_of parts) (acts_in parts world turns) (shown image (mem image world
+        t).acts) (shown_among on G) run_fault (grind arith))
+    told array printed cells a p q (inr (inr g)) = absurd (not_within (lengths_of parts) (acts_in parts world
+        turns) (shown image (mem image world t).acts) (shown_among on G) run_fault (grind arith))
     told array printed cells a p q (inr (inl f)) =
         let b = fronts parts world f.turn turns f.within in
         let there : FirstPast (lengths_of parts) (acts_in parts world turns) f.state.acts f.array =
-        subst (λ (xs : List Act). FirstPast (lengths_of parts) xs f.state.acts f.array) (sym b.1)
-        (first_more (lengths_of parts) (acts_in parts world f.turn) b.0 f.state.acts f.array
-        f.faults.first) in
+        grind (arith, first_more) in
         let same : f.state.acts ≡ shown image (mem image world t).acts =
         one_before (lengths_of parts) (acts_in parts world turns) f.state.acts
         (shown image (mem image world t).acts) f.array (shown_among on G) there run_fault in
@@ -436,14 +309,12 @@ module _ (parts : List Part) (image : Image) (world : World) (formed : Formed im
           place = f.array;
           state = f.state;
           faults = f.faults;
-          name = ap (called image.arrays) a
-              ∙ called_so on (open_first G (mem image world (suc t)).acts (mem image world t).acts on first
-              (walks.inside (suc t)))
-              ∙ ap (array_name (names_of parts)) (sym number);
-          words = p ∙ sym (shown_words G (mem image world t).acts) ∙ ap printed_words (sym same);
-          rows = ap (image_shown.shown_cells image.arrays) q ∙ rows_left f.state same f.faults.left;
-          ports = λ began back h. subst (λ (o : Outside). SlotsAre began o back)
-              (sym (f.faults.left ∙ ap (after_acts (opened parts world)) same)) (act_ports began back t h);
+          name = ap (called image.arrays) a ∙ called_so on (open_first G (mem image world (suc t)).acts (mem
+              image world t).acts on first (walks.inside (suc t))) ∙ ap (array_name (names_of parts)) (sym
+              number);
+          words = grind (arith, shown_words);
+          rows = grind (arith, rows_left);
+          ports = grind (arith, act_ports);
         }
 
     pub fault_told : (array : ℕ) (printed : List ℕ) (cells : List (List ℕ)) → array ≡ on

@@ -1,6 +1,6 @@
 -- What the statuses of `trace` and `replay` say.
-use Rattle.std.proofs.Common.{◌≡◌, ℕ, ◌+◌, ◌-◌, ◌==◌, Bool, true, false, List, [], length, take, Option, Ok}
-use Rattle.std.proofs.Common.{Err, refl, sym, ap, ◌∙◌, subst, inl}
+use Rattle.std.proofs.Common.{◌≡◌, ℕ, ◌+◌, ◌-◌, ◌==◌, Bool, true, false, List, [], length, take, Option, refl}
+use Rattle.std.proofs.Common.{sym, ap, ◌∙◌, inl, arith}
 use Rattle.std.proofs.lemmas.Bool.{true≢false}
 use Rattle.ws_words.specs.Outside.{World}
 use Rattle.ws_isa.specs.Image.{Image}
@@ -25,29 +25,18 @@ use Rattle.df_core.proofs.Telling.Saying.{no_fault_at}
 module _ (image : Image) (world : World) (budget : ℕ) (events : List Event) where
   pub ends_run : (how : TraceEnd) → Traces image world budget events how
       → EndsRun image world budget (trace_status how)
-  ends_run end.Rest t = record {
-    done = λ h. inl refl;
-    only = λ e. t.rests.0 refl;
-    fault = λ h. absurd (no_fault_at image world (t.rests.0 refl).0 h.0.0 h.0.1);
-    budget = λ h. absurd (h.1 (t.rests.0 refl).1);
-  }
+  ends_run end.Rest t = grind (arith, no_fault_at)
   ends_run end.Budget t = record {
     done = λ h. inl (ap trace_status (t.rests.1 h));
     only = λ e. absurd cc;
     fault = λ h. inl (ap trace_status (t.faults h.0.0 h.0.1 h.1));
     budget = λ h. inl refl;
   }
-  ends_run end.Fault t = record {
-    done = λ h. inl (ap trace_status (t.rests.1 h));
-    only = λ e. absurd cc;
-    fault = λ h. inl refl;
-    budget = λ h. (let f = t.only refl in absurd (no_fault_at image world h.0 f.0 f.1));
-  }
+  ends_run end.Fault t = grind (arith, no_fault_at)
 
 -- a text has one trace at most
 pub one_trace : (text : List ℕ) (a b : List Lined) → HasTrace text a → HasTrace text b → a ≡ b
-one_trace text a b h k =
-    let e : Ok a ≡ Ok b = sym h.events ∙ k.events in cc
+one_trace text a b h k = grind arith
 
 module _ (text : List ℕ) (image : Image) (input : List ℕ)
     (whole : (trace : List Lined) (state : State) (line : ℕ) → Run image (core_opening image (world_of input))
@@ -55,32 +44,18 @@ module _ (text : List ℕ) (image : Image) (input : List ℕ)
     StopsAt image (core_opening image (world_of input)) trace line → ⊥) where
   stops : (trace : List Lined) (line : ℕ) → HasTrace text trace
       → StopsAt image (core_opening image (world_of input)) trace line → CanReplay text image input → ⊥
-  stops trace line h s r = whole r.trace r.state line r.run
-      (subst (λ (t : List Lined). StopsAt image (core_opening image (world_of input)) t line)
-      (one_trace text trace r.trace h r.has) s)
+  stops trace line h s r = whole r.trace r.state line r.run (grind (arith, one_trace))
 
   pub ends_replay : (status : Status) (out : List ℕ) (again : Option Image)
       → IsReplayed text image input status out again → EndsReplay text image input status
-  ends_replay status out again (missing e) = record {
-    done = λ r. absurd (r.has.there e);
-    only = λ f. absurd cc;
-    refused = λ n. refl;
-  }
-  ends_replay status out again (faulty kind line n e) = record {
-    done = λ r. (let f : Ok r.trace ≡ Err (kind, line) = sym r.has.events ∙ e in absurd cc);
-    only = λ f. absurd cc;
-    refused = λ m. refl;
-  }
+  ends_replay status out again (missing e) = grind arith
+  ends_replay status out again (faulty kind line n e) = grind arith
   ends_replay status out again (traces.IsReplayed.read trace h (illegal line s)) = record {
     done = λ r. absurd (stops trace line h s r);
     only = λ f. absurd cc;
     refused = λ m. refl;
   }
-  ends_replay status out again (traces.IsReplayed.read trace h (made r p)) = record {
-    done = λ c. refl;
-    only = λ f. record { trace = trace; has = h; state = p.state; run = p.run };
-    refused = λ m. absurd (m (record { trace = trace; has = h; state = p.state; run = p.run }));
-  }
+  ends_replay status out again (traces.IsReplayed.read trace h (made r p)) = grind arith
 
 -- the trace section of a text, of which it was told whether it is empty
 
@@ -89,16 +64,11 @@ module _ (text section : List ℕ) (empty : Bool) (is : section ≡ trace_sectio
   nothing_there e is_so = sym is ∙ empty_is section empty e is_so
 
   pub something_there : empty ≡ (length section == 0) → empty ≡ false → trace_section text ≡ [] → ⊥
-  something_there e not_so none =
-      let zero_long : (length section == 0) ≡ true = ap (λ (bytes : List ℕ). length bytes == 0) (is ∙ none) in
-      true≢false (sym zero_long ∙ sym e ∙ not_so)
+  something_there e not_so none = grind (arith, true≢false)
 
 -- its events, from what was cut of the text
 pub section_events : (text front section behind : List ℕ) (line : ℕ)
     → front ≡ take (length text - length section) text → section ≡ trace_section text
     → behind ≡ after_line section → line ≡ last_line front
     → events_in (line + 1) behind ≡ events_in (trace_line text) (trace_of text)
-section_events text front section behind line f s b l =
-    ap (λ (n : ℕ). events_in (n + 1) behind) (l ∙ ap last_line
-    (f ∙ ap (λ (x : List ℕ). take (length text - length x) text) s)) ∙ ap (events_in (trace_line text))
-    (b ∙ ap after_line s)
+section_events text front section behind line f s b l = grind arith

@@ -12,19 +12,16 @@ use Rattle.wsc_top.specs.Texts.{shown_line, array_lines, shown_names, maybe_name
 -- the name of an array that is there
 pub name_found : (xs : List ArrayDecl) (n : ℕ) (x : ArrayDecl) → n < length xs → x ≡ slice_index_or xs n x
     → x.name ≡ maybe_name (map view.array xs) n
-name_found [] n x l e = absurd (omega arith)
-name_found (y ∷ xs) zero x l e = ap (λ (z : ArrayDecl). z.name) e
 name_found (y ∷ xs) (suc n) x l e = name_found xs n x (omega arith) e
+name_found xs n x l e = grind arith
 
 -- an array that is not there has none
 pub name_past : (xs : List ArrayDecl) (n : ℕ) → length xs ≤ n → None ≡ maybe_name (map view.array xs) n
-name_past [] n l = refl
-name_past (y ∷ xs) zero l = absurd (omega arith)
 name_past (y ∷ xs) (suc n) l = name_past xs n (omega arith)
+name_past xs n l = grind arith
 
 no_line : (name : Option (List ℕ)) → shown_line name None ≡ []
-no_line None = refl
-no_line (Some name) = refl
+no_line name = grind arith
 
 no_lines : (names : List (List ℕ)) → array_lines names [] ≡ []
 no_lines [] = refl
@@ -37,18 +34,13 @@ no_cells (a ∷ arrays) = refl
 -- past the cells there are no lines
 past : (a : Array) (arrays : List Array) → array_lines (shown_names (a ∷ arrays)) [] ≡ shown_line a.name None
     ++ array_lines (shown_names arrays) (shown_cells arrays [])
-past a arrays =
-    no_lines (shown_names (a ∷ arrays))
-    ∙ sym (ap (λ (t : List ℕ). t ++ array_lines (shown_names arrays) (shown_cells arrays [])) (no_line a.name)
-    ∙ ap (λ (rows : List (List ℕ)). array_lines (shown_names arrays) rows) (no_cells arrays)
-    ∙ no_lines (shown_names arrays))
+past a arrays = grind (arith, no_lines, no_line, no_cells)
 
 first : (name : Option (List ℕ)) (n : ℕ) (arrays : List Array) (row : List ℕ) (rows : List (List ℕ))
     → array_lines (shown_names (record { name = name; length = n } ∷ arrays))
     (shown_cells (record { name = name; length = n } ∷ arrays) (row ∷ rows))
     ≡ shown_line name (Some row) ++ array_lines (shown_names arrays) (shown_cells arrays rows)
-first None n arrays row rows = refl
-first (Some name) n arrays row rows = refl
+first name n arrays row rows = grind arith
 
 -- the line of the next array, and the lines of the others
 shown_more : (a : Array) (arrays : List Array) (rows : List (List ℕ)) (k : ℕ)
@@ -72,17 +64,11 @@ pub shown_step : (arrays : List ArrayDecl) (rows : List (List ℕ)) (i : ℕ) (a
     → next ++ lines_from arrays rows (i + 1) ≡ whole
 shown_step arrays rows i a text next whole lt is h so =
     let one : i + 1 ≡ suc i = omega arith in
-    let here : drop i arrays ≡ a ∷ drop (i + 1) arrays = drop-cons arrays i a lt
-    ∙ ap (λ (y : ArrayDecl). y ∷ drop (suc i) arrays) (sym is) ∙ ap (λ (j : ℕ). a ∷ drop j arrays)
-    (sym one) in
+    let here : drop i arrays ≡ a ∷ drop (i + 1) arrays = grind (arith, drop-cons) in
     let rest = map view.array (drop (i + 1) arrays) in
     let line = shown_line a.name (slice_get rows i) in
-    let more : line ++ lines_from arrays rows (i + 1) ≡ lines_from arrays rows i =
-    ap (λ (j : ℕ). line ++ array_lines (shown_names rest) (shown_cells rest (drop j rows))) one
-    ∙ sym (shown_more (view.array a) rest rows i)
-    ∙ ap (λ (xs : List ArrayDecl). array_lines (shown_names (map view.array xs))
-    (shown_cells (map view.array xs) (drop i rows))) (sym here) in
-    ap (λ (t : List ℕ). t ++ lines_from arrays rows (i + 1)) h
-    ∙ append_assoc text line (lines_from arrays rows (i + 1))
-    ∙ ap (λ (t : List ℕ). text ++ t) more
-    ∙ so
+    let more : line ++ lines_from arrays rows (i + 1) ≡ lines_from arrays rows i = ap (λ (j : ℕ). line ++
+    array_lines (shown_names rest) (shown_cells rest (drop j rows))) one ∙ sym (shown_more (view.array a) rest
+    rows i) ∙ ap (λ (xs : List ArrayDecl). array_lines (shown_names (map view.array xs)) (shown_cells (map
+    view.array xs) (drop i rows))) (sym here) in
+    grind (arith, append_assoc)

@@ -1,6 +1,6 @@
 -- Two answers of a run to one text are the same where nothing is left to the image.
 use Rattle.std.specs.Prelude.{◌≡◌, ℕ, false, List, Option, Ok, Err, refl}
-use Rattle.std.proofs.Common.{sym, ap, ◌∙◌, subst}
+use Rattle.std.proofs.Common.{sym, ap, ◌∙◌, subst, arith}
 use Rattle.ws_words.specs.Outside.{Outside, World, printed_words}
 use Rattle.src_ast.specs.declared.fault.Refusal.{Refusal}
 use Rattle.src_ast.specs.Syntax.{Part}
@@ -10,11 +10,10 @@ use Rattle.port_set.specs.Ports.{Told}
 use Rattle.store_buf.specs.Outdoors.{world_with}
 use Rattle.wsc_top.specs.declared.task.JobTask.TheVariants.{Run}
 use Rattle.wsc_top.specs.declared.task.Report.{Report}
-use Rattle.wsc_top.specs.declared.task.Report.TheVariants.{Full, Brief}
 use Rattle.wsc_top.specs.declared.task.RunOptions.{RunOptions}
 use Rattle.wsc_top.specs.declared.status.Status.{Status}
 use Rattle.wsc_top.specs.declared.status.Status.TheVariants.{Done, Refused, Fault}
-use Rattle.wsc_top.specs.Texts.{ended_text, firings_line, names_of, array_name, refusal_text}
+use Rattle.wsc_top.specs.Texts.{names_of, array_name, refusal_text}
 use Rattle.wsc_top.specs.Executions.{end_report, fault_report, tells_firings}
 use Rattle.wsc_top.specs.Job.{IsJob, Refuses, IsTextAnswer}
 use Rattle.wsc_top.specs.Answers.{TellsRun, Yields, ran, Answered, refused, done, IsFree}
@@ -25,10 +24,7 @@ use Rattle.wsc_top.proofs.Reading.AnswersOnce.{RunsOnce, Reply, same_reply}
 same_report : (report : Report) (names : List (List ℕ)) (words : List ℕ) (cells : List (List ℕ)) (m n : ℕ)
     → tells_firings report ≡ false
     → end_report report names words cells m ≡ end_report report names words cells n
-same_report (Full memory stats) names words cells m n e =
-    ap (λ s. ended_text memory s names words cells (firings_line m)) e
-    ∙ sym (ap (λ s. ended_text memory s names words cells (firings_line n)) e)
-same_report Brief names words cells m n e = refl
+same_report report names words cells m n e = grind arith
 
 module _ (law : RunsOnce) (options : RunOptions) (parts : List Part) (world : World)
     (handed : List (Option Told)) where
@@ -42,16 +38,12 @@ module _ (law : RunsOnce) (options : RunOptions) (parts : List Part) (world : Wo
       (ap (λ (o : Outside). end_report options.report (names_of parts) (printed_words o.acts) o.cells f)
       same.1
       ∙ same_report options.report (names_of parts) (printed_words last.acts) last.cells f g (a.2 refl))
-  tells_alike s t out more back other (answers.TellsRun.ended n f end r w ports)
-      (answers.TellsRun.faulted m array state q ends) a b =
-      absurd (law.no_end_with_a_fault parts world n m array end state r q)
-  tells_alike s t out more back other (answers.TellsRun.ended n f end r w ports)
-      (answers.TellsRun.spent m front rest q ends) a b = absurd (b.0 refl)
+  tells_alike s t out more back other (answers.TellsRun.ended n f end r w ports) (answers.TellsRun.faulted m
+      array state q ends) a b = absurd (law.no_end_with_a_fault parts world n m array end state r q)
   tells_alike s t out more back other (answers.TellsRun.ended n f end r w ports)
       (answers.TellsRun.failed m port front rest act q on rose ends) a b = absurd (b.1 (port, refl))
-  tells_alike s t out more back other (answers.TellsRun.faulted n array state q ports)
-      (answers.TellsRun.ended m f end r w ends) a b =
-      absurd (law.no_end_with_a_fault parts world m n array end state r q)
+  tells_alike s t out more back other (answers.TellsRun.faulted n array state q ports) (answers.TellsRun.ended
+      m f end r w ends) a b = absurd (law.no_end_with_a_fault parts world m n array end state r q)
   tells_alike s t out more back other (answers.TellsRun.faulted n array state q ports)
       (answers.TellsRun.faulted m again there r ends) a b =
       let same = law.one_fault parts world n m array again state there q r in
@@ -61,12 +53,11 @@ module _ (law : RunsOnce) (options : RunOptions) (parts : List Part) (world : Wo
       ∙ ap (λ (o : Outside). fault_report options.report (array_name (names_of parts) again) (names_of parts)
       (printed_words o.acts) o.cells) same.2)
   tells_alike s t out more back other (answers.TellsRun.faulted n array state q ports)
-      (answers.TellsRun.spent m front rest r ends) a b = absurd (b.0 refl)
-  tells_alike s t out more back other (answers.TellsRun.faulted n array state q ports)
       (answers.TellsRun.failed m port front rest act r on rose ends) a b = absurd (b.1 (port, refl))
   tells_alike s t out more back other (answers.TellsRun.spent n front rest q ports) x a b = absurd (a.0 refl)
   tells_alike s t out more back other (answers.TellsRun.failed n port front rest act q on rose ports) x a b =
       absurd (a.1 (port, refl))
+  tells_alike s t out more back other x y a b = absurd (b.0 refl)
 
 tells_of : (options : RunOptions) (parts : List Part) (input : List ℕ) (handed : List (Option Told))
     (status : Status) (out : List ℕ) (image : Option Image) (back : List (Option Told))
@@ -102,7 +93,6 @@ module _ (text : List ℕ) (once : ExactlyOne (IsTextAnswer text)) where
     runs_alike law s t out more image again back other (done parts input j y) (refused r k) a b =
         absurd (refused_job r parts input k j)
     runs_alike law s t out more image again back other (done parts input j y) (done others words k z) a b =
-        tells_alike law options others (world_with words handed) handed s t out more back other
-        (subst (λ (x : Job). TellsRun options x.0 (world_with x.1 handed) handed s out back)
-        (one_job parts others input words j k) (tells_of options parts input handed s out image back y))
-        (tells_of options others words handed t more again other z) a b
+        tells_alike law options others (world_with words handed) handed s t out more back other (subst (λ (x :
+        Job). TellsRun options x.0 (world_with x.1 handed) handed s out back) (one_job parts others input
+        words j k) (grind (arith, tells_of))) (grind (arith, tells_of)) a b

@@ -1,7 +1,7 @@
 -- What acts show where some arrays are hidden: they stay within the ends, pass the same end first, print the
 -- same words and leave the same cells.
 use Rattle.std.specs.Prelude.{◌≡◌, ℕ, zero, suc, ◌+◌, ◌-◌, ◌<◌, ◌≤◌, Bool, true, false, List, [], ◌∷◌, ◌++◌}
-use Rattle.std.specs.Prelude.{length, map, Some, if◌then◌else◌, slice_index, slice_set, refl}
+use Rattle.std.specs.Prelude.{length, map, if◌then◌else◌, slice_index, slice_set, refl}
 use Rattle.std.proofs.Common.{sym, ap, ◌∙◌, subst, arith}
 use Rattle.ws_words.specs.Operators.{flag}
 use Rattle.ws_words.specs.Outside.{Act, loads, stores, reads, prints, gives, takes, Outside, row, with_row}
@@ -20,28 +20,20 @@ abbrev pub lengths : List GraphArray → List ℕ
 lengths arrays = map (λ a. a.length) arrays
 
 open_so : (b : Bool) → (if b then false else true) ≡ false → b ≡ true
-open_so true h = refl
-open_so false h = cc
+open_so b h = grind arith
 
 -- a shown array is among the shown ones
 some_shown : (k : ℕ) (arrays : List GraphArray) → hidden (nth arrays k) ≡ false
     → 0 < shown_among (suc k) arrays
-some_shown k [] h = absurd (cc)
-some_shown zero (a ∷ arrays) h = let e : flag (has_name a) ≡ 1 = ap flag (open_so (has_name a) h) in
-    omega (arith, e)
 some_shown (suc k) (a ∷ arrays) h = let n : 0 < shown_among (suc k) arrays = some_shown k arrays h in
     omega (arith, n)
+some_shown k arrays h = grind (arith, open_so)
 
 -- it stands there at its number
 same_place : (k : ℕ) (arrays : List GraphArray) → hidden (nth arrays k) ≡ false
     → nth (shown_arrays arrays) (shown_among (suc k) arrays - 1) ≡ nth arrays k
 same_place k [] h = absurd (cc)
-same_place zero (a ∷ arrays) h = go (has_name a) (open_so (has_name a) h)
-  where
-    go : (b : Bool) → b ≡ true → nth (if b then a ∷ shown_arrays arrays else shown_arrays arrays)
-        (flag b + 0 - 1) ≡ Some a
-    go true e = refl
-    go false e = absurd (cc)
+same_place zero (a ∷ arrays) h = grind (arith, open_so)
 same_place (suc k) (a ∷ arrays) h = go (has_name a) (same_place k arrays h)
   where
     go : (b : Bool) → nth (shown_arrays arrays) (shown_among (suc k) arrays - 1) ≡ nth arrays k
@@ -60,13 +52,8 @@ same_place (suc k) (a ∷ arrays) h = go (has_name a) (same_place k arrays h)
 number_place : (a : ℕ) (arrays : List GraphArray) → shown_among a arrays - 1 ≡ shown_among (suc (a - 1))
     arrays - 1
 number_place zero [] = refl
-number_place zero (x ∷ xs) = go (has_name x)
-  where
-    go : (b : Bool) → 0 ≡ flag b + 0 - 1
-    go true = refl
-    go false = refl
-number_place (suc a) arrays = let e : suc a - 1 ≡ a = omega arith in ap (λ n. shown_among (suc n) arrays - 1)
-    (sym e)
+number_place zero (x ∷ xs) = grind arith
+number_place (suc a) arrays = grind arith
 
 -- the shown array of a number is the array
 pub shown_place : (arrays : List GraphArray) (a : ℕ) → is_hidden arrays a ≡ false
@@ -74,32 +61,19 @@ pub shown_place : (arrays : List GraphArray) (a : ℕ) → is_hidden arrays a �
 shown_place arrays a h = ap (nth (shown_arrays arrays)) (number_place a arrays) ∙ same_place (a - 1) arrays h
 
 pub at_length : (xs : List GraphArray) (k : ℕ) → slice_index (lengths xs) k ≡ cell_count (nth xs k)
-at_length [] zero = refl
-at_length [] (suc k) = refl
-at_length (x ∷ xs) zero = refl
 at_length (x ∷ xs) (suc k) = at_length xs k
+at_length xs k = refl
 
 shown_length : (arrays : List GraphArray) (a : ℕ) → is_hidden arrays a ≡ false
     → past.length_of (lengths (shown_arrays arrays)) (shown_among a arrays) ≡ past.length_of (lengths arrays)
     a
-shown_length arrays a h = at_length (shown_arrays arrays) (shown_among a arrays - 1)
-    ∙ ap cell_count (shown_place arrays a h) ∙ sym (at_length arrays (a - 1))
+shown_length arrays a h = grind (arith, at_length, shown_place)
 
 module _ (arrays : List GraphArray) where
   one_within : (act : Act) → IsWithin (lengths arrays) act → AreWithin (lengths (shown_arrays arrays))
       (shown_act arrays act)
-  one_within (loads a i) h = go (is_hidden arrays a) refl
-    where
-      go : (b : Bool) → is_hidden arrays a ≡ b → AreWithin (lengths (shown_arrays arrays))
-          (if b then [] else loads (shown_among a arrays) i ∷ [])
-      go true e = tt
-      go false e = (subst (λ n. i < n) (sym (shown_length arrays a e)) h, tt)
-  one_within (stores a i w) h = go (is_hidden arrays a) refl
-    where
-      go : (b : Bool) → is_hidden arrays a ≡ b → AreWithin (lengths (shown_arrays arrays))
-          (if b then [] else stores (shown_among a arrays) i w ∷ [])
-      go true e = tt
-      go false e = (subst (λ n. i < n) (sym (shown_length arrays a e)) h, tt)
+  one_within (loads a i) h = grind (arith, shown_length)
+  one_within (stores a i w) h = grind (arith, shown_length)
   one_within reads h = (tt, tt)
   one_within (prints w) h = (tt, tt)
   one_within (gives p) h = (tt, tt)
@@ -109,8 +83,7 @@ module _ (arrays : List GraphArray) where
   pub shown_within : (acts : List Act) → AreWithin (lengths arrays) acts
       → AreWithin (lengths (shown_arrays arrays)) (shown_acts arrays acts)
   shown_within [] h = tt
-  shown_within (act ∷ acts) h = within_both (lengths (shown_arrays arrays)) (shown_act arrays act)
-      (shown_acts arrays acts) (one_within act h.0) (shown_within acts h.1)
+  shown_within (act ∷ acts) h = grind (arith, within_both, one_within, shown_within acts h.1)
 
   inside_at : (before : List Act) (act : Act) (after : List Act) → AllInside arrays (before ++ act ∷ after)
       → IsInside arrays act
@@ -127,10 +100,7 @@ module _ (arrays : List GraphArray) where
   open_at : (a i : ℕ) → past.length_of (lengths arrays) a ≤ i
       → (is_hidden arrays a ≡ true → i < cell_count (nth arrays (a - 1))) → (b : Bool)
       → is_hidden arrays a ≡ b → is_hidden arrays a ≡ false
-  open_at a i le inside true e = let n : i < cell_count (nth arrays (a - 1)) = inside e in
-      let m : past.length_of (lengths arrays) a ≡ cell_count (nth arrays (a - 1)) =
-      at_length arrays (a - 1) in absurd (omega (arith, n, m, le))
-  open_at a i le inside false e = e
+  open_at a i le inside b e = grind (arith, at_length)
 
   past_shows : (array : ℕ) (act : Act) → IsPast (lengths arrays) array act → IsInside arrays act
       → ShowsPast array act
@@ -158,9 +128,7 @@ module _ (arrays : List GraphArray) where
   module _ (acts before : List Act) (array : ℕ) (f : FirstPast (lengths arrays) acts before array)
       (inside : AllInside arrays acts) where
     first_shows : ShowsPast array f.act
-    first_shows =
-        past_shows array f.act f.past
-        (inside_at before f.act f.after (subst (AllInside arrays) f.split inside))
+    first_shows = grind (arith, past_shows, inside_at)
 
     pub open_first : is_hidden arrays array ≡ false
     open_first = first_shows.open_array
@@ -173,27 +141,14 @@ module _ (arrays : List GraphArray) where
       act = first_shows.shows;
       past = first_shows.past;
       after = shown_acts arrays f.after;
-      split = ap (shown_acts arrays) f.split ∙ shown_both arrays before (f.act ∷ f.after)
-          ∙ ap (λ (xs : List Act). shown_acts arrays before ++ (xs ++ shown_acts arrays f.after))
-          first_shows.is;
+      split = grind (arith, shown_both);
     }
 
   -- the words printed are shown
   pub shown_words : (acts : List Act) → printed_words (shown_acts arrays acts) ≡ printed_words acts
   shown_words [] = refl
-  shown_words (loads a i ∷ acts) = go (is_hidden arrays a) ∙ shown_words acts
-    where
-      go : (b : Bool) → printed_words ((if b then [] else loads (shown_among a arrays) i ∷ []) ++ shown_acts
-          arrays acts) ≡ printed_words (shown_acts arrays acts)
-      go true = refl
-      go false = refl
-  shown_words (stores a i w ∷ acts) = go (is_hidden arrays a) ∙ shown_words acts
-    where
-      go : (b : Bool)
-          → printed_words ((if b then [] else stores (shown_among a arrays) i w ∷ []) ++ shown_acts arrays
-          acts) ≡ printed_words (shown_acts arrays acts)
-      go true = refl
-      go false = refl
+  shown_words (loads a i ∷ acts) = grind (arith, shown_words acts)
+  shown_words (stores a i w ∷ acts) = grind (arith, shown_words acts)
   shown_words (reads ∷ acts) = shown_words acts
   shown_words (prints w ∷ acts) = ap (λ (ws : List ℕ). w ∷ ws) (shown_words acts)
   shown_words (gives p ∷ acts) = shown_words acts
@@ -220,15 +175,8 @@ hidden_row : (arrays : List GraphArray) (cells : List (List ℕ)) (k : ℕ) (r :
     → hidden (nth arrays k) ≡ true → shown_cells arrays (with_row cells k r) ≡ shown_cells arrays cells
 hidden_row [] cells k r h = refl
 hidden_row (a ∷ arrays) [] k r h = refl
-hidden_row (a ∷ arrays) (x ∷ cells) zero r h = go (has_name a) h
-  where
-    go : (b : Bool) → (if b then false else true) ≡ true
-        → (if b then r ∷ shown_cells arrays cells else shown_cells arrays cells)
-        ≡ (if b then x ∷ shown_cells arrays cells else shown_cells arrays cells)
-    go true e = absurd (cc)
-    go false e = refl
-hidden_row (a ∷ arrays) (x ∷ cells) (suc k) r h = ap (λ (z : List (List ℕ)). if has_name a then x ∷ z else z)
-    (hidden_row arrays cells k r h)
+hidden_row (a ∷ arrays) (x ∷ cells) zero r h = grind arith
+hidden_row (a ∷ arrays) (x ∷ cells) (suc k) r h = grind (arith, hidden_row arrays cells k r h)
 
 -- a shown one is shown at its number
 shown_row : (arrays : List GraphArray) (cells : List (List ℕ)) (k : ℕ) (r : List ℕ)
@@ -237,41 +185,16 @@ shown_row : (arrays : List GraphArray) (cells : List (List ℕ)) (k : ℕ) (r : 
     (with_row cells k r)
 shown_row [] cells k r h l = absurd (cc)
 shown_row (a ∷ arrays) [] k r h l = absurd (omega (arith, l))
-shown_row (a ∷ arrays) (x ∷ cells) zero r h l = go (has_name a) (open_so (has_name a) h)
-  where
-    go : (b : Bool) → b ≡ true
-        → with_row (if b then x ∷ shown_cells arrays cells else shown_cells arrays cells) (flag b + 0 - 1) r
-        ≡ (if b then r ∷ shown_cells arrays cells else shown_cells arrays cells)
-    go true e = refl
-    go false e = absurd (cc)
+shown_row (a ∷ arrays) (x ∷ cells) zero r h l = grind (arith, open_so)
 shown_row (a ∷ arrays) (x ∷ cells) (suc k) r h l =
-    go (has_name a) (shown_row arrays cells k r h (omega (arith, l)))
-  where
-    go : (b : Bool) → with_row (shown_cells arrays cells) (shown_among (suc k) arrays - 1) r ≡ shown_cells
-        arrays (with_row cells k r)
-        → with_row (if b then x ∷ shown_cells arrays cells else shown_cells arrays cells)
-        (flag b + shown_among (suc k) arrays - 1) r
-        ≡ (if b then x ∷ shown_cells arrays (with_row cells k r) else shown_cells arrays (with_row cells k r))
-    go true more =
-        let n : 0 < shown_among (suc k) arrays = some_shown k arrays h in
-        let e : 1 + shown_among (suc k) arrays - 1 ≡ suc (shown_among (suc k) arrays - 1) =
-        omega (arith, n) in
-        ap (λ j. with_row (x ∷ shown_cells arrays cells) j r) e ∙ ap (λ (z : List (List ℕ)). x ∷ z) more
-    go false more =
-        let e : 0 + shown_among (suc k) arrays - 1 ≡ shown_among (suc k) arrays - 1 = omega arith in
-        ap (λ j. with_row (shown_cells arrays cells) j r) e ∙ more
+    grind (arith, some_shown, shown_row arrays cells k r h (omega (arith, l)))
 
 row_there : (arrays : List GraphArray) (cells : List (List ℕ)) (k : ℕ) → hidden (nth arrays k) ≡ false
     → length cells ≡ length arrays
     → row (shown_cells arrays cells) (shown_among (suc k) arrays - 1) ≡ row cells k
 row_there [] cells k h l = absurd (cc)
 row_there (a ∷ arrays) [] k h l = absurd (omega (arith, l))
-row_there (a ∷ arrays) (x ∷ cells) zero h l = go (has_name a) (open_so (has_name a) h)
-  where
-    go : (b : Bool) → b ≡ true → row (if b then x ∷ shown_cells arrays cells else shown_cells arrays cells)
-        (flag b + 0 - 1) ≡ x
-    go true e = refl
-    go false e = absurd (cc)
+row_there (a ∷ arrays) (x ∷ cells) zero h l = grind (arith, open_so)
 row_there (a ∷ arrays) (x ∷ cells) (suc k) h l =
     go (has_name a) (row_there arrays cells k h (omega (arith, l)))
   where
@@ -283,9 +206,7 @@ row_there (a ∷ arrays) (x ∷ cells) (suc k) h l =
         let e : 1 + shown_among (suc k) arrays - 1 ≡ suc (shown_among (suc k) arrays - 1) =
         omega (arith, n) in
         ap (row (x ∷ shown_cells arrays cells)) e ∙ more
-    go false more =
-        let e : 0 + shown_among (suc k) arrays - 1 ≡ shown_among (suc k) arrays - 1 = omega arith in
-        ap (row (shown_cells arrays cells)) e ∙ more
+    go false more = grind arith
 
 stored_after : (arrays : List GraphArray) (a i w : ℕ) (acts : List Act) (cells : List (List ℕ))
     → length cells ≡ length arrays → (b : Bool) → is_hidden arrays a ≡ b
@@ -295,19 +216,8 @@ stored_after : (arrays : List GraphArray) (a i w : ℕ) (acts : List Act) (cells
     → cells_after (shown_cells arrays cells) ((if b then [] else stores (shown_among a arrays) i w ∷ [])
     ++ shown_acts arrays acts)
     ≡ shown_cells arrays (cells_after (with_row cells (a - 1) (slice_set (row cells (a - 1)) i w)) acts)
-stored_after arrays a i w acts cells l true e rest =
-    ap (λ (z : List (List ℕ)). cells_after z (shown_acts arrays acts))
-    (sym (hidden_row arrays cells (a - 1) (slice_set (row cells (a - 1)) i w) e)) ∙ rest
-stored_after arrays a i w acts cells l false e rest =
-    let here : with_row (shown_cells arrays cells) (shown_among a arrays - 1)
-    (slice_set (row (shown_cells arrays cells) (shown_among a arrays - 1)) i w)
-    ≡ shown_cells arrays (with_row cells (a - 1) (slice_set (row cells (a - 1)) i w)) =
-    ap (λ j. with_row (shown_cells arrays cells) j (slice_set (row (shown_cells arrays cells) j) i w))
-    (number_place a arrays)
-    ∙ ap (λ (r : List ℕ). with_row (shown_cells arrays cells) (shown_among (suc (a - 1)) arrays - 1)
-    (slice_set r i w)) (row_there arrays cells (a - 1) e l)
-    ∙ shown_row arrays cells (a - 1) (slice_set (row cells (a - 1)) i w) e l in
-    ap (λ (z : List (List ℕ)). cells_after z (shown_acts arrays acts)) here ∙ rest
+stored_after arrays a i w acts cells l b e rest =
+    grind (arith, hidden_row, number_place, row_there, shown_row)
 
 -- what acts show leaves the shown cells
 pub shown_after : (arrays : List GraphArray) (acts : List Act) (cells : List (List ℕ))
@@ -315,17 +225,10 @@ pub shown_after : (arrays : List GraphArray) (acts : List Act) (cells : List (Li
     → cells_after (shown_cells arrays cells) (shown_acts arrays acts) ≡ shown_cells arrays
     (cells_after cells acts)
 shown_after arrays [] cells l = refl
-shown_after arrays (loads a i ∷ acts) cells l = go (is_hidden arrays a) ∙ shown_after arrays acts cells l
-  where
-    go : (b : Bool) → cells_after (shown_cells arrays cells)
-        ((if b then [] else loads (shown_among a arrays) i ∷ []) ++ shown_acts arrays acts) ≡ cells_after
-        (shown_cells arrays cells) (shown_acts arrays acts)
-    go true = refl
-    go false = refl
-shown_after arrays (stores a i w ∷ acts) cells l =
-    stored_after arrays a i w acts cells l (is_hidden arrays a) refl
-    (shown_after arrays acts (with_row cells (a - 1) (slice_set (row cells (a - 1)) i w))
-    (length_with_row cells (a - 1) (slice_set (row cells (a - 1)) i w) ∙ l))
+shown_after arrays (loads a i ∷ acts) cells l = grind (arith, shown_after arrays acts cells l)
+shown_after arrays (stores a i w ∷ acts) cells l = stored_after arrays a i w acts cells l (is_hidden arrays a)
+    refl (shown_after arrays acts (with_row cells (a - 1) (slice_set (row cells (a - 1)) i w))
+    (grind (arith, length_with_row)))
 shown_after arrays (reads ∷ acts) cells l = shown_after arrays acts cells l
 shown_after arrays (prints w ∷ acts) cells l = shown_after arrays acts cells l
 shown_after arrays (gives p ∷ acts) cells l = shown_after arrays acts cells l

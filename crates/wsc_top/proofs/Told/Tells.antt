@@ -1,9 +1,8 @@
 -- What the run of an image of a program tells in the program's words, and its status.
 use Rattle.std.specs.Prelude.{◌≡◌, ℕ, suc, ◌*◌, ◌≤◌, true, List, length, Option, Some, refl}
 use Rattle.std.specs.List.{AllByRecursion}
-use Rattle.std.proofs.Common.{sym, ap, ◌∙◌, subst, inl, inr, arith}
+use Rattle.std.proofs.Common.{subst, inl, inr, arith}
 use Rattle.ws_words.specs.Outside.{Outside, World, printed_words, IsMachineWord, WorldOfWords}
-use Rattle.ws_words.specs.Plain.{took_words}
 use Rattle.src_ast.specs.declared.lexeme.Place.{Place}
 use Rattle.src_ast.specs.Syntax.{Part}
 use Rattle.src_ast.specs.Bound.{bound}
@@ -15,7 +14,7 @@ use Rattle.ws_isa.specs.Walk.{Inst, fires, mem, walk, has_ended, CostAtMost}
 use Rattle.ws_isa.specs.Operations.{NoFault, FaultsAt, effect_of}
 use Rattle.df_core.specs.Ends.{FirstWithin}
 use Rattle.port_set.specs.Ports.{Told}
-use Rattle.store_buf.specs.Outdoors.{RoseAt, began_of, port_of, world_with}
+use Rattle.store_buf.specs.Outdoors.{RoseAt, port_of, world_with}
 use Rattle.wave_build.specs.Compiled.{WalksAsRun, shown}
 use Rattle.seq_run.proofs.OneAnswer.{end_no_fault, end_no_going, fault_no_going}
 use Rattle.wsc_top.specs.declared.status.Status.{Status}
@@ -74,41 +73,25 @@ module _ (known : WalksOnce) (whole : WalksEnd) (options : RunOptions) (parts : 
       let e = walks.ends b.0 b.1 b.2 in
       let up : fired ≤ length (walk image world e.0) = whole image world e.0 e.1 t in
       let down : length (walk image world e.0) ≤ fired = cost e.0 in
-      let same : effect_of (mem image world t) ≡ effect_of (mem image world e.0) =
-      one_effect known image world t e.0 (one_walk known image world t e.0 (either_way t e.0)
-      (omega (arith, up, down))) in
-      let r = end_told parts image world c.formed c.arrays walks e.0 none e.1
-      (printed_words (mem image world t).acts) (mem image world t).cells
-      (one_print known image world t e.0 same) (one_cells known image world t e.0 same) in
-      let there : PortsAre handed (mem image world e.0) back =
-      ports_moved (began_of handed) (mem image world t) (mem image world e.0) back
-      (ap (λ (o : Outside). o.left) same)
-      (λ slot. sym (took_alike slot (mem image world t).acts) ∙ ap (λ (o : Outside). took_words slot o.acts)
-      same ∙ took_alike slot (mem image world e.0).acts) ports in
+      let same : effect_of (mem image world t) ≡ effect_of (mem image world e.0) = one_effect known image
+      world t e.0 (one_walk known image world t e.0 (either_way t e.0) (omega (arith, up, down))) in
+      let r = end_told parts image world c.formed c.arrays walks e.0 none e.1 (printed_words (mem image world
+      t).acts) (mem image world t).cells (grind (arith, one_print)) (grind (arith, one_cells)) in
+      let there : PortsAre handed (mem image world e.0) back = grind (arith, ports_moved, took_alike) in
       let rows = shown_cells image.arrays (mem image world t).cells in
-      let text : end_report options.report (names_of parts) (printed_words r.end.acts) r.end.cells fired
-      ≡ end_report options.report (shown_names image.arrays) (printed_words (mem image world t).acts) rows
-      fired =
-      sym (ap (λ (ns : List (List ℕ)). end_report options.report ns (printed_words (mem image world t).acts)
-      rows fired) names_are
-      ∙ ap (λ (ws : List ℕ). end_report options.report (names_of parts) ws rows fired) r.words
-      ∙ ap (λ (cs : List (List ℕ)). end_report options.report (names_of parts) (printed_words r.end.acts) cs
-      fired) r.rows) in
-      subst (λ (o : List ℕ). TellsRun options parts world handed Done o back) text
-      (answers.TellsRun.ended r.turns fired r.end r.runs le
-      (end_ports parts image world c.formed c.arrays walks (began_of handed) back e.0 r.end r.shows
-      there))
+      let text : end_report options.report (names_of parts) (printed_words r.end.acts) r.end.cells fired ≡
+      end_report options.report (shown_names image.arrays) (printed_words (mem image world t).acts) rows fired
+      = grind (arith, names_are) in
+      subst (λ (o : List ℕ). TellsRun options parts world handed Done o back) text (answers.TellsRun.ended
+      r.turns fired r.end r.runs le (grind (arith, end_ports, walks)))
 
   spent_tells : (t : ℕ) → StopsShort image world options.budget t → PortsAre handed (mem image world t) back
       → TellsRun options parts world handed Budget
       (spent_report options.report (printed_words (mem image world t).acts) options.budget) back
-  spent_tells t s ports =
-      let r = front_told parts image world c.formed c.arrays walks t s.within in
-      subst (λ (ws : List ℕ). TellsRun options parts world handed Budget
-      (spent_report options.report ws options.budget) back)
-      (front_words parts image world c.formed c.arrays walks t)
-      (answers.TellsRun.spent r.turns (shown image (mem image world t).acts) r.more r.does
-      (act_ports parts image world c.formed c.arrays walks (began_of handed) back t ports))
+  spent_tells t s ports = let r = front_told parts image world c.formed c.arrays walks t s.within in
+      subst (λ (ws : List ℕ). TellsRun options parts world handed Budget (spent_report options.report ws
+      options.budget) back) (grind (arith, front_words, walks)) (answers.TellsRun.spent r.turns (shown image
+      (mem image world t).acts) r.more r.does (grind (arith, act_ports, walks)))
 
   fault_tells : (t : ℕ) (fault : FaultsAt image world t) → PortsAre handed (mem image world t) back
       → TellsRun options parts world handed Fault
@@ -119,20 +102,13 @@ module _ (known : WalksOnce) (whole : WalksEnd) (options : RunOptions) (parts : 
       let array = array_at image fault.inst.instr in
       let printed = printed_words (mem image world t).acts in
       let rows = shown_cells image.arrays (mem image world t).cells in
-      let r = fault_told parts image world c.formed c.arrays walks t fault array printed
-      (mem image world t).cells refl refl refl in
+      let r = fault_told parts image world c.formed c.arrays walks t fault array printed (mem image world
+      t).cells refl refl refl in
       let text : fault_report options.report (array_name (names_of parts) r.place) (names_of parts)
-      (printed_words r.state.acts) r.state.cells
-      ≡ fault_report options.report (called image.arrays array) (shown_names image.arrays) printed rows =
-      sym (ap (λ (ns : List (List ℕ)). fault_report options.report (called image.arrays array) ns printed
-      rows) names_are
-      ∙ ap (λ (name : List ℕ). fault_report options.report name (names_of parts) printed rows) r.name
-      ∙ ap (λ (ws : List ℕ). fault_report options.report (array_name (names_of parts) r.place)
-      (names_of parts) ws rows) r.words
-      ∙ ap (λ (cs : List (List ℕ)). fault_report options.report (array_name (names_of parts) r.place)
-      (names_of parts) (printed_words r.state.acts) cs) r.rows) in
-      subst (λ (o : List ℕ). TellsRun options parts world handed Fault o back) text
-      (answers.TellsRun.faulted r.turn r.place r.state r.faults (r.ports (began_of handed) back ports))
+      (printed_words r.state.acts) r.state.cells ≡ fault_report options.report (called image.arrays array)
+      (shown_names image.arrays) printed rows = grind (arith, names_are) in
+      subst (λ (o : List ℕ). TellsRun options parts world handed Fault o back) text (answers.TellsRun.faulted
+      r.turn r.place r.state r.faults (grind arith))
 
   fail_tells : (t port : ℕ) (x : Inst) → fires image world t ≡ Some x → port_of (instr_at image x.instr).op
       ≡ Some port → FirstWithin image world t → RoseAt port handed back
@@ -141,11 +117,9 @@ module _ (known : WalksOnce) (whole : WalksEnd) (options : RunOptions) (parts : 
       (failed_report options.report (printed_words (mem image world t).acts) port) back
   fail_tells t port x e is within rose ports =
       let r = fail_told parts image world c.formed c.arrays walks t port x e is within in
-      subst (λ (ws : List ℕ). TellsRun options parts world handed (PortFault port)
-      (failed_report options.report ws port) back) (front_words parts image world c.formed c.arrays walks
-      t)
-      (answers.TellsRun.failed r.turns port (shown image (mem image world t).acts) r.more r.act r.does r.on
-      rose (act_ports parts image world c.formed c.arrays walks (began_of handed) back t ports))
+      subst (λ (ws : List ℕ). TellsRun options parts world handed (PortFault port) (failed_report
+      options.report ws port) back) (grind (arith, front_words, walks)) (answers.TellsRun.failed r.turns port
+      (shown image (mem image world t).acts) r.more r.act r.does r.on rose (grind (arith, act_ports, walks)))
 
   pub run_tells : (status : Status) (out : List ℕ) → Executes options image world handed status out back
       → TellsRun options parts world handed status out back
@@ -188,11 +162,7 @@ IsDear image w most Fault = Unit {0}
 spent_is_dear : (options : RunOptions) (image : Image) (w : World) (handed back : List (Option Told))
     (status : Status) (out : List ℕ) → Executes options image w handed status out back
     → IsDear image w options.budget status
-spent_is_dear options image w handed back status out (rested t no_fault whole within ports) = tt
-spent_is_dear options image w handed back status out (executions.Executes.spent t h ports) = h.dear
-spent_is_dear options image w handed back status out (stopped t fault ports) = tt
-spent_is_dear options image w handed back status out (executions.Executes.failed t port x e is within rose
-    ports) = tt
+spent_is_dear options image w handed back status out x = grind arith
 
 module _ (options : RunOptions) (parts : List Part) (input : List ℕ) (handed : List (Option Told))
     (words : AllByRecursion IsMachineWord input) (told : TellWords handed) where
@@ -204,9 +174,7 @@ module _ (options : RunOptions) (parts : List Part) (input : List ℕ) (handed :
       → bound parts * suc n ≤ options.budget → status ≡ Budget → ⊥
   never_spent image status out back c e n o p le is =
       let cost = c.cost (world_with input handed) (given_words input handed words told) n o p in
-      subst (IsDear image (world_with input handed) options.budget) is
-      (spent_is_dear options image (world_with input handed) handed back status out e)
-      (λ t. let most = cost t in omega (arith, most, le))
+      grind (arith, spent_is_dear)
 
   -- a run that comes to its end in time is done
   tells_done : (status : Status) (out : List ℕ) (back : List (Option Told)) → (status ≡ Budget → ⊥)

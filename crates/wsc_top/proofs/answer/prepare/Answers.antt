@@ -8,9 +8,8 @@ use Rattle.wsc_top.proofs.Calling.Calls.{usage_step, generated_step, bench_step}
 use Rattle.wsc_top.proofs.answer.prepare.Goals as goal
 
 pub returns-in-None-clause-ok : goal.returns-in-None-clause-ok
-returns-in-None-clause-ok g c =
-    known_step _ _ _ _ _ _ _ c.plain.ensures
-    (usage_step _ _ _ _ (no_line _ c.in_ok-read_task.field-0 c.in_ok-read_task.ensures.none (λ t e. cc)))
+returns-in-None-clause-ok g c = known_step _ _ _ _ _ _ _ c.plain.ensures (usage_step _ _ _ _ (no_line _
+    c.in_ok-read_task.field-0 c.in_ok-read_task.ensures.none (λ t e. cc)))
 
 pub returns-in_ok-text-in-Some-Generate-clause-ok : goal.returns-in_ok-text-in-Some-Generate-clause-ok
 returns-in_ok-text-in-Some-Generate-clause-ok g c =
@@ -54,14 +53,12 @@ returns-in_err-read_task-clause-memory g c = err_none _ _ c.from_residual.ensure
 
 pub returns-in_err-text-in-Some-Generate-clause-memory :
     goal.returns-in_err-text-in-Some-Generate-clause-memory
-returns-in_err-text-in-Some-Generate-clause-memory g c =
-    err_none _ _ c.from_residual-in_err-text-in-Some-Generate.ensures.1
-    (λ s e. none_out _ _ _ s.image e (none_read _ _))
+returns-in_err-text-in-Some-Generate-clause-memory g c = err_none _ _
+    c.from_residual-in_err-text-in-Some-Generate.ensures.1 (λ s e. none_out _ _ _ s.image e (none_read _ _))
 
 pub returns-in_err-image-in-Some-Bench-clause-memory : goal.returns-in_err-image-in-Some-Bench-clause-memory
-returns-in_err-image-in-Some-Bench-clause-memory g c =
-    err_none _ _ c.from_residual-in_err-image-in-Some-Bench.ensures.1
-    (λ s e. none_out _ _ _ s.image e (none_read _ _))
+returns-in_err-image-in-Some-Bench-clause-memory g c = err_none _ _
+    c.from_residual-in_err-image-in-Some-Bench.ensures.1 (λ s e. none_out _ _ _ s.image e (none_read _ _))
 
 pub returns-in_err-of_job-in-Some-Job-clause-memory : goal.returns-in_err-of_job-in-Some-Job-clause-memory
 returns-in_err-of_job-in-Some-Job-clause-memory g c =

@@ -5,11 +5,9 @@ use Rattle.wsc_top.proofs.Calling.Calls.{sound_step, unsound_step, err_same, ass
 use Rattle.wsc_top.proofs.answer.to_assembly.Goals as goal
 
 pub returns-in_ok-assembly_yielded-in-Ok-clause-ok : goal.returns-in_ok-assembly_yielded-in-Ok-clause-ok
-returns-in_ok-assembly_yielded-in-Ok-clause-ok c =
-    sound_step c.args.task c.args.text.now c.in-Ok.image c.in-Ok.input _
-    (c.in-Ok.ensures.ok _ (c.split.ensures.program ∙ program_for c.args.task c.args.text.now)
-    (c.words_and_trace.ensures.words _ c.split.ensures.input))
-    c.in_ok-assembly_yielded-in-Ok.ensures.ok
+returns-in_ok-assembly_yielded-in-Ok-clause-ok c = sound_step c.args.task c.args.text.now c.in-Ok.image
+    c.in-Ok.input _ (c.in-Ok.ensures.ok _ (c.split.ensures.program ∙ program_for c.args.task c.args.text.now)
+    (c.words_and_trace.ensures.words _ c.split.ensures.input)) c.in_ok-assembly_yielded-in-Ok.ensures.ok
 
 pub returns-in_ok-text-in-Err-Refused-clause-ok : goal.returns-in_ok-text-in-Err-Refused-clause-ok
 returns-in_ok-text-in-Err-Refused-clause-ok c =
@@ -20,12 +18,10 @@ returns-in_ok-text-in-Err-Refused-clause-ok c =
 
 pub returns-in_err-assembly_yielded-in-Ok-clause-begun :
     goal.returns-in_err-assembly_yielded-in-Ok-clause-begun
-returns-in_err-assembly_yielded-in-Ok-clause-begun c =
-    err_same _ _ c.in_err-assembly_yielded-in-Ok.field-0.0 c.from_residual.ensures.1
-    (assembly_begun c.args.task c.args.text.now c.in-Ok.image c.in-Ok.input _
+returns-in_err-assembly_yielded-in-Ok-clause-begun c = err_same _ _ c.in_err-assembly_yielded-in-Ok.field-0.0
+    c.from_residual.ensures.1 (assembly_begun c.args.task c.args.text.now c.in-Ok.image c.in-Ok.input _
     (c.in-Ok.ensures.ok _ (c.split.ensures.program ∙ program_for c.args.task c.args.text.now)
-    (c.words_and_trace.ensures.words _ c.split.ensures.input))
-    c.in_err-assembly_yielded-in-Ok.ensures.begun)
+    (c.words_and_trace.ensures.words _ c.split.ensures.input)) c.in_err-assembly_yielded-in-Ok.ensures.begun)
 
 pub assembly_yielded-requires-clause-trace : goal.assembly_yielded-requires-clause-trace
 assembly_yielded-requires-clause-trace c is =

@@ -26,14 +26,11 @@ returns-in-Ok-input_words-clause-only c t image words s i a =
     )
 
 pub returns-in-Err-input_words-clause-only : goal.returns-in-Err-input_words-clause-only
-returns-in-Err-input_words-clause-only c t image words s i a =
-    no_words c.in-Err-input_words.fault _ image words c.input_fault.ensures
-    (c.in-Err-input_words.ensures.only words
-    (of_sections (λ at x. InputWords at x words) t _ _ s i a.words))
+returns-in-Err-input_words-clause-only c t image words s i a = no_words c.in-Err-input_words.fault _ image
+    words c.input_fault.ensures (c.in-Err-input_words.ensures.only words (of_sections (λ at x. InputWords at x
+    words) t _ _ s i a.words))
 
 pub returns-in-Err-input_words-clause-refused : goal.returns-in-Err-input_words-clause-refused
-returns-in-Err-input_words-clause-refused c t s i =
-    input_refused t _ c.in-Err-input_words.fault _ c.input_fault.ensures
-    (ap text.read (sym s) ∙ c.in-Ok.ensures.ok) c.in-Ok.ensures.sound
-    (of_text (λ at x. IsInputFault at x c.in-Err-input_words.fault) t _ _ s i
-    c.in-Err-input_words.ensures.refused)
+returns-in-Err-input_words-clause-refused c t s i = input_refused t _ c.in-Err-input_words.fault _
+    c.input_fault.ensures (ap text.read (sym s) ∙ c.in-Ok.ensures.ok) c.in-Ok.ensures.sound (of_text (λ at x.
+    IsInputFault at x c.in-Err-input_words.fault) t _ _ s i c.in-Err-input_words.ensures.refused)

@@ -11,9 +11,8 @@ returns-in-Err-clause-refused c = reads_fault _ _ _ _ _ _ c.jobs.invariant.read 
     c.in_default.ensures.none _ c.in-Err.ensures.refused
 
 pub returns-then-is_last-clause-ok : goal.returns-then-is_last-clause-ok
-returns-then-is_last-clause-ok c =
-    reads_last _ _ _ _ _ _ c.jobs.invariant.read c.split.ensures.job _ _ c.in-Ok.ensures.ok _ _
-    c.in_ok-keep.ensures.images c.in_ok-keep.ensures.inputs c.in_default.ensures.none
+returns-then-is_last-clause-ok c = reads_last _ _ _ _ _ _ c.jobs.invariant.read c.split.ensures.job _ _
+    c.in-Ok.ensures.ok _ _ c.in_ok-keep.ensures.images c.in_ok-keep.ensures.inputs c.in_default.ensures.none
     (c.is_last.ensures.last c.if-is_last.true)
 
 pub jobs-preserved : goal.jobs-preserved

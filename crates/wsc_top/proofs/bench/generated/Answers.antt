@@ -13,11 +13,9 @@ checked_image-requires c = job_written _ (view.parts c.in-Ok.accepted.program.it
     c.read_is_written.ensures c.in-Ok.ensures.ok
 
 pub returns-in-Ok : goal.returns-in-Ok
-returns-in-Ok c =
-    bench_job c.args.number _ (view.parts c.in-Ok.accepted.program.items.items) c.in-Ok.input _
-    (c.as_slice.ensures ∙ c.in_ok-text.ensures)
-    (c.each_generated_job_is_a_job.ensures c.args.number) c.in-Ok.ensures.same
-    c.in_ok-checked_image-in-Ok.ensures
+returns-in-Ok c = bench_job c.args.number _ (view.parts c.in-Ok.accepted.program.items.items) c.in-Ok.input _
+    (c.as_slice.ensures ∙ c.in_ok-text.ensures) (c.each_generated_job_is_a_job.ensures c.args.number)
+    c.in-Ok.ensures.same c.in_ok-checked_image-in-Ok.ensures
 
 pub unreachable-requires : goal.unreachable-requires
 unreachable-requires c =

@@ -27,7 +27,6 @@ returns-in-Ok-clause-ends g c words reads handed told reply =
     front.2 c.in-Err-write_all.ensures.unflushed c.in-Err-write_all.ensures.failed
 
 pub returns-clause-ends : goal.returns-clause-ends
-returns-clause-ends g c words reads handed told reply =
-    call_starved words reads _ handed _ _ _ (starved_reply _ c.in-Err.field-0 (cc) reply.memory)
-    refl refl
-    (λ none. not_ok _ c.in-Err.field-0 (cc) (reply.known none))
+returns-clause-ends g c words reads handed told reply = call_starved words reads _ handed _ _ _ (starved_reply
+    _ c.in-Err.field-0 (cc) reply.memory) refl refl (λ none. not_ok _ c.in-Err.field-0 (cc) (reply.known
+    none))

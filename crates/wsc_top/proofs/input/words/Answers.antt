@@ -8,24 +8,21 @@ returns-then-is_empty-clause-ok c = reads_end _ _ _ _ _ _ _ c.items.invariant.re
     c.blanks.ensures.blank (empty_is _ _ c.is_empty.ensures c.if-is_empty.true)
 
 pub returns-then-is_empty-clause-only : goal.returns-then-is_empty-clause-only
-returns-then-is_empty-clause-only c words h =
-    one_list _ _ _ _ (reads_end _ _ _ _ _ _ _ c.items.invariant.read c.blanks.ensures.whole
-    c.blanks.ensures.blank (empty_is _ _ c.is_empty.ensures c.if-is_empty.true)) h
+returns-then-is_empty-clause-only c words h = one_list _ _ _ _ (reads_end _ _ _ _ _ _ _ c.items.invariant.read
+    c.blanks.ensures.whole c.blanks.ensures.blank (empty_is _ _ c.is_empty.ensures c.if-is_empty.true)) h
 
 pub returns-in_default-clause-only : goal.returns-in_default-clause-only
-returns-in_default-clause-only c words h =
-    no_fault_in_words _ _ _ _ h (reads_fault _ _ _ _ _ _ _ _ _ _ c.items.invariant.read c.blanks.ensures.whole
-    c.blanks.ensures.blank c.blanks.ensures.longest c.place_after-place.ensures.following
-    c.item.ensures.whole c.item.ensures.item
-    (λ word w. omega (arith, c.in_default.ensures.none w.0, w.1, w.2)))
+returns-in_default-clause-only c words h = no_fault_in_words _ _ _ _ h (reads_fault _ _ _ _ _ _ _ _ _ _
+    c.items.invariant.read c.blanks.ensures.whole c.blanks.ensures.blank c.blanks.ensures.longest
+    c.place_after-place.ensures.following c.item.ensures.whole c.item.ensures.item (λ word w.
+    omega (arith, c.in_default.ensures.none w.0, w.1, w.2)))
 
 pub returns-in_default-clause-refused : goal.returns-in_default-clause-refused
 returns-in_default-clause-refused c = (
   refl,
-  reads_fault _ _ _ _ _ _ _ _ _ _ c.items.invariant.read c.blanks.ensures.whole
-      c.blanks.ensures.blank c.blanks.ensures.longest c.place_after-place.ensures.following
-      c.item.ensures.whole c.item.ensures.item
-      (λ word w. omega (arith, c.in_default.ensures.none w.0, w.1, w.2)),
+  reads_fault _ _ _ _ _ _ _ _ _ _ c.items.invariant.read c.blanks.ensures.whole c.blanks.ensures.blank
+      c.blanks.ensures.longest c.place_after-place.ensures.following c.item.ensures.whole
+      c.item.ensures.item (λ word w. omega (arith, c.in_default.ensures.none w.0, w.1, w.2)),
 )
 
 pub items-preserved : goal.items-preserved

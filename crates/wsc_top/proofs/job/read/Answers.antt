@@ -28,8 +28,7 @@ returns-in-Ok-input_words-clause-ok c =
       reads = subst (λ p. ReadsAs p (view.parts c.in-Ok.accepted.program.items.items)) s.program
           c.in-Ok.ensures.ok;
       words = of_text (λ at t. InputWords at t c.in-Ok-input_words.words) c.args.text.now _ _ s.program
-          s.input
-          c.in-Ok-input_words.ensures.ok;
+          s.input c.in-Ok-input_words.ensures.ok;
     }
 
 pub returns-in-Ok-input_words-clause-same : goal.returns-in-Ok-input_words-clause-same

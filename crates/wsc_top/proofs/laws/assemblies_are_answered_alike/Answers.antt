@@ -17,7 +17,6 @@ returns-clause-listed c text image words handed is = listed_once c.breaches_brea
     handed is
 
 pub returns-clause-gridded : goal.returns-clause-gridded
-returns-clause-gridded c options text image words handed a b is h k =
-    gridded_alike c.breaches_break.ensures text image words handed is c.clocks_are_one.ensures
-    c.read_images_are_formed.ensures options
-    a.0 b.0 a.1 b.1 h.0 k.0 h.1 k.1 h.2 k.2
+returns-clause-gridded c options text image words handed a b is h k = gridded_alike c.breaches_break.ensures
+    text image words handed is c.clocks_are_one.ensures c.read_images_are_formed.ensures options a.0 b.0 a.1
+    b.1 h.0 k.0 h.1 k.1 h.2 k.2

@@ -19,8 +19,7 @@ returns-clause-job c words left after faults counted handed back status out imag
 
 pub returns-clause-assembly : goal.returns-clause-assembly
 returns-clause-assembly c words left after faults counted handed back status out again task image input answer
-    told whole =
-    assembly_answer_so c.words_are_one_line.ensures words left after faults counted handed
+    told whole = assembly_answer_so c.words_are_one_line.ensures words left after faults counted handed
     c.breaches_break.ensures task image input told status out again back answer whole
 
 pub returns-clause-bench : goal.returns-clause-bench

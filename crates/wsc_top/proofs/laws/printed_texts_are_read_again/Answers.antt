@@ -16,9 +16,8 @@ returns-clause-compiled c = compiled_again c.printed_reads_again.ensures
     c.printed_texts_have_no_marker.ensures.bytes c.printed_texts_have_no_marker.ensures.end
 
 pub returns-clause-traced : goal.returns-clause-traced
-returns-clause-traced c =
-    traced_again c.printed_reads_again.ensures c.printed_texts_have_no_marker.ensures.bytes
-    c.printed_texts_have_no_marker.ensures.end
+returns-clause-traced c = traced_again c.printed_reads_again.ensures
+    c.printed_texts_have_no_marker.ensures.bytes c.printed_texts_have_no_marker.ensures.end
     c.read_images_are_formed.ensures c.written_traces_read_again.ensures
 
 pub returns-clause-replayed : goal.returns-clause-replayed

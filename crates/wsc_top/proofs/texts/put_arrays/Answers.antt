@@ -16,17 +16,16 @@ loop-item-preserved c =
     elim c.match-item.branch [
       | in-Array+in_ok-put_array_at w ↦ record {
         place = omega (arith, w.count-is, c.loop-item.invariant.place);
-        text = ap (λ (n : ℕ). c.match-item.text ++ array_lines rest (drop n rows)) w.count-is
-            ∙ after_array items rows i k c.item-item.result c.loop-item.text whole c.loop-item-test.true
-            c.item-item.is c.loop-item.invariant.text w.in-Array.name w.in-Array.length
-            w.in-Array.length_place c.match-item.text w.in-Array.is
-            (w.text-is ∙ w.in_ok-put_array_at.ensures);
+        text = ap (λ (n : ℕ). c.match-item.text ++ array_lines rest (drop n rows)) w.count-is ∙ after_array
+            items rows i k c.item-item.result c.loop-item.text whole c.loop-item-test.true c.item-item.is
+            c.loop-item.invariant.text w.in-Array.name w.in-Array.length w.in-Array.length_place
+            c.match-item.text w.in-Array.is (w.text-is ∙ w.in_ok-put_array_at.ensures);
       }
       | in_default w ↦ record {
         place = omega (arith, w.count-is, c.loop-item.invariant.place);
-        text = ap (λ (t : List ℕ). t ++ array_lines rest (drop c.match-item.count rows)) w.text-is
-            ∙ ap (λ (n : ℕ). c.loop-item.text ++ array_lines rest (drop n rows)) w.count-is
-            ∙ after_procedure items rows i k c.item-item.result c.loop-item.text whole c.loop-item-test.true
-            c.item-item.is c.loop-item.invariant.text w.in_default.not-Array;
+        text = ap (λ (t : List ℕ). t ++ array_lines rest (drop c.match-item.count rows)) w.text-is ∙ ap (λ (n
+            : ℕ). c.loop-item.text ++ array_lines rest (drop n rows)) w.count-is ∙ after_procedure items rows
+            i k c.item-item.result c.loop-item.text whole c.loop-item-test.true c.item-item.is
+            c.loop-item.invariant.text w.in_default.not-Array;
       }
     ]

@@ -7,11 +7,9 @@ use Rattle.wsc_top.specs.Traced.{IsMade}
 use Rattle.wsc_top.proofs.traces.made.Goals as goal
 
 pub returns-in-Ok : goal.returns-in-Ok
-returns-in-Ok c =
-    subst (IsMade c.args.image.now c.args.input c.args.trace.now Done) (sym c.in_ok-told-in-Ok.ensures)
-    (traces.IsMade.made c.in-Ok.replayed
-    (subst (λ w. Replays c.args.image.now w c.args.trace.now c.in-Ok.replayed) c.in_ok-world.ensures
-    c.in-Ok.ensures.replayed))
+returns-in-Ok c = subst (IsMade c.args.image.now c.args.input c.args.trace.now Done) (sym
+    c.in_ok-told-in-Ok.ensures) (traces.IsMade.made c.in-Ok.replayed (subst (λ w. Replays c.args.image.now w
+    c.args.trace.now c.in-Ok.replayed) c.in_ok-world.ensures c.in-Ok.ensures.replayed))
 
 pub returns-in-Err-Illegal : goal.returns-in-Err-Illegal
 returns-in-Err-Illegal c =

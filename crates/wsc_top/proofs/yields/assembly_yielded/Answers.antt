@@ -10,14 +10,12 @@ returns-in-Check-clause-ok c handed = checked_yields c.args.text.now c.args.imag
     c.args.task _ (cc) c.fixed-sound.ensures
 
 pub returns-in_ok-listing-in-List-clause-ok : goal.returns-in_ok-listing-in-List-clause-ok
-returns-in_ok-listing-in-List-clause-ok c handed =
-    listed_yields c.args.text.now c.args.image c.args.input handed c.args.task _ (cc)
-    (c.built.ensures ∙ c.in_ok-listing-in-List.ensures)
+returns-in_ok-listing-in-List-clause-ok c handed = listed_yields c.args.text.now c.args.image c.args.input
+    handed c.args.task _ (cc) (c.built.ensures ∙ c.in_ok-listing-in-List.ensures)
 
 pub returns-in-Ok-clause-ok : goal.returns-in-Ok-clause-ok
-returns-in-Ok-clause-ok c handed =
-    traced_yields c.args.text.now c.args.image c.args.input handed c.args.task c.in-Trace.budget _ _ _ (cc)
-    c.built-in-Ok.ensures c.in-Ok.ensures.told c.in-Ok.ensures.ends
+returns-in-Ok-clause-ok c handed = traced_yields c.args.text.now c.args.image c.args.input handed c.args.task
+    c.in-Trace.budget _ _ _ (cc) c.built-in-Ok.ensures c.in-Ok.ensures.told c.in-Ok.ensures.ends
 
 pub returns-in_ok-status-in-Replay-clause-ok : goal.returns-in_ok-status-in-Replay-clause-ok
 returns-in_ok-status-in-Replay-clause-ok c handed =
