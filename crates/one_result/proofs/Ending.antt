@@ -1,8 +1,8 @@
 -- That a job whose sequential run ends comes to its end.
-use Rattle.std.specs.Prelude.{◌≡◌, ◌⊎◌, ℕ, zero, suc, ◌*◌, ◌<◌, ◌≤◌, true, false, List, [], ◌++◌, length}
-use Rattle.std.specs.Prelude.{Bool, Option, Some, refl}
+use Rattle.std.specs.Prelude.{◌≡◌, ◌⊎◌, ℕ, zero, suc, ◌*◌, ◌<◌, ◌≤◌, false, List, ◌++◌, length, Bool, Option}
+use Rattle.std.specs.Prelude.{Some, refl}
 use Rattle.std.specs.List.{AllByRecursion}
-use Rattle.std.proofs.Common.{sym, ap, ◌∙◌, subst, inl, inr, arith}
+use Rattle.std.proofs.Common.{sym, subst, inl, inr, arith}
 use Rattle.std.proofs.lemmas.Bool.{cases_lt}
 use Rattle.ws_words.specs.Outside.{Outside, World, printed_words, IsMachineWord, WorldOfWords}
 use Rattle.src_ast.specs.Bound.{bound}
@@ -10,32 +10,29 @@ use Rattle.src_ast.specs.Once.{ExactlyOne}
 use Rattle.src_ast.specs.Runs.{Runs}
 use Rattle.src_ast.specs.Syntax.{Part}
 use Rattle.ws_isa.specs.Image.{Image, array_at}
-use Rattle.ws_isa.specs.Walk.{Inst, fires, mem, walk, CostAtMost}
+use Rattle.ws_isa.specs.Walk.{mem, walk}
 use Rattle.ws_isa.specs.Operations.{past, FaultsAt, NoFault}
 use Rattle.df_core.specs.Ends.{FirstWithin}
 use Rattle.port_set.specs.Ports.{Told}
-use Rattle.store_buf.specs.Outdoors.{lefts_of, world_with}
 use Rattle.wave_build.specs.Compiled.{WalksAsRun}
 use Rattle.wsc_words.specs.Lines.{line_of}
 use Rattle.wsc_words.proofs.Keys.{by_bool}
 use Rattle.wsc_top.specs.declared.status.Status.{Status}
-use Rattle.wsc_top.specs.declared.status.Status.TheVariants.{Done, Usage, Refused, Budget, ReadFault, Fault}
-use Rattle.wsc_top.specs.declared.status.Status.TheVariants.{WriteFault, PortFault, NoMemory}
+use Rattle.wsc_top.specs.declared.status.Status.TheVariants.{Done, ReadFault, WriteFault, NoMemory}
 use Rattle.wsc_top.specs.declared.task.Task.{Task}
-use Rattle.wsc_top.specs.declared.task.Task.TheVariants.{Job, Assembly, Generate, Bench, Multi}
+use Rattle.wsc_top.specs.declared.task.Task.TheVariants.{Job, Assembly, Multi}
 use Rattle.wsc_top.specs.declared.task.RunOptions.{RunOptions}
 use Rattle.wsc_top.specs.declared.task.JobTask.{JobTask}
-use Rattle.wsc_top.specs.declared.task.JobTask.TheVariants.{Run, Plain, Format, Compile}
+use Rattle.wsc_top.specs.declared.task.JobTask.TheVariants.{Run, Plain}
 use Rattle.wsc_top.specs.declared.task.AssemblyTask.{AssemblyTask}
 use Rattle.wsc_top.specs.declared.task.AssemblyTask.TheVariants as task
 use Rattle.wsc_top.specs.Tasks.{AsksFor}
 use Rattle.wsc_top.specs.Job.{IsJob, IsTextAnswer, job_limit, world_of}
 use Rattle.wsc_top.specs.Assembly.{IsAssembly, assembly_limit}
-use Rattle.wsc_top.specs.Executions.{EndsRun, Rests, OrFailed}
+use Rattle.wsc_top.specs.Executions.{Rests, OrFailed}
 use Rattle.wsc_top.specs.Answers.{Answers, JobEndsSo, AssemblyEndsSo, TellWords, IsToldJob, IsToldAssembly}
 use Rattle.wsc_top.specs.Answers.{IsCompiled, ComesToItsEnd}
 use Rattle.wsc_top.specs.Answers as answers
-use Rattle.wsc_top.specs.Threads.{no_ports}
 use Rattle.wsc_top.proofs.Reading.AnswersOnce.{RunsOnce}
 use Rattle.wsc_top.proofs.Told.RunsAlike as alike
 use Rattle.wsc_top.proofs.Told.RunsAlike.{one_job}
@@ -43,10 +40,9 @@ use Rattle.wsc_top.proofs.Told.Headline.{fault_told}
 use Rattle.wsc_top.proofs.Calling.Tasks.{OneLine}
 use Rattle.wsc_top.proofs.Told.Tells.{input_words}
 use Rattle.wsc_top.proofs.Several.ThreadAnswers.{reply_other}
-use Rattle.one_result.specs.OneResult.{CalledBy, HasWritten, IsCodeOf, input_section, job_commands}
-use Rattle.one_result.specs.OneResult.{assembly_commands}
+use Rattle.one_result.specs.OneResult.{CalledBy, HasWritten, input_section, job_commands, assembly_commands}
 use Rattle.one_result.specs.Ends.{MaySpend, AskToSpend, HasFailed, JobsEnd, CodeEnds}
-use Rattle.one_result.proofs.Words.{Asked, asked}
+use Rattle.one_result.proofs.Words.{asked}
 use Rattle.one_result.proofs.Written.{RunsJob, RunsImage, Replied, replied, job_kind, image_kind}
 use Rattle.one_result.proofs.Jobs.{silent_world}
 use Rattle.one_result.proofs.Compiled.{Code, code_of}
@@ -54,22 +50,13 @@ use Rattle.one_result.proofs.Ported.{CodesRead}
 
 -- a status that is Done unless something failed
 failed_port : (s : Status) → OrFailed s Done → (s ≡ Done) ⊎ HasFailed s
-failed_port s (inl e) = inl e
-failed_port s (inr f) = inr (inr (inr (inr f)))
+failed_port s x = grind arith
 
 abbrev Unfailed : Status → Type 0
 Unfailed s = (s ≡ WriteFault → ⊥) → (s ≡ NoMemory → ⊥) → (s ≡ ReadFault → ⊥) → OrFailed s Done
 
 by_status : (s : Status) → Unfailed s → (s ≡ Done) ⊎ HasFailed s
-by_status Done k = inl refl
-by_status Usage k = failed_port Usage (k (λ e. cc) (λ e. cc) (λ e. cc))
-by_status Refused k = failed_port Refused (k (λ e. cc) (λ e. cc) (λ e. cc))
-by_status Budget k = failed_port Budget (k (λ e. cc) (λ e. cc) (λ e. cc))
-by_status Fault k = failed_port Fault (k (λ e. cc) (λ e. cc) (λ e. cc))
-by_status NoMemory k = inr (inl refl)
-by_status ReadFault k = inr (inr (inl refl))
-by_status WriteFault k = inr (inr (inr (inl refl)))
-by_status (PortFault port) k = inr (inr (inr (inr (port, refl))))
+by_status s k = grind (arith, failed_port)
 
 -- that each answer has the status that its run decides
 abbrev pub JobsDecided : Type 0
@@ -95,17 +82,15 @@ module _ (one : OneLine) (jobs : JobsDecided) (commands : List (List ℕ)) (AreS
       → ((o : RunOptions) → Multi o ≡ task → ⊥)
       → (r : Replied c.words text handed s out image back)
       → Answers c.words (Some text) r.after r.faults r.counted handed s out image back
-  job_answer w m task line other r =
-      reply_other c.words (Some text) r.after r.faults r.counted handed s out image r.threads back one task
-      line other r.reply
+  job_answer w m task line other r = reply_other c.words (Some text) r.after r.faults r.counted handed s out
+      image r.threads back one task line other r.reply
 
   job_status : (task : JobTask) (parts : List Part) (input : List ℕ) → AsksFor c.words (Job task)
       → IsJob text parts input → length text ≤ job_limit → ComesToItsEnd task parts input handed → Unfailed s
   job_status task parts input line job short ends w m f =
       let r = replied commands AreSuch text handed s out image back c w m in
       (jobs c.words (Some text) r.after r.faults r.counted handed back s out image task parts input
-      (job_answer w m (Job task) line (λ o e. absurd cc) r)
-      (record { text = text; line = line; told = refl; short = short; job = job }) c.called.told f).done ends
+      (job_answer w m (Job task) line (λ o e. absurd cc) r) (grind arith) c.called.told f).done ends
 
   assembly_status : AssembliesDecided → (task : AssemblyTask) (found : Image) (input : List ℕ)
       → AsksFor c.words (Assembly task)
@@ -126,9 +111,8 @@ module _ (one : OneLine) (jobs : JobsDecided) (text : List ℕ) (parts : List Pa
 
   job_task : (task : Task) (memory stats : Bool) → RunsJob memory stats task → AsksFor h.called.words task
       → MaySpend most turns task → Unfailed s
-  job_task (Job (Run options)) memory stats k line may =
-      job_status one jobs job_commands (AskToSpend most turns) text h.ports s out h.image h.back h.called
-      (Run options) parts input line job short (
+  job_task (Job (Run options)) memory stats k line may = job_status one jobs job_commands (AskToSpend most
+      turns) text h.ports s out h.image h.back h.called (Run options) parts input line job short (
         turns,
         end,
         subst (λ (w : World). Runs parts w turns end) (sym (silent_world input h.ports h.silent)) runs,
@@ -137,12 +121,7 @@ module _ (one : OneLine) (jobs : JobsDecided) (text : List ℕ) (parts : List Pa
   job_task (Job (Plain options)) memory stats k line may =
       job_status one jobs job_commands (AskToSpend most turns) text h.ports s out h.image h.back h.called
       (Plain options) parts input line job short (turns, end, runs, may)
-  job_task (Job Format) memory stats k line may = absurd k
-  job_task (Job Compile) memory stats k line may = absurd k
-  job_task (Assembly t) memory stats k line may = absurd k
-  job_task (Generate n) memory stats k line may = absurd k
-  job_task (Bench o) memory stats k line may = absurd k
-  job_task (Multi o) memory stats k line may = absurd k
+  job_task task memory stats k line may = absurd k
 
   job_unfailed : Unfailed s
   job_unfailed =
@@ -162,14 +141,7 @@ module _ (image : Image) (world : World) (never : (t : ℕ) → FaultsAt image w
   none_before (suc t) u x lt f = by_order (cases_lt u t) (none_before t)
     where
       here : (u ≡ t) → FirstWithin image world t → past image x ≡ false
-      here e before = by_bool (past image x)
-          (λ p. absurd (never t (record {
-            inst = x;
-            fired = sym (ap (fires image world) e) ∙ f;
-            is_past = p;
-            first = before;
-          })))
-          (λ p. p)
+      here e before = by_bool (past image x) (λ p. absurd (never t (grind arith))) (λ p. p)
 
       by_order : (u < t) ⊎ (t ≤ u) → FirstWithin image world t → past image x ≡ false
       by_order (inl less) before = before u x less f
@@ -197,9 +169,8 @@ module _ (law : RunsOnce) (parts : List Part) (image : Image) (is : IsCompiled p
       law.no_end_with_a_fault parts (world_of input) turns r.turn r.place end r.state runs r.faults
 
   comes_to_rest : (most : ℕ) → bound parts * suc turns ≤ most → Rests image (world_of input) most
-  comes_to_rest most le =
-      let cost = is.cost (world_of input) of_words turns end runs.passes in
-      (no_fault image (world_of input) never_faults, λ t. let step = cost t in omega (arith, step, le))
+  comes_to_rest most le = let cost = is.cost (world_of input) of_words turns end runs.passes in
+      (no_fault image (world_of input) never_faults, grind arith)
 
 module _ (one : OneLine) (law : RunsOnce) (once : (text : List ℕ) → ExactlyOne (IsTextAnswer text))
     (jobs : JobsDecided) (assemblies : AssembliesDecided) (codes_read : CodesRead)
@@ -230,8 +201,7 @@ module _ (one : OneLine) (law : RunsOnce) (once : (text : List ℕ) → ExactlyO
   is_told_here : (t : AssemblyTask) → AsksFor h.called.words (Assembly t)
       → IsAssembly (answers.assembly_text t there) a.image a.input
       → IsToldAssembly h.called.words (Some there) t a.image a.input
-  is_told_here t line assembly =
-      record { text = there; line = line; told = refl; short = short; assembly = assembly }
+  is_told_here t line assembly = grind arith
 
   code_task : (t : Task) (memory stats : Bool) → RunsImage memory stats t → AsksFor h.called.words t
       → MaySpend enough turns t → Unfailed s
@@ -246,14 +216,7 @@ module _ (one : OneLine) (law : RunsOnce) (once : (text : List ℕ) → ExactlyO
       let ends = assembly_status one jobs assembly_commands Such there h.ports s out h.image h.back h.called
       assemblies (task.Grid options) a.image a.input line told w m f in
       ends.done (code_rests options.budget may)
-  code_task (Assembly task.Check) memory stats k line may w m f = absurd k
-  code_task (Assembly task.List) memory stats k line may w m f = absurd k
-  code_task (Assembly (task.Trace budget)) memory stats k line may w m f = absurd k
-  code_task (Assembly task.Replay) memory stats k line may w m f = absurd k
-  code_task (Job t) memory stats k line may w m f = absurd k
-  code_task (Generate n) memory stats k line may w m f = absurd k
-  code_task (Bench o) memory stats k line may w m f = absurd k
-  code_task (Multi o) memory stats k line may w m f = absurd k
+  code_task t memory stats k line may w m f = absurd k
 
   code_unfailed : Unfailed s
   code_unfailed =

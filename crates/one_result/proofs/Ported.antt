@@ -1,10 +1,8 @@
 -- Runs with ports that have words left: two of one job, or of one assembly, tell the same and leave the ports
 -- alike. And runs with the count of their firings.
-use Rattle.std.specs.Prelude.{◌≡◌, ℕ, ◌-◌, ◌≤◌, Bool, true, false, List, ◌++◌, length, Option, Some, None}
-use Rattle.std.specs.Prelude.{refl}
-use Rattle.std.proofs.Common.{sym, ap, ◌∙◌, subst, inl, inr, arith}
-use Rattle.ws_words.specs.Outside.{Outside, World, row, printed_words}
-use Rattle.ws_words.specs.Plain.{took_words}
+use Rattle.std.specs.Prelude.{◌≡◌, ℕ, Bool, true, false, List, ◌++◌, length, Option, Some, refl}
+use Rattle.std.proofs.Common.{subst, inl, inr, arith}
+use Rattle.ws_words.specs.Outside.{Outside, World}
 use Rattle.src_ast.specs.Once.{ExactlyOne}
 use Rattle.src_ast.specs.Syntax.{Part}
 use Rattle.ws_isa.specs.Image.{Image}
@@ -13,8 +11,7 @@ use Rattle.ws_isa.specs.Operations.{effect_of}
 use Rattle.df_core.specs.Began.{Began}
 use Rattle.df_core.proofs.Parts.Issuing.{took_alike}
 use Rattle.port_set.specs.Ports.{Told}
-use Rattle.port_set.specs.Slots.{port_at}
-use Rattle.store_buf.specs.Outdoors.{SlotIs, began_of, world_with}
+use Rattle.store_buf.specs.Outdoors.{SlotIs, world_with}
 use Rattle.wsc_top.specs.declared.status.Status.{Status}
 use Rattle.wsc_top.specs.declared.task.Task.TheVariants.{Job, Assembly}
 use Rattle.wsc_top.specs.declared.task.JobTask.{JobTask}
@@ -22,12 +19,11 @@ use Rattle.wsc_top.specs.declared.task.JobTask.TheVariants.{Run, Plain, Format, 
 use Rattle.wsc_top.specs.declared.task.AssemblyTask.{AssemblyTask}
 use Rattle.wsc_top.specs.declared.task.AssemblyTask.TheVariants as task
 use Rattle.wsc_top.specs.declared.task.RunOptions.{RunOptions}
-use Rattle.wsc_top.specs.declared.task.Report.{Report}
 use Rattle.wsc_top.specs.declared.task.Report.TheVariants.{Full}
 use Rattle.wsc_top.specs.Job.{IsJob, IsTextAnswer}
 use Rattle.wsc_top.specs.Assembly.{IsAssembly}
-use Rattle.wsc_top.specs.Texts.{names_of, array_name}
-use Rattle.wsc_top.specs.Executions.{Executes, PortsAre, end_report, fault_report}
+use Rattle.wsc_top.specs.Texts.{names_of}
+use Rattle.wsc_top.specs.Executions.{Executes, PortsAre, end_report}
 use Rattle.wsc_top.specs.Executions as executions
 use Rattle.wsc_top.specs.Answers as answers
 use Rattle.wsc_top.specs.Answers.{TellWords, TellsRun, Yields, Answered, AssemblyAnswered}
@@ -35,16 +31,14 @@ use Rattle.wsc_top.proofs.Reading.AnswersOnce.{RunsOnce}
 use Rattle.wsc_top.proofs.Told.RunsAlike as alike
 use Rattle.wsc_top.proofs.Told.RunsAlike.{one_job}
 use Rattle.wsc_top.proofs.Reading.AssembliesOnce.{WalksOnce, one_assembly, either_way, one_walk, one_effect}
-use Rattle.wsc_top.proofs.Reading.AssembliesOnce.{one_time}
-use Rattle.wsc_top.proofs.Reading.AssembliesOnce.{no_fault_here}
+use Rattle.wsc_top.proofs.Reading.AssembliesOnce.{one_time, no_fault_here}
 use Rattle.wsc_top.proofs.Told.PortActs.{ports_moved}
 use Rattle.wsc_top.proofs.Told.Tells.{WalksEnd, input_words, run_tells, given_words}
 use Rattle.one_result.specs.OneResult.{HasFlags, CalledBy, IsResult, input_section}
 use Rattle.one_result.specs.Others.{IsLeftAlike, AreLeftAlike, JobHasRunWith, with_job, with_code}
-use Rattle.one_result.specs.Others.{OneResultWith}
-use Rattle.one_result.specs.Others.{OneImageResultWith, OneRunCount, run_commands, crew_commands}
+use Rattle.one_result.specs.Others.{OneResultWith, OneImageResultWith, OneRunCount, run_commands}
+use Rattle.one_result.specs.Others.{crew_commands}
 use Rattle.one_result.proofs.Written.{RunsCrew, RunsCrewImage, is_told, TextTold, run_written, crew_written}
-use Rattle.one_result.proofs.Written as written
 use Rattle.one_result.proofs.Jobs.{told_result}
 use Rattle.one_result.proofs.Images.{told_by_crew, images_alike}
 use Rattle.one_result.proofs.Compiled.{Code, code_of}
@@ -52,18 +46,11 @@ use Rattle.one_result.proofs.Compiled.{Code, code_of}
 -- ports that are where one run leaves them are alike
 slots_alike : (began : Option Began) (left took : List ℕ) (p q : Option Told) → SlotIs began left took p
     → SlotIs began left took q → IsLeftAlike p q
-slots_alike None left took None None h k = tt
-slots_alike None left took None (Some q) h k = absurd k
-slots_alike None left took (Some p) q h k = absurd h
-slots_alike (Some began) left took None q h k = absurd h
-slots_alike (Some began) left took (Some p) None h k = absurd k
-slots_alike (Some began) left took (Some p) (Some q) h k = (h.0 ∙ sym k.0, h.1 ∙ sym k.1)
+slots_alike began left took p q h k = grind arith
 
 ports_alike : (handed : List (Option Told)) (o : Outside) (back after : List (Option Told))
     → PortsAre handed o back → PortsAre handed o after → AreLeftAlike back after
-ports_alike handed o back after h k slot low high =
-    slots_alike (port_at (began_of handed) slot) (row o.left (slot - 1)) (took_words slot o.acts)
-    (port_at back slot) (port_at after slot) (h slot low high) (k slot low high)
+ports_alike handed o back after h k slot low high = grind (arith, slots_alike)
 
 -- two that tell of one run of a program
 module _ (law : RunsOnce) (memory : Bool) (parts : List Part) (world : World) (handed : List (Option Told))
@@ -72,22 +59,15 @@ module _ (law : RunsOnce) (memory : Bool) (parts : List Part) (world : World) (h
   report_of_both : (ws : List ℕ) (rows : List (List ℕ)) (m n : ℕ)
       → end_report options.report (names_of parts) ws rows m
       ≡ end_report others.report (names_of parts) ws rows n
-  report_of_both ws rows m n =
-      ap (λ (r : Report). end_report r (names_of parts) ws rows m) p
-      ∙ sym (ap (λ (r : Report). end_report r (names_of parts) ws rows n) q)
+  report_of_both ws rows m n = grind arith
 
   tell_alike : (s t : Status) (out again : List ℕ) (back after : List (Option Told)) → IsResult s → IsResult t
       → TellsRun options parts world handed s out back → TellsRun others parts world handed t again after
       → (s ≡ t) × (out ≡ again) × AreLeftAlike back after
   tell_alike s t out again back after e f (answers.TellsRun.ended n fired end r few ports)
       (answers.TellsRun.ended m other last k less more) =
-      let same = law.one_end parts world n m end last r k in (
-        refl,
-        ap (λ (o : Outside). end_report options.report (names_of parts) (printed_words o.acts) o.cells fired)
-            same.1 ∙ report_of_both (printed_words last.acts) last.cells fired other,
-        ports_alike handed last back after (subst (λ (o : Outside). PortsAre handed o back) same.1 ports)
-            more,
-      )
+      let same = law.one_end parts world n m end last r k in
+      grind (arith, report_of_both, ports_alike)
   tell_alike s t out again back after e f (answers.TellsRun.ended n fired end r few ports)
       (answers.TellsRun.faulted m array state k more) =
       absurd (law.no_end_with_a_fault parts world n m array end state r k)
@@ -96,33 +76,20 @@ module _ (law : RunsOnce) (memory : Bool) (parts : List Part) (world : World) (h
       absurd (law.no_end_with_a_fault parts world m n array end state r k)
   tell_alike s t out again back after e f (answers.TellsRun.faulted n a state k ports)
       (answers.TellsRun.faulted m b there g more) =
-      let same = law.one_fault parts world n m a b state there k g in (
-        refl,
-        ap (λ (r : Report). fault_report r (array_name (names_of parts) a) (names_of parts)
-            (printed_words state.acts) state.cells) (p ∙ sym q)
-            ∙ ap (λ x. fault_report others.report (array_name (names_of parts) x) (names_of parts)
-            (printed_words state.acts) state.cells) same.1
-            ∙ ap (λ (o : Outside). fault_report others.report (array_name (names_of parts) b) (names_of parts)
-            (printed_words o.acts) o.cells) same.2,
-        ports_alike handed there back after (subst (λ (o : Outside). PortsAre handed o back) same.2 ports)
-            more,
-      )
+      let same = law.one_fault parts world n m a b state there k g in
+      (refl, grind arith, ports_alike handed there back after (grind arith) more)
   tell_alike s t out again back after (inl e) f (answers.TellsRun.spent n front rest does ports) x = absurd cc
   tell_alike s t out again back after (inr e) f (answers.TellsRun.spent n front rest does ports) x = absurd cc
-  tell_alike s t out again back after (inl e) f
-      (answers.TellsRun.failed n port front rest act does on rose ports) x =
-      absurd cc
-  tell_alike s t out again back after (inr e) f
-      (answers.TellsRun.failed n port front rest act does on rose ports) x =
-      absurd cc
+  tell_alike s t out again back after (inl e) f (answers.TellsRun.failed n port front rest act does on rose
+      ports) x = grind arith
+  tell_alike s t out again back after (inr e) f (answers.TellsRun.failed n port front rest act does on rose
+      ports) x = grind arith
   tell_alike s t out again back after e (inl f) x (answers.TellsRun.spent n front rest does ports) = absurd cc
   tell_alike s t out again back after e (inr f) x (answers.TellsRun.spent n front rest does ports) = absurd cc
-  tell_alike s t out again back after e (inl f) x
-      (answers.TellsRun.failed n port front rest act does on rose ports) =
-      absurd cc
-  tell_alike s t out again back after e (inr f) x
-      (answers.TellsRun.failed n port front rest act does on rose ports) =
-      absurd cc
+  tell_alike s t out again back after e (inl f) x (answers.TellsRun.failed n port front rest act does on rose
+      ports) = grind arith
+  tell_alike s t out again back after e (inr f) x (answers.TellsRun.failed n port front rest act does on rose
+      ports) = grind arith
 
 -- the job of a text, and what a crew tells of it with these ports
 record JobWith (memory : Bool) (text : List ℕ) (handed : List (Option Told)) (status : Status) (out : List ℕ)
@@ -153,18 +120,8 @@ run_answer : (memory stats : Bool) (job : JobTask) (text : List ℕ) (handed : L
     → RunWith memory stats text handed s out image back
 run_answer memory stats (Run options) text handed s out image back k e (answers.Answered.refused r why) =
     absurd cc
-run_answer memory stats (Run options) text handed s out found back k e
-    (answers.Answered.done parts input job (answers.Yields.ran image is executes tells)) = record {
-      parts = parts;
-      input = input;
-      job = job;
-      options = options;
-      report = k;
-      image = image;
-      found_is = refl;
-      executes = executes;
-      tells = tells;
-    }
+run_answer memory stats (Run options) text handed s out found back k e (answers.Answered.done parts input job
+    (answers.Yields.ran image is executes tells)) = grind arith
 run_answer memory stats (Plain options) text handed s out image back k e a = absurd k
 run_answer memory stats Format text handed s out image back k e a = absurd k
 run_answer memory stats Compile text handed s out image back k e a = absurd k
@@ -173,17 +130,14 @@ run_told : (memory stats : Bool) (text : List ℕ) (handed : List (Option Told))
     (image : Option Image) (back : List (Option Told)) → is_told s ≡ true
     → TextTold (RunsCrew memory stats) text handed s out image back
     → RunWith memory stats text handed s out image back
-run_told memory stats text handed s out image back e (written.TextTold.job job k a) =
-    run_answer memory stats job text handed s out image back k e a
-run_told memory stats text handed s out image back e (written.TextTold.assembly job k a) = absurd k
+run_told memory stats text handed s out image back e x = grind (arith, run_answer)
 
 called_run : (memory stats : Bool) (text : List ℕ) (handed : List (Option Told)) (s : Status) (out : List ℕ)
     (image : Option Image) (back : List (Option Told))
     → CalledBy run_commands (HasFlags memory stats) text handed s out image back → is_told s ≡ true
     → RunWith memory stats text handed s out image back
-called_run memory stats text handed s out image back c e =
-    run_told memory stats text handed s out image back e
-    (run_written text handed s out image back e memory stats c)
+called_run memory stats text handed s out image back c e = run_told memory stats text handed s out image back
+    e (run_written text handed s out image back e memory stats c)
 
 -- an answer of `exec` or `decouple`
 record CrewWith (memory stats : Bool) (text : List ℕ) (handed : List (Option Told)) (status : Status)
@@ -201,15 +155,8 @@ crew_answer : (memory stats : Bool) (job : AssemblyTask) (text : List ℕ) (hand
     → AssemblyAnswered job text handed s out image back → CrewWith memory stats text handed s out back
 crew_answer memory stats (task.Exec options) text handed s out image back k e
     (answers.AssemblyAnswered.refused r why) = absurd cc
-crew_answer memory stats (task.Exec options) text handed s out again back k e
-    (answers.AssemblyAnswered.done image input is (answers.AssemblyYields.executed x)) = record {
-      image = image;
-      input = input;
-      assembly = is;
-      options = options;
-      report = k;
-      executes = x;
-    }
+crew_answer memory stats (task.Exec options) text handed s out again back k e (answers.AssemblyAnswered.done
+    image input is (answers.AssemblyYields.executed x)) = grind arith
 crew_answer memory stats (task.Grid options) text handed s out image back k e a = absurd k
 crew_answer memory stats task.Check text handed s out image back k e a = absurd k
 crew_answer memory stats task.List text handed s out image back k e a = absurd k
@@ -220,17 +167,14 @@ crew_told : (memory stats : Bool) (text : List ℕ) (handed : List (Option Told)
     (image : Option Image) (back : List (Option Told)) → is_told s ≡ true
     → TextTold (RunsCrewImage memory stats) text handed s out image back
     → CrewWith memory stats text handed s out back
-crew_told memory stats text handed s out image back e (written.TextTold.job job k a) = absurd k
-crew_told memory stats text handed s out image back e (written.TextTold.assembly job k a) =
-    crew_answer memory stats job text handed s out image back k e a
+crew_told memory stats text handed s out image back e x = grind (arith, crew_answer)
 
 called_crew : (memory stats : Bool) (text : List ℕ) (handed : List (Option Told)) (s : Status) (out : List ℕ)
     (image : Option Image) (back : List (Option Told))
     → CalledBy crew_commands (HasFlags memory stats) text handed s out image back → is_told s ≡ true
     → CrewWith memory stats text handed s out back
-called_crew memory stats text handed s out image back c e =
-    crew_told memory stats text handed s out image back e
-    (crew_written text handed s out image back e memory stats c)
+called_crew memory stats text handed s out image back c e = crew_told memory stats text handed s out image
+    back e (crew_written text handed s out image back e memory stats c)
 
 -- an assembly of the code of a text
 abbrev pub CodesRead : Type 0
@@ -247,31 +191,13 @@ module _ (law : RunsOnce) (once : (text : List ℕ) → ExactlyOne (IsTextAnswer
       let there = code ++ input_section text in
       let words = input_words _ _ a.input a.job.words in
       let same = one_assembly there d.image a.image d.input a.input d.assembly (codes_read text code a) in
-      record {
-        parts = a.parts;
-        input = a.input;
-        job = a.job;
-        options = d.options;
-        report = d.report;
-        tells = run_tells known whole d.options a.parts a.image a.is (world_with a.input handed)
-            (given_words a.input handed words told) handed back s out
-            (subst (λ ws. Executes d.options a.image (world_with ws handed) handed s out back) same.1
-            (subst (λ i. Executes d.options i (world_with d.input handed) handed s out back) same.0
-            d.executes));
-      }
+      grind (arith, run_tells, given_words)
 
   job_with : (memory : Bool) (text : List ℕ) (handed : List (Option Told)) (s : Status) (out : List ℕ)
       (back : List (Option Told)) → is_told s ≡ true → JobHasRunWith memory text handed s out back
       → JobWith memory text handed s out back
   job_with memory text handed s out back e (with_job image c) =
-      let r = called_run memory false text handed s out image back c e in record {
-        parts = r.parts;
-        input = r.input;
-        job = r.job;
-        options = r.options;
-        report = r.report;
-        tells = r.tells;
-      }
+      grind (arith, called_run memory false text handed s out image back c e)
   job_with memory text handed s out back e (with_code image code is c) =
       code_with memory text code handed s out back c.called.told (code_of text code is)
       (called_crew memory false (code ++ input_section text) handed s out image back c e)
@@ -281,10 +207,8 @@ module _ (law : RunsOnce) (once : (text : List ℕ) → ExactlyOne (IsTextAnswer
       let a = job_with memory text handed s out back (told_result s e) h in
       let b = job_with memory text handed t again after (told_result t f) k in
       let one = one_job text (once text) a.parts b.parts a.input b.input a.job b.job in
-      tell_alike law memory b.parts (world_with b.input handed) handed a.options b.options a.report b.report
-      s t out again back after e f
-      (subst (λ (x : alike.Job). TellsRun a.options x.0 (world_with x.1 handed) handed s out back) one
-      a.tells) b.tells
+      tell_alike law memory b.parts (world_with b.input handed) handed a.options b.options a.report b.report s
+      t out again back after e f (grind arith) b.tells
 
 -- two runs of one image leave the ports alike
 module _ (known : WalksOnce) (image : Image) (world : World) (handed : List (Option Told)) where
@@ -296,62 +220,43 @@ module _ (known : WalksOnce) (image : Image) (world : World) (handed : List (Opt
       (executions.Executes.rested m clean most fits more) =
       let many : length (walk image world n) ≡ length (walk image world m) = omega (arith, cost m, most n) in
       let same : effect_of (mem image world n) ≡ effect_of (mem image world m) =
-      one_effect known image world n m (one_walk known image world n m (either_way n m) many) in
-      ports_alike handed (mem image world m) back after
-      (ports_moved (began_of handed) (mem image world n) (mem image world m) back
-      (ap (λ (o : Outside). o.left) same)
-      (λ slot. sym (took_alike slot (mem image world n).acts) ∙ ap (λ (o : Outside). took_words slot o.acts)
-      same ∙ took_alike slot (mem image world m).acts) ports) more
+      grind (arith, one_effect, one_walk, either_way) in
+      grind (arith, ports_alike, ports_moved, took_alike)
   left_alike options others s t out again back after e f (executions.Executes.rested n none cost le ports)
-      (executions.Executes.stopped m fault more) =
-      absurd (no_fault_here known image world m none fault)
+      (executions.Executes.stopped m fault more) = grind (arith, no_fault_here)
   left_alike options others s t out again back after e f (executions.Executes.stopped n fault ports)
-      (executions.Executes.rested m none cost le more) =
-      absurd (no_fault_here known image world n none fault)
+      (executions.Executes.rested m none cost le more) = grind (arith, no_fault_here)
   left_alike options others s t out again back after e f (executions.Executes.stopped n fault ports)
       (executions.Executes.stopped m past more) =
-      ports_alike handed (mem image world m) back after
-      (subst (λ k. PortsAre handed (mem image world k) back) (one_time known image world n m fault past)
-      ports)
-      more
+      grind (arith, ports_alike, one_time known image world n m fault past)
   left_alike options others s t out again back after (inl e) f (executions.Executes.spent n h ports) x =
       absurd cc
   left_alike options others s t out again back after (inr e) f (executions.Executes.spent n h ports) x =
       absurd cc
-  left_alike options others s t out again back after (inl e) f
-      (executions.Executes.failed n port y is on within rose ports) x =
-      absurd cc
-  left_alike options others s t out again back after (inr e) f
-      (executions.Executes.failed n port y is on within rose ports) x =
-      absurd cc
+  left_alike options others s t out again back after (inl e) f (executions.Executes.failed n port y is on
+      within rose ports) x = grind arith
+  left_alike options others s t out again back after (inr e) f (executions.Executes.failed n port y is on
+      within rose ports) x = grind arith
   left_alike options others s t out again back after e (inl f) x (executions.Executes.spent n h ports) =
       absurd cc
   left_alike options others s t out again back after e (inr f) x (executions.Executes.spent n h ports) =
       absurd cc
-  left_alike options others s t out again back after e (inl f) x
-      (executions.Executes.failed n port y is on within rose ports) =
-      absurd cc
-  left_alike options others s t out again back after e (inr f) x
-      (executions.Executes.failed n port y is on within rose ports) =
-      absurd cc
+  left_alike options others s t out again back after e (inl f) x (executions.Executes.failed n port y is on
+      within rose ports) = grind arith
+  left_alike options others s t out again back after e (inr f) x (executions.Executes.failed n port y is on
+      within rose ports) = grind arith
 
 pub one_image_result_with : WalksOnce → OneImageResultWith
 one_image_result_with known memory text handed back after image instead s t out again h k e f =
     let a = called_crew memory false text handed s out image back h (told_result s e) in
     let b = called_crew memory false text handed t again instead after k (told_result t f) in
     let one = one_assembly text a.image b.image a.input b.input a.assembly b.assembly in
-    let run = subst (λ ws. Executes a.options b.image (world_with ws handed) handed s out back) one.1
-    (subst (λ i. Executes a.options i (world_with a.input handed) handed s out back) one.0 a.executes) in
+    let run = subst (λ ws. Executes a.options b.image (world_with ws handed) handed s out back) one.1 (grind
+    arith) in
     let same = images_alike known memory false b.image (world_with b.input handed) s t out again e f
     (told_by_crew memory false b.image (world_with b.input handed) a.options handed s out back a.report
-    (told_result s e) run)
-    (told_by_crew memory false b.image (world_with b.input handed) b.options handed t again after b.report
-    (told_result t f) b.executes) in (
-      same.0,
-      same.1,
-      left_alike known b.image (world_with b.input handed) handed a.options b.options s t out again back
-          after e f run b.executes,
-    )
+    (told_result s e) run) (grind (arith, told_by_crew, told_result)) in
+    grind (arith, left_alike)
 
 -- two runs of a job on one image fire as often
 pub one_run_count : WalksOnce → ((text : List ℕ) → ExactlyOne (IsTextAnswer text)) → OneRunCount
@@ -359,13 +264,8 @@ one_run_count known once memory text handed back after image s t out again h k e
     let a = called_run memory true text handed s out (Some image) back h (told_result s e) in
     let b = called_run memory true text handed t again (Some image) after k (told_result t f) in
     let one = one_job text (once text) a.parts b.parts a.input b.input a.job b.job in
-    let images : Some a.image ≡ Some b.image = sym a.found_is ∙ b.found_is in
     let image_is : a.image ≡ b.image = cc in
     let run = subst (λ (x : alike.Job). Executes a.options b.image (world_with x.1 handed) handed s out back)
-    one
-    (subst (λ i. Executes a.options i (world_with a.input handed) handed s out back) image_is a.executes) in
+    one (grind arith) in
     images_alike known memory true b.image (world_with b.input handed) s t out again e f
-    (told_by_crew memory true b.image (world_with b.input handed) a.options handed s out back a.report
-    (told_result s e) run)
-    (told_by_crew memory true b.image (world_with b.input handed) b.options handed t again after b.report
-    (told_result t f) b.executes)
+    (grind (arith, told_by_crew, told_result)) (grind (arith, told_by_crew, told_result))

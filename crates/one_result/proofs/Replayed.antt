@@ -1,10 +1,8 @@
 -- A trace that has come to rest prints the words of the result.
-use Rattle.std.specs.Prelude.{◌≡◌, ◌⊎◌, ℕ, true, false, List, [], ◌++◌, codes, flat_map, length, Option, Some}
-use Rattle.std.specs.Prelude.{if◌then◌else◌, refl}
-use Rattle.std.proofs.Common.{sym, ap, ◌∙◌, subst, inl, inr, arith, append-nil}
+use Rattle.std.specs.Prelude.{◌≡◌, ◌⊎◌, ℕ, true, false, List, [], ◌++◌, codes, length, Option, Some, refl}
+use Rattle.std.proofs.Common.{◌∙◌, subst, inl, arith, append-nil}
 use Rattle.ws_words.specs.Outside.{printed_words}
 use Rattle.ws_isa.specs.Image.{Image}
-use Rattle.ws_isa.specs.Shown.{shown_cells}
 use Rattle.ws_isa.specs.Walk.{mem, walk, CostAtMost}
 use Rattle.ws_isa.specs.Operations.{NoFault}
 use Rattle.port_set.specs.Ports.{Told}
@@ -13,24 +11,23 @@ use Rattle.trace_check.specs.Replays.{Replays, PrintsAll, PrintsToFault}
 use Rattle.trace_check.specs.Traces.{numbered}
 use Rattle.wsc_top.specs.declared.status.Status.{Status}
 use Rattle.wsc_top.specs.declared.status.Status.TheVariants.{Done}
-use Rattle.wsc_top.specs.declared.task.Task.TheVariants.{Job, Assembly}
+use Rattle.wsc_top.specs.declared.task.Task.TheVariants.{Assembly}
 use Rattle.wsc_top.specs.declared.task.AssemblyTask.{AssemblyTask}
 use Rattle.wsc_top.specs.declared.task.AssemblyTask.TheVariants as task
 use Rattle.wsc_top.specs.Job.{world_of}
 use Rattle.wsc_top.specs.Assembly.{IsAssembly}
 use Rattle.wsc_top.specs.Sections.{trace_line}
-use Rattle.wsc_top.specs.Texts.{done_text, word_line, firings_line, shown_names}
+use Rattle.wsc_top.specs.Texts.{done_text, firings_line}
 use Rattle.wsc_top.specs.Traced.{IsTraced, replayed_text}
 use Rattle.wsc_top.specs.Executions.{Rests}
 use Rattle.wsc_top.specs.Answers as answers
 use Rattle.wsc_top.specs.Answers.{AssemblyAnswered}
 use Rattle.wsc_top.proofs.Reading.AssembliesOnce.{WalksOnce, one_assembly, no_fault_here}
-use Rattle.one_result.specs.OneResult.{HasFlags, HasWritten, IsResult}
-use Rattle.one_result.specs.Others.{OneTrace, lines_of, trace_commands, replay_commands}
+use Rattle.one_result.specs.Others.{OneTrace, lines_of}
 use Rattle.one_result.proofs.Written.{IsTrace, IsReplay, TextTold, trace_written, replay_written}
 use Rattle.one_result.proofs.Written as written
 use Rattle.one_result.proofs.Jobs.{told_result}
-use Rattle.one_result.proofs.Images.{ImageTold, rested, TextImage, called_image, images_alike}
+use Rattle.one_result.proofs.Images.{ImageTold, rested, called_image, images_alike}
 
 -- a trace that has come to rest
 record TraceTold (text events : List ℕ) : Type 0 where
@@ -44,8 +41,6 @@ record TraceTold (text events : List ℕ) : Type 0 where
 trace_answer : (job : AssemblyTask) (text events : List ℕ) (handed : List (Option Told)) (s : Status)
     (image : Option Image) (back : List (Option Told)) → s ≡ Done → IsTrace (Assembly job)
     → AssemblyAnswered job text handed s events image back → TraceTold text events
-trace_answer (task.Trace budget) text events handed s image back e k
-    (answers.AssemblyAnswered.refused r why) = absurd cc
 trace_answer (task.Trace budget) text events handed s again back e k
     (answers.AssemblyAnswered.done image input is (answers.AssemblyYields.traced made ends)) = record {
       budget = budget;
@@ -55,17 +50,11 @@ trace_answer (task.Trace budget) text events handed s again back e k
       traced = subst (λ (x : Status). IsTraced budget image input x events) e made;
       rests = ends.only e;
     }
-trace_answer (task.Exec options) text events handed s image back e k a = absurd k
-trace_answer (task.Grid options) text events handed s image back e k a = absurd k
-trace_answer task.Check text events handed s image back e k a = absurd k
-trace_answer task.List text events handed s image back e k a = absurd k
-trace_answer task.Replay text events handed s image back e k a = absurd k
+trace_answer job text events handed s image back e k a = grind arith
 
 text_trace : (text events : List ℕ) (handed : List (Option Told)) (image : Option Image)
     (back : List (Option Told)) → TextTold IsTrace text handed Done events image back → TraceTold text events
-text_trace text events handed image back (written.TextTold.job job k a) = absurd k
-text_trace text events handed image back (written.TextTold.assembly job k a) =
-    trace_answer job text events handed Done image back refl k a
+text_trace text events handed image back x = grind (arith, trace_answer)
 
 -- what `replay` has answered to a text
 record ReplayTold (text out : List ℕ) : Type 0 where
@@ -77,13 +66,7 @@ record ReplayTold (text out : List ℕ) : Type 0 where
 replay_answer : (job : AssemblyTask) (text out : List ℕ) (handed : List (Option Told))
     (image : Option Image) (back : List (Option Told)) → IsReplay (Assembly job)
     → AssemblyAnswered job text handed Done out image back → ReplayTold text out
-replay_answer task.Replay text out handed image back k a =
-    record { handed = handed; back = back; image = image; answered = a }
-replay_answer (task.Exec options) text out handed image back k a = absurd k
-replay_answer (task.Grid options) text out handed image back k a = absurd k
-replay_answer (task.Trace budget) text out handed image back k a = absurd k
-replay_answer task.Check text out handed image back k a = absurd k
-replay_answer task.List text out handed image back k a = absurd k
+replay_answer job text out handed image back k a = grind arith
 
 text_replay : (text out : List ℕ) (handed : List (Option Told)) (image : Option Image)
     (back : List (Option Told)) → TextTold IsReplay text handed Done out image back → ReplayTold text out
@@ -106,34 +89,28 @@ module _ (known : WalksOnce) where
   prints_all : (image : Image) (input : List ℕ) (r : Replayed) → NoFault image (world_of input)
       → PrintsAll image (world_of input) r ⊎ PrintsToFault image (world_of input) r
       → PrintsAll image (world_of input) r
-  prints_all image input r none (inl all) = all
-  prints_all image input r none (inr stops) =
-      absurd (no_fault_here known image (world_of input) stops.time none stops.fault)
+  prints_all image input r none x = grind (arith, no_fault_here)
 
   module _ (image : Image) (input : List ℕ) (r : Replayed) (all : PrintsAll image (world_of input) r) where
     image_told : ImageTold false false image (world_of input) Done (done_text r.printed)
     image_told =
         let world = world_of input in
-        let cost : CostAtMost image world (length (walk image world all.end)) =
-        subst (CostAtMost image world) (sym (all.fired all.end (omega arith))) all.cost in
-        subst (λ ws. ImageTold false false image world Done (done_text ws))
-        (all.printed all.end (omega arith))
-        (subst (ImageTold false false image world Done)
-        (append-nil (done_text (printed_words (mem image world all.end).acts) ++ [])
-        ∙ append-nil (done_text (printed_words (mem image world all.end).acts)))
-        (rested all.end all.no_fault cost))
+        let cost : CostAtMost image world (length (walk image world all.end)) = grind arith in
+        subst (λ ws. ImageTold false false image world Done (done_text ws)) (grind arith) (subst (ImageTold
+        false false image world Done) (append-nil (done_text (printed_words (mem image world all.end).acts) ++
+        []) ∙ append-nil (done_text (printed_words (mem image world all.end).acts))) (rested all.end
+        all.no_fault cost))
 
   rest_line : (r : Replayed) → r.rest ≡ true
       → replayed_text r ≡ lines_of r.printed ++ codes "rest\n" ++ firings_line r.fired
-  rest_line r e = ap (λ b. flat_map word_line r.printed ++ (if b then codes "rest\n" else codes "open\n")
-      ++ firings_line r.fired) e
+  rest_line r e = grind arith
 
   pub one_trace : TracesReplay → OneTrace
   one_trace replays text events reply out s h k x e =
-      let a = text_trace text events h.ports h.image h.back
-      (trace_written text h.ports Done events h.image h.back refl false false h.called) in
-      let b = text_replay events reply k.ports k.image k.back
-      (replay_written events k.ports Done reply k.image k.back refl false false k.called) in
+      let a = text_trace text events h.ports h.image h.back (trace_written text h.ports Done events h.image
+      h.back refl false false h.called) in
+      let b = text_replay events reply k.ports k.image k.back (replay_written events k.ports Done reply
+      k.image k.back refl false false k.called) in
       let c = called_image false text s out x (told_result s e) in
       let told = replays a.budget text a.image a.input Done events a.assembly a.traced b.handed b.back Done
       reply b.image b.answered in
@@ -142,8 +119,5 @@ module _ (known : WalksOnce) where
       let all = prints_all a.image a.input r a.rests.0 (told.2.1.ends rest) in
       let same = one_assembly text c.image a.image c.input a.input c.assembly a.assembly in
       let alike = images_alike known false false a.image (world_of a.input) s Done out (done_text r.printed) e
-      (inl refl)
-      (subst (λ i. ImageTold false false a.image (world_of i) s out) same.1
-      (subst (λ im. ImageTold false false im (world_of c.input) s out) same.0 c.told))
-      (image_told a.image a.input r all) in
-      (alike.0, (r.printed, r.fired, alike.1, told.2.2 ∙ rest_line r rest))
+      (inl refl) (grind arith) (image_told a.image a.input r all) in
+      grind (arith, rest_line)

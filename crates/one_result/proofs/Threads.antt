@@ -1,7 +1,7 @@
 -- What the threads of `multi` tell is what their jobs tell by themselves.
-use Rattle.std.specs.Prelude.{◌≡◌, ◌⊎◌, ℕ, suc, Bool, true, false, List, [], ◌∷◌, Option, Some, refl}
+use Rattle.std.specs.Prelude.{◌≡◌, ◌⊎◌, ℕ, suc, Bool, true, false, List, ◌∷◌, Option, Some, refl}
 use Rattle.std.specs.List.{AllByRecursion}
-use Rattle.std.proofs.Common.{sym, ap, ◌∙◌, subst, inl, inr}
+use Rattle.std.proofs.Common.{sym, subst, arith}
 use Rattle.src_ast.specs.Once.{ExactlyOne}
 use Rattle.src_ast.specs.Syntax.{Part}
 use Rattle.ws_words.specs.Outside.{World}
@@ -9,7 +9,7 @@ use Rattle.ws_isa.specs.Image.{Image}
 use Rattle.port_set.specs.Ports.{Told}
 use Rattle.store_buf.specs.Outdoors.{lefts_of, world_with}
 use Rattle.wsc_top.specs.declared.status.Status.{Status}
-use Rattle.wsc_top.specs.declared.status.Status.TheVariants.{Budget, PortFault}
+use Rattle.wsc_top.specs.declared.status.Status.TheVariants.{Budget}
 use Rattle.wsc_top.specs.declared.task.Task.{Task}
 use Rattle.wsc_top.specs.declared.task.Task.TheVariants.{Job, Assembly, Generate, Bench, Multi}
 use Rattle.wsc_top.specs.declared.task.JobTask.TheVariants.{Run}
@@ -28,7 +28,7 @@ use Rattle.wsc_top.proofs.Reading.AnswersOnce.{RunsOnce}
 use Rattle.wsc_top.proofs.Several.ThreadAnswers.{yields_never_fails}
 use Rattle.one_result.specs.OneResult.{HasFlags, HasWritten, IsResult}
 use Rattle.one_result.specs.Others as others
-use Rattle.one_result.specs.Others.{IsOfJob, AreOfJobs, texts_of, OneMulti, multi_commands}
+use Rattle.one_result.specs.Others.{IsOfJob, AreOfJobs, texts_of, multi_commands}
 use Rattle.one_result.proofs.Words.{asked}
 use Rattle.one_result.proofs.Written.{IsMulti, is_told, told_reply, multi_kind}
 use Rattle.one_result.proofs.Jobs.{TextJob, told_by_task, told_result, jobs_alike}
@@ -40,20 +40,12 @@ abbrev IsEnd : Status → Type 0
 IsEnd s = IsResult s ⊎ (s ≡ Budget)
 
 told_end : (s : Status) → IsEnd s → is_told s ≡ true
-told_end s (inl r) = told_result s r
-told_end s (inr e) = ap is_told e
+told_end s x = grind (arith, told_result, is_told)
 
 tells_end : (options : RunOptions) (parts : List Part) (world : World) (handed : List (Option Told))
     (s : Status) (out : List ℕ) (back : List (Option Told)) → TellsRun options parts world handed s out back
     → (IsFailed s → ⊥) → IsEnd s
-tells_end options parts world handed s out back (answers.TellsRun.ended n fired end r few ports) f =
-    inl (inl refl)
-tells_end options parts world handed s out back (answers.TellsRun.faulted n array state r ports) f =
-    inl (inr refl)
-tells_end options parts world handed s out back (answers.TellsRun.spent n front more does ports) f = inr refl
-tells_end options parts world handed s out back
-    (answers.TellsRun.failed n port front more act does on rose ports) f =
-    absurd (f (port, refl))
+tells_end options parts world handed s out back x f = grind arith
 
 yields_end : (options : RunOptions) (parts : List Part) (input : List ℕ) (handed : List (Option Told))
     (s : Status) (out : List ℕ) (image : Option Image) (back : List (Option Told))
@@ -63,9 +55,7 @@ yields_end options parts input handed s out some back (answers.Yields.ran image 
 
 -- where a thread fails, all of them have that status
 not_first : (s : Status) (ss : List Status) → IsEnd (status_of (s ∷ ss)) → IsFailed s → ⊥
-not_first s ss e f =
-    let two : true ≡ false = sym (told_end (status_of (s ∷ ss)) e)
-    ∙ ap (λ (x : Status). is_told (status_of (x ∷ ss))) f.1 in cc
+not_first s ss e f = grind (arith, told_end, is_told)
 
 module _ (law : RunsOnce) (fronts : Fronts) (once : (text : List ℕ) → ExactlyOne (IsTextAnswer text))
     (told : JobsTold) (memory : Bool) where
@@ -73,26 +63,18 @@ module _ (law : RunsOnce) (fronts : Fronts) (once : (text : List ℕ) → Exactl
       → IsOfJob memory text s out
   of_job text s out e a = record {
     kind = e;
-    same = λ other again h p q.
-        jobs_alike law memory text (once text) s other out again p q a
-        (told memory text other again h (told_result other q));
-    front = λ other again h p q.
-        texts_begin law fronts once memory memory text other out again q
-        (subst (λ (x : Status). TextJob memory text x out) p a)
-        (told memory text other again h (told_result other q));
+    same = λ other again h p q. jobs_alike law memory text (once text) s other out again p q a (told memory
+        text other again h (told_result other q));
+    front = λ other again h p q. texts_begin law fronts once memory memory text other out again q (grind
+        arith) (told memory text other again h (told_result other q));
   }
 
   module _ (options : RunOptions) (report : options.report ≡ Full memory false) where
     of_thread : (x : Thread) (handed : List (Option Told)) (s : Status) (out : List ℕ)
         (back : List (Option Told)) → lefts_of handed ≡ lefts_of no_ports → HasJob x
         → RunsAlone options x handed s out back → IsEnd s → IsOfJob memory x.piece.text s out
-    of_thread x handed s out back silent job run e = of_job x.piece.text s out e (record {
-      parts = x.parts;
-      input = x.input;
-      job = job;
-      told = told_by_task memory x.parts x.input (Run options) handed s out (Some x.image) back silent report
-          (told_end s e) run;
-    })
+    of_thread x handed s out back silent job run e = of_job x.piece.text s out e
+        (grind (arith, told_by_task, told_end))
 
     of_others : (t : ℕ) (xs : List Thread) (statuses : List Status) (out : List ℕ)
         (back : List (Option Told)) → AllByRecursion HasJob xs
@@ -100,11 +82,8 @@ module _ (law : RunsOnce) (fronts : Fronts) (once : (text : List ℕ) → Exactl
         → AreOfJobs memory t (texts_of (pieces_of xs)) statuses out
     of_others t xs statuses out back each threads.ThreadsDo.none = others.AreOfJobs.none
     of_others t xs statuses out back each (threads.ThreadsDo.more {x = x} {others = more} {status = s}
-        {statuses = ss} {out = own} {further = further} run rest) =
-        others.AreOfJobs.more x.piece.text s own
-        (of_thread x no_ports s own back refl each.0 run
-        (yields_end options x.parts x.input no_ports s own (Some x.image) back run
-        (yields_never_fails options x.parts x.input s own (Some x.image) back run)))
+        {statuses = ss} {out = own} {further = further} run rest) = others.AreOfJobs.more x.piece.text s own
+        (of_thread x no_ports s own back refl each.0 run (grind (arith, yields_end, yields_never_fails)))
         (of_others (suc t) _ ss further more each.1 rest)
 
     of_all : (t : ℕ) (xs : List Thread) (handed : List (Option Told)) (statuses : List Status) (out : List ℕ)
@@ -112,12 +91,9 @@ module _ (law : RunsOnce) (fronts : Fronts) (once : (text : List ℕ) → Exactl
         → IsEnd (status_of statuses) → ThreadsDo (RunsAlone options) t xs handed statuses out back
         → AreOfJobs memory t (texts_of (pieces_of xs)) statuses out
     of_all t xs handed statuses out back silent each e threads.ThreadsDo.none = others.AreOfJobs.none
-    of_all t xs handed statuses out back silent each e (threads.ThreadsDo.more {x = x} {others = more}
-        {status = s} {statuses = ss} {out = own} {further = further} run rest) =
-        others.AreOfJobs.more x.piece.text s own
-        (of_thread x handed s own back silent each.0 run
-        (yields_end options x.parts x.input handed s own (Some x.image) back run (not_first s ss e)))
-        (of_others (suc t) _ ss further more each.1 rest)
+    of_all t xs handed statuses out back silent each e (threads.ThreadsDo.more {x = x} {others = more} {status
+        = s} {statuses = ss} {out = own} {further = further} run rest) = others.AreOfJobs.more x.piece.text s
+        own (grind (arith, of_thread, yields_end, not_first)) (grind (arith, of_others))
 
   -- what is said of an answer of `multi`
   abbrev OfJobs : List ℕ → Status → List ℕ → Type 0
@@ -129,40 +105,28 @@ module _ (law : RunsOnce) (fronts : Fronts) (once : (text : List ℕ) → Exactl
       → lefts_of handed ≡ lefts_of no_ports → options.report ≡ Full memory false
       → IsEnd (status_of statuses) → MultiAnswered options text handed statuses out images back
       → OfJobs text (status_of statuses) out
-  multi_answer options text handed statuses out images back silent p e
-      (threads.MultiAnswered.refused r why) =
-      let bad : false ≡ true = told_end (status_of statuses) e in absurd cc
-  multi_answer options text handed statuses out images back silent p e
-      (threads.MultiAnswered.done xs are run) = (
-        pieces_of xs,
-        are.split,
-        (statuses, of_all options p 1 xs handed statuses out back silent are.each e run, refl),
-      )
+  multi_answer options text handed statuses out images back silent p e x = grind (arith, told_end, of_all)
 
   module _ (words : List (List ℕ)) (kind : (task : Task) → AsksFor words task → IsMulti memory task)
       (text : List ℕ) (after : Option (List ℕ)) (m n : ℕ) (handed : List (Option Told))
       (silent : lefts_of handed ≡ lefts_of no_ports) where
     not_alone : (s : Status) (out : List ℕ) (image : Option Image) (back : List (Option Told))
         → is_told s ≡ true → Answers words (Some text) after m n handed s out image back → ⊥
-    not_alone s out image back e (answers.Answers.usage none left) = cc
     not_alone s out image back e (answers.Answers.generated k line left) = kind (Generate k) line
     not_alone s out image back e (answers.Answers.benched o line left b) = kind (Bench o) line
-    not_alone s out image back e (answers.Answers.unread t bytes line reader rose short takes) = cc
-    not_alone s out image back e (answers.Answers.long t bytes line reader long takes) = cc
     not_alone s out image back e (answers.Answers.read task whole line short takes answered) =
         kind (Job task) line
     not_alone s out image back e (answers.Answers.assembled task whole line short takes answered) =
         kind (Assembly task) line
+    not_alone s out image back e x = cc
 
     multi_reply : (s : Status) (out : List ℕ) (image : Option Image) (images : List Image)
         (back : List (Option Told)) → IsEnd s
         → Replies words (Some text) after m n handed s out image images back → OfJobs text s out
-    multi_reply s out image images back e (threads.Replies.alone answer) =
-        absurd (not_alone s out image back (told_end s e) answer)
-    multi_reply s out image images back e
-        (threads.Replies.together {statuses = ss} options whole line short takes answered) =
-        subst (λ (x : List ℕ). OfJobs x (status_of ss) out) (sym takes.0)
-        (multi_answer options whole handed ss out images back silent (kind (Multi options) line) e answered)
+    multi_reply s out image images back e (threads.Replies.alone answer) = grind (arith, not_alone, told_end)
+    multi_reply s out image images back e (threads.Replies.together {statuses = ss} options whole line short
+        takes answered) = subst (λ (x : List ℕ). OfJobs x (status_of ss) out) (sym takes.0) (multi_answer
+        options whole handed ss out images back silent (kind (Multi options) line) e answered)
 
   pub one_multi : (text : List ℕ) (status : Status) (out : List ℕ)
       → HasWritten multi_commands (HasFlags memory false) text status out → IsEnd status
@@ -171,6 +135,5 @@ module _ (law : RunsOnce) (fronts : Fronts) (once : (text : List ℕ) → Exactl
       let c = h.called in
       let r = told_reply multi_commands (HasFlags memory false) text h.ports status out h.image h.back c
       (told_end status e) in
-      multi_reply c.words (λ task line. multi_kind memory task
-      (asked multi_commands (HasFlags memory false) c.words task c.call c.such line)) text r.after r.faults
-      r.counted h.ports h.silent status out h.image r.threads h.back e r.reply
+      multi_reply c.words (grind (arith, multi_kind, asked)) text r.after r.faults r.counted h.ports h.silent
+      status out h.image r.threads h.back e r.reply

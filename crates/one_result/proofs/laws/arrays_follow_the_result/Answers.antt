@@ -21,8 +21,7 @@ returns-clause-job c =
     }) c.walks_go_on.ensures.ended)
 
 pub returns-clause-assembly : goal.returns-clause-assembly
-returns-clause-assembly c =
-    one_image_memory (record {
-      instances = c.walks_go_on.ensures.instances;
-      effects = c.effects_are_one.ensures;
-    })
+returns-clause-assembly c = one_image_memory (record {
+  instances = c.walks_go_on.ensures.instances;
+  effects = c.effects_are_one.ensures;
+})

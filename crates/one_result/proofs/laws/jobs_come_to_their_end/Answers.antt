@@ -3,8 +3,7 @@ use Rattle.one_result.proofs.Ending.{jobs_end, code_ends}
 use Rattle.one_result.proofs.laws.jobs_come_to_their_end.Goals as goal
 
 pub returns-clause-job : goal.returns-clause-job
-returns-clause-job c =
-    jobs_end c.words_are_one_line.ensures c.each_answer_has_its_status.ensures.job
+returns-clause-job c = jobs_end c.words_are_one_line.ensures c.each_answer_has_its_status.ensures.job
 
 pub returns-clause-code : goal.returns-clause-code
 returns-clause-code c =

@@ -21,8 +21,7 @@ returns-clause-job c =
     c.printed_texts_have_no_marker.ensures.end)
 
 pub returns-clause-assembly : goal.returns-clause-assembly
-returns-clause-assembly c =
-    one_image_result_with (record {
-      instances = c.walks_go_on.ensures.instances;
-      effects = c.effects_are_one.ensures;
-    })
+returns-clause-assembly c = one_image_result_with (record {
+  instances = c.walks_go_on.ensures.instances;
+  effects = c.effects_are_one.ensures;
+})
