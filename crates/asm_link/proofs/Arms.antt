@@ -1,14 +1,12 @@
 -- In blocks that lack nothing branches fork or end their wave, and what is added has a trigger.
-use Rattle.std.proofs.Common.{ℕ, zero, suc, ◌+◌, ◌-◌, ◌≡◌, ◌<◌, ◌≤◌, Bool, true, false, cond, not, ◌&&◌}
-use Rattle.std.proofs.Common.{◌||◌}
-use Rattle.std.proofs.Common.{List, [], ◌∷◌, length, get_or, Option, Some, None, refl, sym, ap, ap₂, ◌∙◌}
-use Rattle.std.proofs.Common.{subst, arith, inl, inr, eqb}
-use Rattle.std.proofs.lemmas.Bool.{ne_eqb, eqb-true, both_ways, and_parts, or_cases}
-use Rattle.std.proofs.lemmas.Bool.{not-true}
+use Rattle.std.proofs.Common.{ℕ, zero, suc, ◌+◌, ◌≡◌, ◌<◌, ◌≤◌, Bool, true, false, not, ◌&&◌, List, [], ◌∷◌}
+use Rattle.std.proofs.Common.{length, get_or, Option, Some, None, refl, sym, ap, ◌∙◌, subst, arith, inl, inr}
+use Rattle.std.proofs.Common.{eqb}
+use Rattle.std.proofs.lemmas.Bool.{ne_eqb, eqb-true, both_ways, and_parts, or_cases, not-true}
 use Rattle.ws_isa.specs.declared.instr.Op.TheVariants.{Steer}
-use Rattle.ws_isa.specs.Image.{Instr, Exit, Branch, Block, Image, no_instr, no_block}
-use Rattle.ws_isa.specs.Image.{edges_of, instr_at, block_at, first_number, is_first, is_giving, is_giving_op}
-use Rattle.ws_isa.specs.Image.{is_steer_op, leave_to, is_stop, stops, target, IsIn, IsBlock}
+use Rattle.ws_isa.specs.Image.{Instr, Exit, Branch, Block, Image, no_instr, no_block, edges_of, instr_at}
+use Rattle.ws_isa.specs.Image.{block_at, first_number, is_first, is_giving, is_giving_op, is_steer_op}
+use Rattle.ws_isa.specs.Image.{leave_to, is_stop, stops, target, IsIn, IsBlock}
 use Rattle.ws_isa.specs.Sound.{ShapeRules, IsLater}
 use Rattle.ws_isa.specs.Open.{OnlyEdge, IsArm, HasGiver, EnteredBySteer}
 use Rattle.wave_link.specs.Adds.{adds}
@@ -19,11 +17,10 @@ use Rattle.ws_isa.proofs.Blocks.{instr_is, number_next}
 use Rattle.ws_words.specs.Items.{nth, or_else}
 use Rattle.ws_words.proofs.Places.{nth_or, nth_short}
 use Rattle.asm_link.specs.declared.fault.Unfit.{Unfit}
-use Rattle.asm_link.specs.declared.fault.Unfit.TheVariants.{Arm, Trigger}
 use Rattle.wave_link.proofs.Grown.GrownOf.{steer_is}
 use Rattle.asm_link.specs.Ways.{any_steer, any_giving, hits_of, marks_of}
-use Rattle.asm_link.specs.Unfit.{wave_of, wave_in, starts_in, is_arm, forks_or_ends, is_triggered, of_block}
-use Rattle.asm_link.specs.Unfit.{or_next, of_blocks, lack_in}
+use Rattle.asm_link.specs.Unfit.{wave_in, starts_in, is_arm, forks_or_ends, is_triggered, of_block, or_next}
+use Rattle.asm_link.specs.Unfit.{of_blocks, lack_in}
 use Rattle.asm_link.proofs.Counts.{edges_to, hits_are, edges_one, Steered, marks_are}
 
 -- Blocks by their numbers.
@@ -35,63 +32,35 @@ block_there image n l = nth_or image.blocks n no_block (omega arith)
 
 wave_is : (image : Image) (n : ℕ) → wave_in image.blocks (suc n) ≡ (block_at image (suc n)).wave
 unfolding block_at no_block
-wave_is image n =
-    let z : eqb (suc n) 0 ≡ false = ne_eqb (suc n) 0 (λ e. omega (arith, e)) in
-    let p : suc n - 1 ≡ n = omega arith in
-    ap (λ (v : Bool). cond v 0 (wave_of (nth image.blocks (suc n - 1)))) z
-    ∙ (ap (λ (k : ℕ). wave_of (nth image.blocks k)) p ∙ go (nth image.blocks n))
-  where
-    go : (o : Option Block) → wave_of o ≡ (or_else o no_block).wave
-    go None = refl
-    go (Some x) = refl
+wave_is image n = grind (arith, ne_eqb)
 
 pub first_is : (image : Image) (c : ℕ) → starts_in image.blocks c ≡ is_first image c
 unfolding is_first
 first_is image zero = refl
 first_is image (suc zero) = refl
-first_is image (suc (suc c)) =
-    let x : Bool = not (eqb (wave_in image.blocks (suc (suc c))) (wave_in image.blocks (suc (suc c) - 1))) in
-    let z : eqb (suc (suc c)) 0 ≡ false = ne_eqb (suc (suc c)) 0 (λ e. omega (arith, e)) in
-    let o : eqb (suc (suc c)) 1 ≡ false = ne_eqb (suc (suc c)) 1 (λ e. omega (arith, e)) in
-    let p : suc (suc c) - 1 ≡ suc c = omega arith in
-    ap (λ (v : Bool). cond v false (cond (eqb (suc (suc c)) 1) true x)) z
-    ∙ (ap (λ (v : Bool). cond v true x) o
-    ∙ ap₂ (λ (n m : ℕ). not (eqb n m)) (wave_is image (suc c))
-    (ap (wave_in image.blocks) p ∙ wave_is image c))
+first_is image (suc (suc c)) = grind (arith, ne_eqb, wave_is image (suc c), wave_is image c)
 
 -- What lacks nothing.
 
 pub none_both : (x y : Option Unfit) → or_next x y ≡ None → (x ≡ None) × (y ≡ None)
-none_both None y e = (refl, e)
-none_both (Some x) y e = absurd (let q : Some x ≡ None = e in cc)
+none_both x y e = grind arith
 
 blocks_fit : (bs : List Block) (hits : List ℕ) (marks added : List Bool) (b : ℕ) (xs : List Block) (n : ℕ)
     (x : Block) → of_blocks bs hits marks added b xs ≡ None → nth xs n ≡ Some x
     → of_block bs hits marks added (b + n) x ≡ None
 blocks_fit bs hits marks added b [] n x e f = absurd (let q : None ≡ Some x = f in cc)
-blocks_fit bs hits marks added b (y ∷ ys) zero x e f =
-    let q : y ≡ x = (let r : Some y ≡ Some x = f in cc) in
-    subst (λ (z : Block). of_block bs hits marks added (b + 0) z ≡ None) q
-    (subst (λ (k : ℕ). of_block bs hits marks added k y ≡ None) (let r : b ≡ b + 0 = omega arith in r)
-    (none_both (of_block bs hits marks added b y) (of_blocks bs hits marks added (suc b) ys) e).0)
-blocks_fit bs hits marks added b (y ∷ ys) (suc n) x e f =
-    subst (λ (k : ℕ). of_block bs hits marks added k x ≡ None)
-    (let r : suc b + n ≡ b + suc n = omega arith in r)
-    (blocks_fit bs hits marks added (suc b) ys n x
-    (none_both (of_block bs hits marks added b y) (of_blocks bs hits marks added (suc b) ys) e).1 f)
+blocks_fit bs hits marks added b (y ∷ ys) zero x e f = let q : y ≡ x = grind arith in
+    subst (λ (z : Block). of_block bs hits marks added (b + 0) z ≡ None) q (subst (λ (k : ℕ). of_block bs hits
+    marks added k y ≡ None) (grind arith) (none_both (of_block bs hits marks added b y) (of_blocks bs hits
+    marks added (suc b) ys) e).0)
+blocks_fit bs hits marks added b (y ∷ ys) (suc n) x e f = subst (λ (k : ℕ). of_block bs hits marks added k x ≡
+    None) (grind arith) (blocks_fit bs hits marks added (suc b) ys n x (none_both (of_block bs hits marks
+    added b y) (of_blocks bs hits marks added (suc b) ys) e).1 f)
 
 block_fit : (bs : List Block) (hits : List ℕ) (marks added : List Bool) (n : ℕ) (x : Block)
     → of_block bs hits marks added n x ≡ None → (forks_or_ends bs hits x.exit ≡ true)
     × (get_or added n false ≡ true → is_triggered bs hits marks (suc n) x.instrs ≡ true)
-block_fit bs hits marks added n x e =
-    go (forks_or_ends bs hits x.exit) (is_triggered bs hits marks (suc n) x.instrs) (get_or added n false) e
-  where
-    go : (v w a : Bool) → cond v (cond (not a || w) None (Some (Trigger (suc n)))) (Some (Arm (suc n))) ≡ None
-        → (v ≡ true) × (a ≡ true → w ≡ true)
-    go true true a e = (refl, λ h. refl)
-    go true false true e = absurd (let q : Some (Trigger (suc n)) ≡ None = e in cc)
-    go true false false e = (refl, λ h. h)
-    go false w a e = absurd (let q : Some (Arm (suc n)) ≡ None = e in cc)
+block_fit bs hits marks added n x e = grind arith
 
 -- Instructions of a block.
 
@@ -167,10 +136,7 @@ module _ (image : Image) (shape : ShapeRules image)
       go : edges_to image.blocks c ≤ 1 → (d q : ℕ) → IsBlock image d
           → nth (edges_of (block_at image d).exit) q ≡ Some c → (d ≡ suc n) × (q ≡ place)
       go one zero q b g = absurd (omega (arith, b.0))
-      go one (suc m) q b g =
-          let r : (m ≡ n) × (q ≡ place) = edges_one image.blocks m n q place c (block_at image (suc m))
-          (block_at image (suc n)) one (block_there image m b.1) g (block_there image n l) f in
-          (ap suc r.0, r.1)
+      go one (suc m) q b g = grind (arith, edges_one, block_there image m b.1, block_there image n l)
 
   arm : (n place c r : ℕ) → suc n ≤ length image.blocks → IsBlock image c
       → is_arm image.blocks (hits_of image.blocks) c ≡ true
@@ -179,13 +145,12 @@ module _ (image : Image) (shape : ShapeRules image)
   arm n place c r l h e f s t =
       let p : (not (starts_in image.blocks c) ≡ true)
       × (eqb (get_or (hits_of image.blocks) c 0) 1 ≡ true) =
-      and_parts (not (starts_in image.blocks c)) (eqb (get_or (hits_of image.blocks) c 0) 1) e in
-      let g : is_first image c ≡ false = sym (first_is image c) ∙ not-true (starts_in image.blocks c) p.0 in
-      let w : IsLater image (suc n) r = (shape.blocks (suc n) (omega arith, l)).edges.later r s in
+      grind (arith, and_parts) in
+      let g : is_first image c ≡ false = grind (arith, first_is, not-true) in
+      let w : IsLater image (suc n) r = grind arith in
       record {
         not_first = g;
-        same_wave = ap (λ (d : ℕ). (block_at image d).wave) (sym t)
-            ∙ (w (ap (is_first image) t ∙ g)).1;
+        same_wave = grind arith;
         only = only_edge n place c l h.1 p.1 f;
       }
 
@@ -203,18 +168,14 @@ module _ (image : Image) (shape : ShapeRules image)
         | inl a ↦
             let p : (is_arm image.blocks (hits_of image.blocks) x ≡ true)
             × (is_arm image.blocks (hits_of image.blocks) y ≡ true) =
-            and_parts (is_arm image.blocks (hits_of image.blocks) x)
-            (is_arm image.blocks (hits_of image.blocks) y) a in
+            grind (arith, and_parts) in
             inl (
-              arm n 0 x 1 h.1 q.1 p.0 (ap (λ (w : Exit). nth (edges_of w) 0) e) t
-                  (ap (λ (w : Exit). leave_to w 1) e),
-              arm n 1 y 0 h.1 q.2 p.1 (ap (λ (w : Exit). nth (edges_of w) 1) e) t
-                  (ap (λ (w : Exit). leave_to w 0) e),
+              arm n 0 x 1 h.1 q.1 p.0 (ap (λ (w : Exit). nth (edges_of w) 0) e) t (ap (λ (w : Exit).
+                  leave_to w 1) e),
+              arm n 1 y 0 h.1 q.2 p.1 (ap (λ (w : Exit). nth (edges_of w) 1) e) t (ap (λ (w : Exit).
+                  leave_to w 0) e),
             )
-        | inr o ↦
-            let p : (starts_in image.blocks x ≡ true) × (starts_in image.blocks y ≡ true) =
-            and_parts (starts_in image.blocks x) (starts_in image.blocks y) o in
-            inr (sym (first_is image x) ∙ p.0, sym (first_is image y) ∙ p.1)
+        | inr o ↦ grind (arith, and_parts, first_is)
       ]
 
   giver : (n : ℕ) → suc n ≤ length image.blocks → any_giving (block_at image (suc n)).instrs ≡ true
@@ -224,54 +185,23 @@ module _ (image : Image) (shape : ShapeRules image)
       let h : HasInstr (block_at image (suc n)).instrs (λ (i : Instr). is_giving_op i.op ≡ true) =
       giving_there (block_at image (suc n)).instrs e in
       let s : StandsAt image (suc n) h.instr = stands image n h.place h.instr l h.there in
-      record {
-        instr = s.number;
-        inside = s.inside;
-        gives = ap (λ (i : Instr). is_giving_op i.op) s.is ∙ h.holds;
-      }
+      grind arith
 
   by_steer : (n : ℕ) → suc n ≤ length image.blocks
       → eqb (get_or (hits_of image.blocks) (suc n) 0) 1 ≡ true → Steered image.blocks (suc n)
       → EnteredBySteer image (suc n)
   by_steer n l e s =
       let k : s.place < length image.blocks = nth_short image.blocks s.place s.block s.there in
-      let q : block_at image (suc s.place) ≡ s.block = the (block_at image (suc s.place)) s.block
-      (sym (block_there image s.place (omega arith)) ∙ s.there) in
+      let q : block_at image (suc s.place) ≡ s.block = grind (arith, block_there) in
       let h : HasInstr s.block.instrs (λ (i : Instr). i.op ≡ Steer) = steer_there s.block.instrs s.steers in
-      let t : StandsAt image (suc s.place) h.instr = stands image s.place h.place h.instr (omega arith)
-      (ap (λ (x : Block). nth x.instrs h.place) q ∙ h.there) in
-      record {
-        before = suc s.place;
-        place = s.edge;
-        instr = t.number;
-        block = (omega arith, omega arith);
-        edge = only_edge s.place s.edge (suc n) (omega arith) l e
-            (ap (λ (x : Block). nth (edges_of x.exit) s.edge) q ∙ s.leads);
-        inside = t.inside;
-        steers = ap (λ (i : Instr). i.op) t.is ∙ h.holds;
-      }
-    where
-      the : (x y : Block) → Some x ≡ Some y → x ≡ y
-      the x y e = cc
+      let t : StandsAt image (suc s.place) h.instr = grind (arith, stands) in
+      grind (arith, only_edge)
 
   pub triggers : (b : ℕ) → IsBlock image b → adds image b ≡ true → CanTrigger image b
   unfolding adds
   triggers zero h a = absurd (omega (arith, h.0))
-  triggers (suc n) h a = elim (or_cases (any_giving (block_at image (suc n)).instrs)
-      (is_arm image.blocks (hits_of image.blocks) (suc n) && get_or (marks_of image.blocks) (suc n) false)
-      ((fits n h.1).1 a)) [
+  triggers (suc n) h a = elim (or_cases (any_giving (block_at image (suc n)).instrs) (is_arm image.blocks
+      (hits_of image.blocks) (suc n) && get_or (marks_of image.blocks) (suc n) false) ((fits n h.1).1 a)) [
         | inl g ↦ inl (giver n h.1 g)
-        | inr g ↦
-            let p : (is_arm image.blocks (hits_of image.blocks) (suc n) ≡ true)
-            × (get_or (marks_of image.blocks) (suc n) false ≡ true) =
-            and_parts (is_arm image.blocks (hits_of image.blocks) (suc n))
-            (get_or (marks_of image.blocks) (suc n) false) g in
-            let q : (not (starts_in image.blocks (suc n)) ≡ true)
-            × (eqb (get_or (hits_of image.blocks) (suc n) 0) 1 ≡ true) =
-            and_parts (not (starts_in image.blocks (suc n)))
-            (eqb (get_or (hits_of image.blocks) (suc n) 0) 1) p.0 in
-            inr (
-              by_steer n h.1 q.1 (marks_are image.blocks (suc n) p.1),
-              sym (first_is image (suc n)) ∙ not-true (starts_in image.blocks (suc n)) q.0,
-            )
+        | inr g ↦ grind (arith, and_parts, by_steer, marks_are, first_is, not-true)
       ]

@@ -1,14 +1,13 @@
 -- What the tables of edges say.
-use Rattle.std.proofs.Common.{ℕ, zero, suc, ◌+◌, ◌≡◌, ◌<◌, ◌≤◌, ◌⊎◌, Bool, true, false, cond, List, []}
-use Rattle.std.proofs.Common.{◌∷◌, length, get_or, set, replicate, Some, None, refl, sym, ap}
-use Rattle.std.proofs.Common.{◌∙◌, subst, arith, inl, inr, eqb, length-set, get_or-set_same, get_or-set_other}
+use Rattle.std.proofs.Common.{ℕ, zero, suc, ◌+◌, ◌≡◌, ◌<◌, ◌≤◌, ◌⊎◌, Bool, true, false, cond, List, [], ◌∷◌}
+use Rattle.std.proofs.Common.{length, get_or, set, replicate, Some, refl, sym, ap, ◌∙◌, subst, arith, inl}
+use Rattle.std.proofs.Common.{inr, eqb, length-set, get_or-set_same, get_or-set_other}
 use Rattle.std.proofs.lemmas.List.{get_or-replicate, length-replicate}
 use Rattle.std.proofs.lemmas.Bool.{cases_eq, cases_Bool, eq-eqb, ne_eqb, both_ways}
-use Rattle.ws_isa.specs.Image.{Exit, Goto, Branch, Landings, Stop, Block, edges_of}
+use Rattle.ws_isa.specs.Image.{Exit, Branch, Block, edges_of}
 use Rattle.ws_words.specs.Items.{nth}
 use Rattle.asm_link.specs.Ways.{any_steer, hit, hit_all, hit_blocks, hits_of, mark_arms, mark_block}
-use Rattle.asm_link.specs.Ways.{mark_blocks}
-use Rattle.asm_link.specs.Ways.{marks_of}
+use Rattle.asm_link.specs.Ways.{mark_blocks, marks_of}
 
 -- how often a number stands in a list
 abbrev pub times : List ℕ → ℕ → ℕ
@@ -32,121 +31,66 @@ times_step x c cs t l = elim (cases_eq x c) [
   | inl e ↦
       let q : get_or (hit x t) c 0 ≡ get_or t c 0 + 1 = subst (λ (y : ℕ). get_or (hit y t) c 0
       ≡ get_or t c 0 + 1) (sym e) (get_or-set_same t c (get_or t c 0 + 1) 0 l) in
-      let r : times (x ∷ cs) c ≡ suc (times cs c) = ap (λ (v : Bool). cond v (suc (times cs c)) (times cs c))
-      (eq-eqb x c e) in
-      omega arith
+      grind (arith, eq-eqb)
   | inr n ↦
       let q : get_or (hit x t) c 0 ≡ get_or t c 0 = get_or-set_other t x c (get_or t x 0 + 1) 0
       (λ e. n (sym e)) in
-      let r : times (x ∷ cs) c ≡ times cs c = ap (λ (v : Bool). cond v (suc (times cs c)) (times cs c))
-      (ne_eqb x c n) in
-      omega arith
+      grind (arith, ne_eqb)
 ]
 
 hit_counts : (cs t : List ℕ) (c : ℕ) → c < length t → get_or (hit_all cs t) c 0 ≡ get_or t c 0 + times cs c
 hit_counts [] t c l = omega arith
-hit_counts (x ∷ cs) t c l =
-    hit_counts cs (hit x t) c (subst (λ (n : ℕ). c < n) (sym (length-set t x (get_or t x 0 + 1))) l)
-    ∙ times_step x c cs t l
+hit_counts (x ∷ cs) t c l = hit_counts cs (hit x t) c (subst (λ (n : ℕ). c < n) (sym (length-set t x (get_or t
+    x 0 + 1))) l) ∙ times_step x c cs t l
 
 blocks_count : (bs : List Block) (t : List ℕ) (c : ℕ) → c < length t
     → get_or (hit_blocks bs t) c 0 ≡ get_or t c 0 + edges_to bs c
 blocks_count [] t c l = omega arith
 blocks_count (b ∷ bs) t c l =
-    let p : get_or (hit_blocks bs (hit_all (edges_of b.exit) t)) c 0
-    ≡ get_or (hit_all (edges_of b.exit) t) c 0 + edges_to bs c =
-    blocks_count bs (hit_all (edges_of b.exit) t) c
-    (subst (λ (n : ℕ). c < n) (sym (hit_length (edges_of b.exit) t)) l) in
-    let q : get_or (hit_all (edges_of b.exit) t) c 0 ≡ get_or t c 0 + times (edges_of b.exit) c =
-    hit_counts (edges_of b.exit) t c l in
-    omega arith
+    let p : get_or (hit_blocks bs (hit_all (edges_of b.exit) t)) c 0 ≡ get_or (hit_all (edges_of b.exit) t) c
+    0 + edges_to bs c = blocks_count bs (hit_all (edges_of b.exit) t) c (grind (arith, hit_length)) in
+    grind (arith, hit_counts)
 
 pub hits_are : (bs : List Block) (c : ℕ) → c ≤ length bs → get_or (hits_of bs) c 0 ≡ edges_to bs c
-hits_are bs c l =
-    let e : length (replicate {A = ℕ} (length bs + 1) 0) ≡ length bs + 1 =
-    length-replicate {A = ℕ} (length bs + 1) 0 in
-    let w : c < length (replicate {A = ℕ} (length bs + 1) 0) = omega (arith, e) in
-    let q : get_or (replicate {A = ℕ} (length bs + 1) 0) c 0 ≡ 0 =
-    get_or-replicate {A = ℕ} (length bs + 1) c 0 0 (omega arith) in
-    blocks_count bs (replicate {A = ℕ} (length bs + 1) 0) c w
-    ∙ (ap (λ (n : ℕ). n + edges_to bs c) q ∙ none_before (edges_to bs c))
-  where
-    none_before : (n : ℕ) → 0 + n ≡ n
-    none_before n = omega arith
+hits_are bs c l = grind (arith, length-replicate, get_or-replicate, blocks_count)
 
 -- One edge alone.
 
 times_there : (xs : List ℕ) (p c : ℕ) → nth xs p ≡ Some c → 1 ≤ times xs c
-times_there [] p c e = absurd (let q : None ≡ Some c = e in cc)
-times_there (x ∷ xs) zero c e =
-    let q : x ≡ c = (let r : Some x ≡ Some c = e in cc) in
-    let r : times (x ∷ xs) c ≡ suc (times xs c) = ap (λ (v : Bool). cond v (suc (times xs c)) (times xs c))
-    (eq-eqb x c q) in
-    omega arith
 times_there (x ∷ xs) (suc p) c e = go (eqb x c) (times_there xs p c e)
   where
     go : (v : Bool) → 1 ≤ times xs c → 1 ≤ cond v (suc (times xs c)) (times xs c)
     go true h = omega arith
     go false h = h
+times_there xs p c e = grind (arith, eq-eqb)
 
 times_one : (xs : List ℕ) (p q c : ℕ) → times xs c ≤ 1 → nth xs p ≡ Some c → nth xs q ≡ Some c → p ≡ q
-times_one [] p q c l e f = absurd (let q : None ≡ Some c = e in cc)
-times_one (x ∷ xs) zero zero c l e f = refl
-times_one (x ∷ xs) zero (suc q) c l e f =
-    let s : x ≡ c = (let r : Some x ≡ Some c = e in cc) in
-    let r : times (x ∷ xs) c ≡ suc (times xs c) = ap (λ (v : Bool). cond v (suc (times xs c)) (times xs c))
-    (eq-eqb x c s) in
-    let t : 1 ≤ times xs c = times_there xs q c f in
-    absurd (omega arith)
-times_one (x ∷ xs) (suc p) zero c l e f =
-    let s : x ≡ c = (let r : Some x ≡ Some c = f in cc) in
-    let r : times (x ∷ xs) c ≡ suc (times xs c) = ap (λ (v : Bool). cond v (suc (times xs c)) (times xs c))
-    (eq-eqb x c s) in
-    let t : 1 ≤ times xs c = times_there xs p c e in
-    absurd (omega arith)
 times_one (x ∷ xs) (suc p) (suc q) c l e f = ap suc (times_one xs p q c (less (eqb x c) l) e f)
   where
     less : (v : Bool) → cond v (suc (times xs c)) (times xs c) ≤ 1 → times xs c ≤ 1
     less true h = omega arith
     less false h = h
+times_one xs p q c l e f = grind (arith, eq-eqb, times_there)
 
 edges_there : (bs : List Block) (n p c : ℕ) (b : Block) → nth bs n ≡ Some b → nth (edges_of b.exit) p ≡ Some c
     → 1 ≤ edges_to bs c
-edges_there [] n p c b e f = absurd (let q : None ≡ Some b = e in cc)
-edges_there (x ∷ xs) zero p c b e f =
-    let q : x ≡ b = (let r : Some x ≡ Some b = e in cc) in
-    let r : 1 ≤ times (edges_of x.exit) c = subst (λ (y : Block). 1 ≤ times (edges_of y.exit) c) (sym q)
-    (times_there (edges_of b.exit) p c f) in
-    omega arith
 edges_there (x ∷ xs) (suc n) p c b e f = let h : 1 ≤ edges_to xs c = edges_there xs n p c b e f in omega arith
+edges_there bs n p c b e f = grind (arith, times_there)
 
 pub edges_one : (bs : List Block) (n m p q c : ℕ) (a b : Block) → edges_to bs c ≤ 1
     → nth bs n ≡ Some a → nth (edges_of a.exit) p ≡ Some c → nth bs m ≡ Some b
     → nth (edges_of b.exit) q ≡ Some c → (n ≡ m) × (p ≡ q)
-edges_one [] n m p q c a b l e f g h = absurd (let q : None ≡ Some a = e in cc)
 edges_one (x ∷ xs) zero zero p q c a b l e f g h = (
   refl,
-  times_one (edges_of x.exit) p q c (omega arith)
-      (subst (λ (y : Block). nth (edges_of y.exit) p ≡ Some c) (sym (the x a e)) f)
-      (subst (λ (y : Block). nth (edges_of y.exit) q ≡ Some c) (sym (the x b g)) h),
+  times_one (edges_of x.exit) p q c (omega arith) (subst (λ (y : Block). nth (edges_of y.exit) p ≡ Some c)
+      (sym (the x a e)) f) (subst (λ (y : Block). nth (edges_of y.exit) q ≡ Some c) (sym (the x b g)) h),
 )
   where
     the : (x y : Block) → Some x ≡ Some y → x ≡ y
     the x y e = cc
-edges_one (x ∷ xs) zero (suc m) p q c a b l e f g h =
-    let s : x ≡ a = (let r : Some x ≡ Some a = e in cc) in
-    let r : 1 ≤ times (edges_of x.exit) c = subst (λ (y : Block). 1 ≤ times (edges_of y.exit) c) (sym s)
-    (times_there (edges_of a.exit) p c f) in
-    let t : 1 ≤ edges_to xs c = edges_there xs m q c b g h in
-    absurd (omega arith)
-edges_one (x ∷ xs) (suc n) zero p q c a b l e f g h =
-    let s : x ≡ b = (let r : Some x ≡ Some b = g in cc) in
-    let r : 1 ≤ times (edges_of x.exit) c = subst (λ (y : Block). 1 ≤ times (edges_of y.exit) c) (sym s)
-    (times_there (edges_of b.exit) q c h) in
-    let t : 1 ≤ edges_to xs c = edges_there xs n p c a e f in
-    absurd (omega arith)
 edges_one (x ∷ xs) (suc n) (suc m) p q c a b l e f g h =
     let r : (n ≡ m) × (p ≡ q) = edges_one xs n m p q c a b (omega arith) e f g h in (ap suc r.0, r.1)
+edges_one bs n m p q c a b l e f g h = grind (arith, times_there, edges_there)
 
 -- Marks.
 
@@ -187,7 +131,6 @@ put_case t x c e = elim (cases_eq x c) [
 arms_case : (b : Block) (bs : List Block) (exit : Exit) (t : List Bool) (c : ℕ) → b.exit ≡ exit
     → any_steer b.instrs ≡ true → get_or (mark_arms exit t) c false ≡ true
     → Steered (b ∷ bs) c ⊎ (get_or t c false ≡ true)
-arms_case b bs (Goto d) t c q s e = inr e
 arms_case b bs (Branch i x y) t c q s e = elim (put_case (set t x true) y c e) [
   | inl f ↦ inl (record {
     place = 0;
@@ -217,16 +160,11 @@ arms_case b bs (Branch i x y) t c q s e = elim (put_case (set t x true) y c e) [
     | inr h ↦ inr h
   ]
 ]
-arms_case b bs (Landings i ls) t c q s e = inr e
-arms_case b bs Stop t c q s e = inr e
+arms_case b bs exit t c q s e = inr e
 
 block_case : (b : Block) (bs : List Block) (t : List Bool) (c : ℕ) → get_or (mark_block b t) c false ≡ true
     → Steered (b ∷ bs) c ⊎ (get_or t c false ≡ true)
-block_case b bs t c e = elim (cases_Bool (any_steer b.instrs)) [
-  | inl s ↦ arms_case b bs b.exit t c refl s
-      (sym (ap (λ (v : Bool). get_or (cond v (mark_arms b.exit t) t) c false) s) ∙ e)
-  | inr s ↦ inr (sym (ap (λ (v : Bool). get_or (cond v (mark_arms b.exit t) t) c false) s) ∙ e)
-]
+block_case b bs t c e = grind (arith, cases_Bool, arms_case)
 
 marks_case : (bs : List Block) (t : List Bool) (c : ℕ) → get_or (mark_blocks bs t) c false ≡ true
     → Steered bs c ⊎ (get_or t c false ≡ true)
@@ -237,12 +175,8 @@ marks_case (b ∷ bs) t c e = elim (marks_case bs (mark_block b t) c e) [
 ]
 
 blank : (n c : ℕ) → get_or (replicate n false) c false ≡ true → ⊥
-blank zero c e = both_ways false refl e
-blank (suc n) zero e = both_ways false refl e
 blank (suc n) (suc c) e = blank n c e
+blank n c e = both_ways false refl e
 
 pub marks_are : (bs : List Block) (c : ℕ) → get_or (marks_of bs) c false ≡ true → Steered bs c
-marks_are bs c e = elim (marks_case bs (replicate (length bs + 1) false) c e) [
-  | inl s ↦ s
-  | inr g ↦ absurd (blank (length bs + 1) c g)
-]
+marks_are bs c e = grind (arith, marks_case, blank)

@@ -1,5 +1,5 @@
 -- The draft of an image is alike, and has no notes.
-use Rattle.std.proofs.Common.{◌≡◌, List, [], ◌∷◌, ◌++◌, map, None, refl, sym, ap, ◌∙◌, subst}
+use Rattle.std.proofs.Common.{◌≡◌, List, [], ◌∷◌, map, None, refl, arith}
 use Rattle.std.specs.List.{AllByRecursion}
 use Rattle.ws_isa.specs.Image.{Instr, Block, Image, flat}
 use Rattle.ws_isa.specs.Formed.{NoNotes}
@@ -14,10 +14,7 @@ instrs_bare (i ∷ is) = (record { op = refl; dests = refl; others = refl }, ins
 
 pub blocks_bare : (xs : List Block) → AlikeBlocks xs (map bare_block xs)
 blocks_bare [] = tt
-blocks_bare (x ∷ xs) = (
-  record { wave = refl; pads = refl; exit = refl; instrs = instrs_bare x.instrs },
-  blocks_bare xs,
-)
+blocks_bare (x ∷ xs) = grind (arith, instrs_bare, blocks_bare xs)
 
 instrs_back : (is : List Instr) → AlikeInstrs (map bare_instr is) is
 instrs_back [] = tt
@@ -25,10 +22,7 @@ instrs_back (i ∷ is) = (record { op = refl; dests = refl; others = refl }, ins
 
 blocks_back : (xs : List Block) → AlikeBlocks (map bare_block xs) xs
 blocks_back [] = tt
-blocks_back (x ∷ xs) = (
-  record { wave = refl; pads = refl; exit = refl; instrs = instrs_back x.instrs },
-  blocks_back xs,
-)
+blocks_back (x ∷ xs) = grind (arith, instrs_back, blocks_back xs)
 
 pub same : (image : Image) → SameShape image (bare image)
 same image = same_shape image (bare image) (blocks_bare image.blocks)
@@ -38,13 +32,11 @@ back image = same_shape (bare image) image (blocks_back image.blocks)
 
 flat_bare : (bs : List Block) → flat (map bare_block bs) ≡ map bare_instr (flat bs)
 flat_bare [] = refl
-flat_bare (b ∷ bs) = ap (λ (xs : List Instr). map bare_instr b.instrs ++ xs) (flat_bare bs)
-    ∙ sym (map_append bare_instr b.instrs (flat bs))
+flat_bare (b ∷ bs) = grind (arith, map_append, flat_bare bs)
 
 no_notes : (is : List Instr) → AllByRecursion (λ (i : Instr). i.note ≡ None) (map bare_instr is)
 no_notes [] = tt
 no_notes (i ∷ is) = (refl, no_notes is)
 
 pub bare_has_none : (image : Image) → NoNotes (bare image)
-bare_has_none image = subst (AllByRecursion (λ (i : Instr). i.note ≡ None)) (sym (flat_bare image.blocks))
-    (no_notes (flat image.blocks))
+bare_has_none image = grind (arith, flat_bare, no_notes)

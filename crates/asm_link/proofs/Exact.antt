@@ -1,5 +1,5 @@
 -- An image whose draft is fit for notes, and whose image with them stays within the limits, can be noted.
-use Rattle.std.proofs.Common.{◌≡◌, Option, None, ap, ◌∙◌, inl, inr}
+use Rattle.std.proofs.Common.{◌≡◌, None, inl, inr, arith}
 use Rattle.ws_isa.specs.Image.{Image}
 use Rattle.ws_isa.specs.Sound.{Sound}
 use Rattle.wave_link.specs.Fit.{FitForNotes}
@@ -7,9 +7,8 @@ use Rattle.wave_link.specs.Grown.{annotated}
 use Rattle.wave_link.specs.Plain.{noted}
 use Rattle.wave_link.specs.Room.{MadeWithin}
 use Rattle.wave_link.proofs.Sound.Unnoted.{slots_on, shape_on}
-use Rattle.asm_link.specs.declared.fault.Unfit.{Unfit}
 use Rattle.asm_link.specs.Bare.{bare}
-use Rattle.asm_link.specs.Unfit.{or_next, lack_in, room_in, lacks}
+use Rattle.asm_link.specs.Unfit.{lacks}
 use Rattle.asm_link.specs.Linked.{CanBeNoted}
 use Rattle.asm_link.proofs.Drafts.{back}
 use Rattle.asm_link.proofs.Opens.{exits_in}
@@ -19,11 +18,7 @@ use Rattle.asm_link.proofs.Plain.{unnoted}
 
 none_lacks : (draft : Image) → FitForNotes draft → MadeWithin (annotated draft) → lacks draft ≡ None
 unfolding lacks
-none_lacks draft fit stays =
-    let none : lack_in draft.blocks ≡ None =
-    lacks_none draft fit.walkable.shape (exits_in draft fit.walkable.suited) fit.branches fit.triggers in
-    ap (λ (o : Option Unfit). or_next o (room_in draft.blocks (annotated draft).blocks)) none
-    ∙ room_back draft.blocks (annotated draft) stays
+none_lacks draft fit stays = grind (arith, lacks_none, exits_in, room_back)
 
 pub exact : (image : Image) → FitForNotes (bare image) → MadeWithin (annotated (bare image))
     → CanBeNoted image

@@ -1,6 +1,6 @@
 -- A formed image that can be noted has a draft that is fit for notes and whose image stays within the limits,
 -- or that is sound with notes and nothing else.
-use Rattle.std.proofs.Common.{◌≡◌, ◌⊎◌, None, inl, inr}
+use Rattle.std.proofs.Common.{◌≡◌, ◌⊎◌, None, arith}
 use Rattle.ws_isa.specs.Image.{Image}
 use Rattle.ws_isa.specs.Formed.{Formed}
 use Rattle.ws_isa.specs.Sound.{Sound}
@@ -33,7 +33,4 @@ room_made image e = stays (bare image).blocks (annotated (bare image)) (parts (b
 -- what can be noted
 pub noted_how : (image : Image) → Formed image → CanBeNoted image
     → (FitForNotes (bare image) × MadeWithin (annotated (bare image))) ⊎ Sound (noted (bare image))
-noted_how image formed can = elim can.fit [
-  | inl e ↦ inl (fits_notes image formed can e, room_made image e)
-  | inr s ↦ inr s
-]
+noted_how image formed can = grind (arith, fits_notes, room_made)

@@ -1,14 +1,13 @@
 -- A walk can go over the draft of a formed image whose shape and slots are right; and a draft that lacks
 -- nothing is fit for notes.
-use Rattle.std.proofs.Common.{ℕ, ◌≡◌, ◌<◌, ◌≤◌, List, length, None, refl, sym, subst}
+use Rattle.std.proofs.Common.{ℕ, ◌≡◌, ◌≤◌, List, length, None, refl, sym, subst, arith}
 use Rattle.std.specs.List.{AllByRecursion}
 use Rattle.ws_isa.specs.declared.instr.Op.{Op}
-use Rattle.ws_isa.specs.declared.instr.Op.TheVariants.{Load, Store, Give, Take}
 use Rattle.ws_isa.specs.declared.instr.Dest.{Dest}
 use Rattle.ws_isa.specs.Image.{Instr, Exit, Goto, Branch, Landings, Stop, Pad, Block, Array, Image, flat}
 use Rattle.ws_isa.specs.Image.{block_at, IsBlock, IsInstr}
-use Rattle.ws_isa.specs.Formed.{DestIn, DestsIn, OpIn, ExitIn, References, DestsSuit, OthersSuit}
-use Rattle.ws_isa.specs.Formed.{SomeLanding, Suited, Formed, NoNotes}
+use Rattle.ws_isa.specs.Formed.{DestIn, DestsIn, OpIn, ExitIn, References, DestsSuit, OthersSuit, SomeLanding}
+use Rattle.ws_isa.specs.Formed.{Suited, Formed, NoNotes}
 use Rattle.ws_isa.specs.Sound.{ShapeRules, SlotRules}
 use Rattle.ws_isa.specs.Open.{Walkable}
 use Rattle.ws_isa.proofs.Blocks.{at_block}
@@ -30,17 +29,10 @@ module _ (image new : Image) (arrays : new.arrays ≡ image.arrays)
   shape = same_shape image new alike
 
   instr_on : (k : ℕ) → IsInstr image k → IsInstr new k
-  instr_on k h = (
-    h.0,
-    subst (λ (n : ℕ). k ≤ n) (sym (instrs_length (flat image.blocks) (flat new.blocks)
-        (flat_alike image.blocks new.blocks alike))) h.1,
-  )
+  instr_on k h = grind (arith, instrs_length, flat_alike)
 
   dest_on : (d : Dest) → DestIn image d → DestIn new d
-  dest_on d h = (
-    instr_on d.instr h.0,
-    subst (λ (n : ℕ). d.port < n) (sym (ports_same image new shape d.instr)) h.1,
-  )
+  dest_on d h = (instr_on d.instr h.0, grind (arith, ports_same, shape))
 
   dests_on : (ds : List Dest) → DestsIn image ds → DestsIn new ds
   dests_on ds h = all_have (DestIn image) (DestIn new) ds dest_on h
@@ -49,30 +41,18 @@ module _ (image new : Image) (arrays : new.arrays ≡ image.arrays)
   array_on a h = subst (λ (xs : List Array). a ≤ length xs) (sym arrays) h
 
   op_on : (op : Op) → OpIn image op → OpIn new op
-  op_on (Load a) h = (h.0, array_on a h.1)
-  op_on (Store a) h = (h.0, array_on a h.1)
-  op_on (Give p) h = h
-  op_on (Take p) h = h
-  op_on _ h = tt
+  op_on op h = grind (arith, array_on)
 
   exit_on : (e : Exit) → ExitIn image e → ExitIn new e
   exit_on (Goto b) h = block_on image new shape b h
-  exit_on (Branch s b c) h = (
-    instr_on s h.0,
-    block_on image new shape b h.1,
-    block_on image new shape c h.2,
-  )
-  exit_on (Landings s ls) h = (
-    instr_on s h.0,
-    all_have (IsBlock image) (IsBlock new) ls (block_on image new shape) h.1,
-  )
+  exit_on (Branch s b c) h = (instr_on s h.0, block_on image new shape b h.1, block_on image new shape c h.2)
+  exit_on (Landings s ls) h = (instr_on s h.0, grind (arith, all_have, block_on, shape))
   exit_on Stop h = tt
 
   -- what holds of all instructions of the image, for those of the other
   pub instrs_on : (P Q : Instr → Type 0) → ((i j : Instr) → AlikeInstr i j → P i → Q j)
       → AllByRecursion P (flat image.blocks) → AllByRecursion Q (flat new.blocks)
-  instrs_on P Q f h = all_alike P Q (flat image.blocks) (flat new.blocks)
-      (flat_alike image.blocks new.blocks alike) f h
+  instrs_on P Q f h = grind (arith, all_alike, flat_alike)
 
   pub blocks_on : (P Q : Block → Type 0) → ((x y : Block) → AlikeBlock x y → P x → Q y)
       → AllByRecursion P image.blocks → AllByRecursion Q new.blocks
@@ -80,32 +60,27 @@ module _ (image new : Image) (arrays : new.arrays ≡ image.arrays)
 
   pads_on : (ps : List Pad) → AllByRecursion (λ (p : Pad). DestsIn image p.dests) ps
       → AllByRecursion (λ (p : Pad). DestsIn new p.dests) ps
-  pads_on ps h = all_have (λ (p : Pad). DestsIn image p.dests) (λ (p : Pad). DestsIn new p.dests) ps
-      (λ p g. dests_on p.dests g) h
+  pads_on ps h = grind (arith, all_have, dests_on)
 
   references : References image → References new
   references r = record {
     dests = instrs_on (λ (i : Instr). DestsIn image i.dests) (λ (i : Instr). DestsIn new i.dests)
-        (λ i j a h. subst (DestsIn new) (sym a.dests) (dests_on i.dests h)) r.dests;
+        (grind (arith, dests_on)) r.dests;
     others = instrs_on (λ (i : Instr). DestsIn image i.others) (λ (i : Instr). DestsIn new i.others)
-        (λ i j a h. subst (DestsIn new) (sym a.others) (dests_on i.others h)) r.others;
-    ops = instrs_on (λ (i : Instr). OpIn image i.op) (λ (i : Instr). OpIn new i.op)
-        (λ i j a h. subst (OpIn new) (sym a.op) (op_on i.op h)) r.ops;
-    pads = blocks_on (λ (b : Block). AllByRecursion (λ (p : Pad). DestsIn image p.dests) b.pads)
-        (λ (b : Block). AllByRecursion (λ (p : Pad). DestsIn new p.dests) b.pads)
-        (λ x y a h. subst (AllByRecursion (λ (p : Pad). DestsIn new p.dests)) (sym a.pads)
-        (pads_on x.pads h)) r.pads;
+        (grind (arith, dests_on)) r.others;
+    ops = instrs_on (λ (i : Instr). OpIn image i.op) (λ (i : Instr). OpIn new i.op) (grind (arith, op_on))
+        r.ops;
+    pads = blocks_on (λ (b : Block). AllByRecursion (λ (p : Pad). DestsIn image p.dests) b.pads) (λ (b :
+        Block). AllByRecursion (λ (p : Pad). DestsIn new p.dests) b.pads) (grind (arith, pads_on)) r.pads;
     exits = blocks_on (λ (b : Block). ExitIn image b.exit) (λ (b : Block). ExitIn new b.exit)
-        (λ x y a h. subst (ExitIn new) (sym a.exit) (exit_on x.exit h)) r.exits;
+        (grind (arith, exit_on)) r.exits;
   }
 
   dests_suit : (i j : Instr) → AlikeInstr i j → DestsSuit i.op i.dests → DestsSuit j.op j.dests
-  dests_suit i j a h = subst (λ (op : Op). DestsSuit op j.dests) (sym a.op)
-      (subst (DestsSuit i.op) (sym a.dests) h)
+  dests_suit i j a h = grind arith
 
   others_suit : (i j : Instr) → AlikeInstr i j → OthersSuit i.op i.others → OthersSuit j.op j.others
-  others_suit i j a h = subst (λ (op : Op). OthersSuit op j.others) (sym a.op)
-      (subst (OthersSuit i.op) (sym a.others) h)
+  others_suit i j a h = grind arith
 
   pub suited_on : Suited image → Suited new
   suited_on s = record {

@@ -1,23 +1,19 @@
 -- The walk reads no notes: images that are alike but for them do the same in every world.
-use Rattle.std.proofs.Common.{ℕ, zero, suc, ◌-◌, ◌≡◌, Bool, true, false, cond, ltb, eqb, List}
-use Rattle.std.proofs.Common.{◌++◌, length, Some, None, refl, sym, ap, ap₂, ◌∙◌, inl, arith}
+use Rattle.std.proofs.Common.{ℕ, zero, suc, ◌-◌, ◌≡◌, Bool, cond, ltb, List, length, refl, ap, ap₂, ◌∙◌}
+use Rattle.std.proofs.Common.{arith}
 use Rattle.ws_words.specs.Outside.{Outside, World, opening_out}
 use Rattle.ws_isa.specs.declared.instr.Op.{Op}
-use Rattle.ws_isa.specs.declared.instr.Dest.{Dest}
-use Rattle.ws_isa.specs.Image.{Exit, Array, Image, Token, block_at, first_number, size_of}
-use Rattle.ws_isa.specs.Image.{is_memory, result_of, result_of_op, answer, answer_op}
-use Rattle.ws_isa.specs.Image.{after}
-use Rattle.ws_isa.specs.Image.{after_op, cells_of, tokens_to, target, now_dests}
-use Rattle.ws_isa.specs.Walk.{Ports, with_tokens, no_ports, gather, Inst, Pos, enter, opening_memory}
-use Rattle.ws_isa.specs.Walk.{start_tokens, opening, wave_of, operands_at, result_at, inst_at, fire}
-use Rattle.ws_isa.specs.Walk.{choice_of}
-use Rattle.ws_isa.specs.Walk.{choice, edge_tokens, leave, is_within, step, pos, fires_from, fires, mem}
-use Rattle.ws_isa.specs.Walk.{with_inst, walk, has_ended}
+use Rattle.ws_isa.specs.Image.{Exit, Array, Image, Token, block_at, first_number, size_of, is_memory}
+use Rattle.ws_isa.specs.Image.{result_of, result_of_op, answer, answer_op, after, after_op, cells_of}
+use Rattle.ws_isa.specs.Image.{tokens_to, target}
+use Rattle.ws_isa.specs.Walk.{Ports, with_tokens, no_ports, Inst, Pos, enter, opening_memory, start_tokens}
+use Rattle.ws_isa.specs.Walk.{opening, wave_of, operands_at, result_at, inst_at, fire, choice_of, choice}
+use Rattle.ws_isa.specs.Walk.{edge_tokens, leave, is_within, step, pos, fires_from, fires, mem, with_inst}
+use Rattle.ws_isa.specs.Walk.{walk, has_ended}
 use Rattle.wave_link.specs.Kept.{KeepsBlocks}
 use Rattle.wave_link.specs.Passed.{where_left, added_left, WalksFor}
 use Rattle.wave_link.proofs.Sound.Unnoted.{SameShape, ports_same, advance_same, memory_same, stops_same}
-use Rattle.wave_link.proofs.Sound.Unnoted.{target_same}
-use Rattle.wave_link.proofs.Sound.Unnoted.{first_same, now_same, start_same, edge_same}
+use Rattle.wave_link.proofs.Sound.Unnoted.{target_same, first_same, now_same, start_same, edge_same}
 use Rattle.asm_link.proofs.Alike.{AlikeBlocks, block_alike, ops_alike, grows_alike, same_shape}
 
 module _ (image new : Image) (arrays : new.arrays ≡ image.arrays)
@@ -51,19 +47,7 @@ module _ (image new : Image) (arrays : new.arrays ≡ image.arrays)
 
   enter_same : (b w : ℕ) (sent : Ports) (results : ℕ → ℕ) (memory : Outside)
       → enter new b w sent results memory ≡ enter image b w sent results memory
-  enter_same b w sent results memory = ap₂ (λ (v : Bool) (n : ℕ). the v n)
-      (first_same image new same b) (same.numbers b)
-    where
-      the : Bool → ℕ → Pos
-      the v n = record {
-        over = false;
-        block = b;
-        wave = cond v (suc w) w;
-        next = n;
-        sent = sent;
-        results = results;
-        memory = memory;
-      }
+  enter_same b w sent results memory = grind (arith, first_same, same)
 
   wave_same : (p : Pos) → wave_of new p ≡ wave_of image p
   unfolding wave_of
@@ -71,51 +55,22 @@ module _ (image new : Image) (arrays : new.arrays ≡ image.arrays)
 
   operands_same : (p : Pos) → operands_at new p ≡ operands_at image p
   unfolding operands_at
-  operands_same p = ap₂ (λ (w n : ℕ). gather p.sent w p.next 0 n) (wave_same p)
-      (ports_same image new same p.next)
+  operands_same p = grind (arith, wave_same, ports_same, same)
 
   result_at_same : (p : Pos) → result_at new p ≡ result_at image p
   unfolding result_at
-  result_at_same p =
-      ap (λ (v : Bool). cond v (answer new p.next (operands_at new p) p.memory)
-      (result_of new p.next (operands_at new p))) (memory_same image new same p.next)
-      ∙ ap₂ (λ (a r : ℕ). cond (is_memory image p.next) a r)
-      (answer_same p.next (operands_at new p) p.memory
-      ∙ ap (λ (xs : List ℕ). answer image p.next xs p.memory) (operands_same p))
-      (result_same p.next (operands_at new p)
-      ∙ ap (result_of image p.next) (operands_same p))
+  result_at_same p = grind (arith, memory_same, same, answer_same, operands_same, result_same)
 
   inst_same : (p : Pos) → inst_at new p ≡ inst_at image p
-  inst_same p = ap (λ (w : ℕ). the w (operands_at new p) (result_at new p)) (wave_same p)
-      ∙ ap₂ (λ (xs : List ℕ) (r : ℕ). the (wave_of image p) xs r) (operands_same p) (result_at_same p)
-    where
-      the : ℕ → List ℕ → ℕ → Inst
-      the w xs r = record { wave = w; instr = p.next; operands = xs; result = r }
+  inst_same p = grind (arith, wave_same, operands_same, result_at_same)
 
   memory_after : (p : Pos)
       → cond (is_memory new p.next) (after new p.next (operands_at new p) p.memory) p.memory
       ≡ cond (is_memory image p.next) (after image p.next (operands_at image p) p.memory) p.memory
-  memory_after p = ap₂ (λ (v : Bool) (o : Outside). cond v o p.memory) (memory_same image new same p.next)
-      (after_same p.next (operands_at new p) p.memory
-      ∙ ap (λ (xs : List ℕ). after image p.next xs p.memory) (operands_same p))
+  memory_after p = grind (arith, memory_same, same, after_same, operands_same)
 
   fire_same : (p : Pos) → fire new p ≡ fire image p
-  fire_same p =
-      ap (λ (v : ℕ). the v (now_dests new p.next) (cond (is_memory new p.next)
-      (after new p.next (operands_at new p) p.memory) p.memory)) (result_at_same p)
-      ∙ ap₂ (λ (ds : List Dest) (o : Outside). the (result_at image p) ds o)
-      (now_same image new same p.next) (memory_after p)
-    where
-      the : ℕ → List Dest → Outside → Pos
-      the v ds o = record {
-        over = false;
-        block = p.block;
-        wave = p.wave;
-        next = suc p.next;
-        sent = with_tokens (tokens_to p.wave v ds) p.sent;
-        results = λ k. cond (eqb k p.next) v (p.results k);
-        memory = o;
-      }
+  fire_same p = grind (arith, result_at_same, now_same, same, memory_after)
 
   choice_same : (p : Pos) → choice new p ≡ choice image p
   unfolding choice
@@ -124,51 +79,40 @@ module _ (image new : Image) (arrays : new.arrays ≡ image.arrays)
   edge_sent : (b r w : ℕ) (results : ℕ → ℕ) (k n : ℕ)
       → edge_tokens new b r w results k n ≡ edge_tokens image b r w results k n
   edge_sent b r w results k zero = refl
-  edge_sent b r w results k (suc n) = ap₂ (λ (xs ys : List Token). xs ++ ys)
-      (ap (tokens_to w (results k)) (edge_same image new same b r k))
-      (edge_sent b r w results (suc k) n)
+  edge_sent b r w results k (suc n) = grind (arith, edge_same, same, edge_sent b r w results (suc k) n)
 
   -- what is sent along an edge at r
   leave_sent : (p : Pos) (r : ℕ)
       → edge_tokens new p.block r p.wave p.results (first_number new p.block) (size_of new p.block)
       ≡ edge_tokens image p.block r p.wave p.results (first_number image p.block) (size_of image p.block)
-  leave_sent p r =
-      edge_sent p.block r p.wave p.results (first_number new p.block) (size_of new p.block)
-      ∙ ap₂ (λ (k n : ℕ). edge_tokens image p.block r p.wave p.results k n) (same.numbers p.block)
-      (size_same p.block)
+  leave_sent p r = edge_sent p.block r p.wave p.results (first_number new p.block) (size_of new p.block) ∙ ap₂
+      (λ (k n : ℕ). edge_tokens image p.block r p.wave p.results k n) (same.numbers p.block) (size_same
+      p.block)
 
   leave_at : (p : Pos) (r : ℕ)
       → enter new (target new p.block r) p.wave (with_tokens (edge_tokens new p.block r p.wave p.results
       (first_number new p.block) (size_of new p.block)) p.sent) p.results p.memory
       ≡ enter image (target image p.block r) p.wave (with_tokens (edge_tokens image p.block r p.wave p.results
       (first_number image p.block) (size_of image p.block)) p.sent) p.results p.memory
-  leave_at p r =
-      enter_same (target new p.block r) p.wave (with_tokens (edge_tokens new p.block r p.wave p.results
-      (first_number new p.block) (size_of new p.block)) p.sent) p.results p.memory
-      ∙ ap₂ (λ (b : ℕ) (ts : List Token). enter image b p.wave (with_tokens ts p.sent) p.results p.memory)
-      (target_same image new same p.block r) (leave_sent p r)
+  leave_at p r = enter_same (target new p.block r) p.wave (with_tokens (edge_tokens new p.block r p.wave
+      p.results (first_number new p.block) (size_of new p.block)) p.sent) p.results p.memory ∙ ap₂ (λ (b : ℕ)
+      (ts : List Token). enter image b p.wave (with_tokens ts p.sent) p.results p.memory) (target_same image
+      new same p.block r) (leave_sent p r)
 
   leave_same : (p : Pos) → leave new p ≡ leave image p
-  leave_same p =
-      ap₂ (λ (v : Bool) (q : Pos). cond v (record p { over = true }) q) (stops_same image new same p.block)
-      (leave_at p (choice new p) ∙ ap (λ (r : ℕ). enter image (target image p.block r) p.wave
-      (with_tokens (edge_tokens image p.block r p.wave p.results (first_number image p.block)
-      (size_of image p.block)) p.sent) p.results p.memory) (choice_same p))
+  leave_same p = grind (arith, stops_same, same, leave_at, choice_same)
 
   within_same : (p : Pos) → is_within new p ≡ is_within image p
   within_same p = ap (λ (n : ℕ). ltb p.next n) (same.numbers (suc p.block))
 
   step_same : (p : Pos) → step new p ≡ step image p
   unfolding step
-  step_same p =
-      ap (λ (v : Bool). cond p.over p (cond v (fire new p) (leave new p))) (within_same p)
-      ∙ ap₂ (λ (q r : Pos). cond p.over p (cond (is_within image p) q r)) (fire_same p) (leave_same p)
+  step_same p = grind (arith, within_same, fire_same, leave_same)
 
   opening_same : (world : World) → opening new world ≡ opening image world
   unfolding opening
-  opening_same world =
-      enter_same 1 0 (with_tokens (start_tokens new) no_ports) (λ k. 0) (opening_memory new world)
-      ∙ ap₂ (λ (ts : List Token) (o : Outside). enter image 1 0 (with_tokens ts no_ports) (λ k. 0) o)
+  opening_same world = enter_same 1 0 (with_tokens (start_tokens new) no_ports) (λ k. 0) (opening_memory new
+      world) ∙ ap₂ (λ (ts : List Token) (o : Outside). enter image 1 0 (with_tokens ts no_ports) (λ k. 0) o)
       start_sent (memory_opens world)
 
   pos_same : (world : World) (t : ℕ) → pos new world t ≡ pos image world t
@@ -178,8 +122,7 @@ module _ (image new : Image) (arrays : new.arrays ≡ image.arrays)
 
   fires_at_same : (p : Pos) → fires_from new p ≡ fires_from image p
   unfolding fires_from
-  fires_at_same p = ap₂ (λ (v : Bool) (i : Inst). cond p.over None (cond v (Some i) None)) (within_same p)
-      (inst_same p)
+  fires_at_same p = grind (arith, within_same, inst_same)
 
   fires_same : (world : World) (t : ℕ) → fires new world t ≡ fires image world t
   unfolding fires
@@ -193,22 +136,12 @@ module _ (image new : Image) (arrays : new.arrays ≡ image.arrays)
   -- nothing is added
 
   none_where : (p : Pos) (n : ℕ) → n ≡ 0 → where_left image p n ≡ 0
-  none_where p n e = go p.over (is_within image p)
-    where
-      go : (v w : Bool) → cond v 0 (cond w 0 n) ≡ 0
-      go true w = refl
-      go false true = refl
-      go false false = e
+  none_where p n e = grind arith
 
   none_left : (world : World) (t : ℕ) → added_left image new world t ≡ 0
   unfolding added_left
   none_left world zero = refl
-  none_left world (suc t) =
-      let b : ℕ = (pos image world t).block in
-      let e : size_of new b - size_of image b ≡ 0 = omega (arith, size_same b) in
-      let w : where_left image (pos image world t) (size_of new b - size_of image b) ≡ 0 =
-      none_where (pos image world t) (size_of new b - size_of image b) e in
-      omega (arith, none_left world t, w)
+  none_left world (suc t) = grind (arith, size_same, none_where, none_left world t)
 
   ended_same : (world : World) (t : ℕ) → has_ended new world t ≡ has_ended image world t
   unfolding has_ended
@@ -222,18 +155,7 @@ module _ (image new : Image) (arrays : new.arrays ≡ image.arrays)
   length_same world t = ap (λ (xs : List Inst). length xs) (walk_same world t)
 
   pub walks_alike : (world : World) → WalksFor image new world
-  walks_alike world = record {
-    follows = λ t. record {
-      steps = t;
-      as_many = omega arith;
-      outside = mem_same world t;
-      ended = ended_same world t;
-      fired = omega (arith, length_same world t, none_left world t);
-    };
-    ends = λ t e. sym (ended_same world t) ∙ e;
-    added = λ t. omega (arith, none_left world t);
-    costs = λ k h t. omega (arith, length_same world t, h t);
-  }
+  walks_alike world = grind (arith, mem_same, ended_same, length_same, none_left)
 
   pub keeps_alike : KeepsBlocks image new
   keeps_alike = record {
@@ -243,8 +165,7 @@ module _ (image new : Image) (arrays : new.arrays ≡ image.arrays)
     stops = stops_same image new same;
     targets = target_same image new same;
     firsts = first_same image new same;
-    ops = λ b h. inl (ops_alike (block_at image b).instrs (block_at new b).instrs
-        (block_alike image new b alike).instrs);
-    few = λ b m i h e. grows_alike (block_at image b).instrs (block_at new b).instrs m i
-        (block_alike image new b alike).instrs e;
+    ops = grind (arith, ops_alike, block_alike);
+    few = λ b m i h e. grows_alike (block_at image b).instrs (block_at new b).instrs m i (block_alike image
+        new b alike).instrs e;
   }
