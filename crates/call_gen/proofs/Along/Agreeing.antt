@@ -1,13 +1,13 @@
 -- Two states that agree on the variables that matter do the same.
-use Rattle.std.proofs.Common.{ℕ, zero, suc, ◌-◌, ◌^◌, ◌≡◌, ◌<◌, ◌≤◌, ◌==◌, Bool, true, false, if◌then◌else◌}
-use Rattle.std.proofs.Common.{List, [], ◌∷◌, ◌++◌, length, get_or, set, refl, sym, ap, ◌∙◌, inl, inr, arith}
+use Rattle.std.proofs.Common.{ℕ, suc, ◌-◌, ◌^◌, ◌≡◌, ◌<◌, ◌≤◌, ◌==◌, Bool, if◌then◌else◌, List, [], ◌∷◌, ◌++◌}
+use Rattle.std.proofs.Common.{length, get_or, refl, sym, ap, ◌∙◌, inl, inr, arith}
 use Rattle.std.specs.List.{AllByRecursion}
 use Rattle.std.proofs.lemmas.Bool.{cases_eq}
 use Rattle.std.proofs.lemmas.List.{get_or-set_same, get_or-set_other, length-set}
 use Rattle.ws_words.specs.declared.alu.Alu.TheVariants.{Sub}
 use Rattle.ws_words.specs.Operators.{applied, flag}
-use Rattle.ws_words.specs.Outside.{Act, loads, stores, reads, prints, gives, takes, ProcState, row, with_row}
-use Rattle.ws_words.specs.Outside.{write, stored, has_read, given, head_or_zero, rest_of}
+use Rattle.ws_words.specs.Outside.{Act, loads, stores, reads, prints, gives, takes, ProcState, row, write}
+use Rattle.ws_words.specs.Outside.{stored, has_read, given, head_or_zero}
 use Rattle.cfg_core.specs.Graph.{Term, Number, Var, Cell, Flip, Not, Neg, Binary, Op, Assign, Store, Print}
 use Rattle.cfg_core.specs.Graph.{Read, Give, Take, Choose, Tick, TickBy, Graph}
 use Rattle.cfg_core.specs.Rules.{TermIn, OpIn}
@@ -112,10 +112,9 @@ module _ (g : Graph) (rows size : ℕ) where
         long = h.long;
         longer = h.longer;
         more = h.more;
-        out = same_more arrays rows size hidden s.out t.out h.out (loads_of term s.vars s.out.cells)
-            (loads_of term t.vars t.out.cells)
-            (loads_same v s.vars t.vars s.out.cells hidden h.out.few term i agreed
-            ∙ ap (loads_of term t.vars) (sym h.out.cells)) (seen_loads v term s.vars s.out.cells i);
+        out = same_more arrays rows size hidden s.out t.out h.out (loads_of term s.vars s.out.cells) (loads_of
+            term t.vars t.out.cells) (grind (arith, loads_same, agreed)) (seen_loads v term s.vars s.out.cells
+            i);
       }
 
     module _ (P : ℕ → Type 0) (s t : ProcState) (h : States v extra hidden P s t) (terms : List Term)
@@ -153,36 +152,19 @@ module _ (g : Graph) (rows size : ℕ) where
         (stored t a j u).out
     stored_out s t a i j w u some le ei ew h =
         let lt : a - 1 < length s.out.cells = omega arith in
-        let m = same_more arrays rows size hidden s.out t.out h (stores a i w ∷ []) (stores a j u ∷ [])
-        (ap (λ n. stores a n w ∷ []) ei ∙ ap (λ n. stores a j n ∷ []) ew)
-        (seen_store arrays rows size a i w le) in
-        record {
-          cells = ap (λ (cs : List (List ℕ)). with_row cs (a - 1) (set (row cs (a - 1)) j u)) h.cells
-              ∙ ap (λ (r : List ℕ). with_row (s.out.cells ++ hidden) (a - 1) (set r j u))
-              (row_left s.out.cells hidden (a - 1) lt)
-              ∙ with_row_left s.out.cells hidden (a - 1) (set (row s.out.cells (a - 1)) j u) lt
-              ∙ ap (λ n. with_row s.out.cells (a - 1) (set (row s.out.cells (a - 1)) n u) ++ hidden) (sym ei)
-              ∙ ap (λ n. with_row s.out.cells (a - 1) (set (row s.out.cells (a - 1)) i n) ++ hidden) (sym ew);
-          few = with_row_count s.out.cells (a - 1) (set (row s.out.cells (a - 1)) i w) ∙ h.few;
-          input = h.input;
-          left = h.left;
-          acts = m.acts;
-          own = m.own;
-        }
+        let m = same_more arrays rows size hidden s.out t.out h (stores a i w ∷ []) (stores a j u ∷ []) (grind
+        arith) (seen_store arrays rows size a i w le) in
+        grind (arith, row_left, with_row_left, with_row_count)
 
     if_same : (P : ℕ → Type 0) (b c : Bool) (o o' q q' : OpsOutcome) → b ≡ c → Outcomes v extra hidden P o o'
         → Outcomes v extra hidden P q q' → Outcomes v extra hidden P (if b then o else q)
         (if c then o' else q')
-    if_same P true true o o' q q' e h i = h
-    if_same P false false o o' q q' e h i = i
-    if_same P true false o o' q q' e h i = absurd (cc)
-    if_same P false true o o' q q' e h i = absurd (cc)
+    if_same P b c o o' q q' e h i = grind arith
 
     spend_same : (P : ℕ → Type 0) (n k : ℕ) (s t : ProcState) → States v extra hidden P s t
         → Outcomes v extra hidden P (spend n s k) (spend n t k)
-    spend_same P zero k s t h = (refl, h)
-    spend_same P (suc n) zero s t h = h.out
     spend_same P (suc n) (suc k) s t h = spend_same P n k s t h
+    spend_same P n k s t h = grind arith
 
     op_same : (op : Op) (P : ℕ → Type 0) → OpIn (length g.arrays) v op → (s t : ProcState) (k : ℕ)
         → States v extra hidden (Before op P) s t → Outcomes v extra hidden P (run_op op s k) (run_op op t k)
@@ -212,61 +194,41 @@ module _ (g : Graph) (rows size : ℕ) where
         let st = term_states B s s' h t i (λ y m. inl m) in (
           refl,
           record {
-            vars = λ y lt p. st.vars y lt (inr ((λ w. w), p));
+            vars = grind arith;
             long = st.long;
             longer = st.longer;
             more = st.more;
-            out = same_more arrays rows size hidden _ _ st.out _ _
-                (ap (λ n. prints n ∷ []) (term_value B s s' h t i (λ y m. inl m)))
-                (seen_print arrays rows size _);
+            out = same_more arrays rows size hidden _ _ st.out _ _ (ap (λ n. prints n ∷ []) (term_value B s s'
+                h t i (λ y m. inl m))) (seen_print arrays rows size _);
           },
         )
     op_same (Read x) P i s s' k h =
         let o = h.out in
-        let m = same_more arrays rows size hidden s.out s'.out o (reads ∷ []) (reads ∷ []) refl
-        (seen_read arrays rows size) in
-        let out : Same arrays rows size hidden (has_read s x).out (has_read s' x).out =
-        record {
-          cells = m.cells;
-          few = m.few;
-          input = ap rest_of o.input;
-          left = m.left;
-          acts = m.acts;
-          own = m.own;
-        } in
-        let r = written P s s' x (head_or_zero s.out.input) (head_or_zero s'.out.input) i
-        (ap head_or_zero o.input) (λ y lt ne p. h.vars y lt (inr (ne, p))) h.long h.longer h.more o in
-        (refl, record { vars = r.vars; long = r.long; longer = r.longer; more = r.more; out = out })
+        let m = same_more arrays rows size hidden s.out s'.out o (reads ∷ []) (reads ∷ []) refl (seen_read
+        arrays rows size) in
+        let out : Same arrays rows size hidden (has_read s x).out (has_read s' x).out = grind arith in
+        let r = written P s s' x (head_or_zero s.out.input) (head_or_zero s'.out.input) i (ap head_or_zero
+        o.input) (λ y lt ne p. h.vars y lt (inr (ne, p))) h.long h.longer h.more o in
+        grind arith
     op_same (Give p x) P i s s' k h =
         let o = h.out in
-        let m = same_more arrays rows size hidden s.out s'.out o (gives p ∷ []) (gives p ∷ []) refl
-        (seen_give arrays rows size p) in
-        let out : Same arrays rows size hidden (given s p x).out (given s' p x).out =
-        record {
-          cells = m.cells;
-          few = m.few;
-          input = m.input;
-          left = ap (λ (ls : List (List ℕ)). with_row ls (p - 1) (rest_of (row ls (p - 1)))) o.left;
-          acts = m.acts;
-          own = m.own;
-        } in
-        let r = written P s s' x (head_or_zero (row s.out.left (p - 1)))
-        (head_or_zero (row s'.out.left (p - 1))) i.1
-        (ap (λ (ls : List (List ℕ)). head_or_zero (row ls (p - 1))) o.left)
-        (λ y lt ne q. h.vars y lt (inr (ne, q))) h.long h.longer h.more o in
-        (refl, record { vars = r.vars; long = r.long; longer = r.longer; more = r.more; out = out })
+        let m = same_more arrays rows size hidden s.out s'.out o (gives p ∷ []) (gives p ∷ []) refl (seen_give
+        arrays rows size p) in
+        let out : Same arrays rows size hidden (given s p x).out (given s' p x).out = grind arith in
+        let r = written P s s' x (head_or_zero (row s.out.left (p - 1))) (head_or_zero (row s'.out.left (p -
+        1))) i.1 (grind arith) (λ y lt ne q. h.vars y lt (inr (ne, q))) h.long h.longer h.more o in
+        grind arith
     op_same (Take p t) P i s s' k h =
         let B : ℕ → Type 0 = Before (Take p t) P in
         let st = term_states B s s' h t i.1 (λ y m. inl m) in (
           refl,
           record {
-            vars = λ y lt q. st.vars y lt (inr ((λ w. w), q));
+            vars = grind arith;
             long = st.long;
             longer = st.longer;
             more = st.more;
-            out = same_more arrays rows size hidden _ _ st.out _ _
-                (ap (λ n. takes p n ∷ []) (term_value B s s' h t i.1 (λ y m. inl m)))
-                (seen_take arrays rows size p _);
+            out = same_more arrays rows size hidden _ _ st.out _ _ (ap (λ n. takes p n ∷ []) (term_value B s
+                s' h t i.1 (λ y m. inl m))) (seen_take arrays rows size p _);
           },
         )
     op_same (Choose x t a b) P i s s' k h =
@@ -283,8 +245,7 @@ module _ (g : Graph) (rows size : ℕ) where
           written P _ _ x _ _ i.0 (term_value B _ _ st a i.2 (λ y m. inl (inr (inl m))))
               (λ y lt ne p. sa.vars y lt (inr (ne, p))) sa.long sa.longer sa.more sa.out,
         )
-    op_same (Tick n) P i s s' k h =
-        spend_same P n k s s' (weaker (Before (Tick n) P) P s s' (λ x p. inr ((λ w. w), p)) h)
+    op_same (Tick n) P i s s' k h = grind (arith, spend_same, weaker)
     op_same (TickBy t n m) P i s s' k h =
         let B : ℕ → Type 0 = Before (TickBy t n m) P in
         let st = weaker B P _ _ (λ x p. inr ((λ w. w), p)) (term_states B s s' h t i (λ y q. inl q)) in
@@ -295,10 +256,7 @@ module _ (g : Graph) (rows size : ℕ) where
         → Outcomes v extra hidden P o p → ((s t : ProcState) (k : ℕ) → States v extra hidden P s t
         → Outcomes v extra hidden Q (go s k) (go t k)) → Outcomes v extra hidden Q (and_then o go)
         (and_then p go)
-    then_same P Q (Done s k) (Done t j) go h f = grind arith
-    then_same P Q (Out o) (Out p) go h f = h
-    then_same P Q (Done s k) (Out p) go h f = absurd h
-    then_same P Q (Out o) (Done t j) go h f = absurd h
+    then_same P Q o p go h f = grind arith
 
     pub ops_same : (ops : List Op) (P : ℕ → Type 0) → AllByRecursion (OpIn (length g.arrays) v) ops
         → (s t : ProcState) (k : ℕ) → States v extra hidden (Needs ops P) s t

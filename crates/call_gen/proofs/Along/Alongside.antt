@@ -1,11 +1,11 @@
 -- The walk of the spelled graph goes along with that of the given graph.
 use Rattle.std.proofs.Common.{ℕ, zero, suc, ◌+◌, ◌-◌, ◌≡◌, ◌<◌, List, [], ◌∷◌, ◌++◌, length, replicate, refl}
-use Rattle.std.proofs.Common.{sym, ap, ◌∙◌, subst, arith}
+use Rattle.std.proofs.Common.{ap, ◌∙◌, subst, arith}
 use Rattle.std.specs.List.{sum_by}
 use Rattle.std.proofs.lemmas.List.{length-replicate}
 use Rattle.std.proofs.lemmas.List.Sums.{sum_by-append}
 use Rattle.ws_words.specs.Outside.{ProcState, World, row, zeros, opening_out}
-use Rattle.cfg_core.specs.Graph.{Exit, Goto, Branch, Call, Return, Send, Stop, Graph, GraphArray, Spot, spots}
+use Rattle.cfg_core.specs.Graph.{Exit, Goto, Branch, Call, Return, Send, Stop, Graph, GraphArray, spots}
 use Rattle.cfg_core.specs.Graph.{spot_at, block_at, proc_at, entry_of}
 use Rattle.cfg_core.specs.Walk.{OpsOutcome, Done, Out, and_then, run_ops, Frame, Config, At, Over, Going}
 use Rattle.cfg_core.specs.Walk.{leave, passed, step, walk, cells_of, opening, IsOver}
@@ -64,18 +64,16 @@ module _ (g : Graph) (live : List (List ℕ)) (G : Given g live) (F : Placed g l
     by_exit (Branch term c d) is s t k st = reaches_more g live w (owes callers) _ _ _ (omega arith)
         (branches g live G F C b there w term c d is s t frames callers k extra hidden roomy stack st)
     by_exit (Call r f ts back) is s t k st = reaches_more g live w (w (door g f) + owes (b ∷ callers)) _ _ _
-        (omega arith) (calls g live G F C b there r f ts back is s t frames callers k extra hidden roomy stack
-        st w)
+        (omega arith) (grind (arith, calls))
     by_exit (Return term) is s t k st = reaches_more g live w (owes callers) _ _ _ (omega arith)
         (returns g live G F C b there term is s t k extra hidden roomy st w frames callers stack)
     by_exit (Send term ts ls) is s t k st = absurd (subst NoSend is (G.no_send b))
-    by_exit Stop is s t k st =
-        record {
-          blocks = 0;
-          callers = callers;
-          relates = (refl, record { hidden = hidden; same = st.out });
-          weigh = omega arith;
-        }
+    by_exit Stop is s t k st = record {
+      blocks = 0;
+      callers = callers;
+      relates = grind arith;
+      weigh = omega arith;
+    }
 
     -- a block of g, with the same one of h and what stands beside it
     by_outcome : (o p : OpsOutcome) → Outcomes g (rows g live) (size g live) v extra hidden
@@ -104,8 +102,7 @@ module _ (g : Graph) (live : List (List ℕ)) (G : Given g live) (F : Placed g l
           relates = record { hidden = hidden; same = e };
           weigh = omega arith;
         }))
-    by_outcome (Done s k) (Out p) e u t i j same = absurd e
-    by_outcome (Out o) (Done t j) e u x i l same = absurd e
+    by_outcome o p e u t i j same = absurd e
 
     at_block : (s t : ProcState) (k : ℕ) → States g (rows g live) (size g live) v extra hidden (Live g b) s t
         → Reaches g live w (sum_by weight (block_left (At b s frames k) (step g (At b s frames k))) + owes
@@ -113,29 +110,16 @@ module _ (g : Graph) (live : List (List ℕ)) (G : Given g live) (F : Placed g l
     at_block s t k st =
         let ops = (block_at g b).ops in
         let same = ops_same g (rows g live) (size g live) v extra hidden ops (After g (block_at g b).exit)
-        (numbers_at g G.rules b).ops s t k
-        (record {
-          vars = λ x lt n. st.vars x lt (needed_is_live g b x n);
-          long = st.long;
-          longer = st.longer;
-          more = st.more;
-          out = st.out;
-        }) in
-        by_outcome (run_ops ops s k) (run_ops ops t k) same s t k k
-        (ap (λ (p : Spot). passed h (run_ops p.block.ops t k) p.block.exit []) (F.plain b there)
-        ∙ ap (λ (o : OpsOutcome). passed h o (left g (spot_at g b).home v b (block_at g b).exit) [])
-        (run_append ops (saves g live (spot_at g b).home v (block_at g b).exit) t k))
+        (numbers_at g G.rules b).ops s t k (grind (arith, needed_is_live)) in
+        by_outcome (run_ops ops s k) (run_ops ops t k) same s t k k (grind (arith, run_append))
 
   abbrev Passes : ℕ → ProcState → List Frame → ℕ → List ℕ → Config → Type 0
-  Passes b s frames k callers d =
-      Reaches g live w (sum_by weight (block_left (At b s frames k) (step g (At b s frames k))) + owes
-      callers) (step g (At b s frames k)) d
+  Passes b s frames k callers d = Reaches g live w (sum_by weight (block_left (At b s frames k) (step g (At b
+      s frames k))) + owes callers) (step g (At b s frames k)) d
 
   one_block : (b : ℕ) (s : ProcState) (frames : List Frame) (k : ℕ) (callers : List ℕ) (d : Config)
       → Relates g live callers (At b s frames k) d → Passes b s frames k callers d
-  one_block b s frames k callers (At c t others j) r = grind (arith, at_block)
-  one_block b s frames k callers (Over o j) r = absurd r
-  one_block b s frames k callers (Going o) r = absurd r
+  one_block b s frames k callers d r = grind (arith, at_block)
 
   along : (m : ℕ) (c d : Config) (callers : List ℕ) → Relates g live callers c d
       → Reaches g live w (sum_by weight (path g m c) + owes callers) (walk g m c) d
@@ -148,13 +132,7 @@ module _ (g : Graph) (live : List (List ℕ)) (G : Given g live) (F : Placed g l
         blocks = one.blocks + more.blocks;
         callers = more.callers;
         relates = rw (walk_add h one.blocks more.blocks d) more.relates;
-        weigh = omega (
-          arith,
-          path_add h w one.blocks more.blocks d,
-          sum_by-append weight (block_left c (step g c)) (path g m (step g c)),
-          one.weigh,
-          more.weigh,
-        );
+        weigh = grind (arith, path_add, sum_by-append);
       }
   along (suc m) (Over o k) d callers r = along m (Over o k) d callers r
   along (suc m) (Going o) d callers r = along m (Going o) d callers r
@@ -170,9 +148,8 @@ module _ (g : Graph) (live : List (List ℕ)) (G : Given g live) (F : Placed g l
 
   equal_rows : (n r : ℕ) (a : GraphArray) → r < length (cells_of (replicate n a))
       → length (row (cells_of (replicate n a)) r) ≡ a.length
-  equal_rows zero r a lt = absurd (omega arith)
-  equal_rows (suc n) zero a lt = zeros_count a.length
   equal_rows (suc n) (suc r) a lt = equal_rows n r a (omega arith)
+  equal_rows n r a lt = grind (arith, zeros_count)
 
   empty : List (List ℕ)
   empty = cells_of (hidden_arrays g)
@@ -200,22 +177,15 @@ module _ (g : Graph) (live : List (List ℕ)) (G : Given g live) (F : Placed g l
   opens world k =
       let vf = (proc_at g main).vars in
       let out = opening_out (cells_of h.arrays) world in
-      reaches_by g live w _ _ _ _ (opened world k) (reaches_more g live w (w (door g main) + 0) _ _ _
-      (omega arith) (reaches_later g live w 0 _ (door g main) _ _ _ (reaches_by g live w _ _ _ _
-      (at_door g live G F main main_there (λ p. zeros (suc vf)) out k)
-      (goes_in g live G F main main_there w (opening_out (cells_of g.arrays) world) out (zeros vf)
-      (zeros (suc vf)) [] [] 0 k empty (zeros_count vf) (zeros_count (suc vf))
-      (λ x lt. zero_at vf x ∙ sym (zero_at (suc vf) x)) (λ x i. zero_at (suc vf) x) (zero_at (suc vf) vf)
-      (same_start world) empty_roomy (omega arith)))))
+      reaches_by g live w _ _ _ _ (opened world k) (reaches_more g live w (w (door g main) + 0) _ _ _ (omega
+      arith) (reaches_later g live w 0 _ (door g main) _ _ _ (reaches_by g live w _ _ _ _
+      (grind (arith, at_door, main_there)) (goes_in g live G F main main_there w (opening_out (cells_of
+      g.arrays) world) out (zeros vf) (zeros (suc vf)) [] [] 0 k empty (zeros_count vf) (zeros_count (suc vf))
+      (grind (arith, zero_at)) (λ x i. zero_at (suc vf) x) (zero_at (suc vf) vf) (same_start world)
+      empty_roomy (omega arith)))))
 
   final : (callers : List ℕ) (c d : Config) → IsOver c → Relates g live callers c d → Match (Alike g live) c d
-  final callers (Over o k) (Over p j) over r = r
-  final callers (Going o) (Going p) over r = r
-  final callers (At b s frames k) d over r = absurd over
-  final callers (Over o k) (At b s frames j) over r = absurd r
-  final callers (Over o k) (Going p) over r = absurd r
-  final callers (Going o) (At b s frames j) over r = absurd r
-  final callers (Going o) (Over p j) over r = absurd r
+  final callers c d over r = grind arith
 
   -- where the first walk is after some blocks, from its start
   after_all : (world : World) (turns m : ℕ)
@@ -229,28 +199,16 @@ module _ (g : Graph) (live : List (List ℕ)) (G : Given g live) (F : Placed g l
       record {
         blocks = first.blocks + then_.blocks;
         callers = then_.callers;
-        relates = subst (λ (x : Config). Relates g live then_.callers c x)
-            (sym (walk_add h first.blocks then_.blocks d)) then_.relates;
+        relates = grind (arith, walk_add);
         weigh = omega (arith, path_add h w first.blocks then_.blocks d, first.weigh, then_.weigh);
       }
 
   pub forth : (world : World) (turns m : ℕ) → IsOver (walk g m (opening g world turns))
       → (n : ℕ) × Match (Alike g live) (walk g m (opening g world turns)) (walk h n (opening h world turns))
-  forth world turns m over =
-      let r = after_all world turns m in (
-        r.blocks,
-        final r.callers (walk g m (opening g world turns)) (walk h r.blocks (opening h world turns))
-            over r.relates,
-      )
+  forth world turns m over = grind (arith, after_all world turns m, final)
 
   over_too : (callers : List ℕ) (c d : Config) → IsOver c → Relates g live callers c d → IsOver d
-  over_too callers (Over o k) (Over p j) over r = tt
-  over_too callers (Going o) (Going p) over r = tt
-  over_too callers (At b s frames k) d over r = absurd over
-  over_too callers (Over o k) (At b s frames j) over r = absurd r
-  over_too callers (Over o k) (Going p) over r = absurd r
-  over_too callers (Going o) (At b s frames j) over r = absurd r
-  over_too callers (Going o) (Over p j) over r = absurd r
+  over_too callers c d over r = grind arith
 
   pub first_is : first_block h ≡ door g main
   first_is = ap (λ n. entry_of h (n - 1)) F.count ∙ F.entry_is main main_there
@@ -260,12 +218,4 @@ module _ (g : Graph) (live : List (List ℕ)) (G : Given g live) (F : Placed g l
   weighs base pay most world turns steps =
       let c : (m : ℕ) × IsOver (walk g m (opening g world turns)) = comes g G.rules _ _ _ turns in
       let r = after_all world turns c.0 in
-      let over = over_too r.callers (walk g c.0 (opening g world turns))
-      (walk h r.blocks (opening h world turns)) c.1 r.relates in
-      omega (
-        arith,
-        path_most h w r.blocks steps (opening h world turns) over,
-        r.weigh,
-        most world turns c.0,
-        ap w first_is,
-      )
+      grind (arith, over_too, path_most, first_is)

@@ -1,6 +1,6 @@
 -- What both walks do at a Call.
-use Rattle.std.proofs.Common.{ℕ, zero, suc, ◌+◌, ◌-◌, ◌≡◌, ◌<◌, ◌≤◌, ◌⊎◌, Bool, true, if◌then◌else◌, List, []}
-use Rattle.std.proofs.Common.{◌∷◌, ◌++◌, length, map, get_or, refl, sym, ap, ◌∙◌, inl, inr, Option, arith}
+use Rattle.std.proofs.Common.{ℕ, suc, ◌+◌, ◌-◌, ◌≡◌, ◌<◌, ◌≤◌, ◌⊎◌, Bool, true, if◌then◌else◌, List, [], ◌∷◌}
+use Rattle.std.proofs.Common.{◌++◌, length, map, get_or, refl, sym, ap, ◌∙◌, inl, inr, Option, arith}
 use Rattle.std.specs.List.{AllByRecursion, filter}
 use Rattle.std.proofs.lemmas.Bool.{cases_lt}
 use Rattle.std.proofs.lemmas.List.{get_or_append_left, get_or_push, length_push, get_or_past}
@@ -88,44 +88,14 @@ module _ (g : Graph) (live : List (List ℕ)) (G : Given g live) (F : Placed g l
       (passed h (run_ops (map clear unset) (record { vars = vars; out = p }) k) (Goto (moved g start)) [])
   goes_in w o p ws vars frames callers extra k hidden long longer agree zero_there more out roomy stack =
       let c = clears_run g (total g live) hidden o (record { vars = vars; out = p }) unset k out in
-      let same : (x : ℕ) → get_or c.state.vars x 0 ≡ get_or vars x 0 = λ x.
-      unchanged vars unset (record { vars = vars; out = p }) c.state c.zero_still c.others zero_there x in
+      let same : (x : ℕ) → get_or c.state.vars x 0 ≡ get_or vars x 0 = grind arith in
       reaches_by g live w _ _ _ _ (ap (λ (q : OpsOutcome). passed h q (Goto (moved g start)) []) c.run)
       (record {
         blocks = 0;
         callers = callers;
         weigh = omega arith;
-        relates = (
-          refl,
-          refl,
-          refl,
-          record {
-            there = start_there;
-            hidden = hidden;
-            extra = extra;
-            states = rw start_vars (record {
-              vars = λ x lt l. agree x lt ∙ sym (same x);
-              long =
-                  long;
-              longer = c.count ∙ longer;
-              more = same vf ∙ more;
-              out = c.out;
-            });
-            roomy = roomy;
-            stack = rw start_home stack;
-          },
-        );
+        relates = grind (arith, start_there, start_vars, start_home);
       })
-    where
-      in_or_not : (x : ℕ) (xs : List ℕ) → In x xs ⊎ (In x xs → ⊥)
-      in_or_not x [] = inr (λ z. z)
-      in_or_not x (y ∷ xs) = grind (arith, in_or_not x xs)
-
-      unchanged : (vars xs : List ℕ) (t u : ProcState)
-          → ((x : ℕ) → get_or t.vars x 0 ≡ 0 → get_or u.vars x 0 ≡ 0)
-          → ((x : ℕ) → (In x xs → ⊥) → get_or u.vars x 0 ≡ get_or t.vars x 0)
-          → ((x : ℕ) → In x xs → get_or t.vars x 0 ≡ 0) → (x : ℕ) → get_or u.vars x 0 ≡ get_or t.vars x 0
-      unchanged vars xs t u still others z x = grind (arith, in_or_not)
 
 -- A call in block b.
 module _ (g : Graph) (live : List (List ℕ)) (G : Given g live) (F : Placed g live) (C : Celled g) (b : ℕ)
@@ -198,23 +168,14 @@ module _ (g : Graph) (live : List (List ℕ)) (G : Given g live) (F : Placed g l
     kept = λ x lt l never.
         let nw = writes g live G F C b there r f ts back is x never in
         let i = exit_in g live G F b (Call r f ts back) is in
-        let same_vars : v ≡ (spot_at g back).vars = (F.home b there).1 ∙ ap (λ m. (proc_at g m).vars)
-        (sym i.4.1) ∙ sym (F.home back i.4.0).1 in
-        saved_word x
-        (kept_live g live G F C b there r back x lt (G.known back x i.4.0 (omega arith)
-        l) (result_not r f ts back x nw))
-        ∙ sym (st.vars x lt (inr (nw, (back, refl, l))));
+        grind (arith, saved_word, kept_live, result_not);
   }
 
   rest : Stack g live after home (peek after (cell g home v)) frames callers
   rest =
       let kept_stack = stack_kept g live G F home hidden after above home extra frames callers (omega arith)
       stack in
-      elim (decide (is_called g home)) [
-        | inl c ↦ rw (saved_word v (kept_address g live G F C b there r back c) ∙ st.more) kept_stack
-        | inr c ↦ stack_any g live G F after home extra (peek after (cell g home v)) frames callers c
-            kept_stack
-      ]
+      grind (arith, decide, saved_word, kept_address, stack_any, peek)
 
   -- what is sent
   abbrev last : Term
@@ -235,9 +196,8 @@ module _ (g : Graph) (live : List (List ℕ)) (G : Given g live) (F : Placed g l
     where
       each : (ps : List GraphProc) (f : ℕ) → AllByRecursion ProcNumbers ps → f < length ps
           → (or_else (nth ps f) no_proc).params ≤ (or_else (nth ps f) no_proc).vars
-      each [] f h lt = absurd (omega arith)
-      each (p ∷ ps) zero h lt = h.0.params
       each (p ∷ ps) (suc f) h lt = each ps f h.1 (omega arith)
+      each ps f h lt = grind arith
 
   abbrev sent : ProcState
   sent = with_acts done.state []
@@ -273,20 +233,18 @@ module _ (g : Graph) (live : List (List ℕ)) (G : Given g live) (F : Placed g l
 
   fresh_param : (x : ℕ) → x < (proc_at g f).params → get_or fresh x 0 ≡ get_or words x 0
   fresh_param x lt =
-      let name : get_or named x 0 ≡ x = get_or_append_left (below (proc_at g f).params)
-      ((proc_at g f).vars ∷ []) 0 x (omega (arith, lt, below_count (proc_at g f).params))
-      ∙ below_at (proc_at g f).params x lt in
-      ap (λ m. get_or fresh m 0) (sym name)
-      ∙ landed_at named (words ++ address g f b ∷ []) (zeros (suc (proc_at g f).vars)) x named_apart
-      (omega (
+      grind (
         arith,
-        lt,
-        length_push (below (proc_at g f).params) (proc_at g f).vars,
-        below_count (proc_at g f).params,
-      ))
-      (omega (arith, lt, length_push words (address g f b), arity))
-      (omega (arith, name, lt, few_params, zeros_count (suc (proc_at g f).vars)))
-      ∙ get_or_append_left words (address g f b ∷ []) 0 x (omega (arith, lt, arity))
+        get_or_append_left,
+        below_count,
+        below_at,
+        landed_at,
+        named_apart,
+        length_push,
+        arity,
+        few_params,
+        zeros_count,
+      )
 
   not_named : (x : ℕ) → (proc_at g f).params ≤ x → x < (proc_at g f).vars → In x named → ⊥
   not_named x from to i = elim (split (below (proc_at g f).params) i) [
@@ -307,14 +265,8 @@ module _ (g : Graph) (live : List (List ℕ)) (G : Given g live) (F : Placed g l
   fresh_address : get_or fresh (proc_at g f).vars 0 ≡ address g f b
   fresh_address =
       let p = (proc_at g f).params in
-      let name : get_or named p 0 ≡ (proc_at g f).vars = get_or_push (below p) (proc_at g f).vars 0 p
-      (below_count p) in
-      ap (λ m. get_or fresh m 0) (sym name)
-      ∙ landed_at named (words ++ address g f b ∷ []) (zeros (suc (proc_at g f).vars)) p named_apart
-      (omega (arith, length_push (below p) (proc_at g f).vars, below_count p))
-      (omega (arith, length_push words (address g f b), arity))
-      (omega (arith, name, zeros_count (suc (proc_at g f).vars)))
-      ∙ get_or_push words (address g f b) 0 p arity
+      let name : get_or named p 0 ≡ (proc_at g f).vars = grind (arith, get_or_push, below_count) in
+      grind (arith, landed_at, named_apart, length_push, below_count, arity, zeros_count, get_or_push)
 
   agrees : (x : ℕ) → x < (proc_at g f).vars → get_or (entered (proc_at g f) words) x 0 ≡ get_or fresh x 0
   agrees x lt = grind (arith, entered_at, words, cases_lt, fresh_param, get_or_past, arity, fresh_zero)

@@ -1,5 +1,5 @@
 -- The spelled graph keeps the walks of the given graph.
-use Rattle.std.proofs.Common.{ℕ, List}
+use Rattle.std.proofs.Common.{ℕ, List, arith}
 use Rattle.ws_words.specs.Outside.{World}
 use Rattle.cfg_core.specs.Graph.{Graph}
 use Rattle.cfg_core.specs.Shown.{SameWalks, SameArrays}
@@ -28,8 +28,7 @@ module _ (g : Graph) (live : List (List ℕ)) (G : Given g live) where
         (r.0, r.1, same_shown g live o r.0 r.2);
     ends_only = λ world turns p e. let r = paired.ends_only g h G.rules (Alike g live) goes_along world turns
         p e in (r.0, r.1, same_shown g live r.0 p r.2);
-    goes = λ world turns o e. let r = paired.goes g h G.rules (Alike g live) goes_along world turns o e in
-        (r.0, r.1, same_shown g live o r.0 r.2);
+    goes = grind (arith, paired.goes, goes_along, same_shown);
     goes_only = λ world turns p e. let r = paired.goes_only g h G.rules (Alike g live) goes_along world turns
         p e in (r.0, r.1, same_shown g live r.0 p r.2);
   }

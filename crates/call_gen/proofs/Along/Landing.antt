@@ -1,6 +1,6 @@
 -- The variables at a landing.
-use Rattle.std.proofs.Common.{ℕ, zero, suc, ◌≡◌, ◌<◌, List, [], ◌∷◌, ◌++◌, length, get_or, set, refl, ap, ◌∙◌}
-use Rattle.std.proofs.Common.{inl, inr, arith}
+use Rattle.std.proofs.Common.{ℕ, suc, ◌≡◌, ◌<◌, List, [], ◌∷◌, ◌++◌, length, get_or, set, refl, ap, ◌∙◌, inl}
+use Rattle.std.proofs.Common.{inr, arith}
 use Rattle.std.proofs.lemmas.List.{get_or-set_same, get_or-set_other, length-set}
 use Rattle.ws_words.specs.Outside.{Act}
 use Rattle.cfg_core.specs.Graph.{Term}
@@ -9,19 +9,16 @@ use Rattle.ws_words.specs.Items.{In, Distinct}
 
 pub landed_other : (names words vars : List ℕ) (x : ℕ) → (In x names → ⊥)
     → get_or (landed names words vars) x 0 ≡ get_or vars x 0
-landed_other [] words vars x never = refl
-landed_other (y ∷ names) [] vars x never = refl
 landed_other (y ∷ names) (w ∷ words) vars x never = landed_other names words (set vars y w) x
     (λ i. never (inr i)) ∙ get_or-set_other vars y x w 0 (λ e. never (inl e))
+landed_other names words vars x never = refl
 
 pub landed_at : (names words vars : List ℕ) (i : ℕ) → Distinct names → i < length names → i < length words
     → get_or names i 0 < length vars → get_or (landed names words vars) (get_or names i 0) 0 ≡ get_or words i
     0
-landed_at [] words vars i a lt lw there = absurd (omega arith)
-landed_at (x ∷ names) [] vars i a lt lw there = absurd (omega arith)
-landed_at (x ∷ names) (w ∷ words) vars zero a lt lw there = grind (arith, landed_other, get_or-set_same)
 landed_at (x ∷ names) (w ∷ words) vars (suc i) a lt lw there = landed_at names words (set vars x w) i a.1
     (omega arith) (omega arith) (rw (length-set vars x w) there)
+landed_at names words vars i a lt lw there = grind (arith, landed_other, get_or-set_same)
 
 pub values_push : (ts : List Term) (u : Term) (vars : List ℕ) (cells : List (List ℕ))
     → values (ts ++ u ∷ []) vars cells ≡ values ts vars cells ++ value u vars cells ∷ []

@@ -1,10 +1,8 @@
 -- What both walks do at the exit of a block.
-use Rattle.std.proofs.Common.{ℕ, suc, ◌==◌, ◌&&◌, ◌≡◌, ◌<◌, ◌≤◌, ◌⊎◌, not, Bool, true, false, if◌then◌else◌}
-use Rattle.std.proofs.Common.{List, [], ◌∷◌, length, map, get_or, set, refl, sym, ap, ◌∙◌, inl, inr, Option}
-use Rattle.std.proofs.Common.{Some, None, arith}
+use Rattle.std.proofs.Common.{ℕ, suc, ◌==◌, ◌≡◌, ◌<◌, ◌≤◌, ◌⊎◌, true, false, List, [], ◌∷◌, length, map}
+use Rattle.std.proofs.Common.{get_or, set, sym, ap, ◌∙◌, inl, inr, Option, Some, None, arith}
 use Rattle.std.specs.List.{AllByRecursion}
 use Rattle.std.proofs.lemmas.Bool.{cases_eq}
-use Rattle.std.proofs.lemmas.Bool.Decides.{nat_tests}
 use Rattle.std.proofs.lemmas.List.{get_or-set_same, get_or-set_other, length-set}
 use Rattle.ws_words.specs.Outside.{Outside, ProcState, zeros}
 use Rattle.cfg_core.specs.Graph.{Term, Goto, Branch, Call, Graph, Spot, spots, spot_at, block_at}
@@ -31,13 +29,11 @@ use Rattle.live_vars.proofs.Needed.{After}
 -- a call's result, as a test
 pub result_not : (r : Option ℕ) (f : ℕ) (ts : List Term) (back x : ℕ) → (ExitWrites (Call r f ts back) x → ⊥)
     → is_result r x ≡ false
-result_not None f ts back x never = refl
-result_not (Some y) f ts back x never = grind arith
+result_not r f ts back x never = grind arith
 
 result_is : (r : Option ℕ) (f : ℕ) (ts : List Term) (back x : ℕ) → ExitWrites (Call r f ts back) x
     → is_result r x ≡ true
-result_is None f ts back x h = absurd h
-result_is (Some y) f ts back x h = grind (arith, nat_tests)
+result_is r f ts back x h = grind arith
 
 module _ (g : Graph) (live : List (List ℕ)) (G : Given g live) (F : Placed g live) (C : Celled g) (b : ℕ)
     (there : b < length (spots g)) where
@@ -67,31 +63,13 @@ module _ (g : Graph) (live : List (List ℕ)) (G : Given g live) (F : Placed g l
         i).0 in omega arith
 
     pub kept_live : (x : ℕ) → x < v → has live back x ≡ true → is_result r x ≡ false → In x kept
-    kept_live x lt h nr = in_filter (is_saved g live home v r back) (below (suc v)) x
-        (in_below (suc v) x (omega arith)) (by_test (x == v) refl)
-      where
-        by_test : (t : Bool) → (x == v) ≡ t
-            → (if t then is_called g home else (has live back x && not (is_result r x))) ≡ true
-        by_test true e = absurd (let z : x ≡ v = grind (arith, nat_tests) in omega arith)
-        by_test false e = ap (λ t. t && not (is_result r x)) h ∙ ap not nr
+    kept_live x lt h nr = grind (arith, in_filter, in_below (suc v) x (omega arith))
 
     pub kept_address : is_called g home ≡ true → In v kept
-    kept_address h = in_filter (is_saved g live home v r back) (below (suc v)) v
-        (in_below (suc v) v (omega arith)) (by_test (v == v) refl)
-      where
-        by_test : (t : Bool) → (v == v) ≡ t
-            → (if t then is_called g home else (has live back v && not (is_result r v))) ≡ true
-        by_test true e = h
-        by_test false e = absurd (let z : v ≡ v → ⊥ = λ q. grind (arith, nat_tests) in z refl)
+    kept_address h = grind (arith, in_filter, in_below (suc v) v (omega arith))
 
     not_kept : (x : ℕ) → x < v → is_result r x ≡ true → In x kept → ⊥
-    not_kept x lt res i = by_test (x == v) refl (filter_in (is_saved g live home v r back) (below (suc v)) x
-        i).1
-      where
-        by_test : (t : Bool) → (x == v) ≡ t
-            → (if t then is_called g home else (has live back x && not (is_result r x))) ≡ true → ⊥
-        by_test true e h = absurd (let z : x ≡ v = grind (arith, nat_tests) in omega arith)
-        by_test false e h = grind arith
+    not_kept x lt res i = grind (arith, filter_in)
 
     abbrev pub at : ℕ → ℕ
     at x = cell g home x
@@ -114,19 +92,7 @@ module _ (g : Graph) (live : List (List ℕ)) (G : Given g live) (F : Placed g l
       record {
         blocks = 0;
         callers = callers;
-        relates = (
-          refl,
-          refl,
-          refl,
-          onward c i.0 i.1 extra hidden s t frames callers
-              (record {
-                vars = λ x lt l. st.vars x lt (inr ((λ w. w), (c, refl, l)));
-                long = st.long;
-                longer = st.longer;
-                more = st.more;
-                out = st.out;
-              }) roomy stack,
-        );
+        relates = grind (arith, onward);
         weigh = omega arith;
       }
 
@@ -148,37 +114,13 @@ module _ (g : Graph) (live : List (List ℕ)) (G : Given g live) (F : Placed g l
       (record {
         blocks = 0;
         callers = callers;
-        relates = (
-          refl,
-          refl,
-          refl,
-          onward d i.2.0 i.2.1 extra hidden _ _ frames callers
-              (record {
-                vars = λ x lt l. on.vars x lt (inr ((λ w. w), (d, inr refl, l)));
-                long = on.long;
-                longer = on.longer;
-                more = on.more;
-                out = on.out;
-              }) roomy stack,
-        );
+        relates = grind (arith, onward);
         weigh = omega arith;
       })
       (record {
         blocks = 0;
         callers = callers;
-        relates = (
-          refl,
-          refl,
-          refl,
-          onward c i.1.0 i.1.1 extra hidden _ _ frames callers
-              (record {
-                vars = λ x lt l. on.vars x lt (inr ((λ w. w), (c, inl refl, l)));
-                long = on.long;
-                longer = on.longer;
-                more = on.more;
-                out = on.out;
-              }) roomy stack,
-        );
+        relates = grind (arith, onward);
         weigh = omega arith;
       })
 
@@ -201,12 +143,10 @@ module _ (g : Graph) (live : List (List ℕ)) (G : Given g live) (F : Placed g l
         ≡ passed h
         (run_ops (map (load g home) (kept r back))
         (record { vars = set (zeros (suc v)) (or_else r v) w; out = o }) k) (Goto (moved g back)) []
-    at_point o w k =
-        ap (λ (p : Spot).
-        passed h (run_ops p.block.ops (record {
-          vars = landed p.block.named (w ∷ []) (zeros p.vars);
-          out = o;
-        }) k) p.block.exit []) (F.point b r f ts back there is)
+    at_point o w k = ap (λ (p : Spot). passed h (run_ops p.block.ops (record {
+      vars = landed p.block.named (w ∷ []) (zeros p.vars);
+      out = o;
+    }) k) p.block.exit []) (F.point b r f ts back there is)
 
     result_word : (vars : List ℕ) (w x : ℕ) → length vars ≡ v → x < v → ExitWrites (Call r f ts back) x
         → get_or (with_result r w vars) x 0 ≡ w
@@ -263,43 +203,20 @@ module _ (g : Graph) (live : List (List ℕ)) (G : Given g live) (F : Placed g l
               let never : ExitWrites (block_at g b).exit x → ⊥ =
               λ e. nw (rw is at e) in
               let there_x : In x xs =
-              kept_live r back x lt (G.known back x i.4.0 (let q = vars_same i.4.0 i.4.1 in
-              omega arith) live_x) (result_not r f ts back x nw) in
-              other_word vars w x nw ∙ sym (kept_vars x lt live_x never)
-              ∙ sym (ap (λ (vs : List ℕ). get_or vs x 0) l.vars ∙ peeks_in (total g live) (at r back)
-              (at_apart r back) hidden xs start.vars x (omega arith) (inr there_x))
+              grind (arith, kept_live, result_not) in
+              grind (arith, other_word, peeks_in, total, at_apart)
         ] in
         let st : S (get_or l.state.vars v 0) hidden (Live g back)
-        (record { vars = with_result r w vars; out = o }) l.state = record {
-          vars = agree;
-          long = result_count vars w ∙ long;
-          longer = ap length l.vars ∙ peeks_count (total g live) (at r back) (at_apart r back) hidden xs
-              start.vars ∙ count;
-          more = refl;
-          out = l.out;
-        } in
+        (record { vars = with_result r w vars; out = o }) l.state =
+        grind (arith, result_count, peeks_count, total, at_apart) in
         let rest : Stack g live hidden home (get_or l.state.vars v 0) frames callers =
-        elim (decide (is_called g home)) [
-          | inl c ↦ rw (ap (λ (vs : List ℕ). get_or vs v 0) l.vars ∙ peeks_in (total g live) (at r back)
-              (at_apart r back) hidden xs start.vars v (omega arith) (inr (kept_address r back c))) stack
-          | inr nc ↦ stack_any g live G F hidden home (peek hidden (cell g home v)) (get_or l.state.vars v 0)
-              frames callers nc stack
-        ] in
+        grind (arith, decide, peeks_in, total, at_apart, kept_address, stack_any, peek) in
         reaches_later g live weight (owed g live weight callers) _ (suc (moved g b)) _ _ _
         (reaches_by g live weight _ _ _ _
         (at_point p u k ∙ ap (λ (q : OpsOutcome). passed h q (Goto (moved g back)) []) l.run)
         (record {
           blocks = 0;
           callers = callers;
-          relates = (
-            refl,
-            refl,
-            refl,
-            onward back i.4.0 i.4.1 (get_or l.state.vars v 0) hidden _ l.state
-                frames callers st roomy rest,
-          );
+          relates = grind (arith, onward);
           weigh = omega arith;
         }))
-      where
-        vars_same : back < length (spots g) → (spot_at g back).home ≡ home → v ≡ (spot_at g back).vars
-        vars_same lt same = grind arith

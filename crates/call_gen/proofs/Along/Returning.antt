@@ -47,8 +47,6 @@ module _ (g : Graph) (live : List (List ℕ)) (G : Given g live) (F : Placed g l
   pub returns : (w : ℕ → ℕ) (frames : List Frame) (callers : List ℕ) → Stack g live hidden home extra frames
       callers → Reaches g live w (owed g live w callers) (returned (value_of term s).0 (value_of term s).1.out
       frames k) (passed h (Done t k) (left g home v b (Return term)) [])
-  returns w [] (c ∷ callers) stack = absurd stack
-  returns w (frame ∷ frames) [] stack = absurd stack
   returns w [] [] stack = elim (decide (is_called g home)) [
     | inl c ↦ absurd (omega (arith, F.last home c, stack))
     | inr c ↦ reaches_by g live w _ _ _ _ (ap (λ (x : Exit). passed h (Done t k) x []) (open_exit false c))
@@ -83,3 +81,4 @@ module _ (g : Graph) (live : List (List ℕ)) (G : Given g live) (F : Placed g l
       out_same : (value_of term t).1.out ≡ with_more (with_more t.out [])
           (loads_of term t.vars t.out.cells ++ [])
       out_same = grind (arith, append-nil)
+  returns w frames callers stack = grind arith

@@ -1,7 +1,6 @@
 -- What is shown of both walks.
-use Rattle.std.proofs.Common.{ℕ, zero, suc, ◌+◌, ◌-◌, ◌≡◌, ◌<◌, ◌≤◌, ◌⊎◌, Bool, true, if◌then◌else◌, List, []}
-use Rattle.std.proofs.Common.{◌∷◌, ◌++◌, length, replicate, refl, sym, ap, ◌∙◌, subst, inl, inr, Some, None}
-use Rattle.std.proofs.Common.{arith}
+use Rattle.std.proofs.Common.{ℕ, zero, suc, ◌+◌, ◌-◌, ◌≡◌, ◌<◌, ◌≤◌, ◌⊎◌, true, List, [], ◌∷◌, ◌++◌, length}
+use Rattle.std.proofs.Common.{replicate, refl, sym, ap, ◌∙◌, Some, None, arith}
 use Rattle.std.specs.List.{AllByRecursion}
 use Rattle.std.proofs.lemmas.Bool.{cases_lt}
 use Rattle.std.proofs.lemmas.List.{append-nil}
@@ -28,14 +27,12 @@ module _ (xs : List GraphArray) (count len : ℕ) where
 
   in_hidden : (m k : ℕ) → k < m → nth {A = GraphArray} (replicate m (record { name = None; length = len })) k
       ≡ Some (record { name = None; length = len })
-  in_hidden zero k lt = absurd (omega arith)
-  in_hidden (suc m) zero lt = refl
   in_hidden (suc m) (suc k) lt = in_hidden m k (omega arith)
+  in_hidden m k lt = grind arith
 
   past_hidden : (m k : ℕ) → hidden (nth (replicate m (record { name = None; length = len })) k) ≡ true
-  past_hidden zero k = refl
-  past_hidden (suc m) zero = refl
   past_hidden (suc m) (suc k) = past_hidden m k
+  past_hidden m k = refl
 
   same_place : (a : ℕ) → a ≤ n → (nth (xs ++ ys) (a - 1) ≡ nth xs (a - 1)) ⊎ (n ≡ 0)
   same_place a le = grind (arith, cases_lt, n, nth_append_left, ys)
@@ -57,36 +54,24 @@ module _ (xs : List GraphArray) (count len : ℕ) where
   length_kept a le = grind (arith, same_place, none)
 
   after_hidden : (a : ℕ) → n < a → is_hidden (xs ++ ys) a ≡ true
-  after_hidden a lt = ap hidden (nth_right xs ys n (a - 1 - n) (a - 1) refl (omega arith))
-      ∙ past_hidden count (a - 1 - n)
+  after_hidden a lt = ap hidden (grind (arith, nth_right)) ∙ past_hidden count (a - 1 - n)
 
   after_length : (a : ℕ) → n < a → a ≤ n + count → length_of (xs ++ ys) a ≡ len
   after_length a lt le = ap cell_count (nth_right xs ys n (a - 1 - n) (a - 1) refl (omega arith)
       ∙ in_hidden count (a - 1 - n) (omega arith))
 
   among_same : (zs : List GraphArray) (a : ℕ) → a ≤ length zs → shown_among a (zs ++ ys) ≡ shown_among a zs
-  among_same zs zero le = refl
-  among_same [] (suc a) le = absurd (omega arith)
   among_same (z ∷ zs) (suc a) le = ap (λ m. flag (has_name z) + m) (among_same zs a (omega arith))
+  among_same zs a le = grind arith
 
   load_shown : (a i : ℕ) → shown_act (xs ++ ys) (loads a i) ≡ shown_acts xs (visible_one n (loads a i))
-  load_shown a i = elim (cases_lt n a) [
-    | inl lt ↦ ap (λ (v : Bool). if v then [] else loads (shown_among a (xs ++ ys)) i ∷ [])
-        (after_hidden a lt) ∙ sym (ap (shown_acts xs) (load_unseen n a i lt))
-    | inr le ↦ ap (λ (v : Bool). if v then [] else loads (shown_among a (xs ++ ys)) i ∷ []) (hidden_same a le)
-        ∙ ap (λ m. if is_hidden xs a then [] else loads m i ∷ []) (among_same xs a le)
-        ∙ sym (ap (shown_acts xs) (load_seen n a i le) ∙ append-nil (shown_act xs (loads a i)))
-  ]
+  load_shown a i =
+      grind (arith, cases_lt, after_hidden, load_unseen, hidden_same, among_same, load_seen, append-nil)
 
   store_shown : (a i w : ℕ) → shown_act (xs ++ ys) (stores a i w) ≡ shown_acts xs
       (visible_one n (stores a i w))
-  store_shown a i w = elim (cases_lt n a) [
-    | inl lt ↦ ap (λ (v : Bool). if v then [] else stores (shown_among a (xs ++ ys)) i w ∷ [])
-        (after_hidden a lt) ∙ sym (ap (shown_acts xs) (store_unseen n a i w lt))
-    | inr le ↦ ap (λ (v : Bool). if v then [] else stores (shown_among a (xs ++ ys)) i w ∷ [])
-        (hidden_same a le) ∙ ap (λ m. if is_hidden xs a then [] else stores m i w ∷ []) (among_same xs a le)
-        ∙ sym (ap (shown_acts xs) (store_seen n a i w le) ∙ append-nil (shown_act xs (stores a i w)))
-  ]
+  store_shown a i w =
+      grind (arith, cases_lt, after_hidden, store_unseen, hidden_same, among_same, store_seen, append-nil)
 
   act_shown : (act : Act) → shown_act (xs ++ ys) act ≡ shown_acts xs (visible_one n act)
   act_shown (loads a i) = load_shown a i
@@ -108,9 +93,8 @@ module _ (xs : List GraphArray) (count len : ℕ) where
     where
       only_hidden : (m : ℕ) (cells : List (List ℕ))
           → shown_cells (replicate m (record { name = None; length = len })) cells ≡ []
-      only_hidden zero cells = refl
-      only_hidden (suc m) [] = refl
       only_hidden (suc m) (r ∷ cells) = only_hidden m cells
+      only_hidden m cells = refl
   cells_shown [] (r ∷ cells) more e = absurd (omega arith)
   cells_shown (z ∷ zs) [] more e = absurd (omega arith)
   cells_shown (z ∷ zs) (r ∷ cells) more e = grind (arith, cells_shown zs cells more (omega arith))
@@ -151,5 +135,4 @@ module _ (g : Graph) (live : List (List ℕ)) (o p : Outside) (h : Alike g live 
 
   pub inside_too : AllInside g.arrays o.acts → AllInside (spelled g live).arrays p.acts
   unfolding hidden_arrays
-  inside_too i = acts_inside g.arrays (rows g live) (size g live) p.acts h.same.own
-      (subst (λ (zs : List Act). AllInside g.arrays zs) (sym h.same.acts) i)
+  inside_too i = acts_inside g.arrays (rows g live) (size g live) p.acts h.same.own (grind arith)

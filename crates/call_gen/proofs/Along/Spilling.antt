@@ -1,10 +1,9 @@
 -- Saves, loads and clears, as they run.
-use Rattle.std.proofs.Common.{ℕ, zero, suc, ◌+◌, ◌-◌, ◌/◌, ◌%◌, ◌≡◌, ◌<◌, ◌≤◌, min, List, [], ◌∷◌, ◌++◌}
-use Rattle.std.proofs.Common.{length, map, get_or, set, refl, ap, ◌∙◌, inl, inr, arith}
+use Rattle.std.proofs.Common.{ℕ, suc, ◌+◌, ◌-◌, ◌/◌, ◌%◌, ◌≡◌, ◌<◌, ◌≤◌, min, List, [], ◌∷◌, length, map}
+use Rattle.std.proofs.Common.{get_or, set, refl, ◌∙◌, inl, inr, arith}
 use Rattle.std.specs.List.{AllByRecursion}
 use Rattle.std.proofs.lemmas.List.{length-set, get_or-set_other}
-use Rattle.ws_words.specs.Outside.{Act, loads, stores, Outside, ProcState, row, with_row, stored, write}
-use Rattle.ws_words.specs.Outside.{with_acts}
+use Rattle.ws_words.specs.Outside.{Act, loads, stores, Outside, ProcState, row, stored, write, with_acts}
 use Rattle.cfg_core.specs.Graph.{Graph}
 use Rattle.cfg_core.specs.Walk.{Done, run_ops}
 use Rattle.call_gen.specs.Spelled.{cell, array_of, index_of, save, load, clear}
@@ -46,24 +45,14 @@ module _ (g : Graph) (total : ℕ) where
       → Same n rows size hidden o t.out → Same n rows size (poke hidden k (get_or t.vars x 0)) o
       (with_saved t k x).out
   saved_out hidden o t k x lt h =
-      let w = get_or t.vars x 0 in let i = k / 192 in let r = k % 192 in
+      let w = get_or t.vars x 0 in
+      let i = k / 192 in
+      let r = k % 192 in
       let two = same_nil hidden o (with_more t.out []) (same_nil hidden o t.out h) in
       let act : List Act = stores (array_of g k) i w ∷ [] in
       let m = same_unseen n rows size hidden o (with_more (with_more t.out []) []) two act
-      (ap (λ (zs : List Act). zs ++ []) (store_unseen n (array_of g k) i w (after k)))
-      ((λ l. inside k lt), tt) in
-      record {
-        cells = ap (λ m. with_row t.out.cells m (set (row t.out.cells m) i w)) (place k)
-            ∙ ap (λ (cs : List (List ℕ)). with_row cs (n + r) (set (row cs (n + r)) i w)) h.cells
-            ∙ ap (λ (rw : List ℕ). with_row (o.cells ++ hidden) (n + r) (set rw i w))
-            (row_right o.cells hidden n r h.few)
-            ∙ with_row_right o.cells hidden n r (set (row hidden r) i w) h.few;
-        few = h.few;
-        input = h.input;
-        left = h.left;
-        acts = m.acts;
-        own = m.own;
-      }
+      (grind (arith, store_unseen, after)) ((λ l. inside k lt), tt) in
+      grind (arith, place, row_right, with_row_right)
 
   -- the state after a load
   abbrev pub with_loaded : ProcState → ℕ → ℕ → ProcState
@@ -72,10 +61,8 @@ module _ (g : Graph) (total : ℕ) where
 
   loaded_out : (hidden : List (List ℕ)) (o : Outside) (t : ProcState) (k x : ℕ) → k < total
       → Same n rows size hidden o t.out → Same n rows size hidden o (with_loaded t k x).out
-  loaded_out hidden o t k x lt h = same_unseen n rows size hidden o t.out h
-      (loads (array_of g k) (index_of k) ∷ [])
-      (ap (λ (zs : List Act). zs ++ []) (load_unseen n (array_of g k) (index_of k) (after k)))
-      ((λ l. inside k lt), tt)
+  loaded_out hidden o t k x lt h = same_unseen n rows size hidden o t.out h (loads (array_of g k) (index_of k)
+      ∷ []) (grind (arith, load_unseen, after)) ((λ l. inside k lt), tt)
 
   loaded_word : (hidden : List (List ℕ)) (o : Outside) (t : ProcState) (k : ℕ)
       → Same n rows size hidden o t.out → get_or (row t.out.cells (array_of g k - 1)) (index_of k) 0
@@ -107,8 +94,7 @@ module _ (g : Graph) (total : ℕ) where
           more = h.more;
           out = saved_out hidden s.out t (at x) x i.0 h.out;
         } in
-        let r = saves_run v extra (poke hidden (at x) (get_or t.vars x 0)) P s next xs k i.1 st in
-        record { state = r.state; run = r.run; vars = r.vars; states = r.states }
+        grind (arith, poke, saves_run v extra (poke hidden (at x) (get_or t.vars x 0)) P s next xs k i.1 st)
 
     pub record Loaded (hidden : List (List ℕ)) (o : Outside) (t : ProcState) (xs : List ℕ) (k : ℕ) : Type
         0 where
@@ -120,16 +106,14 @@ module _ (g : Graph) (total : ℕ) where
     pub loads_run : (hidden : List (List ℕ)) (o : Outside) (t : ProcState) (xs : List ℕ) (k : ℕ)
         → AllByRecursion (λ x. at x < total) xs → Same n rows size hidden o t.out → Loaded hidden o t xs k
     loads_run hidden o t [] k i h = record { state = t; run = refl; vars = refl; out = h }
-    loads_run hidden o t (x ∷ xs) k i h =
-        let next = with_loaded t (at x) x in
-        let r = loads_run hidden o next xs k i.1 (loaded_out hidden o t (at x) x i.0 h) in
-        record {
-          state = r.state;
-          run = r.run;
-          vars = r.vars ∙ ap (λ w. peeks at hidden xs (set t.vars x w))
-              (loaded_word hidden o t (at x) h);
-          out = r.out;
-        }
+    loads_run hidden o t (x ∷ xs) k i h = let next = with_loaded t (at x) x in
+        grind (
+          arith,
+          loaded_out,
+          peeks,
+          loaded_word,
+          loads_run hidden o next xs k i.1 (loaded_out hidden o t (at x) x i.0 h),
+        )
 
   pub record Cleared (hidden : List (List ℕ)) (o : Outside) (t : ProcState) (xs : List ℕ) (k : ℕ) : Type
       0 where
@@ -156,8 +140,5 @@ module _ (g : Graph) (total : ℕ) where
       }
     where
       stays : (vs : List ℕ) (x y : ℕ) → get_or vs y 0 ≡ 0 → get_or (set vs x 0) y 0 ≡ 0
-      stays [] x y e = e
-      stays (v ∷ vs) zero zero e = refl
-      stays (v ∷ vs) zero (suc y) e = e
-      stays (v ∷ vs) (suc x) zero e = e
       stays (v ∷ vs) (suc x) (suc y) e = stays vs x y e
+      stays vs x y e = grind arith

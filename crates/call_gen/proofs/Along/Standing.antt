@@ -87,10 +87,7 @@ module _ (g : Graph) (live : List (List ℕ)) where
     pub if_reaches : (n : ℕ) (b c : Bool) (p q : Config) (p' q' : Config) → b ≡ c → Reaches w n p p'
         → Reaches w n q q' → Reaches w n (Rattle.std.proofs.Common.cond b p q)
         (Rattle.std.proofs.Common.cond c p' q')
-    if_reaches n true true p q p' q' e h i = h
-    if_reaches n false false p q p' q' e h i = i
-    if_reaches n true false p q p' q' e h i = absurd (cc)
-    if_reaches n false true p q p' q' e h i = absurd (cc)
+    if_reaches n b c p q p' q' e h i = grind arith
 
     pub reaches_by : (n : ℕ) (c d e : Config) → d ≡ e → Reaches w n c e → Reaches w n c d
     reaches_by n c d e same r = rw same r
@@ -114,8 +111,7 @@ module _ (g : Graph) (live : List (List ℕ)) where
     -- a step leaves one block at most
     pub left_few : (b : ℕ) (s : ProcState) (frames : List Frame) (k : ℕ) (d : Config)
         → sum_by w (block_left (At b s frames k) d) ≤ w b
-    left_few b s frames k (At c t others j) = omega arith
-    left_few b s frames k _ = omega arith
+    left_few b s frames k d = grind arith
 
     pub reaches_later : (n : ℕ) (c : Config) (b : ℕ) (s : ProcState) (frames : List Frame) (k : ℕ)
         → Reaches w n c (step (spelled g live) (At b s frames k)) → Reaches w (w b + n) c (At b s frames k)
@@ -142,9 +138,6 @@ module _ (g : Graph) (live : List (List ℕ)) where
     pub stack_kept : (e : ℕ) (hidden after : List (List ℕ)) → SameAbove e hidden after
         → (f ra : ℕ) (frames : List Frame) (callers : List ℕ) → e ≤ f → Stack hidden f ra frames callers
         → Stack after f ra frames callers
-    stack_kept e hidden after same f ra [] [] le h = h
-    stack_kept e hidden after same f ra [] (b ∷ callers) le h = absurd h
-    stack_kept e hidden after same f ra (frame ∷ frames) [] le h = absurd h
     stack_kept e hidden after same f ra (frame ∷ frames) (b ∷ callers) le h =
         let w = h.0 in
         let up : f < (spot_at g b).home = callee_earlier b frame.result f w.terms frame.back w.exit in
@@ -161,18 +154,17 @@ module _ (g : Graph) (live : List (List ℕ)) where
             long = w.long;
             kept = λ x lt l never. fits x (omega arith) ∙ w.kept x lt l never;
           },
-          rw (fits (spot_at g b).vars (omega arith))
-              (stack_kept e hidden after same (spot_at g b).home
-              (peek hidden (cell g (spot_at g b).home (spot_at g b).vars)) frames callers (omega arith) h.1),
+          rw (fits (spot_at g b).vars (omega arith)) (stack_kept e hidden after same (spot_at g b).home (peek
+              hidden (cell g (spot_at g b).home (spot_at g b).vars)) frames callers (omega arith) h.1),
         )
+    stack_kept e hidden after same f ra frames callers le h = grind arith
 
     -- the return address of a procedure that isn't called doesn't matter
     pub stack_any : (hidden : List (List ℕ)) (f ra rb : ℕ) (frames : List Frame) (callers : List ℕ)
         → is_called g f ≡ false → Stack hidden f ra frames callers → Stack hidden f rb frames callers
     stack_any hidden f ra rb [] [] no_call h = h
-    stack_any hidden f ra rb [] (b ∷ callers) no_call h = absurd h
-    stack_any hidden f ra rb (frame ∷ frames) [] no_call h = absurd h
     stack_any hidden f ra rb (frame ∷ frames) (b ∷ callers) no_call h =
         let c : is_called g f ≡ true =
         (F.called b frame.result f h.0.terms frame.back h.0.there h.0.exit).0 in
         absurd (cc)
+    stack_any hidden f ra rb frames callers no_call h = absurd h

@@ -85,25 +85,21 @@ module _ (n rows size : ℕ) (hidden : List (List ℕ)) (o p : Outside) (h : Sam
 
 -- rows of two lists of rows
 pub row_left : (xs ys : List (List ℕ)) (k : ℕ) → k < length xs → row (xs ++ ys) k ≡ row xs k
-row_left [] ys k lt = absurd (omega arith)
-row_left (x ∷ xs) ys zero lt = refl
 row_left (x ∷ xs) ys (suc k) lt = row_left xs ys k (omega arith)
+row_left xs ys k lt = grind arith
 
 pub row_right : (xs ys : List (List ℕ)) (n k : ℕ) → length xs ≡ n → row (xs ++ ys) (n + k) ≡ row ys k
 row_right [] ys zero k e = ap (row ys) (let z : zero + k ≡ k = omega arith in z)
-row_right [] ys (suc n) k e = absurd (omega arith)
-row_right (x ∷ xs) ys zero k e = absurd (omega arith)
 row_right (x ∷ xs) ys (suc n) k e = grind (arith, row_right xs ys n k (omega arith))
+row_right xs ys n k e = absurd (omega arith)
 
 pub with_row_left : (xs ys : List (List ℕ)) (k : ℕ) (r : List ℕ) → k < length xs
     → with_row (xs ++ ys) k r ≡ with_row xs k r ++ ys
-with_row_left [] ys k r lt = absurd (omega arith)
-with_row_left (x ∷ xs) ys zero r lt = refl
 with_row_left (x ∷ xs) ys (suc k) r lt = grind (arith, with_row_left xs ys k r (omega arith))
+with_row_left xs ys k r lt = grind arith
 
 pub with_row_right : (xs ys : List (List ℕ)) (n k : ℕ) (r : List ℕ) → length xs ≡ n
     → with_row (xs ++ ys) (n + k) r ≡ xs ++ with_row ys k r
 with_row_right [] ys zero k r e = ap (λ m. with_row ys m r) (let z : zero + k ≡ k = omega arith in z)
-with_row_right [] ys (suc n) k r e = absurd (omega arith)
-with_row_right (x ∷ xs) ys zero k r e = absurd (omega arith)
 with_row_right (x ∷ xs) ys (suc n) k r e = grind (arith, with_row_right xs ys n k r (omega arith))
+with_row_right xs ys n k r e = absurd (omega arith)

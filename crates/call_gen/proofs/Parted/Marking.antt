@@ -1,6 +1,6 @@
 -- Blocks that are found, one after another.
-use Rattle.std.proofs.Common.{ℕ, zero, suc, ◌-◌, ◌≡◌, ◌<◌, ◌⊎◌, Bool, true, false, List, [], ◌∷◌, ◌++◌}
-use Rattle.std.proofs.Common.{length, set, replicate, refl, sym, ◌∙◌, subst, inl, inr, Option, arith}
+use Rattle.std.proofs.Common.{ℕ, suc, ◌-◌, ◌≡◌, ◌<◌, ◌⊎◌, Bool, true, false, List, [], ◌∷◌, ◌++◌, length, set}
+use Rattle.std.proofs.Common.{replicate, refl, sym, ◌∙◌, subst, inl, inr, Option, arith}
 use Rattle.std.proofs.lemmas.Bool.{cases_eq}
 use Rattle.std.proofs.lemmas.List.{get_or-set_same, get_or-set_other, length-set, length_push}
 use Rattle.cfg_core.specs.Graph.{Graph, Branch, Call, spots, block_at, entry_of, no_spot}
@@ -24,37 +24,25 @@ in_split b c (x ∷ xs) (inr i) = elim (in_split b c xs i) [ inl j ↦ inl (inr 
 
 one_less : (flags : List Bool) (b : ℕ) → b < length flags → flag_at flags b ≡ false
     → unset flags ≡ suc (unset (set flags b true))
-one_less [] b lt e = absurd (omega arith)
-one_less (v ∷ flags) zero lt e = grind arith
 one_less (v ∷ flags) (suc b) lt e = omega (arith, one_less flags b (omega arith) e)
+one_less flags b lt e = grind arith
 
 -- a new block is flagged and waits
 pub marks_one : (flags : List Bool) (waits : List ℕ) (b : ℕ) → b < length flags → flag_at flags b ≡ false
     → FlagsMore (λ c. c ≡ b) flags (set flags b true) waits (waits ++ b ∷ [])
-marks_one flags waits b lt off = record {
-  count = length-set flags b true;
-  keeps = λ c h. elim (cases_eq c b) [
-    | inl e ↦ rw e (get_or-set_same flags b true false lt)
-    | inr ne ↦ get_or-set_other flags b c true false ne ∙ h
-  ];
-  only = λ c h. elim (cases_eq c b) [
-    | inl e ↦ inr e
-    | inr ne ↦
-        inl (sym (get_or-set_other flags b c true false ne) ∙ h)
-  ];
-  all = λ c l e. rw e (get_or-set_same flags b true false lt);
-  waiting = λ c i. in_left c waits (b ∷ []) i;
-  known = λ c i. elim (in_split c b waits i) [
-    | inl j ↦ inl j
-    | inr e ↦
-        inr (rw e (get_or-set_same flags b true false lt))
-  ];
-  fresh = λ c h. elim (cases_eq c b) [
-    | inl e ↦ inr (rw e (in_last b waits))
-    | inr ne ↦ inl (sym (get_or-set_other flags b c true false ne) ∙ h)
-  ];
-  lighter = omega (arith, one_less flags b lt off, length_push waits b);
-}
+marks_one flags waits b lt off =
+    grind (
+      arith,
+      length-set,
+      cases_eq,
+      get_or-set_same,
+      get_or-set_other,
+      in_left,
+      in_split,
+      in_last,
+      one_less,
+      length_push,
+    )
 
 -- nothing is flagged where nothing is said, or where it is flagged already
 pub marks_none : (P : ℕ → Type 0) (flags : List Bool) (waits : List ℕ)
@@ -65,34 +53,7 @@ marks_none P flags waits all = grind arith
 pub marks_both : (P Q R : ℕ → Type 0) (o m n : List Bool) (u v w : List ℕ) → ((c : ℕ) → P c → R c)
     → ((c : ℕ) → Q c → R c) → ((c : ℕ) → R c → P c ⊎ Q c) → FlagsMore P o m u v → FlagsMore Q m n v w
     → FlagsMore R o n u w
-marks_both P Q R o m n u v w left right split p q = record {
-  count = q.count ∙ p.count;
-  keeps = λ c h. q.keeps c (p.keeps c h);
-  only = λ c h. elim (q.only c h) [
-    | inl i ↦ elim (p.only c i) [ inl j ↦ inl j | inr j ↦ inr (left c j) ]
-    | inr
-        i ↦ inr (right c i)
-  ];
-  all = λ c lt r. elim (split c r) [
-    | inl i ↦ q.keeps c (p.all c lt i)
-    | inr i ↦
-        q.all c (subst (λ k. c < k) (sym p.count) lt) i
-  ];
-  waiting = λ c i. q.waiting c (p.waiting c i);
-  known = λ c i. elim (q.known c i) [
-    | inl j ↦ elim (p.known c j) [ inl k ↦ inl k | inr h ↦ inr (q.keeps c h) ]
-    | inr h ↦ inr h
-  ];
-  fresh = λ c h. elim (q.fresh c h) [
-    | inl i ↦ elim (p.fresh c i) [
-      | inl j ↦ inl j
-      | inr j ↦
-          inr (q.waiting c j)
-    ]
-    | inr i ↦ inr i
-  ];
-  lighter = omega arith;
-}
+marks_both P Q R o m n u v w left right split p q = grind arith
 
 -- the two arms of a branch, and a call's callee and return block
 pub marks_arms : (g : Graph) (t : Rattle.cfg_core.specs.Graph.Term) (a b : ℕ) (o m n : List Bool)
@@ -117,9 +78,8 @@ marks_beyond g b flags waits e = grind (arith, marks_none)
 
 module _ (g : Graph) (rules : IsGraph g) (no_send : HasNoSend g) where
   none_flagged : (n b : ℕ) → flag_at (replicate n false) b ≡ true → ⊥
-  none_flagged zero b h = cc
-  none_flagged (suc n) zero h = cc
   none_flagged (suc n) (suc b) h = none_flagged n b h
+  none_flagged n b h = cc
 
   -- main's first block is found
   pub found_main : (n main : ℕ) (new : List Bool) (waits : List ℕ) → n ≡ length (spots g)
@@ -127,17 +87,15 @@ module _ (g : Graph) (rules : IsGraph g) (no_send : HasNoSend g) where
       → FlagsMore (λ c. c ≡ main) (replicate n false) new [] waits → Finding g new waits
   found_main n main new waits en el em m = record {
     count = m.count ∙ el ∙ en;
-    main = subst (λ k. flag_at new k ≡ true) em
-        (m.all main
+    main = subst (λ k. flag_at new k ≡ true) em (m.all main
         (omega (arith, el, en, em, reached_there g rules no_send (entry_of g (length g.procs - 1)) start))
         refl);
     only = λ b h. elim (m.only b h) [
       | inl i ↦ absurd (none_flagged n b i)
-      | inr e ↦
-          subst (λ k. Reached g k) (sym (e ∙ em)) start
+      | inr e ↦ subst (λ k. Reached g k) (sym (e ∙ em)) start
     ];
-    waiting = λ b i. elim (m.known b i) [ inl j ↦ absurd j | inr h ↦ h ];
-    led = λ b c h lt l. elim (m.fresh b h) [ inl i ↦ absurd (none_flagged n b i) | inr i ↦ inl i ];
+    waiting = grind arith;
+    led = grind (arith, none_flagged);
   }
 
   next_reached : (b c : ℕ) → Reached g b → LeadsOrEnters g (block_at g b).exit c → Reached g c
@@ -150,26 +108,17 @@ module _ (g : Graph) (rules : IsGraph g) (no_send : HasNoSend g) where
       → Finding g new waits
   found_more b old new waited rest waits e f m =
       let here : flag_at old b ≡ true =
-      f.waiting b (subst (λ (ws : List ℕ). In b ws) (sym e) (in_last b rest)) in
+      grind (arith, in_last) in
       record {
         count = m.count ∙ f.count;
-        main = m.keeps (entry_of g (length g.procs - 1)) f.main;
-        only = λ c h. elim (m.only c h) [ inl i ↦ f.only c i | inr l ↦ next_reached b c (f.only b here) l ];
-        waiting = λ c i. elim (m.known c i) [
-          | inl j ↦
-              m.keeps c (f.waiting c (subst (λ (ws : List ℕ). In c ws) (sym e) (in_left c rest (b ∷ []) j)))
-          | inr h ↦ h
-        ];
+        main = grind arith;
+        only = grind (arith, next_reached);
+        waiting = grind (arith, in_left);
         led = λ c d h lt l. elim (m.fresh c h) [
           | inr i ↦ inl i
           | inl i ↦ elim (f.led c d i lt l) [
             | inr k ↦ inr (m.keeps d k)
-            | inl w ↦ elim (in_split c b rest (subst (λ (ws : List ℕ). In c ws) e w)) [
-              | inl j ↦ inl (m.waiting c j)
-              | inr same ↦
-                  inr (m.all d (omega arith)
-                  (subst (λ k. LeadsOrEnters g (block_at g k).exit d) same l))
-            ]
+            | inl w ↦ grind (arith, in_split)
           ]
         ];
       }

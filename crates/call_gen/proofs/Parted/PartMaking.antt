@@ -1,10 +1,10 @@
 -- The part of a graph, as the code makes it.
-use Rattle.std.proofs.Common.{ℕ, suc, ◌+◌, ◌≡◌, Bool, true, false, if◌then◌else◌, List, [], ◌∷◌, ◌++◌, length}
-use Rattle.std.proofs.Common.{map, drop, refl, sym, ap, ◌∙◌, append_assoc, arith}
+use Rattle.std.proofs.Common.{ℕ, suc, ◌+◌, ◌≡◌, Bool, if◌then◌else◌, List, [], ◌∷◌, ◌++◌, length, map, drop}
+use Rattle.std.proofs.Common.{append_assoc, arith}
 use Rattle.std.specs.List.{AllByRecursion}
 use Rattle.std.proofs.lemmas.List.{length-map}
 use Rattle.cfg_core.specs.Graph as plain
-use Rattle.cfg_core.specs.Graph.{Exit, Goto, Branch, Call, Return, Block, Graph, spots_in, spots_from}
+use Rattle.cfg_core.specs.Graph.{Exit, Block, Graph, spots_in, spots_from}
 use Rattle.cfg_core.specs.Rules.{ExitIn, BlockNumbers, IsGraph}
 use Rattle.cfg_core.specs.Shape.{IsShaped, ArmsAlone}
 use Rattle.cfg_core.specs.Shown.{SameWalks, SameArrays}
@@ -25,11 +25,7 @@ use Rattle.ws_words.specs.Items.{flag_at}
 
 module _ (g : Graph) where
   exit_there : (home v : ℕ) (x : Exit) → ExitIn g home v x → ExitThere g x
-  exit_there home v (Goto b) i = i.0
-  exit_there home v (Branch t b c) i = (i.1.0, i.2.0)
-  exit_there home v (Call r f ts back) i = (i.1, i.4.0)
-  exit_there home v (Return t) i = tt
-  exit_there home v _ i = tt
+  exit_there home v x i = grind arith
 
   blocks_there : (home v : ℕ) (xs : List Block) → AllByRecursion (BlockNumbers g) (spots_in home v xs)
       → BlocksThere g xs
@@ -55,21 +51,7 @@ pub part_next : (items : List GraphProc) (i j : ℕ) (p : GraphProc) → drop i 
     → map view.proc old ++ part_procs keep name first (map view.proc (drop i items)) ≡ whole
     → map view.proc new ++ part_procs keep name next (map view.proc (drop j items)) ≡ whole
 part_next items i j p e keep name first next n old new whole en ec em h =
-    let rest = map view.proc (drop j items) in
-    let place : next ≡ first + length (map view.block p.blocks.items) =
-    omega (arith, en, ec, length-map p.blocks.items view.block) in
-    ap (λ (ps : List plain.GraphProc). ps ++ part_procs keep name next rest) em
-    ∙ ap (λ k. (if keep first then map view.proc old ++ part_proc keep name first (view.proc p) ∷ []
-    else map view.proc old) ++ part_procs keep name k rest) place
-    ∙ by_test (keep first) (map view.proc old) (part_proc keep name first (view.proc p))
-    (part_procs keep name (first + length (map view.block p.blocks.items)) rest)
-    ∙ ap (λ (ps : List GraphProc). map view.proc old ++ part_procs keep name first (map view.proc ps)) (sym e)
-    ∙ h
-  where
-    by_test : (v : Bool) (xs : List plain.GraphProc) (x : plain.GraphProc) (ys : List plain.GraphProc)
-        → (if v then xs ++ x ∷ [] else xs) ++ ys ≡ xs ++ (if v then x ∷ ys else ys)
-    by_test true xs x ys = append_assoc xs (x ∷ []) ys
-    by_test false xs x ys = refl
+    grind (arith, length-map, append_assoc)
 
 -- all that is said of it
 pub record ReachedKept (g made : Graph) : Type 0 where
@@ -88,28 +70,20 @@ pub reached_kept : (g made : Graph) (flags : List Bool) → made ≡ part g (fla
 reached_kept g made flags e rules no_send A =
     let C = closed g rules no_send flags A in
     rw e (record {
-      walks = walks_kept g (flag_at flags) rules C no_send;
-      arrays = arrays_kept g
-          (flag_at flags) rules C no_send;
+      walks = grind (arith, walks_kept);
+      arrays = arrays_kept g (flag_at flags) rules C no_send;
       all = all_reached g rules no_send flags A;
-      rules = is_graph g
-          (flag_at flags) rules C no_send;
-      no_send = sends_nothing g (flag_at flags) rules C no_send;
-      shape =
-          is_shaped g (flag_at flags) rules C no_send;
+      rules = is_graph g (flag_at flags) rules C no_send;
+      no_send = grind (arith, sends_nothing);
+      shape = grind (arith, is_shaped);
       sizes = is_within g (flag_at flags) rules C no_send;
-      arms = arms_alone g (flag_at flags) rules C no_send;
+      arms = grind (arith, arms_alone);
       places = record {
         place = λ b. before (flag_at flags) b;
-        each = λ c lt.
-            (let k = kept_at g (flag_at flags) rules C no_send c
-            lt in (k.block, C.there k.block k.kept, A.only k.block k.kept, k.place));
-        begins =
-            begins_there g (flag_at flags) rules C no_send;
-        same = λ b lt r. does_the_same g
-            (flag_at flags) rules C no_send b (A.all b lt r);
-        walks = λ w given base pay fits.
-            weighs_no_more g (flag_at flags) rules C no_send w given
-            (λ b kept. fits b (C.there b kept) (A.only b kept)) base pay;
+        each = λ c lt. (let k = kept_at g (flag_at flags) rules C no_send c lt in grind arith);
+        begins = grind (arith, begins_there);
+        same = λ b lt r. does_the_same g (flag_at flags) rules C no_send b (A.all b lt r);
+        walks = λ w given base pay fits. weighs_no_more g (flag_at flags) rules C no_send w given (grind
+            arith) base pay;
       };
     })

@@ -13,9 +13,8 @@ use Rattle.ws_words.proofs.Places.{nth_append_left}
 -- Counts of what is kept.
 
 pub before_more : (keep : ℕ → Bool) (b d c : ℕ) → c ≡ b + d → before keep b ≤ before keep c
-before_more keep b zero c e = omega (arith, ap (before keep) (let z : c ≡ b = omega arith in z))
-before_more keep b (suc d) zero e = absurd (omega arith)
 before_more keep b (suc d) (suc c) e = omega (arith, before_more keep b d c (omega arith))
+before_more keep b d c e = grind arith
 
 -- one that is kept counts
 pub before_kept : (keep : ℕ → Bool) (b : ℕ) → keep b ≡ true → before keep (suc b) ≡ suc (before keep b)
@@ -28,8 +27,7 @@ before_dropped keep b k = ap (λ (v : Bool). before keep b + (if v then 1 else 0
 pub before_less : (keep : ℕ → Bool) (b c : ℕ) → keep b ≡ true → b < c → before keep b < before keep c
 before_less keep b zero k lt = absurd (omega arith)
 before_less keep b (suc c) k lt =
-    let d = before_more keep (suc b) (suc c - suc b) (suc c) (omega arith) in
-    omega (arith, d, before_kept keep b k)
+    grind (arith, before_more keep (suc b) (suc c - suc b) (suc c) (omega arith), before_kept keep b k)
 
 -- what is kept has a number of its own
 pub before_apart : (keep : ℕ → Bool) (b c : ℕ) → keep b ≡ true → keep c ≡ true → before keep b ≡ before keep c
@@ -47,8 +45,7 @@ before_most keep (suc n) = grind (arith, before_most keep n)
 
 length_if : {A : Type 0} (v : Bool) (x : A) (xs : List A) → length (if v then x ∷ xs else xs)
     ≡ (if v then 1 else 0) + length xs
-length_if true x xs = omega arith
-length_if false x xs = omega arith
+length_if v x xs = grind arith
 
 module _ (keep : ℕ → Bool) (name : Exit → Exit) where
   pub blocks_count : (b : ℕ) (xs : List Block) → length (part_blocks keep name b xs) + before keep b
@@ -68,8 +65,7 @@ module _ (keep : ℕ → Bool) (name : Exit → Exit) where
     spots_if : (f vars : ℕ) (v : Bool) (x : Block) (xs : List Block) (ss : List Spot)
         → spots_in (home f) vars xs ≡ ss → spots_in (home f) vars (if v then part_block name x ∷ xs else xs)
         ≡ (if v then part_spot (record { home = f; vars = vars; block = x }) ∷ ss else ss)
-    spots_if f vars true x xs ss e = grind (arith, part_spot, home)
-    spots_if f vars false x xs ss e = e
+    spots_if f vars v x xs ss e = grind arith
 
     spots_blocks : (f vars b : ℕ) (xs : List Block) → spots_in (home f) vars (part_blocks keep name b xs)
         ≡ part_spots b (spots_in f vars xs)
@@ -79,8 +75,7 @@ module _ (keep : ℕ → Bool) (name : Exit → Exit) where
     part_both : (b n : ℕ) (xs ys : List Spot) → n ≡ b + length xs → part_spots b (xs ++ ys) ≡ part_spots b xs
         ++ part_spots n ys
     part_both b n [] ys e = ap (λ k. part_spots k ys) (let z : b ≡ n = omega arith in z)
-    part_both b n (x ∷ xs) ys e =
-        grind (arith, part_spots, part_spot, part_both (suc b) n xs ys (omega arith))
+    part_both b n (x ∷ xs) ys e = grind (arith, part_both (suc b) n xs ys (omega arith))
 
     none_kept : (b : ℕ) (ss : List Spot) → ((i : ℕ) (s : Spot) → nth ss i ≡ Some s → keep (b + i) ≡ false)
         → part_spots b ss ≡ []
@@ -93,14 +88,11 @@ module _ (keep : ℕ → Bool) (name : Exit → Exit) where
       where
         none : (v : Bool) → v ≡ false → part_spots (suc b) ss ≡ []
             → (if v then part_spot s ∷ part_spots (suc b) ss else part_spots (suc b) ss) ≡ []
-        none true e h = absurd (cc)
-        none false e h = h
+        none v e h = grind arith
 
     -- a block that is kept stands after those kept before it
     pub part_at : (b : ℕ) (ss : List Spot) (i j : ℕ) (s : Spot) → nth ss i ≡ Some s → keep (b + i) ≡ true
         → j + before keep b ≡ before keep (b + i) → nth (part_spots b ss) j ≡ Some (part_spot s)
-    part_at b [] i j s e k ej = absurd (cc)
-    part_at b (x ∷ ss) zero j s e k ej = grind (arith, part_spot, part_spots)
     part_at b (x ∷ ss) (suc i) j s e k ej =
         let z : suc b + i ≡ b + suc i = omega arith in
         later (keep b) refl j (omega (arith, ej, ap (before keep) z))
@@ -115,6 +107,7 @@ module _ (keep : ℕ → Bool) (name : Exit → Exit) where
             absurd (omega (arith, h, before_more keep (suc b) i (suc b + i) refl, before_kept keep b ev))
         later true ev (suc j) h rest = rest j (omega (arith, h, before_kept keep b ev))
         later false ev j h rest = rest j (omega (arith, h, before_dropped keep b ev))
+    part_at b ss i j s e k ej = grind arith
 
     -- each block of the part is one that is kept
     pub record From (b : ℕ) (ss : List Spot) (j : ℕ) : Type 0 where
@@ -125,14 +118,7 @@ module _ (keep : ℕ → Bool) (name : Exit → Exit) where
 
     from_later : (b : ℕ) (x : Spot) (ss : List Spot) (i j : ℕ) → i + before keep (suc b) ≡ j + before keep b
         → From (suc b) ss i → From b (x ∷ ss) j
-    from_later b x ss i j e r =
-        let z : suc b + r.place ≡ b + suc r.place = omega arith in
-        record {
-          place = suc r.place;
-          there = omega arith;
-          kept = ap keep (sym z) ∙ r.kept;
-          is = omega (arith, e, r.is, ap (before keep) z);
-        }
+    from_later b x ss i j e r = let z : suc b + r.place ≡ b + suc r.place = omega arith in grind arith
 
     pub part_from : (b : ℕ) (ss : List Spot) (j : ℕ) → j < length (part_spots b ss) → From b ss j
     part_from b [] j lt = absurd (omega arith)
@@ -148,18 +134,16 @@ module _ (keep : ℕ → Bool) (name : Exit → Exit) where
 
   in_blocks : (f vars : ℕ) (xs : List Block) (i : ℕ) (s : Spot) → nth (spots_in f vars xs) i ≡ Some s
       → s.home ≡ f
-  in_blocks f vars [] i s e = absurd (cc)
-  in_blocks f vars (x ∷ xs) zero s e = cc
   in_blocks f vars (x ∷ xs) (suc i) s e = in_blocks f vars xs i s e
+  in_blocks f vars xs i s e = grind arith
 
   in_count : (f vars : ℕ) (xs : List Block) → length (spots_in f vars xs) ≡ length xs
   in_count f vars [] = refl
   in_count f vars (x ∷ xs) = ap suc (in_count f vars xs)
 
   bound : {A : Type 0} (xs : List A) (k : ℕ) (x : A) → nth xs k ≡ Some x → k < length xs
-  bound [] k x e = absurd (cc)
-  bound (y ∷ xs) zero x e = omega arith
   bound (y ∷ xs) (suc k) x e = omega (arith, bound xs k x e)
+  bound xs k x e = grind arith
 
   module _ (kept : ℕ → Bool) where
     abbrev home : ℕ → ℕ
@@ -177,39 +161,25 @@ module _ (keep : ℕ → Bool) (name : Exit → Exit) where
     whole_later : (f b : ℕ) (p : GraphProc) (ps : List GraphProc) → Whole f b (p ∷ ps)
         → Whole (suc f) (b + length p.blocks) ps
     whole_later f b p ps w = record {
-      firsts = λ e lt. let z : suc f + e ≡ f + suc e = omega arith in ap kept z
-          ∙ w.firsts (suc e) (omega arith);
+      firsts = λ e lt. let z : suc f + e ≡ f + suc e = omega arith in grind arith;
       homes = λ i s e k.
           let z : (b + length p.blocks) + i ≡ b + (length p.blocks + i) = omega arith in
-          w.homes (length p.blocks + i) s (nth_right (spots_in f p.vars p.blocks) (spots_from (suc f) ps)
-          (length p.blocks) i (length p.blocks + i) (in_count f p.vars p.blocks) refl ∙ e)
+          w.homes (length p.blocks + i) s (grind (arith, nth_right, in_count))
           (ap keep (sym z) ∙ k);
     }
 
     -- of a procedure that isn't kept no block is
     whole_none : (f b : ℕ) (p : GraphProc) (ps : List GraphProc) → Whole f b (p ∷ ps) → keep b ≡ false
         → (i : ℕ) (s : Spot) → nth (spots_in f p.vars p.blocks) i ≡ Some s → keep (b + i) ≡ false
-    whole_none f b p ps w off i s e = by_test (keep (b + i)) refl
-      where
-        by_test : (v : Bool) → keep (b + i) ≡ v → v ≡ false
-        by_test false ev = refl
-        by_test true ev =
-            let there : i < length (spots_in f p.vars p.blocks) = bound (spots_in f p.vars p.blocks) i s e in
-            let up : kept s.home ≡ true =
-            w.homes i s (nth_append_left (spots_in f p.vars p.blocks) (spots_from (suc f) ps) i there ∙ e)
-            ev in
-            let same : kept s.home ≡ kept f = ap kept (in_blocks f p.vars p.blocks i s e) in
-            let first = whole_first f b p ps w in
-            absurd (cc)
+    whole_none f b p ps w off i s e = grind (arith, bound, nth_append_left, in_blocks, whole_first)
 
     none_counted : (f b : ℕ) (p : GraphProc) (ps : List GraphProc) → Whole f b (p ∷ ps) → keep b ≡ false
         → before keep (b + length p.blocks) ≡ before keep b
     none_counted f b p ps w off =
         let c = blocks_count b p.blocks in
-        let e : length (part_blocks keep name b p.blocks) ≡ 0 =
-        sym (in_count (home f) p.vars (part_blocks keep name b p.blocks))
-        ∙ ap length (spots_blocks home f p.vars b p.blocks) ∙ ap length
-        (none_kept home b (spots_in f p.vars p.blocks) (whole_none f b p ps w off)) in
+        let e : length (part_blocks keep name b p.blocks) ≡ 0 = sym (grind (arith, in_count)) ∙ ap length
+        (spots_blocks home f p.vars b p.blocks) ∙ ap length (none_kept home b (spots_in f p.vars p.blocks)
+        (whole_none f b p ps w off)) in
         omega arith
 
     -- the blocks of the part
@@ -219,10 +189,8 @@ module _ (keep : ℕ → Bool) (name : Exit → Exit) where
     spots_part f b (p ∷ ps) w =
         let n = b + length p.blocks in
         let rest = spots_part (suc f) n ps (whole_later f b p ps w) in
-        let count : n ≡ b + length (spots_in f p.vars p.blocks) =
-        ap (λ k. b + k) (sym (in_count f p.vars p.blocks)) in
-        by_test (keep b) refl rest
-        ∙ sym (part_both home b n (spots_in f p.vars p.blocks) (spots_from (suc f) ps) count)
+        let count : n ≡ b + length (spots_in f p.vars p.blocks) = grind (arith, in_count) in
+        by_test (keep b) refl rest ∙ sym (grind (arith, part_both))
       where
         by_test : (v : Bool) → keep b ≡ v
             → spots_from (home (suc f)) (part_procs keep name (b + length p.blocks) ps) ≡ part_spots home
@@ -238,30 +206,22 @@ module _ (keep : ℕ → Bool) (name : Exit → Exit) where
             ∙ ap (λ k. part_spots home b (spots_in f p.vars p.blocks) ++ spots_from k
             (part_procs keep name (b + length p.blocks) ps)) (sym up)
             ∙ ap (λ (zs : List Spot). part_spots home b (spots_in f p.vars p.blocks) ++ zs) rest
-        by_test false ev rest =
-            let same : home (suc f) ≡ home f = ap (λ (v : Bool). home f + (if v then 1 else 0))
-            (whole_first f b p ps w ∙ ev) ∙ (omega arith) in
-            ap (λ k. spots_from k (part_procs keep name (b + length p.blocks) ps)) (sym same)
-            ∙ rest
-            ∙ ap (λ (zs : List Spot). zs ++ part_spots home (b + length p.blocks) (spots_from (suc f) ps))
-            (sym (none_kept home b (spots_in f p.vars p.blocks) (whole_none f b p ps w ev)))
+        by_test false ev rest = let same : home (suc f) ≡ home f = grind (arith, whole_first) in
+            ap (λ k. spots_from k (part_procs keep name (b + length p.blocks) ps)) (sym same) ∙ rest ∙ ap (λ
+            (zs : List Spot). zs ++ part_spots home (b + length p.blocks) (spots_from (suc f) ps)) (sym
+            (none_kept home b (spots_in f p.vars p.blocks) (whole_none f b p ps w ev)))
 
     -- the procedures of the part
     pub procs_count : (f b : ℕ) (ps : List GraphProc) → Whole f b ps → length (part_procs keep name b ps)
         + home f ≡ home (f + length ps)
     procs_count f b [] w = let z : f + 0 ≡ f = omega arith in omega (arith, ap home z)
     procs_count f b (p ∷ ps) w =
-        let z : suc f + length ps ≡ f + suc (length ps) = omega arith in
-        let first : home f + (if kept f then 1 else 0) ≡ home f + (if keep b then 1 else 0) =
-        ap (λ (v : Bool). home f + (if v then 1 else 0)) (whole_first f b p ps w) in
-        omega (
+        grind (
           arith,
-          length_if (keep b) (part_proc keep name b p)
-              (part_procs keep name (b + length p.blocks) ps),
-          procs_count (suc f) (b + length p.blocks) ps
-              (whole_later f b p ps w),
-          ap home z,
-          first,
+          whole_first,
+          length_if,
+          whole_later,
+          procs_count (suc f) (b + length p.blocks) ps (whole_later f b p ps w),
         )
 
     -- among these procedures that is kept which begins at this block, and its first block has a number
@@ -272,12 +232,9 @@ module _ (keep : ℕ → Bool) (name : Exit → Exit) where
     pub proc_placed : (f b n : ℕ) (ps : List GraphProc) → Whole f b ps → (e j : ℕ) → e < length ps
         → keep (entry_from b ps e) ≡ true → j + home f ≡ home (f + e) → Stands (part_procs keep name b ps)
         (or_else (nth ps e) no_proc) (entry_from b ps e) b n j
-    proc_placed f b n [] w e j lt k ej = absurd (omega arith)
-    proc_placed f b n (p ∷ ps) w zero j lt k ej = grind (arith, home)
-    proc_placed f b n (p ∷ ps) w (suc e) j lt k ej =
-        later (keep b) refl j (omega (arith, ej, ap home (let z : suc f + e ≡ f + suc e = omega arith in z)))
-        (λ m i h. proc_placed (suc f) (b + length p.blocks) m ps (whole_later f b p ps w) e i
-        (omega (arith, lt)) k h)
+    proc_placed f b n (p ∷ ps) w (suc e) j lt k ej = later (keep b) refl j
+        (omega (arith, ej, ap home (let z : suc f + e ≡ f + suc e = omega arith in z))) (λ m i h. proc_placed
+        (suc f) (b + length p.blocks) m ps (whole_later f b p ps w) e i (omega (arith, lt)) k h)
       where
         kept_by : (v : Bool) → keep b ≡ v → home (suc f) ≡ home f + (if v then 1 else 0)
         kept_by v ev = ap (λ (t : Bool). home f + (if t then 1 else 0)) (whole_first f b p ps w ∙ ev)
@@ -300,6 +257,7 @@ module _ (keep : ℕ → Bool) (name : Exit → Exit) where
         later false ev j h rest =
             let r = rest n j (omega (arith, h, kept_by false ev)) in
             record { proc = r.proc; entry = omega (arith, r.entry, none_counted f b p ps w ev) }
+    proc_placed f b n ps w e j lt k ej = grind arith
 
     -- each has a block
     pub procs_numbered : (f b : ℕ) (ps : List GraphProc) → AllByRecursion ProcNumbers ps

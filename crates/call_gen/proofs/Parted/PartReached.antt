@@ -1,8 +1,7 @@
 -- The reached blocks are a closed part, and each block of it is reached there.
 use Rattle.std.proofs.Common.{ℕ, ◌-◌, ◌≡◌, ◌<◌, Bool, true, List, [], length, refl, sym, ap, ◌∙◌, subst, inl}
 use Rattle.std.proofs.Common.{inr, arith}
-use Rattle.cfg_core.specs.Graph.{Exit, Goto, Branch, Call, Return, Send, Stop, Graph, Spot, spots, spot_at}
-use Rattle.cfg_core.specs.Graph.{block_at, entry_of}
+use Rattle.cfg_core.specs.Graph.{Exit, Goto, Branch, Call, Graph, Spot, spots, spot_at, block_at, entry_of}
 use Rattle.cfg_core.specs.Rules.{StaysIn, Leads, IsGraph}
 use Rattle.call_gen.specs.Keeps.{NoSend, HasNoSend}
 use Rattle.call_gen.specs.Reached.{Enters, Reached, start, follow, enter, AllReached}
@@ -27,16 +26,13 @@ module _ (g : Graph) (rules : IsGraph g) (no_send : HasNoSend g) where
       (exit_in g rules b (Branch t d f) e).2
   edge_stays b c (Call r f ts back) e l = subst (λ n. StaysIn g (spot_at g b).home n) (sym l)
       (exit_in g rules b (Call r f ts back) e).4
-  edge_stays b c (Return t) e l = absurd l
-  edge_stays b c (Send t ts ls) e l = absurd (subst NoSend e (no_send b))
-  edge_stays b c Stop e l = absurd l
+  edge_stays b c x e l = grind arith
 
   -- a call enters the first block of a procedure
   entered : (b c : ℕ) (x : Exit) → (block_at g b).exit ≡ x → Enters g x c → (f : ℕ) × (f < length g.procs)
       × (c ≡ entry_of g f)
   entered b c (Call r f ts back) e l = (f, (exit_in g rules b (Call r f ts back) e).1, l)
-  entered b c (Goto d) e l = absurd l
-  entered b c _ e l = absurd l
+  entered b c x e l = absurd l
 
   abbrev main : ℕ
   main = length g.procs - 1
@@ -86,13 +82,7 @@ module _ (g : Graph) (rules : IsGraph g) (no_send : HasNoSend g) where
     exit_is b r = ap (λ (s : Spot). s.block.exit) (block_is g keep rules closed b (all b r))
 
     named_leads : (x : Exit) (c : ℕ) → NoSend x → Leads x c → Leads (name g keep x) (place c)
-    named_leads (Goto d) c n l = ap place l
-    named_leads (Branch t d e) c n (inl l) = inl (ap place l)
-    named_leads (Branch t d e) c n (inr l) = inr (ap place l)
-    named_leads (Call r f ts back) c n l = ap place l
-    named_leads (Return t) c n l = absurd l
-    named_leads (Send t ts ls) c n l = absurd n
-    named_leads Stop c n l = absurd l
+    named_leads x c n l = grind arith
 
     named_enters : (b c : ℕ) → Reached g b → (x : Exit) → (block_at g b).exit ≡ x → Enters g x c
         → Enters h (name g keep x) (place c)
@@ -102,23 +92,17 @@ module _ (g : Graph) (rules : IsGraph g) (no_send : HasNoSend g) where
         all (entry_of g f)
         (enter b (entry_of g f) r (subst (λ (x : Exit). Enters g x (entry_of g f)) (sym e) refl)) in
         ap place l ∙ sym (entry_is g keep rules closed f there k)
-    named_enters b c r (Goto d) e l = absurd l
-    named_enters b c r _ e l = absurd l
+    named_enters b c r x e l = absurd l
 
     reached_place : (b : ℕ) → Reached g b → Reached h (place b)
     reached_place _ start =
         let e : entry_of h (length h.procs - 1) ≡ place (entry_of g main) =
-        ap (entry_of h) (main_is g keep rules closed) ∙ entry_is g keep rules closed main main_low
-        (all (entry_of g main) start) in
+        grind (arith, main_is, closed, entry_is, main_low, all) in
         subst (λ n. Reached h n) e start
     reached_place _ (follow b c r l) = follow (place b) (place c) (reached_place b r)
-        (subst (λ (x : Exit). Leads x (place c)) (sym (exit_is b r))
-        (named_leads (block_at g b).exit c (no_send b) l))
+        (grind (arith, exit_is, named_leads))
     reached_place _ (enter b c r l) = enter (place b) (place c) (reached_place b r)
-        (subst (λ (x : Exit). Enters h x (place c)) (sym (exit_is b r))
-        (named_enters b c r (block_at g b).exit refl l))
+        (grind (arith, exit_is, named_enters))
 
     pub all_reached : AllReached h
-    all_reached k lt =
-        let f = kept_at g keep rules closed no_send k lt in
-        subst (λ n. Reached h n) (sym f.place) (reached_place f.block (A.only f.block f.kept))
+    all_reached k lt = let f = kept_at g keep rules closed no_send k lt in grind (arith, reached_place)

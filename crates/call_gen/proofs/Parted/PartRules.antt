@@ -1,18 +1,16 @@
 -- A closed part of a graph keeps the six rules, and the order of blocks and edges.
-use Rattle.std.proofs.Common.{ℕ, ◌+◌, ◌-◌, ◌≡◌, ◌<◌, ◌≤◌, Bool, true, List, [], ◌∷◌, length, refl, sym, ap}
-use Rattle.std.proofs.Common.{◌∙◌, subst, inl, inr, Option, arith}
+use Rattle.std.proofs.Common.{ℕ, ◌≡◌, ◌<◌, ◌≤◌, Bool, true, List, [], ◌∷◌, length, refl, sym, ap, ◌∙◌, subst}
+use Rattle.std.proofs.Common.{inl, inr, Option, arith}
 use Rattle.std.specs.List.{AllByRecursion}
 use Rattle.std.proofs.lemmas.Bool.{cases_lt}
-use Rattle.cfg_core.specs.Graph.{Term, Number, Var, Cell, Flip, Not, Neg, Binary, Op, Assign, Store, Print}
-use Rattle.cfg_core.specs.Graph.{Read, Give, Take, Choose, Tick, TickBy, Exit, Goto, Branch, Call, Return}
-use Rattle.cfg_core.specs.Graph.{Send, Stop, GraphProc, Graph, Spot, spots, no_spot, spot_at, block_at}
+use Rattle.cfg_core.specs.Graph.{Term, Number, Var, Cell, Flip, Not, Neg, Binary, Op, Exit, Goto, Branch}
+use Rattle.cfg_core.specs.Graph.{Call, Return, GraphProc, Graph, Spot, spots, no_spot, spot_at, block_at}
 use Rattle.cfg_core.specs.Graph.{entry_of}
 use Rattle.cfg_core.specs.Rules.{TermIn, OpIn, StaysIn, ExitIn, Leads, BlockNumbers, Lands, CallsEarlier}
 use Rattle.cfg_core.specs.Rules.{calls, has_tick, has_turn, ChoosesBare, Quiet, one, more, IsGraph}
 use Rattle.cfg_core.specs.Edges.{Edge, IsHeader}
 use Rattle.cfg_core.specs.Shape.{is_branch, TestsInATurn, OnlyFrom, BranchesApart, IsShaped, ArmsAlone}
 use Rattle.call_gen.specs.Keeps.{NoSend, HasNoSend}
-use Rattle.call_gen.specs.Reached.{Enters}
 use Rattle.call_gen.specs.Part.{before, keeps, number, name, part}
 use Rattle.call_gen.proofs.Parted.PartPlaces.{before_less, before_apart, before_order, part_spot, part_from}
 use Rattle.call_gen.proofs.Parted.PartPlaces.{procs_numbered}
@@ -33,15 +31,7 @@ module _ (g h : Graph) (same : g.arrays ≡ h.arrays) where
   term_in v (Binary op a b) i = (term_in v a i.0, term_in v b i.1)
 
   op_in : (v : ℕ) (op : Op) → OpIn (length g.arrays) v op → OpIn (length h.arrays) v op
-  op_in v (Assign x t) i = (i.0, term_in v t i.1)
-  op_in v (Store a t u) i = ((i.0.0, omega (arith, i.0.1, ap length same)), term_in v t i.1, term_in v u i.2)
-  op_in v (Print t) i = term_in v t i
-  op_in v (Read x) i = i
-  op_in v (Give p x) i = i
-  op_in v (Take p t) i = (i.0, term_in v t i.1)
-  op_in v (Choose x t a b) i = (i.0, term_in v t i.1, term_in v a i.2, term_in v b i.3)
-  op_in v (Tick n) i = tt
-  op_in v (TickBy t n m) i = term_in v t i
+  op_in v op i = grind (arith, term_in)
 
   all_terms_in : (v : ℕ) (ts : List Term) → AllByRecursion (TermIn (length g.arrays) v) ts
       → AllByRecursion (TermIn (length h.arrays) v) ts
@@ -82,14 +72,8 @@ module _ (g : Graph) (keep : ℕ → Bool) (rules : IsGraph g) (C : Closed g kee
 
   pub kept_at : (k : ℕ) → k < length (spots h) → Kept k
   kept_at k lt =
-      let f = part_from keep named (number g keep) 0 (spots g) k
-      (subst (λ (ss : List Spot). k < length ss) (walks.spots_are g keep rules C) lt) in
-      let z : 0 + f.place ≡ f.place = omega arith in
-      record {
-        block = f.place;
-        kept = ap keep (sym z) ∙ f.kept;
-        place = omega (arith, f.is, ap (before keep) z);
-      }
+      let f = part_from keep named (number g keep) 0 (spots g) k (grind (arith, walks.spots_are)) in
+      grind arith
 
   block_is : (b : ℕ) → keep b ≡ true → spot_at h (place b) ≡ moved (spot_at g b)
   block_is = walks.block_is g keep rules C
@@ -97,29 +81,22 @@ module _ (g : Graph) (keep : ℕ → Bool) (rules : IsGraph g) (C : Closed g kee
   -- so what holds of each that is kept holds of all
   pub every : (P : Spot → Type 0) → ((b : ℕ) → keep b ≡ true → P (moved (spot_at g b)))
       → AllByRecursion P (spots h)
-  every P each = all_of P (spots h) (λ k s e.
-      let f = kept_at k (nth_short (spots h) k s e) in
-      let same : moved (spot_at g f.block) ≡ s = sym (block_is f.block f.kept) ∙ ap (spot_at h) (sym f.place)
-      ∙ spot_from h k s e in
-      subst P same (each f.block f.kept))
+  every P each = all_of P (spots h) (λ k s e. let f = kept_at k (nth_short (spots h) k s e) in let same :
+      moved (spot_at g f.block) ≡ s = sym (block_is f.block f.kept) ∙ ap (spot_at h) (sym f.place) ∙ spot_from
+      h k s e in grind arith)
 
   edge_kept : (b : ℕ) (x : Exit) (c : ℕ) → keep b ≡ true → (block_at g b).exit ≡ x → Leads x c → keep c ≡ true
   edge_kept b x c k e l = C.edge b c k (rw e l)
 
   callee_kept : (b : ℕ) (r : Option ℕ) (f : ℕ) (ts : List Term) (back : ℕ) → keep b ≡ true
       → (block_at g b).exit ≡ Call r f ts back → keep (entry_of g f) ≡ true
-  callee_kept b r f ts back k e =
-      C.call b (entry_of g f) k (subst (λ (y : Exit). Enters g y (entry_of g f)) (sym e) refl)
+  callee_kept b r f ts back k e = C.call b (entry_of g f) k (grind arith)
 
   number_less : (e f : ℕ) → keeps g keep e ≡ true → e < f → number g keep e < number g keep f
   number_less e f k lt = before_less (keeps g keep) e f k lt
 
   stays : (home c : ℕ) → keep c ≡ true → StaysIn g home c → StaysIn h (number g keep home) (place c)
-  stays home c k i = (
-    walks.block_there g keep rules C c k,
-    ap (λ (s : Spot). s.home) (block_is c k)
-        ∙ ap (number g keep) i.1,
-  )
+  stays home c k i = grind (arith, walks.block_there, block_is)
 
   exit_numbers : (b : ℕ) → keep b ≡ true → (x : Exit) → (block_at g b).exit ≡ x
       → ExitIn h (number g keep (spot_at g b).home) (spot_at g b).vars (named x)
@@ -128,8 +105,7 @@ module _ (g : Graph) (keep : ℕ → Bool) (rules : IsGraph g) (C : Closed g kee
   exit_numbers b k (Branch t c d) e =
       let i = exit_in g rules b (Branch t c d) e in (
         term_in g h same_arrays (spot_at g b).vars t i.0,
-        stays (spot_at g b).home c
-            (edge_kept b (Branch t c d) c k e (inl refl)) i.1,
+        stays (spot_at g b).home c (edge_kept b (Branch t c d) c k e (inl refl)) i.1,
         stays (spot_at g b).home d (edge_kept b (Branch t c d) d k e (inr refl)) i.2,
       )
   exit_numbers b k (Call r f ts back) e =
@@ -143,8 +119,7 @@ module _ (g : Graph) (keep : ℕ → Bool) (rules : IsGraph g) (C : Closed g kee
       )
   exit_numbers b k (Return t) e = term_in g h same_arrays (spot_at g b).vars t
       (exit_in g rules b (Return t) e)
-  exit_numbers b k (Send t ts ls) e = tt
-  exit_numbers b k Stop e = tt
+  exit_numbers b k x e = tt
 
   numbers : (b : ℕ) → keep b ≡ true → BlockNumbers h (moved (spot_at g b))
   numbers b k =
@@ -157,19 +132,16 @@ module _ (g : Graph) (keep : ℕ → Bool) (rules : IsGraph g) (C : Closed g kee
       }
 
   lands : (x : Exit) → Lands h (named x)
-  lands (Goto c) = tt
-  lands _ = tt
+  lands x = grind arith
 
   earlier : (b : ℕ) → keep b ≡ true → (x : Exit) → (block_at g b).exit ≡ x
       → CallsEarlier (number g keep (spot_at g b).home) (named x)
-  earlier b k (Goto c) e = tt
   earlier b k (Call r f ts back) e = number_less f (spot_at g b).home (callee_kept b r f ts back k e)
       (subst (λ (y : Exit). CallsEarlier (spot_at g b).home y) e (earlier_at g rules b))
-  earlier b k _ e = tt
+  earlier b k x e = tt
 
   calls_same : (x : Exit) → calls (named x) ≡ calls x
-  calls_same (Goto c) = refl
-  calls_same _ = refl
+  calls_same x = grind arith
 
   ticks_at : (b : ℕ) → calls (block_at g b).exit ≡ true → has_tick (block_at g b).ops ≡ true
   unfolding spot_at no_spot
@@ -182,12 +154,7 @@ module _ (g : Graph) (keep : ℕ → Bool) (rules : IsGraph g) (C : Closed g kee
   -- Edges.
 
   leads_named : (x : Exit) (d : ℕ) → Leads (named x) d → (c : ℕ) × (d ≡ place c) × Leads x c
-  leads_named (Goto c) d l = (c, l, refl)
-  leads_named (Branch t b c) d (inl l) = (b, l, inl refl)
-  leads_named (Branch t b c) d (inr l) = (c, l, inr refl)
-  leads_named (Call r f ts back) d l = (back, l, refl)
-  leads_named (Return t) d l = absurd l
-  leads_named _ d l = absurd l
+  leads_named x d l = grind arith
 
   -- an edge of the part is one of the graph
   pub record Came (k d : ℕ) : Type 0 where
@@ -205,20 +172,12 @@ module _ (g : Graph) (keep : ℕ → Bool) (rules : IsGraph g) (C : Closed g kee
 
   pub came : (k d : ℕ) → Edge h k d → Came k d
   came k d l = elim (cases_lt k (length (spots h))) [
-    | inr ge ↦ absurd (no_edge d (subst (λ (s : Spot). Leads s.block.exit d) (none_past h k ge) l))
+    | inr ge ↦ grind (arith, no_edge, none_past)
     | inl lt ↦
         let f = kept_at k lt in
         let is : spot_at h k ≡ moved (spot_at g f.block) = ap (spot_at h) f.place ∙ block_is f.block f.kept in
-        let r = leads_named (block_at g f.block).exit d (subst (λ (s : Spot). Leads s.block.exit d) is l) in
-        record {
-          from = f.block;
-          to = r.0;
-          kept_from = f.kept;
-          kept_to = C.edge f.block r.0 f.kept r.2;
-          place_from = f.place;
-          place_to = r.1;
-          edge = r.2;
-        }
+        let r = leads_named (block_at g f.block).exit d (grind arith) in
+        grind arith
   ]
 
   same_place : (b c : ℕ) → keep b ≡ true → keep c ≡ true → place b ≡ place c → b ≡ c
@@ -252,8 +211,7 @@ module _ (g : Graph) (keep : ℕ → Bool) (rules : IsGraph g) (C : Closed g kee
   led k d (more _ c _ path q l) =
       let p = led k c path in
       let r = came c d l in
-      let same : r.from ≡ p.to = same_place r.from p.to r.kept_from p.kept_to
-      (sym r.place_from ∙ p.place_to) in
+      let same : r.from ≡ p.to = grind (arith, same_place) in
       record {
         from = p.from;
         to = r.to;
@@ -261,24 +219,15 @@ module _ (g : Graph) (keep : ℕ → Bool) (rules : IsGraph g) (C : Closed g kee
         kept_to = r.kept_to;
         place_from = p.place_from;
         place_to = r.place_to;
-        path = more p.from p.to r.to p.path (ap has_turn (sym (same_ops c p.to p.kept_to p.place_to)) ∙ q)
-            (subst (λ n. Edge g n r.to) same r.edge);
+        path = more p.from p.to r.to p.path (grind (arith, same_ops)) (subst (λ n. Edge g n r.to) same
+            r.edge);
       }
 
   no_cycle : (k : ℕ) → Quiet h k k → ⊥
-  no_cycle k path =
-      let p = led k k path in
-      let same : p.to ≡ p.from = same_place p.to p.from p.kept_to p.kept_from
-      (sym p.place_to ∙ p.place_from) in
-      rules.cycles p.from (subst (λ n. Quiet g p.from n) same p.path)
+  no_cycle k path = grind (arith, led k k path, same_place)
 
   some_proc : 1 ≤ length h.procs
-  some_proc = omega (
-    arith,
-    walks.procs_are g keep rules C,
-    number_less (length g.procs - 1) (length g.procs)
-        C.main (walks.main_there g keep rules C),
-  )
+  some_proc = grind (arith, walks.procs_are g keep rules C, number_less, walks.main_there g keep rules C)
 
   pub is_graph : IsGraph h
   unfolding part
@@ -297,8 +246,7 @@ module _ (g : Graph) (keep : ℕ → Bool) (rules : IsGraph g) (C : Closed g kee
   }
 
   no_send_named : (x : Exit) → NoSend (named x)
-  no_send_named (Goto c) = tt
-  no_send_named _ = tt
+  no_send_named x = grind arith
 
   pub sends_nothing : HasNoSend h
   unfolding spot_at no_spot
@@ -308,26 +256,16 @@ module _ (g : Graph) (keep : ℕ → Bool) (rules : IsGraph g) (C : Closed g kee
   -- The order of blocks and edges.
 
   branch_same : (x : Exit) → is_branch (named x) ≡ is_branch x
-  branch_same (Goto c) = refl
-  branch_same _ = refl
+  branch_same x = grind arith
 
   -- a branch of the part is one of the graph
   named_branch : (x : Exit) (t : Term) (b c : ℕ) → named x ≡ Branch t b c
       → (d : ℕ) × (e : ℕ) × (x ≡ Branch t d e) × (b ≡ place d) × (c ≡ place e)
-  named_branch (Branch u d e) t b c h = grind arith
-  named_branch (Goto d) t b c h = absurd (cc)
-  named_branch (Call r f ts back) t b c h = absurd (cc)
-  named_branch (Return u) t b c h = absurd (cc)
-  named_branch (Send u ts ls) t b c h = absurd (cc)
-  named_branch Stop t b c h = absurd (cc)
+  named_branch x t b c h = grind arith
 
   only_from : (a b d : ℕ) → keep a ≡ true → keep d ≡ true → b ≡ place d → OnlyFrom g a d
       → OnlyFrom h (place a) b
-  only_from a b d ka kd e only other l =
-      let r = came other b l in
-      let to : r.to ≡ d = same_place r.to d r.kept_to kd (sym r.place_to ∙ e) in
-      let from : r.from ≡ a = only r.from (subst (λ n. Edge g r.from n) to r.edge) in
-      r.place_from ∙ ap place from
+  only_from a b d ka kd e only other l = let r = came other b l in grind (arith, same_place)
 
   -- a branch of the part at the places of one of the graph
   pub record Parted (a : ℕ) (t : Term) (b c : ℕ) : Type 0 where
@@ -344,10 +282,9 @@ module _ (g : Graph) (keep : ℕ → Bool) (rules : IsGraph g) (C : Closed g kee
 
   parted : (a : ℕ) (t : Term) (b c : ℕ) → (block_at h a).exit ≡ Branch t b c → Parted a t b c
   parted a t b c e =
-      let r = came a b (subst (λ (x : Exit). Leads x b) (sym e) (inl refl)) in
-      let is : spot_at h a ≡ moved (spot_at g r.from) = ap (spot_at h) r.place_from
-      ∙ block_is r.from r.kept_from in
-      let f = named_branch (block_at g r.from).exit t b c (sym (ap (λ (s : Spot). s.block.exit) is) ∙ e) in
+      let r = came a b (grind arith) in
+      let is : spot_at h a ≡ moved (spot_at g r.from) = grind (arith, block_is) in
+      let f = named_branch (block_at g r.from).exit t b c (grind arith) in
       record {
         from = r.from;
         first = f.0;
@@ -372,34 +309,19 @@ module _ (g : Graph) (keep : ℕ → Bool) (rules : IsGraph g) (C : Closed g kee
         apart_still a t b c p (alone.apart p.from t p.first p.second p.exit);
     ahead = λ a t b c e.
         let p = parted a t b c e in
-        let up = alone.ahead p.from t p.first p.second p.exit in (
-          omega (arith, p.is, p.is_first, before_less keep p.from p.first p.kept up.0),
-          omega (arith, p.is, p.is_second, before_less keep p.from p.second p.kept up.1),
-        );
+        let up = alone.ahead p.from t p.first p.second p.exit in grind (arith, before_less);
   }
 
   module _ (shape : IsShaped g) where
     headers : (c : ℕ) → IsHeader h c → TestsInATurn h c
     headers c (b, le, l) =
         let r = came b c l in
-        let up : r.to ≤ r.from = before_order keep r.to r.from r.kept_to r.kept_from
-        (omega arith) in
+        let up : r.to ≤ r.from = grind (arith, before_order) in
         let t = shape.headers r.to (r.from, up, r.edge) in
-        let is : spot_at h c ≡ moved (spot_at g r.to) = ap (spot_at h) r.place_to ∙ block_is r.to r.kept_to in
-        record {
-          ticks = ap (λ (s : Spot). has_tick s.block.ops) is ∙ t.ticks;
-          tests = ap (λ (s : Spot). is_branch s.block.exit) is ∙ branch_same (block_at g r.to).exit ∙ t.tests;
-        }
+        grind (arith, block_is, branch_same)
 
     backward : (b c : ℕ) → Edge h b c → c ≤ b → (block_at h b).exit ≡ Goto c
-    backward b c l le =
-        let r = came b c l in
-        let up : r.to ≤ r.from = before_order keep r.to r.from r.kept_to r.kept_from
-        (omega arith) in
-        let is : spot_at h b ≡ moved (spot_at g r.from) = ap (spot_at h) r.place_from
-        ∙ block_is r.from r.kept_from in
-        ap (λ (s : Spot). s.block.exit) is ∙ ap named (shape.backward r.from r.to r.edge up)
-        ∙ ap (λ n. Goto n) (sym r.place_to)
+    backward b c l le = let r = came b c l in grind (arith, before_order, block_is)
 
     branches : (a : ℕ) (t : Term) (b c : ℕ) → (block_at h a).exit ≡ Branch t b c → BranchesApart h a b c
     branches a t b c e = let p = parted a t b c e in

@@ -1,7 +1,6 @@
 -- A closed part of a graph keeps its walk, block by block.
-use Rattle.std.proofs.Common.{ℕ, zero, suc, ◌+◌, ◌-◌, ◌==◌, ◌≡◌, ◌<◌, ◌≤◌, Bool, true, false, if◌then◌else◌}
-use Rattle.std.proofs.Common.{List, [], ◌∷◌, length, map, refl, sym, ap, ◌∙◌, subst, inl, inr, Option, Some}
-use Rattle.std.proofs.Common.{arith}
+use Rattle.std.proofs.Common.{ℕ, zero, suc, ◌+◌, ◌-◌, ◌≡◌, ◌<◌, ◌≤◌, Bool, true, List, [], length, map, refl}
+use Rattle.std.proofs.Common.{sym, ap, subst, inl, inr, Option, Some, arith}
 use Rattle.std.specs.List.{AllByRecursion, sum_by}
 use Rattle.std.proofs.lemmas.List.Sums.{sum_by-append}
 use Rattle.ws_words.specs.Outside.{Outside, ProcState, World, zeros, opening_out}
@@ -9,8 +8,8 @@ use Rattle.cfg_core.specs.Graph.{Exit, Goto, Branch, Call, Return, Send, Stop, G
 use Rattle.cfg_core.specs.Graph.{no_spot, no_proc, spot_at, block_at, proc_at, entry_of}
 use Rattle.cfg_core.specs.Rules.{ExitIn, Leads, CallsEarlier, IsGraph}
 use Rattle.cfg_core.specs.Edges.{Edge}
-use Rattle.cfg_core.specs.Walk.{value_of, values_of, OpsOutcome, Done, Out, Frame, Config, At, Over, Going}
-use Rattle.cfg_core.specs.Walk.{entered, returned, leave, passed, step, walk, cells_of, opening, IsOver}
+use Rattle.cfg_core.specs.Walk.{value_of, OpsOutcome, Frame, Config, At, Over, Going, returned, leave, passed}
+use Rattle.cfg_core.specs.Walk.{step, walk, cells_of, opening, IsOver}
 use Rattle.cfg_core.specs.Shown.{SameShown, SameWalks, SameArrays, AllInside}
 use Rattle.cfg_core.specs.Weights.{block_left, path, WalksWeigh}
 use Rattle.cfg_core.proofs.Paired as paired
@@ -35,8 +34,7 @@ pub record Closed (g : Graph) (keep : ℕ → Bool) : Type 0 where
 
 pub spot_is : (g : Graph) (b : ℕ) → b < length (spots g) → nth (spots g) b ≡ Some (spot_at g b)
 unfolding spot_at
-spot_is g b lt = let r = nth_there (spots g) b lt in r.1 ∙ ap (λ (o : Option Spot). Some (or_else o no_spot))
-    (sym r.1)
+spot_is g b lt = grind (arith, nth_there (spots g) b lt)
 
 pub spot_from : (g : Graph) (k : ℕ) (s : Spot) → nth (spots g) k ≡ Some s → spot_at g k ≡ s
 unfolding spot_at
@@ -71,11 +69,7 @@ module _ (g : Graph) (keep : ℕ → Bool) (rules : IsGraph g) (C : Closed g kee
 
   pub placed : (b : ℕ) → keep b ≡ true → nth (spots h) (place b) ≡ Some
       (part_spot keep named (number g keep) (spot_at g b))
-  placed b k =
-      let z : 0 + b ≡ b = omega arith in
-      ap (λ (ss : List Spot). nth ss (place b)) spots_are
-      ∙ part_at keep named (number g keep) 0 (spots g) b (place b) (spot_at g b) (spot_is g b (C.there b k))
-      (ap keep z ∙ k) (omega (arith, ap place z))
+  placed b k = grind (arith, spots_are, part_at, spot_is g b (C.there b k))
 
   pub block_there : (b : ℕ) → keep b ≡ true → place b < length (spots h)
   block_there b k = nth_short (spots h) (place b) _ (placed b k)
@@ -113,9 +107,7 @@ module _ (g : Graph) (keep : ℕ → Bool) (rules : IsGraph g) (C : Closed g kee
   main_there = omega arith
 
   pub main_is : length h.procs - 1 ≡ number g keep main
-  main_is =
-      let z : length g.procs ≡ suc main = omega arith in
-      omega (arith, procs_are, ap (number g keep) z, before_kept (keeps g keep) main C.main)
+  main_is = grind (arith, procs_are, before_kept (keeps g keep) main C.main)
 
   -- The walk.
 
@@ -139,8 +131,7 @@ module _ (g : Graph) (keep : ℕ → Bool) (rules : IsGraph g) (C : Closed g kee
     module _ (b : ℕ) (kept : keep b ≡ true) (frames : List Frame) (waiting : Waiting frames) where
       returns : (v : ℕ) (o : Outside) (fs : List Frame) (k : ℕ) → Waiting fs
           → Relates (returned v o fs k) (returned v o (moved_frames fs) k)
-      returns v o [] k w = refl
-      returns v o (f ∷ fs) k w = (w.0, w.1, refl)
+      returns v o fs k w = grind arith
 
       edge_is : (x : Exit) (c : ℕ) → (block_at g b).exit ≡ x → Leads x c → keep c ≡ true
       edge_is x c e l = C.edge b c kept (subst (λ (y : Exit). Leads y c) (sym e) l)
@@ -148,29 +139,12 @@ module _ (g : Graph) (keep : ℕ → Bool) (rules : IsGraph g) (C : Closed g kee
       leaves : (x : Exit) → (block_at g b).exit ≡ x → (s : ProcState) (k : ℕ)
           → Relates (leave g x s frames k) (leave h (named x) s (moved_frames frames) k)
       leaves (Goto c) e s k = (edge_is (Goto c) c e refl, waiting, refl)
-      leaves (Branch t c d) e s k = by_test ((value_of t s).0 == 0)
-        where
-          by_test : (v : Bool)
-              → Relates (if v then At d (value_of t s).1 frames k else At c (value_of t s).1 frames k)
-              (if v then At (place d) (value_of t s).1 (moved_frames frames) k
-              else At (place c) (value_of t s).1 (moved_frames frames) k)
-          by_test true = (edge_is (Branch t c d) d e (inr refl), waiting, refl)
-          by_test false = (edge_is (Branch t c d) c e (inl refl), waiting, refl)
+      leaves (Branch t c d) e s k =
+          grind (arith, edge_is (Branch t c d) d e (inr refl), edge_is (Branch t c d) c e (inl refl))
       leaves (Call r f ts back) e s k =
           let there : f < length g.procs = (exit_in g rules b (Call r f ts back) e).1 in
-          let k_entry : keep (entry_of g f) ≡ true = C.call b (entry_of g f) kept
-          (subst (λ (y : Exit). Enters g y (entry_of g f)) (sym e) refl) in
-          let k_back : keep back ≡ true = edge_is (Call r f ts back) back e refl in
-          let vs = values_of ts s in
-          let frame : Frame = record { result = r; back = place back; vars = vs.1.vars } in (
-            k_entry,
-            (k_back, waiting),
-            ap (λ n. At n (record { vars = entered (proc_at h (number g keep f)) vs.0; out = vs.1.out })
-                (frame ∷ moved_frames frames) k) (entry_is f there k_entry)
-                ∙ ap (λ (p : GraphProc). At (place (entry_of g f))
-                (record { vars = entered p vs.0; out = vs.1.out }) (frame ∷ moved_frames frames) k)
-                (proc_is f there k_entry),
-          )
+          let k_entry : keep (entry_of g f) ≡ true = C.call b (entry_of g f) kept (grind arith) in
+          grind (arith, edge_is, entry_is, proc_is)
       leaves (Return t) e s k = returns (value_of t s).0 (value_of t s).1.out frames k waiting
       leaves (Send t ts ls) e s k = absurd (subst NoSend e (no_send b))
       leaves Stop e s k = refl
@@ -178,13 +152,10 @@ module _ (g : Graph) (keep : ℕ → Bool) (rules : IsGraph g) (C : Closed g kee
     passes : (b : ℕ) → keep b ≡ true → (frames : List Frame) → Waiting frames → (o : OpsOutcome)
         → Relates (passed g o (block_at g b).exit frames)
         (passed h o (named (block_at g b).exit) (moved_frames frames))
-    passes b kept frames waiting (Done s k) = leaves b kept frames waiting (block_at g b).exit refl s k
-    passes b kept frames waiting (Out o) = refl
+    passes b kept frames waiting o = grind (arith, leaves)
 
     steps : (c d : Config) → Relates c d → Relates (step g c) (step h d)
-    steps (At b s frames k) d r = grind (arith, h, named, moved_frames, block_is, passes)
-    steps (Over o k) d r = ap (step h) r
-    steps (Going o) d r = ap (step h) r
+    steps c d r = grind (arith, block_is, passes)
 
     along : (m : ℕ) (c d : Config) → Relates c d → Relates (walk g m c) (walk h m d)
     along zero c d r = r
@@ -204,9 +175,7 @@ module _ (g : Graph) (keep : ℕ → Bool) (rules : IsGraph g) (C : Closed g kee
       left_few : (b : ℕ) → keep b ≡ true → (s t : ProcState) (frames fs : List Frame) (k j : ℕ) (c d : Config)
           → Relates c d → sum_by w (block_left (At (place b) t fs j) d) ≤ sum_by given
           (block_left (At b s frames k) c)
-      left_few b kept s t frames fs k j (At e u gs i) d r = grind (arith, place)
-      left_few b kept s t frames fs k j (Over o i) d r = grind (arith, place)
-      left_few b kept s t frames fs k j (Going o) d r = grind (arith, place)
+      left_few b kept s t frames fs k j c d r = grind arith
 
       path_few : (m : ℕ) (c d : Config) → Relates c d → sum_by w (path h m d) ≤ sum_by given (path g m c)
       path_few zero c d r = omega arith
@@ -215,14 +184,7 @@ module _ (g : Graph) (keep : ℕ → Bool) (rules : IsGraph g) (C : Closed g kee
           let to = At (place b) s (moved_frames frames) k in
           let next = steps from to (r.0, r.1, refl) in
           let le = left_few b r.0 s s frames (moved_frames frames) k k (step g from) (step h to) next in
-          subst (λ (x : Config). sum_by w (path h (suc m) x) ≤ sum_by given (path g (suc m) from)) (sym r.2)
-          (omega (
-            arith,
-            sum_by-append w (block_left to (step h to)) (path h m (step h to)),
-            sum_by-append given (block_left from (step g from)) (path g m (step g from)),
-            le,
-            path_few m (step g from) (step h to) next,
-          ))
+          grind (arith, sum_by-append, path_few m (step g from) (step h to) next)
       path_few (suc m) (Over o k) d r = grind (arith, h, path_few m (Over o k) (Over o k) refl)
       path_few (suc m) (Going o) d r = grind (arith, h, path_few m (Going o) (Going o) refl)
 
@@ -239,9 +201,7 @@ module _ (g : Graph) (keep : ℕ → Bool) (rules : IsGraph g) (C : Closed g kee
     Same o p = o ≡ p
 
     final : (c d : Config) → IsOver c → Relates c d → Match Same c d
-    final (Over o k) d over r = rw r (refl, refl)
-    final (Going o) d over r = let R : Config → Type 0 = λ e. Match Same (Going o) e in subst R (sym r) refl
-    final (At b s frames k) d over r = absurd over
+    final c d over r = grind arith
 
     forth : (world : World) (turns m : ℕ) → IsOver (walk g m (opening g world turns))
         → (n : ℕ) × Match Same (walk g m (opening g world turns)) (walk h n (opening h world turns))

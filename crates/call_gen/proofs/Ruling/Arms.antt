@@ -1,7 +1,6 @@
 -- Each branch of the spelled graph is one of the given graph, and its arms are entered by it alone.
-use Rattle.std.proofs.Common.{ℕ, zero, suc, ◌+◌, ◌-◌, ◌≡◌, ◌<◌, ◌≤◌, Bool, true, false, if◌then◌else◌, List}
-use Rattle.std.proofs.Common.{[], ◌∷◌, ◌++◌, length, take, refl, sym, ap, ◌∙◌, subst, inl, inr, Option, Some}
-use Rattle.std.proofs.Common.{arith}
+use Rattle.std.proofs.Common.{ℕ, zero, suc, ◌+◌, ◌-◌, ◌≡◌, ◌<◌, ◌≤◌, Bool, true, if◌then◌else◌, List, [], ◌∷◌}
+use Rattle.std.proofs.Common.{◌++◌, length, take, refl, sym, ap, ◌∙◌, subst, inl, inr, Option, Some, arith}
 use Rattle.std.proofs.lemmas.Bool.{cases_lt}
 use Rattle.std.proofs.lemmas.List.{length_push}
 use Rattle.cfg_core.specs.Graph.{Term, Exit, Goto, Branch, Call, Return, Send, Stop, Block, GraphProc, Graph}
@@ -32,9 +31,8 @@ AllFrom P k (x ∷ xs) = P k × AllFrom P (suc k) xs
 
 all_at : {A : Type 0} (P : ℕ → Type 0) (k : ℕ) (xs : List A) → AllFrom P k xs → (j n : ℕ) → j < length xs
     → n ≡ k + j → P n
-all_at P k [] h j n lt e = absurd (omega arith)
-all_at P k (x ∷ xs) h zero n lt e = let z : k ≡ n = omega arith in subst P z h.0
 all_at P k (x ∷ xs) h (suc j) n lt e = all_at P (suc k) xs h.1 j n (omega arith) (omega arith)
+all_at P k xs h j n lt e = grind arith
 
 all_both : {A : Type 0} (P : ℕ → Type 0) (k n : ℕ) (xs ys : List A) → n ≡ k + length xs → AllFrom P k xs
     → AllFrom P n ys → AllFrom P k (xs ++ ys)
@@ -44,9 +42,7 @@ all_both P k n (x ∷ xs) ys e h i = (h.0, all_both P (suc k) n xs ys (omega ari
 module _ (g : Graph) (live : List (List ℕ)) (P : ℕ → Type 0) where
   all_after : (home vars k : ℕ) (x : Exit) → (calls x ≡ true → P k)
       → AllFrom P k (spots_in home (suc vars) (after g live home vars x))
-  all_after home vars k (Call r f ts back) h = (h refl, tt)
-  all_after home vars k (Goto c) h = tt
-  all_after home vars k _ h = tt
+  all_after home vars k x h = grind arith
 
   all_blocks : (home vars b k : ℕ) (xs : List Block)
       → ((i m : ℕ) (s : Spot) → nth (spots_in home vars xs) i ≡ Some s
@@ -59,19 +55,14 @@ module _ (g : Graph) (live : List (List ℕ)) (P : ℕ → Type 0) where
       let here : Spot = record { home = home; vars = vars; block = x } in
       let n = suc k + (if calls x.exit then 1 else 0) in
       let count : n ≡ suc k + length (spots_in home (suc vars) (after g live home vars x.exit)) =
-      omega (
-        arith,
-        spots_in_count home (suc vars) (after g live home vars x.exit),
-        after_count g live home vars x.exit,
-      ) in (
+      grind (arith, spots_in_count, after_count) in (
         plain 0 k here refl (omega arith),
-        rw (spots_in_both home (suc vars) (after g live home vars x.exit)
-            (spelled_blocks g live home vars (suc b) xs))
-            (all_both P (suc k) n (spots_in home (suc vars) (after g live home vars x.exit))
-            (spots_in home (suc vars) (spelled_blocks g live home vars (suc b) xs)) count
-            (all_after home vars (suc k) x.exit (λ c. point 0 k here refl c (omega arith)))
-            (all_blocks home vars (suc b) n xs (λ i m s e em. plain (suc i) m s e (omega arith))
-            (λ i m s e c em. point (suc i) m s e c (omega arith)))),
+        rw (spots_in_both home (suc vars) (after g live home vars x.exit) (spelled_blocks g live home vars
+            (suc b) xs)) (all_both P (suc k) n (spots_in home (suc vars) (after g live home vars x.exit))
+            (spots_in home (suc vars) (spelled_blocks g live home vars (suc b) xs)) count (all_after home
+            vars (suc k) x.exit (λ c. point 0 k here refl c (omega arith))) (all_blocks home vars (suc b)
+            n xs (λ i m s e em. plain (suc i) m s e (omega arith)) (λ i m s e c em. point (suc i) m s e c
+            (omega arith)))),
       )
 
   all_spots : (f b k : ℕ) (ps : List GraphProc)
@@ -87,33 +78,24 @@ module _ (g : Graph) (live : List (List ℕ)) (P : ℕ → Type 0) where
       let rest = spots_from (suc f) ps in
       let n = k + suc (length p.blocks + count_of is_call old) in
       let oc = spots_in_count f p.vars p.blocks in
-      let inner : (i : ℕ) (s : Spot) → nth old i ≡ Some s → (nth (old ++ rest) i ≡ Some s)
-      × (count_of is_call (take i (old ++ rest)) ≡ count_of is_call (take i old)) × (s.home ≡ f) =
-      λ i s e. let lt = nth_short old i s e in (
-        nth_append_left old rest i lt ∙ e,
-        ap (count_of is_call) (take_left old rest i (omega arith)),
-        (in_blocks g live f p.vars p.blocks i s e).0,
-      ) in
-      let outer : (i : ℕ) (s : Spot) → nth rest i ≡ Some s → (nth (old ++ rest) (length old + i) ≡ Some s)
-      × (count_of is_call (take (length old + i) (old ++ rest)) ≡ count_of is_call old + count_of is_call
-      (take i rest)) =
-      λ i s e. (
+      let inner : (i : ℕ) (s : Spot) → nth old i ≡ Some s → (nth (old ++ rest) i ≡ Some s) × (count_of is_call
+      (take i (old ++ rest)) ≡ count_of is_call (take i old)) × (s.home ≡ f) =
+      grind (arith, nth_short, nth_append_left, take_left, in_blocks) in
+      let outer : (i : ℕ) (s : Spot) → nth rest i ≡ Some s → (nth (old ++ rest) (length old + i) ≡ Some s) ×
+      (count_of is_call (take (length old + i) (old ++ rest)) ≡ count_of is_call old + count_of is_call (take
+      i rest)) = λ i s e. (
         nth_right old rest (length old) i (length old + i) refl refl ∙ e,
-        ap (count_of is_call) (take_right old rest (length old) i (length old + i) refl refl)
-            ∙ count_both is_call old (take i rest),
-      ) in (
+        ap (count_of is_call) (grind (arith, take_right)) ∙ count_both is_call old (take i rest),
+      )
+      in (
         doors 0 k (omega arith) (let z : k ≡ k + (0 + 0 + 0) = omega arith in z),
-        all_both P (suc k) n (spots_in f (suc p.vars) (spelled_blocks g live f p.vars b p.blocks))
-            (spots_from (suc f) (spelled_procs g live (suc f) (b + length p.blocks) ps))
-            (omega (arith, head_count g live f b p))
-            (all_blocks f p.vars b (suc k) p.blocks
-            (λ i m s e em. let r = inner i s e in plain i m s r.0 (omega arith))
-            (λ i m s e c em. let r = inner i s e in point i m s r.0 c (omega arith)))
-            (all_spots (suc f) (b + length p.blocks) n ps
-            (λ e m lt em. doors (suc e) m (omega arith) (omega (arith, em, door_later g live f p ps e lt)))
-            (λ i m s e em. let r = outer i s e in plain (length old + i) m s r.0 (omega arith))
-            (λ i m s e c em. let r = outer i s e in point (length old + i) m s r.0 c
-            (omega arith))),
+        all_both P (suc k) n (spots_in f (suc p.vars) (spelled_blocks g live f p.vars b p.blocks)) (spots_from
+            (suc f) (spelled_procs g live (suc f) (b + length p.blocks) ps))
+            (omega (arith, head_count g live f b p)) (all_blocks f p.vars b (suc k) p.blocks (λ i m s e em.
+            let r = inner i s e in plain i m s r.0 (omega arith)) (λ i m s e c em. let r = inner i s e in
+            point i m s r.0 c (omega arith))) (all_spots (suc f) (b + length p.blocks) n ps (λ e m lt em.
+            doors (suc e) m (omega arith) (omega (arith, em, door_later g live f p ps e lt))) (grind arith)
+            (grind arith)),
       )
 
 -- the blocks before a procedure's first one belong to earlier procedures
@@ -122,18 +104,12 @@ home_before : (f : ℕ) (ps : List GraphProc) (e i : ℕ) (s : Spot) → e < len
 home_before f [] e i s lt es up = absurd (omega arith)
 home_before f (p ∷ ps) zero i s lt es up = absurd (omega arith)
 home_before f (p ∷ ps) (suc e) i s lt es up = elim (cases_lt i (length (spots_in f p.vars p.blocks))) [
-  | inl low ↦
-      omega (
-        arith,
-        first f p.vars p.blocks i s
-            (sym (nth_append_left (spots_in f p.vars p.blocks) (spots_from (suc f) ps) i low) ∙ es),
-      )
+  | inl low ↦ omega (arith, first f p.vars p.blocks i s (grind (arith, nth_append_left)))
   | inr ge ↦
       let n = length (spots_in f p.vars p.blocks) in
       let c = spots_in_count f p.vars p.blocks in
       let at : nth (spots_from (suc f) ps) (i - n) ≡ Some s =
-      sym (nth_right (spots_in f p.vars p.blocks) (spots_from (suc f) ps) n (i - n) i refl
-      (omega (arith, ge))) ∙ es in
+      grind (arith, nth_right) in
       omega (
         arith,
         home_before (suc f) ps e (i - n) s (omega arith) at
@@ -143,46 +119,27 @@ home_before f (p ∷ ps) (suc e) i s lt es up = elim (cases_lt i (length (spots_
   where
     first : (f vars : ℕ) (xs : List Block) (i : ℕ) (s : Spot) → nth (spots_in f vars xs) i ≡ Some s
         → s.home ≡ f
-    first f vars [] i s e = absurd (cc)
-    first f vars (x ∷ xs) zero s e = cc
     first f vars (x ∷ xs) (suc i) s e = first f vars xs i s e
+    first f vars xs i s e = grind arith
 
     shift : (n : ℕ) (ps : List GraphProc) (e : ℕ) → e < length ps → entry_from n ps e ≡ n + entry_from 0 ps e
-    shift n [] e lt = absurd (omega arith)
-    shift n (p ∷ ps) zero lt = omega arith
     shift n (p ∷ ps) (suc e) lt = omega (
       arith,
       shift (n + length p.blocks) ps e (omega arith),
       shift (0 + length p.blocks) ps e (omega arith),
     )
+    shift n ps e lt = grind arith
 
 -- a block that an earlier block of its procedure leads to isn't a first one
 not_first : (g : Graph) (a b : ℕ) → a < length (spots g) → b < length (spots g) → a < b
     → (spot_at g b).home ≡ (spot_at g a).home → (f : ℕ) → f < length g.procs
     → (spot_at g (entry_of g f)).home ≡ f → b ≡ entry_of g f → ⊥
 unfolding entry_of
-not_first g a b la lb lt home f lf first e =
-    let z : 0 + f ≡ f = omega arith in
-    let up : a < entry_from 0 g.procs f = omega arith in
-    omega (
-      arith,
-      home_before 0 g.procs f a (spot_at g a) lf (spot_is g a la) up,
-      home,
-      ap (λ n. (spot_at g n).home) e,
-      first,
-      z,
-    )
+not_first g a b la lb lt home f lf first e = grind (arith, home_before, spot_is g a la)
 
 -- branches of a graph of the lowered shape lead forward, to blocks of their own
 pub shaped_alone : (g : Graph) → IsShaped g → ArmsAlone g
-shaped_alone g s = record {
-  apart = s.branches;
-  ahead = λ a t b c q. (later a t b c b q (inl refl), later a t b c c q (inr refl));
-}
-  where
-    later : (a : ℕ) (t : Term) (b c n : ℕ) → (block_at g a).exit ≡ Branch t b c → Leads (Branch t b c) n
-        → a < n
-    later a t b c n q l = grind (arith, cases_lt)
+shaped_alone g s = record { apart = s.branches; ahead = grind arith }
 
 module _ (g : Graph) (live : List (List ℕ)) (G : Given g live) (S : ArmsAlone g) where
   abbrev F : Placed g live
@@ -204,11 +161,9 @@ module _ (g : Graph) (live : List (List ℕ)) (G : Given g live) (S : ArmsAlone 
 
   everywhere : AllFrom Where 0 (spots h)
   unfolding door moved entry_of
-  everywhere = all_spots g live Where 0 0 0 g.procs
-      (λ e m lt em. at_door e lt (omega arith))
-      (λ i m s e em. let r = spot_of i s e in
-      at_plain i r.0 (omega (arith, em, ap (λ (t : Spot). t.home) r.1)))
-      (λ i m s e c em. let r = spot_of i s e in at_point i r.0 (ap (λ (t : Spot). calls t.block.exit) r.1 ∙ c)
+  everywhere = all_spots g live Where 0 0 0 g.procs (λ e m lt em. at_door e lt (omega arith)) (λ i m s e em.
+      let r = spot_of i s e in at_plain i r.0 (omega (arith, em, ap (λ (t : Spot). t.home) r.1))) (λ i m s e c
+      em. let r = spot_of i s e in at_point i r.0 (grind arith)
       (omega (arith, em, ap (λ (t : Spot). t.home) r.1)))
 
   -- the arms of a branch of the given graph
@@ -240,15 +195,14 @@ module _ (g : Graph) (live : List (List ℕ)) (G : Given g live) (S : ArmsAlone 
         → (block_at g a).exit ≡ Call r f ts back → moved g c ≡ door g f → ⊥
     not_door a r f ts back la e same =
         let there = (exit_in g G.rules a (Call r f ts back) e).1 in
-        let named : length (block_at h (door g f)).named ≡ length (if is_called g f
-        then below (proc_at g f).params ++ (proc_at g f).vars ∷ [] else []) =
-        ap (λ (s : Spot). length s.block.named) (F.entry f there) in
-        let some : length (if is_called g f then below (proc_at g f).params ++ (proc_at g f).vars ∷ []
-        else []) ≡ suc (length (below (proc_at g f).params)) =
-        ap (λ (v : Bool). length (if v then below (proc_at g f).params ++ (proc_at g f).vars ∷ [] else []))
-        (F.called a r f ts back la e).0 ∙ length_push (below (proc_at g f).params) (proc_at g f).vars
-        ∙ (omega arith) in
-        none_named (door g f) same (omega arith)
+        let named : length (block_at h (door g f)).named ≡ length (if is_called g f then below (proc_at g
+        f).params ++ (proc_at g f).vars ∷ [] else []) = ap (λ (s : Spot). length s.block.named) (F.entry f
+        there) in
+        let some : length (if is_called g f then below (proc_at g f).params ++ (proc_at g f).vars ∷ [] else
+        []) ≡ suc (length (below (proc_at g f).params)) = ap (λ (v : Bool). length (if v then below (proc_at g
+        f).params ++ (proc_at g f).vars ∷ [] else [])) (F.called a r f ts back la e).0 ∙ length_push (below
+        (proc_at g f).params) (proc_at g f).vars ∙ (omega arith) in
+        grind (arith, none_named)
 
     not_point : (f : ℕ) → In (moved g c) (landings g f) → ⊥
     not_point f i =
@@ -256,33 +210,23 @@ module _ (g : Graph) (live : List (List ℕ)) (G : Given g live) (S : ArmsAlone 
         none_named (suc (moved g p.block)) p.place
         (omega (
           arith,
-          ap (λ (s : Spot). length s.block.named)
-              (F.point p.block p.result f p.terms p.back p.there p.exit),
+          ap (λ (s : Spot). length s.block.named) (F.point p.block p.result f p.terms p.back p.there p.exit),
         ))
 
     to_plain : (a n : ℕ) → a < length (spots g) → n < length (spots g) → Edge g a n → moved g c ≡ moved g n
         → moved g a ≡ moved g b
-    to_plain a n la ln e same =
-        let z : c ≡ n = moved_apart g live G F c n lc ln same in
-        ap (moved g) (only a (subst (λ m. Edge g a m) (sym z) e))
+    to_plain a n la ln e same = grind (arith, moved_apart g live G F c n lc ln same)
 
     from_plain : (a : ℕ) (x : Exit) → a < length (spots g) → (block_at g a).exit ≡ x
         → Leads (left g (spot_at g a).home (spot_at g a).vars a x) (moved g c) → moved g a ≡ moved g b
-    from_plain a (Goto n) la e m = to_plain a n la (exit_in g G.rules a (Goto n) e).0
-        (subst (λ (y : Exit). Leads y n) (sym e) refl) m
+    from_plain a (Goto n) la e m = to_plain a n la (exit_in g G.rules a (Goto n) e).0 (grind arith) m
     from_plain a (Branch u n o) la e (inl m) = to_plain a n la (exit_in g G.rules a (Branch u n o) e).1.0
         (subst (λ (y : Exit). Leads y n) (sym e) (inl refl)) m
     from_plain a (Branch u n o) la e (inr m) = to_plain a o la (exit_in g G.rules a (Branch u n o) e).2.0
         (subst (λ (y : Exit). Leads y o) (sym e) (inr refl)) m
     from_plain a (Call r f ts back) la e (inl m) = absurd (not_door a r f ts back la e m)
     from_plain a (Call r f ts back) la e (inr m) = absurd m
-    from_plain a (Return u) la e m = by_called (is_called g (spot_at g a).home) m
-      where
-        by_called : (v : Bool)
-            → Leads (if v then Send (Rattle.cfg_core.specs.Graph.Var (spot_at g a).vars) (u ∷ [])
-            (landings g (spot_at g a).home) else Return u) (moved g c) → moved g a ≡ moved g b
-        by_called true i = absurd (not_point (spot_at g a).home i)
-        by_called false i = absurd i
+    from_plain a (Return u) la e m = grind (arith, not_point)
     from_plain a (Send u ts ls) la e m = absurd (subst NoSend e (G.no_send a))
     from_plain a Stop la e m = absurd m
 
@@ -293,18 +237,11 @@ module _ (g : Graph) (live : List (List ℕ)) (G : Given g live) (S : ArmsAlone 
         let ea : (block_at g a).exit ≡ Call r f ts back = e ∙ ex in
         let i = exit_in g G.rules a (Call r f ts back) ea in
         let z : c ≡ back = moved_apart g live G F c back lc i.4.0 same in
-        let from : a ≡ b = only a (subst (λ (y : Exit). Leads y c) (sym ea) z) in
-        let both : Call r f ts back ≡ Branch t c0 d0 = sym ea ∙ ap (λ n. (block_at g n).exit) from ∙ is in
-        cc
+        grind arith
 
     call_is : (x : Exit) → calls x ≡ true → (r : Option ℕ) × (f : ℕ) × (ts : List Term) × (back : ℕ)
         × (x ≡ Call r f ts back)
-    call_is (Call r f ts back) k = (r, f, ts, back, refl)
-    call_is (Goto n) k = absurd (cc)
-    call_is (Branch u n o) k = absurd (cc)
-    call_is (Return u) k = absurd (cc)
-    call_is (Send u ts ls) k = absurd (cc)
-    call_is Stop k = absurd (cc)
+    call_is x k = grind arith
 
     from_where : (other : ℕ) → Where other → Edge h other (moved g c) → other ≡ moved g b
     from_where other (at_door f lf e) m =
@@ -326,9 +263,7 @@ module _ (g : Graph) (live : List (List ℕ)) (G : Given g live) (S : ArmsAlone 
 
     only_from : OnlyFrom h (moved g b) (moved g c)
     only_from other m = elim (cases_lt other (length (spots h))) [
-      | inr ge ↦
-          absurd (no_edge (moved g c) (subst (λ (s : Spot). Leads s.block.exit (moved g c))
-          (none_past h other ge) m))
+      | inr ge ↦ grind (arith, no_edge, none_past)
       | inl lt ↦ from_where other (all_at Where 0 (spots h) everywhere other other lt (omega arith)) m
     ]
 
@@ -345,32 +280,11 @@ module _ (g : Graph) (live : List (List ℕ)) (G : Given g live) (S : ArmsAlone 
 
   from_left : (a : ℕ) (x : Exit) → a < length (spots g) → (block_at g a).exit ≡ x → (t : Term) (b c : ℕ)
       → left g (spot_at g a).home (spot_at g a).vars a x ≡ Branch t b c → From (moved g a) t b c
-  from_left a (Branch u d e) la ex t b c h' =
-      let same : u ≡ t = cc in
-      record {
-        block = a;
-        first = d;
-        second = e;
-        there = la;
-        place = refl;
-        exit = ex ∙ ap (λ (v : Term). Branch v d e) same;
-        place_first = cc;
-        place_second = cc;
-      }
-  from_left a (Goto d) la ex t b c h' = absurd (cc)
-  from_left a (Call r f ts back) la ex t b c h' = absurd (cc)
-  from_left a (Return u) la ex t b c h' = grind arith
-  from_left a (Send u ts ls) la ex t b c h' = absurd (cc)
-  from_left a Stop la ex t b c h' = absurd (cc)
+  from_left a x la ex t b c h' = grind arith
 
   calls_at : (x : Exit) → calls x ≡ true → (r : Option ℕ) × (f : ℕ) × (ts : List Term) × (back : ℕ)
       × (x ≡ Call r f ts back)
-  calls_at (Call r f ts back) k = (r, f, ts, back, refl)
-  calls_at (Goto n) k = absurd (cc)
-  calls_at (Branch u n o) k = absurd (cc)
-  calls_at (Return u) k = absurd (cc)
-  calls_at (Send u ts ls) k = absurd (cc)
-  calls_at Stop k = absurd (cc)
+  calls_at x k = grind arith
 
   none_branches : (t : Term) (b c : ℕ) → no_spot.block.exit ≡ Branch t b c → ⊥
   unfolding no_spot
@@ -401,16 +315,9 @@ module _ (g : Graph) (live : List (List ℕ)) (G : Given g live) (S : ArmsAlone 
         let i = in_arm f.block t f.first f.second f.exit in
         let s = S.apart f.block t f.first f.second f.exit in
         record {
-          differ = λ same. s.differ (moved_apart g live G F f.first f.second i.0.0 i.1.0
-              (sym f.place_first ∙ same ∙ f.place_second));
-          first = subst (λ m. OnlyFrom h m b) (sym f.place)
-              (subst (λ m. OnlyFrom h (moved g f.block) m) (sym f.place_first)
-              (only_from f.block t f.first f.second f.first f.there i.0.0 f.exit
-              (goes_first f.block t f.first f.second f.exit) i.0.1 s.first));
-          second = subst (λ m. OnlyFrom h m c) (sym f.place)
-              (subst (λ m. OnlyFrom h (moved g f.block) m) (sym f.place_second)
-              (only_from f.block t f.first f.second f.second f.there i.1.0 f.exit
-              (goes_second f.block t f.first f.second f.exit) i.1.1 s.second));
+          differ = λ same. s.differ (moved_apart g live G F f.first f.second i.0.0 i.1.0 (grind arith));
+          first = grind (arith, only_from, goes_first);
+          second = grind (arith, only_from, goes_second);
         };
     ahead = λ a t b c q.
         let f = from_at a t b c q in
@@ -420,16 +327,14 @@ module _ (g : Graph) (live : List (List ℕ)) (G : Given g live) (S : ArmsAlone 
             f.place,
             f.place_first,
             moved_less g live G F f.block f.first f.there i.0.0
-                (ahead f.block t f.first f.second f.first f.exit
-                (goes_first f.block t f.first f.second f.exit)),
+                (grind (arith, ahead, goes_first)),
           ),
           omega (
             arith,
             f.place,
             f.place_second,
             moved_less g live G F f.block f.second f.there i.1.0
-                (ahead f.block t f.first f.second f.second f.exit
-                (goes_second f.block t f.first f.second f.exit)),
+                (grind (arith, ahead, goes_second)),
           ),
         );
   }

@@ -1,20 +1,19 @@
 -- What stands for the blocks of the given graph, and what its walks weigh.
-use Rattle.std.proofs.Common.{ℕ, zero, suc, ◌+◌, ◌-◌, ◌*◌, ◌==◌, ◌&&◌, ◌≡◌, ◌<◌, ◌≤◌, ◌⊎◌, not, nat_lt, Bool}
-use Rattle.std.proofs.Common.{true, false, if◌then◌else◌, List, [], ◌∷◌, ◌++◌, length, map, refl, sym, ap}
-use Rattle.std.proofs.Common.{◌∙◌, subst, inl, inr, Option, arith}
+use Rattle.std.proofs.Common.{ℕ, zero, suc, ◌+◌, ◌-◌, ◌*◌, ◌≡◌, ◌<◌, ◌≤◌, ◌⊎◌, Bool, true, false}
+use Rattle.std.proofs.Common.{if◌then◌else◌, List, [], ◌∷◌, ◌++◌, length, map, refl, sym, ap, ◌∙◌, subst, inl}
+use Rattle.std.proofs.Common.{inr, Option, arith}
 use Rattle.std.specs.List.{AllByRecursion, filter, sum_by}
 use Rattle.std.proofs.lemmas.Bool.{cases_lt}
-use Rattle.std.proofs.lemmas.Bool.Decides.{nat_tests}
 use Rattle.std.proofs.lemmas.List.{length-map, length_push}
 use Rattle.std.proofs.lemmas.List.Sums.{sum_by-cons, sum_by-append}
-use Rattle.cfg_core.specs.Graph.{Term, Number, Op, Exit, Goto, Branch, Call, Return, Send, Stop, Graph, Spot}
-use Rattle.cfg_core.specs.Graph.{spots, spot_at, block_at, proc_at, entry_of}
+use Rattle.cfg_core.specs.Graph.{Term, Number, Op, Exit, Call, Graph, Spot, spots, spot_at, block_at, proc_at}
+use Rattle.cfg_core.specs.Graph.{entry_of}
 use Rattle.cfg_core.specs.Rules.{calls}
 use Rattle.cfg_core.specs.Weights.{term_nodes, first_block}
 use Rattle.live_vars.specs.Live.{Live}
 use Rattle.live_vars.specs.Marks.{has}
-use Rattle.call_gen.specs.Spelled.{is_called, is_result, is_saved, is_unset, moved, door, address, below}
-use Rattle.call_gen.specs.Spelled.{saved, save, load, saves, left, clear, spelled}
+use Rattle.call_gen.specs.Spelled.{is_called, is_unset, moved, door, below, saved, save, load, saves, left}
+use Rattle.call_gen.specs.Spelled.{clear, spelled}
 use Rattle.call_gen.specs.Charged.{IsSave, IsLoad, IsClear, LiveBelow, live_count, most_saved, StandsForExit}
 use Rattle.call_gen.specs.Charged.{StandsFor, GoesOnAfter, CallsCharged}
 use Rattle.call_gen.proofs.Spelled.Counting.{one_at_most}
@@ -31,13 +30,7 @@ use Rattle.ws_words.specs.Items.{or_else, In}
 filter_push : (p : ℕ → Bool) (xs : List ℕ) (y : ℕ) → length (filter p (xs ++ y ∷ [])) ≡ length (filter p xs)
     + (if p y then 1 else 0)
 filter_push p [] y = grind arith
-filter_push p (x ∷ xs) y = by_test (p x) (filter_push p xs y)
-  where
-    by_test : (v : Bool) → length (filter p (xs ++ y ∷ [])) ≡ length (filter p xs) + (if p y then 1 else 0)
-        → length (if v then x ∷ filter p (xs ++ y ∷ []) else filter p (xs ++ y ∷ []))
-        ≡ length (if v then x ∷ filter p xs else filter p xs) + (if p y then 1 else 0)
-    by_test true h = omega arith
-    by_test false h = h
+filter_push p (x ∷ xs) y = grind (arith, filter_push p xs y)
 
 -- a filter of numbers from m on
 filter_from : (p : ℕ → Bool) (m n : ℕ) → ((x : ℕ) → p x ≡ true → m ≤ x) → length (filter p (below n)) ≤ n - m
@@ -50,15 +43,13 @@ filter_between : (p : ℕ → Bool) (m k n : ℕ) → ((x : ℕ) → p x ≡ tru
 filter_between p m k zero h i = omega arith
 filter_between p m k (suc n) h i = elim (cases_lt n k) [
   | inl low ↦ let f = filter_from p m (suc n) h in omega arith
-  | inr high ↦ by_test high (p n) refl (filter_between p m k n h (λ x lt e. i x (omega arith) e))
-      (filter_push p (below n) n)
+  | inr high ↦ by_test high (p n) refl (filter_between p m k n h (grind arith)) (filter_push p (below n) n)
 ]
   where
     by_test : k ≤ n → (v : Bool) → p n ≡ v → length (filter p (below n)) ≤ k - m
         → length (filter p (below n ++ n ∷ [])) ≡ length (filter p (below n)) + (if p n then 1 else 0)
         → length (filter p (below n ++ n ∷ [])) ≤ k - m
-    by_test high true e r q = absurd (let lt : n < k = i n (omega arith) e in omega arith)
-    by_test high false e r q = grind arith
+    by_test high v e r q = grind arith
 
 -- values with an address after them
 pub terms_push : (ts : List Term) (n : ℕ) → sum_by term_nodes (ts ++ Number n ∷ []) ≡ sum_by term_nodes ts + 1
@@ -83,34 +74,17 @@ module _ (g : Graph) (live : List (List ℕ)) where
   -- what is saved is live where the call goes on, or the address
   pub saved_few : (home v : ℕ) (r : Option ℕ) (back : ℕ) → length (saved g live home v r back)
       ≤ suc (live_count live back v)
-  saved_few home v r back =
-      let p = is_saved g live home v r back in
-      omega (arith, filter_push p (below v) v, counted p back v live_one, one_at_most (p v))
-    where
-      live_one : (x : ℕ) → x < v → is_saved g live home v r back x ≡ true → has live back x ≡ true
-      live_one x lt e = by_test (x == v) refl e
-        where
-          by_test : (t : Bool) → (x == v) ≡ t
-              → (if t then is_called g home else (has live back x && not (is_result r x))) ≡ true
-              → has live back x ≡ true
-          by_test true ev h = absurd (let z : x ≡ v = grind (arith, nat_tests) in omega arith)
-          by_test false ev h = (and_true (has live back x) (not (is_result r x)) h).0
+  saved_few home v r back = grind (arith, filter_push, counted, one_at_most, and_true)
 
   saves_all : (home v : ℕ) (x : Exit) → AllByRecursion IsSave (saves g live home v x)
   saves_all home v (Call r f ts back) = map_all IsSave (save g home) (saved g live home v r back) (λ x. tt)
-  saves_all home v (Goto c) = tt
-  saves_all home v _ = tt
+  saves_all home v x = tt
 
   saves_few : (home v : ℕ) (x : Exit) → length (saves g live home v x) ≤ most_saved live v x
-  saves_few home v (Call r f ts back) = grind (arith, length-map, saved_few)
-  saves_few home v (Goto c) = omega arith
-  saves_few home v _ = omega arith
+  saves_few home v x = grind (arith, length-map, saved_few)
 
   left_stands : (home v b : ℕ) (x : Exit) → StandsForExit (places g live) x (left g home v b x)
-  left_stands home v b (Goto c) = refl
-  left_stands home v b (Call r f ts back) = (address g f b, refl)
-  left_stands home v b (Return t) = grind (arith, places)
-  left_stands home v b _ = refl
+  left_stands home v b x = grind (arith, places)
 
 module _ (g : Graph) (live : List (List ℕ)) (G : Given g live) where
   abbrev h : Graph
@@ -135,8 +109,7 @@ module _ (g : Graph) (live : List (List ℕ)) (G : Given g live) where
       }
     where
       known : (y : ℕ) → Known g live G b y → Live g b y ⊎ (y ≡ (spot_at g b).vars)
-      known y (inl k) = inl k.1
-      known y (inr k) = inr k.0
+      known y x = grind arith
 
   module _ (f : ℕ) (lt : f < length g.procs) where
     abbrev params : ℕ
@@ -152,20 +125,15 @@ module _ (g : Graph) (live : List (List ℕ)) (G : Given g live) where
     names c = if c then below params ++ vf ∷ [] else []
 
     names_few : (c : Bool) → length (names c) ≤ suc params
-    names_few true = omega (arith, length_push (below params) vf, below_count params)
-    names_few false = omega arith
+    names_few c = grind (arith, length_push, below_count)
 
     -- the variables that are named, and those that are live and aren't given
     both_few : (n : ℕ) → params ≤ n → LiveBelow live (entry_of g f) vf n → (c : Bool) → is_called g f ≡ c
         → length (names c) + length unset ≤ suc n
     both_few n most low true e =
-        let from = filter_between (is_unset g live f params) params n vf
-        (λ x h. given x (and_true (has live _ x) _ h).1)
-        (λ x lt h. low x lt (and_true (has live _ x) _ h).0) in
+        let from = filter_between (is_unset g live f params) params n vf (grind (arith, and_true))
+        (grind (arith, and_true)) in
         omega (arith, length_push (below params) vf, below_count params, most, from)
-      where
-        given : (x : ℕ) → (if is_called g f then not (nat_lt x params) else true) ≡ true → params ≤ x
-        given x h = grind (arith, params)
     both_few n most low false e =
         let from = filter_between (is_unset g live f params) 0 n vf (λ x h. omega arith)
         (λ x lt h. low x lt (and_true (has live _ x) _ h).0) in
@@ -176,12 +144,11 @@ module _ (g : Graph) (live : List (List ℕ)) (G : Given g live) where
         let same = F.entry f lt in
         let n = named_door g live G f lt in
         record {
-          ops = subst (λ (s : Spot). AllByRecursion IsClear s.block.ops) (sym same)
-              (map_all IsClear clear unset (λ x. tt));
-          named = subst (λ (xs : List ℕ). length xs ≤ suc params) (sym n) (names_few (is_called g f));
+          ops = subst (λ (s : Spot). AllByRecursion IsClear s.block.ops) (sym same) (map_all IsClear clear
+              unset (λ x. tt));
+          named = grind (arith, names_few);
           goes = (_, ap (λ (s : Spot). s.block.exit) same);
-          held = λ x l. subst (λ (xs : List ℕ). In x xs) (sym n)
-              (door_live g live G f lt (door g f) refl x l);
+          held = grind (arith, door_live);
         }
 
     door_clears : (n : ℕ) → params ≤ n → LiveBelow live (entry_of g f) vf n
@@ -211,11 +178,7 @@ module _ (g : Graph) (live : List (List ℕ)) (G : Given g live) where
           held = λ x l. subst (λ (ys : List ℕ). In x ys) (sym n)
               (inl (point_live g live G b r f ts back lt e (suc (moved g b)) refl x l));
         }
-    point_at (Goto c) e no_call = absurd (cc)
-    point_at (Branch t c d) e no_call = absurd (cc)
-    point_at (Return t) e no_call = absurd (cc)
-    point_at (Send t ts ls) e no_call = absurd (cc)
-    point_at Stop e no_call = absurd (cc)
+    point_at x e no_call = absurd (cc)
 
     loads_at : (x : Exit) → (block_at g b).exit ≡ x → calls x ≡ true
         → length (block_at h (suc (moved g b))).ops ≤ most_saved live (spot_at g b).vars x
@@ -227,11 +190,7 @@ module _ (g : Graph) (live : List (List ℕ)) (G : Given g live) where
         ap (λ (s : Spot). length s.block.ops) (F.point b r f ts back lt e)
         ∙ length-map xs (load g home) in
         omega (arith, ops, saved_few g live home v r back)
-    loads_at (Goto c) e no_call = absurd (cc)
-    loads_at (Branch t c d) e no_call = absurd (cc)
-    loads_at (Return t) e no_call = absurd (cc)
-    loads_at (Send t ts ls) e no_call = absurd (cc)
-    loads_at Stop e no_call = absurd (cc)
+    loads_at x e no_call = absurd (cc)
 
   -- where the walk begins what is live is cleared
   opens_few : (n : ℕ) → LiveBelow live (first_block g) (proc_at g (length g.procs - 1)).vars n

@@ -1,7 +1,7 @@
 -- No variable is live across a call of the spelled graph.
 use Rattle.std.proofs.Common.{ℕ, suc, ◌-◌, ◌==◌, ◌&&◌, ◌≡◌, ◌<◌, ◌≤◌, ◌⊎◌, not, nat_lt, Bool, true, false}
 use Rattle.std.proofs.Common.{if◌then◌else◌, List, [], ◌∷◌, ◌++◌, length, map, refl, sym, ap, ◌∙◌, subst, inl}
-use Rattle.std.proofs.Common.{inr, Option, Some, None, arith}
+use Rattle.std.proofs.Common.{inr, Option, arith}
 use Rattle.std.specs.List.{AllByRecursion, filter}
 use Rattle.std.proofs.lemmas.Bool.{cases_lt}
 use Rattle.std.proofs.lemmas.Bool.Decides.{nat_tests}
@@ -21,7 +21,7 @@ use Rattle.call_gen.proofs.Spelled.Slots.{in_below, below_all}
 use Rattle.call_gen.proofs.Along.Standing.{exit_in}
 use Rattle.call_gen.proofs.Along.Leaves.{kept_live, kept_address}
 use Rattle.call_gen.proofs.Spelled.Places.{all_placed, all_celled}
-use Rattle.call_gen.proofs.Ruling.Cycles.{Sort, is_door, is_plain, is_none, every_spot, lands_at}
+use Rattle.call_gen.proofs.Ruling.Cycles.{Sort, is_plain, is_none, every_spot, lands_at}
 use Rattle.cfg_core.proofs.Spots.{filter_in, in_filter, each_at, numbers_at}
 use Rattle.ws_words.specs.Items.{or_else, In}
 use Rattle.live_vars.proofs.Needed.{first_exit}
@@ -55,10 +55,9 @@ ops_low g v (op ∷ ops) x i (inl r) = op_low g v op x i.0 r
 ops_low g v (op ∷ ops) x i (inr r) = ops_low g v ops x i.1 r.1
 
 push_mentions : (ts : List Term) (n x : ℕ) → OneMentions (ts ++ Number n ∷ []) x → OneMentions ts x
-push_mentions [] n x (inl m) = absurd m
-push_mentions [] n x (inr m) = absurd m
 push_mentions (t ∷ ts) n x (inl m) = inl m
 push_mentions (t ∷ ts) n x (inr m) = inr (push_mentions ts n x m)
+push_mentions [] n x y = grind arith
 
 module _ (g : Graph) (live : List (List ℕ)) (G : Given g live) where
   abbrev pub F : Placed g live
@@ -119,35 +118,21 @@ module _ (g : Graph) (live : List (List ℕ)) (G : Given g live) where
         by_test (x == v) refl le p.1 ex.4.0 (same_vars b back there ex.4.0 ex.4.1)
       where
         and_true : (a c : Bool) → (a && c) ≡ true → (a ≡ true) × (c ≡ true)
-        and_true true true e = (refl, refl)
-        and_true true false e = absurd (cc)
-        and_true false c e = absurd (cc)
-
-        no_result : (q : Option ℕ) → not (is_result q x) ≡ true → ExitWrites (Call q f ts back) x → ⊥
-        no_result None e w = w
-        no_result (Some y) e w = grind arith
+        and_true a c e = grind arith
 
         by_test : (t : Bool) → (x == v) ≡ t → x < suc v
             → (if t then is_called g home else (has live back x && not (is_result r x))) ≡ true
             → back < length (spots g) → (spot_at g back).vars ≡ v → Known b x
         by_test true ev le h lb vars = inr (grind (arith, nat_tests), h)
         by_test false ev le h lb vars =
-            let ne : x ≡ v → ⊥ = λ q. grind (arith, nat_tests) in
+            let ne : x ≡ v → ⊥ = grind arith in
             let lt : x < v = strictly x v le ne in
             let p = and_true (has live back x) (not (is_result r x)) h in
-            let l : Live g back x = G.only back x lb (omega arith) p.0 in
-            inl (
-              lt,
-              passes b back x never (λ w. no_result r p.1 (rw e at w))
-                  (rw e refl) l,
-            )
+            let l : Live g back x = grind arith in
+            inl (lt, passes b back x never (grind arith) (rw e refl) l)
           where
             strictly : (x v : ℕ) → x < suc v → (x ≡ v → ⊥) → x < v
-            strictly x v le ne = elim (cases_lt x v) [
-              | inl lt ↦ lt
-              | inr ge ↦
-                  absurd (ne (omega arith))
-            ]
+            strictly x v le ne = grind (arith, cases_lt)
 
     from_reads : (y : Exit) → (block_at g b).exit ≡ y → (x : ℕ)
         → ReadsFirst ((block_at g b).ops ++ saves g live home v y) (left g home v b y) x → Known b x
@@ -161,17 +146,12 @@ module _ (g : Graph) (live : List (List ℕ)) (G : Given g live) where
       where
         exit_reads : (y : Exit) → (block_at g b).exit ≡ y → (WrittenIn (block_at g b).ops x → ⊥)
             → ExitReads y x → Live g b x
-        exit_reads y e never r =
-            reads b x (first_exit (block_at g b).ops (block_at g b).exit x never
-            (subst (λ (z : Exit). ExitReads z x) (sym e) r))
+        exit_reads y e never r = reads b x (grind (arith, first_exit))
 
         after : (y : Exit) → (block_at g b).exit ≡ y → (WrittenIn (block_at g b).ops x → ⊥)
             → ReadsFirst (saves g live home v y) (left g home v b y) x → Known b x
-        after (Goto c) e never r = absurd r
-        after (Branch t c d) e never r = inl (
-          low g v t x (exit_in g live G F b (Branch t c d) e).0 r,
-          exit_reads (Branch t c d) e never r,
-        )
+        after (Branch t c d) e never r = inl
+            (low g v t x (exit_in g live G F b (Branch t c d) e).0 r, exit_reads (Branch t c d) e never r)
         after (Call r f ts back) e never h =
             elim (saves_read home (saved g live home v r back) (left g home v b (Call r f ts back)) x h) [
               | inl i ↦ from_saved r f ts back x e never i
@@ -195,8 +175,7 @@ module _ (g : Graph) (live : List (List ℕ)) (G : Given g live) where
             by_called true ec (inr (inl m)) = plain m
             by_called true ec (inr (inr m)) = absurd m
             by_called false ec m = plain m
-        after (Send t ts ls) e never r = absurd r
-        after Stop e never r = absurd r
+        after y e never r = absurd r
 
     -- where an edge of the new block that keeps variables leads
     from_edge : (y : Exit) → (block_at g b).exit ≡ y → (x c : ℕ) → (WrittenIn (block_at g b).ops x → ⊥)
@@ -228,25 +207,15 @@ module _ (g : Graph) (live : List (List ℕ)) (G : Given g live) where
               (subst (λ (z : Exit). Carries z w) (sym e) k) p.1,
         )
         on w lt eh k (inr p) = inr (p.0 ∙ same_vars b w there lt eh, sym (ap (is_called g) eh) ∙ p.1)
-    from_edge (Call r f ts back) e x c never k rest = absurd k
-    from_edge (Return t) e x c never k rest = grind (arith, home, v)
-    from_edge (Send t ts ls) e x c never k rest = absurd k
-    from_edge Stop e x c never k rest = absurd k
+    from_edge y e x c never k rest = grind arith
 
   -- what is live at the place of a block
   pub live_there : (m x : ℕ) → Live h m x → (b : ℕ) → b < length (spots g) → m ≡ moved g b → Known b x
-  live_there m x (reads _ _ r) b lt e =
-      let same = ap (spot_at h) e ∙ F.plain b lt in
-      from_reads b lt (block_at g b).exit refl x (subst (λ (s : Spot). ReadsFirst s.block.ops s.block.exit x)
-      same r)
-  live_there m x (passes _ c _ nw ne k l) b lt e =
-      let same = ap (spot_at h) e ∙ F.plain b lt in
-      from_edge b lt (block_at g b).exit refl x c
-      (λ w. nw (subst (λ (s : Spot). WrittenIn s.block.ops x) (sym same)
-      (written_left (block_at g b).ops (saves g live (spot_at g b).home (spot_at g b).vars
-      (block_at g b).exit) x w)))
-      (subst (λ (s : Spot). Carries s.block.exit c) same k)
-      (λ d ld ed. live_there c x l d ld ed)
+  live_there m x (reads _ _ r) b lt e = let same = ap (spot_at h) e ∙ F.plain b lt in
+      grind (arith, from_reads)
+  live_there m x (passes _ c _ nw ne k l) b lt e = let same = ap (spot_at h) e ∙ F.plain b lt in
+      from_edge b lt (block_at g b).exit refl x c (grind (arith, written_left)) (grind arith) (λ d ld ed.
+      live_there c x l d ld ed)
 
   in_left : (xs ys : List ℕ) (x : ℕ) → In x xs → In x (xs ++ ys)
   in_left [] ys x i = absurd i
@@ -274,9 +243,8 @@ module _ (g : Graph) (live : List (List ℕ)) (G : Given g live) where
 
     at_door : (x : ℕ) → (WrittenIn (map clear (filter (is_unset g live f params) (below vf))) x → ⊥)
         → Known (entry_of g f) x → In x (names (is_called g f))
-    at_door x never (inr p) =
-        subst (λ c. In x (names c)) (sym (sym (ap (is_called g) (F.first f there).1) ∙ p.1))
-        (in_right (below params) (vf ∷ []) x (inl (p.0 ∙ entry_vars)))
+    at_door x never (inr p) = subst (λ c. In x (names c)) (sym (sym (ap (is_called g) (F.first f there).1) ∙
+        p.1)) (grind (arith, in_right, entry_vars))
     at_door x never (inl p) = by_called (is_called g f) refl
       where
         lt : x < vf
@@ -286,9 +254,8 @@ module _ (g : Graph) (live : List (List ℕ)) (G : Given g live) where
         known = G.known (entry_of g f) x (F.first f there).0 p.0 p.1
 
         cleared : is_unset g live f params x ≡ true → ⊥
-        cleared e =
-            never (clears_write (filter (is_unset g live f params) (below vf)) x
-            (in_filter (is_unset g live f params) (below vf) x (in_below vf x lt) e))
+        cleared e = never (clears_write (filter (is_unset g live f params) (below vf)) x (in_filter (is_unset
+            g live f params) (below vf) x (in_below vf x lt) e))
 
         by_called : (c : Bool) → is_called g f ≡ c → In x (names c)
         by_called true e = elim (cases_lt x params) [
@@ -300,23 +267,15 @@ module _ (g : Graph) (live : List (List ℕ)) (G : Given g live) where
         ]
           where
             not_less : (t : Bool) → nat_lt x params ≡ t → params ≤ x → not t ≡ true
-            not_less true e le = absurd (let l : x < params = grind (arith, nat_tests) in
-                omega arith)
-            not_less false e le = refl
-        by_called false e =
-            absurd (cleared (ap (λ t. t && (if is_called g f then not (nat_lt x params) else true)) known
-            ∙ ap (λ (c : Bool). if c then not (nat_lt x params) else true) e))
+            not_less t e le = grind arith
+        by_called false e = absurd (cleared (ap (λ t. t && (if is_called g f then not (nat_lt x params) else
+            true)) known ∙ ap (λ (c : Bool). if c then not (nat_lt x params) else true) e))
 
     pub door_live : (m : ℕ) → m ≡ door g f → (x : ℕ) → Live h m x → In x (names (is_called g f))
-    door_live m e x (reads _ _ r) =
-        let same = ap (spot_at h) e ∙ F.entry f there in
-        absurd (clears_read (filter (is_unset g live f params) (below vf)) (moved g (entry_of g f)) x
-        (subst (λ (s : Spot). ReadsFirst s.block.ops s.block.exit x) same r))
-    door_live m e x (passes _ c _ nw ne k l) =
-        let same = ap (spot_at h) e ∙ F.entry f there in
-        at_door x (λ w. nw (subst (λ (s : Spot). WrittenIn s.block.ops x) (sym same) w))
-        (live_there c x l (entry_of g f) (F.first f there).0
-        (subst (λ (s : Spot). Carries s.block.exit c) same k))
+    door_live m e x (reads _ _ r) = let same = ap (spot_at h) e ∙ F.entry f there in
+        grind (arith, clears_read)
+    door_live m e x (passes _ c _ nw ne k l) = let same = ap (spot_at h) e ∙ F.entry f there in
+        at_door x (grind arith) (live_there c x l (entry_of g f) (F.first f there).0 (grind arith))
 
   -- At a return point all that is live is the result.
   module _ (b : ℕ) (r : Option ℕ) (f : ℕ) (ts : List Term) (back : ℕ) (there : b < length (spots g))
@@ -347,28 +306,23 @@ module _ (g : Graph) (live : List (List ℕ)) (G : Given g live) where
     at_point x never (inl p) = by_result r refl
       where
         result_place : (q : Option ℕ) → is_result q x ≡ true → x ≡ or_else q vb
-        result_place None e = absurd (cc)
-        result_place (Some y) e = grind (arith, nat_tests)
+        result_place q e = grind arith
 
         by_test : (t : Bool) → is_result r x ≡ t → x ≡ or_else r vb
         by_test true e = result_place r e
-        by_test false e =
-            absurd (never
-            (loads_write (spot_at g b).home kept x (kept_live g live G F (all_celled g live G.rules) b there r
-            back x (omega (arith, p.0, back_vars)) (G.known back x back_there p.0 p.1) e)))
+        by_test false e = absurd (never (loads_write (spot_at g b).home kept x (kept_live g live G F
+            (all_celled g live G.rules) b there r back x (omega (arith, p.0, back_vars)) (G.known back x
+            back_there p.0 p.1) e)))
 
         by_result : (q : Option ℕ) → q ≡ r → x ≡ or_else r vb
         by_result q e = by_test (is_result r x) refl
 
     pub point_live : (m : ℕ) → m ≡ suc (moved g b) → (x : ℕ) → Live h m x → x ≡ or_else r vb
-    point_live m e x (reads _ _ q) =
-        let same = ap (spot_at h) e ∙ F.point b r f ts back there is in
-        absurd (loads_read (spot_at g b).home kept (moved g back) x
-        (subst (λ (s : Spot). ReadsFirst s.block.ops s.block.exit x) same q))
+    point_live m e x (reads _ _ q) = let same = ap (spot_at h) e ∙ F.point b r f ts back there is in
+        grind (arith, loads_read)
     point_live m e x (passes _ c _ nw ne k l) =
         let same = ap (spot_at h) e ∙ F.point b r f ts back there is in
-        at_point x (λ w. nw (subst (λ (s : Spot). WrittenIn s.block.ops x) (sym same) w))
-        (live_there c x l back back_there (subst (λ (s : Spot). Carries s.block.exit c) same k))
+        grind (arith, at_point, live_there, back_there)
 
   -- what a door names
   pub named_door : (f : ℕ) → f < length g.procs → (block_at h (door g f)).named
@@ -379,13 +333,8 @@ module _ (g : Graph) (live : List (List ℕ)) (G : Given g live) where
       → NoneAcross h (left g (spot_at g b).home (spot_at g b).vars b y)
   landing_live b lt (Goto c) e = tt
   landing_live b lt (Branch t c d) e = tt
-  landing_live b lt (Call r f ts back) e = λ l x i lv. elim i [
-    | inl is ↦
-        let there = (exit_in g live G F b (Call r f ts back) e).1 in
-        subst (λ m. In x (block_at h m).named) (sym is)
-        (subst (λ (xs : List ℕ). In x xs) (sym (named_door f there)) (door_live f there l is x lv))
-    | inr z ↦ absurd z
-  ]
+  landing_live b lt (Call r f ts back) e =
+      grind (arith, exit_in g live G F b (Call r f ts back) e, named_door, door_live)
   landing_live b lt (Return t) e = by_called (is_called g (spot_at g b).home)
     where
       point : (l x : ℕ) → In l (landings g (spot_at g b).home) → Live h l x → In x (block_at h l).named
@@ -407,9 +356,7 @@ module _ (g : Graph) (live : List (List ℕ)) (G : Given g live) where
 
   none_across : (s : Spot) → Sort g live G F s → NoneAcross h s.block.exit
   unfolding no_spot
-  none_across _ (is_door f lt) = tt
-  none_across _ (is_plain b lt) = landing_live b lt (block_at g b).exit refl
-  none_across _ _ = tt
+  none_across s x = grind (arith, landing_live)
 
   all_have : {A : Type 0} (P Q : A → Type 0) (xs : List A) → ((x : A) → P x → Q x) → AllByRecursion P xs
       → AllByRecursion Q xs
@@ -457,20 +404,16 @@ module _ (g : Graph) (live : List (List ℕ)) (G : Given g live) where
   -- how many values are sent
   few_values : (n : ℕ) → ParamsAtMost n g → (b : ℕ) → b < length (spots g) → (y : Exit)
       → (block_at g b).exit ≡ y → SendsAtMost (suc n) (left g (spot_at g b).home (spot_at g b).vars b y)
-  few_values n p b lt (Goto c) e = tt
   few_values n p b lt (Call r f ts back) e = let i = exit_in g live G F b (Call r f ts back) e in
       omega (arith, length_push ts (Number (address g f b)), i.2, p f i.1)
-  few_values n p b lt (Return t) e = grind arith
-  few_values n p b lt _ e = tt
+  few_values n p b lt y e = grind arith
 
   pub few_at : (n : ℕ) → ParamsAtMost n g → (s : Spot) → Sort g live G F s → SendsAtMost (suc n) s.block.exit
   unfolding no_spot
-  few_at n p _ (is_door f lt) = tt
   few_at n p _ (is_plain b lt) = few_values n p b lt (block_at g b).exit refl
-  few_at n p _ _ = tt
+  few_at n p _ x = tt
 
   pub few_sent : (n : ℕ) → ParamsAtMost n g → (b : ℕ) → SendsAtMost (suc n) (block_at h b).exit
   unfolding spot_at
-  few_sent n p b = each_at (λ (s : Spot). SendsAtMost (suc n) s.block.exit) (spots h) no_spot
-      (all_have (Sort g live G F) (λ s. SendsAtMost (suc n) s.block.exit) (spots h) (few_at n p)
-      (every_spot g live G F)) (few_at n p no_spot is_none) b
+  few_sent n p b =
+      grind (arith, each_at, all_have, few_at n p, every_spot g live G F, few_at n p no_spot is_none, is_none)

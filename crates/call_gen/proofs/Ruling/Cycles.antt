@@ -5,14 +5,13 @@ use Rattle.std.proofs.Common.{inl, inr, Option, Some, arith}
 use Rattle.std.specs.List.{AllByRecursion}
 use Rattle.std.proofs.lemmas.Bool.{cases_lt}
 use Rattle.std.proofs.lemmas.Bool.Decides.{nat_tests}
-use Rattle.cfg_core.specs.Graph.{Term, Op, Exit, Goto, Branch, Call, Return, Send, Stop, Block, GraphProc}
-use Rattle.cfg_core.specs.Graph.{Graph, Spot, spots, spots_in, spots_from, no_spot, no_proc, spot_at}
-use Rattle.cfg_core.specs.Graph.{block_at, proc_at, entry_of}
+use Rattle.cfg_core.specs.Graph.{Term, Op, Exit, Goto, Branch, Call, Return, Send, Block, GraphProc, Graph}
+use Rattle.cfg_core.specs.Graph.{Spot, spots, spots_in, spots_from, no_spot, no_proc, spot_at, block_at}
+use Rattle.cfg_core.specs.Graph.{proc_at, entry_of}
 use Rattle.cfg_core.specs.Rules.{calls, Leads, has_turn, has_tick, takes_turn, Quiet, one, more}
 use Rattle.cfg_core.proofs.Turns.{has_tick_turns}
 use Rattle.call_gen.specs.Spelled.{callee_is, count_of, is_call, is_called, moved, landings, saves, left}
 use Rattle.call_gen.specs.Spelled.{spelled}
-use Rattle.call_gen.specs.Keeps.{NoSend}
 use Rattle.call_gen.proofs.Spelled.Facts.{Given, Placed}
 use Rattle.call_gen.proofs.Spelled.Placing.{plain_of, point_of, door_of, home_is}
 use Rattle.call_gen.proofs.Spelled.Sorts.{all_spots, landing_from}
@@ -37,9 +36,8 @@ module _ (g : Graph) (live : List (List ℕ)) (G : Given g live) (F : Placed g l
     is_none : Sort no_spot
 
   bound : {A : Type 0} (xs : List A) (k : ℕ) (x : A) → nth xs k ≡ Some x → k < length xs
-  bound [] k x e = absurd (cc)
-  bound (y ∷ xs) zero x e = omega arith
   bound (y ∷ xs) (suc k) x e = omega (arith, bound xs k x e)
+  bound xs k x e = grind arith
 
   spot_from : (k : ℕ) (s : Spot) → nth (spots g) k ≡ Some s → spot_at g k ≡ s
   unfolding spot_at
@@ -47,15 +45,12 @@ module _ (g : Graph) (live : List (List ℕ)) (G : Given g live) (F : Placed g l
 
   pub every_spot : AllByRecursion Sort (spots h)
   unfolding proc_at
-  every_spot = all_spots g live Sort 0 0 g.procs
-      (λ e lt. let z : e ≡ 0 + e = omega arith in
-      subst (λ m. Sort (door_of g live m (or_else (nth g.procs e) no_proc))) z (is_door e lt))
-      (λ i s e. let z : i ≡ 0 + i = omega arith in subst (λ m. Sort (plain_of g live s m)) z
-      (subst (λ (t : Spot). Sort (plain_of g live t i)) (spot_from i s e)
-      (is_plain i (bound (spots g) i s e))))
-      (λ i s r f ts back e is. subst (λ (t : Spot). Sort (point_of g live t r back)) (spot_from i s e)
-      (is_point i r f ts back (bound (spots g) i s e) (ap (λ (t : Spot). t.block.exit) (spot_from i s e)
-      ∙ is)))
+  every_spot = all_spots g live Sort 0 0 g.procs (λ e lt. let z : e ≡ 0 + e = omega arith in subst (λ m. Sort
+      (door_of g live m (or_else (nth g.procs e) no_proc))) z (is_door e lt)) (λ i s e. let z : i ≡ 0 + i =
+      omega arith in subst (λ m. Sort (plain_of g live s m)) z (subst (λ (t : Spot). Sort (plain_of g live t
+      i)) (spot_from i s e) (is_plain i (bound (spots g) i s e)))) (λ i s r f ts back e is. subst (λ (t :
+      Spot). Sort (point_of g live t r back)) (spot_from i s e) (is_point i r f ts back (bound (spots g) i s
+      e) (grind (arith, spot_from))))
 
   pub sort_at : (k : ℕ) → Sort (spot_at h k)
   unfolding spot_at
@@ -71,8 +66,7 @@ module _ (g : Graph) (live : List (List ℕ)) (G : Given g live) (F : Placed g l
 
   spot_is : (b : ℕ) → b < n → nth (spots g) b ≡ Some (spot_at g b)
   unfolding spot_at
-  spot_is b lt = let r = nth_there (spots g) b lt in r.1 ∙ ap (λ (o : Option Spot). Some (or_else o no_spot))
-      (sym r.1)
+  spot_is b lt = grind (arith, nth_there (spots g) b lt)
 
   call_of : (x : Exit) (f : ℕ) → callee_is x f ≡ true → (r : Option ℕ) × (ts : List Term) × (back : ℕ)
       × (x ≡ Call r f ts back)
@@ -80,11 +74,7 @@ module _ (g : Graph) (live : List (List ℕ)) (G : Given g live) (F : Placed g l
     where
       same : (e f : ℕ) → callee_is (Call r e ts back) f ≡ true → e ≡ f
       same e f c = grind (arith, nat_tests)
-  call_of (Goto c) f h = absurd (cc)
-  call_of (Branch t c d) f h = absurd (cc)
-  call_of (Return t) f h = absurd (cc)
-  call_of (Send t ts ls) f h = absurd (cc)
-  call_of Stop f h = absurd (cc)
+  call_of x f h = absurd (cc)
 
   -- a landing of a procedure's returns: the return point of a call in a later procedure
   pub record Lands (f d : ℕ) : Type 0 where
@@ -99,21 +89,7 @@ module _ (g : Graph) (live : List (List ℕ)) (G : Given g live) (F : Placed g l
 
   pub lands_at : (f d : ℕ) → In d (landings g f) → Lands f d
   unfolding landings moved
-  lands_at f d i =
-      let r = landing_from f 0 0 (spots g) d i in
-      let b = r.0 in
-      let same : spot_at g b ≡ r.1 = spot_from b r.1 r.2 in
-      let c = call_of (block_at g b).exit f (ap (λ (s : Spot). callee_is s.block.exit f) same ∙ r.3) in
-      record {
-        block = b;
-        there = bound (spots g) b r.1 r.2;
-        result = c.0;
-        terms = c.1;
-        back = c.2;
-        exit = c.3;
-        place = omega (arith, r.4, ap (λ (s : Spot). s.home) same);
-        later = callee_earlier g live G F b c.0 f c.1 c.2 c.3;
-      }
+  lands_at f d i = grind (arith, landing_from, spot_from, call_of, bound, callee_earlier)
 
   no_both : {v : Bool} → v ≡ true → v ≡ false → ⊥
   no_both a c = absurd (cc)
@@ -128,8 +104,7 @@ module _ (g : Graph) (live : List (List ℕ)) (G : Given g live) (F : Placed g l
     where
       by_test : (v : Bool) → (v || has_turn (xs ++ ys)) ≡ false
           → (has_turn (xs ++ ys) ≡ false → has_turn xs ≡ false) → (v || has_turn xs) ≡ false
-      by_test true e rest = absurd (cc)
-      by_test false e rest = rest e
+      by_test v e rest = grind arith
 
   -- what an edge out of a block that may take no turn leads to
   pub data Goes (s : Spot) (d : ℕ) : Type 0 where
@@ -149,8 +124,7 @@ module _ (g : Graph) (live : List (List ℕ)) (G : Given g live) (F : Placed g l
         i.0,
         l,
         i.1,
-        one b c (turn_left (block_at g b).ops [] quiet)
-            (subst (λ (x : Exit). Leads x c) (sym is) refl),
+        one b c (turn_left (block_at g b).ops [] quiet) (subst (λ (x : Exit). Leads x c) (sym is) refl),
       )
   plain_goes b d lt (Branch t c e) is quiet (inl l) =
       let i = exit_in g live G F b (Branch t c e) is in
@@ -172,10 +146,6 @@ module _ (g : Graph) (live : List (List ℕ)) (G : Given g live) (F : Placed g l
         one b e (turn_left (block_at g b).ops [] quiet)
             (subst (λ (x : Exit). Leads x e) (sym is) (inr refl)),
       )
-  plain_goes b d lt (Call r f ts back) is quiet l =
-      absurd (no_both (has_tick_turns (block_at g b).ops (tick_at b (ap calls is)))
-      (turn_left (block_at g b).ops (saves g live (spot_at g b).home (spot_at g b).vars
-      (Call r f ts back)) quiet))
   plain_goes b d lt (Return t) is quiet l = by_called (is_called g (spot_at g b).home) l
     where
       by_called : (v : Bool)
@@ -193,8 +163,7 @@ module _ (g : Graph) (live : List (List ℕ)) (G : Given g live) (F : Placed g l
             ap (λ m. (spot_at h m).home) p.place,
           ))
       by_called false l = absurd l
-  plain_goes b d lt (Send t ts ls) is quiet l = absurd (subst NoSend is (G.no_send b))
-  plain_goes b d lt Stop is quiet l = absurd l
+  plain_goes b d lt x is quiet l = grind (arith, no_both, has_tick_turns, tick_at, turn_left)
 
   goes : (s : Spot) → Sort s → (d : ℕ) → has_turn s.block.ops ≡ false → Leads s.block.exit d → Goes s d
   unfolding no_spot
@@ -209,8 +178,7 @@ module _ (g : Graph) (live : List (List ℕ)) (G : Given g live) (F : Placed g l
   edge a d quiet l = goes (spot_at h a) (sort_at a) d quiet l
 
   up : (s : Spot) (d : ℕ) → Goes s d → s.home ≤ (spot_at h d).home
-  up s d (stays c lt e home) = omega (arith, home_moved c lt, ap (λ m. (spot_at h m).home) e, home)
-  up s d (rises lt) = omega arith
+  up s d x = grind (arith, home_moved)
 
   path_up : (a d : ℕ) → Quiet h a d → (spot_at h a).home ≤ (spot_at h d).home
   path_up a d (one _ _ q l) = up (spot_at h a) d (edge a d q l)
@@ -226,10 +194,7 @@ module _ (g : Graph) (live : List (List ℕ)) (G : Given g live) (F : Placed g l
       → Leads (block_at h a).exit d
       → ((c : ℕ) × (c < n) × (d ≡ moved g c) × ((spot_at g c).home ≡ (spot_at g b).home) × Quiet g b c)
       ⊎ ((spot_at g b).home < (spot_at h d).home)
-  plain_edge b a d lt e q l =
-      let same : spot_at h a ≡ plain_of g live (spot_at g b) b = ap (spot_at h) e ∙ F.plain b lt in
-      plain_goes b d lt (block_at g b).exit refl (sym (ap (λ (s : Spot). has_turn s.block.ops) same) ∙ q)
-      (subst (λ (s : Spot). Leads s.block.exit d) same l)
+  plain_edge b a d lt e q l = grind (arith, plain_of, plain_goes)
 
   quiet_both : (a c d : ℕ) → Quiet g a c → Quiet g c d → Quiet g a d
   quiet_both a c d p (one _ _ q l) = more a c d p q l
@@ -250,10 +215,9 @@ module _ (g : Graph) (live : List (List ℕ)) (G : Given g live) (F : Placed g l
   count_more : (p : Spot → Bool) (xs : List Spot) (i j : ℕ) → i ≤ j → count_of p (take i xs) ≤ count_of p
       (take j xs)
   count_more p xs zero j le = omega arith
-  count_more p [] (suc i) zero le = absurd (omega arith)
   count_more p [] (suc i) (suc j) le = omega arith
-  count_more p (x ∷ xs) (suc i) zero le = absurd (omega arith)
   count_more p (x ∷ xs) (suc i) (suc j) le = omega (arith, count_more p xs i j (omega arith))
+  count_more p xs (suc i) zero le = absurd (omega arith)
 
   home_more : (f : ℕ) (ps : List GraphProc) (i j : ℕ) (s t : Spot) → nth (spots_from f ps) i ≡ Some s
       → nth (spots_from f ps) j ≡ Some t → i ≤ j → s.home ≤ t.home
@@ -262,33 +226,25 @@ module _ (g : Graph) (live : List (List ℕ)) (G : Given g live) (F : Placed g l
     | inl lt ↦
         omega (
           arith,
-          front f p.vars p.blocks i s
-              (sym (nth_append_left (spots_in f p.vars p.blocks) (spots_from (suc f) ps) i lt) ∙ es),
+          front f p.vars p.blocks i s (grind (arith, nth_append_left)),
           (home_is g live f (p ∷ ps) j t et).home,
         )
     | inr ge ↦
         let m = length (spots_in f p.vars p.blocks) in
         home_more (suc f) ps (i - m) (j - m) s t
-        (sym (nth_right (spots_in f p.vars p.blocks) (spots_from (suc f) ps) m (i - m) i refl
-        (omega arith)) ∙ es)
-        (sym (nth_right (spots_in f p.vars p.blocks) (spots_from (suc f) ps) m (j - m) j refl
-        (omega arith)) ∙ et) (omega arith)
+        (grind (arith, nth_right))
+        (grind (arith, nth_right)) (omega arith)
   ]
     where
       front : (home vars : ℕ) (xs : List Block) (i : ℕ) (s : Spot) → nth (spots_in home vars xs) i ≡ Some s
           → s.home ≡ home
-      front home vars [] i s e = absurd (cc)
-      front home vars (x ∷ xs) zero s e = cc
       front home vars (x ∷ xs) (suc i) s e = front home vars xs i s e
+      front home vars xs i s e = grind arith
 
   pub moved_less : (b c : ℕ) → b < n → c < n → b < c → moved g b < moved g c
   unfolding moved
-  moved_less b c lb lc lt = omega (
-    arith,
-    lt,
-    count_more is_call (spots g) b c (omega arith),
-    home_more 0 g.procs b c (spot_at g b) (spot_at g c) (spot_is b lb) (spot_is c lc) (omega arith),
-  )
+  moved_less b c lb lc lt =
+      grind (arith, count_more is_call (spots g) b c (omega arith), home_more, spot_is b lb, spot_is c lc)
 
   pub moved_apart : (b c : ℕ) → b < n → c < n → moved g b ≡ moved g c → b ≡ c
   moved_apart b c lb lc e = elim (cases_lt b c) [
@@ -303,10 +259,5 @@ module _ (g : Graph) (live : List (List ℕ)) (G : Given g live) (F : Placed g l
   pub no_cycle : (a : ℕ) → Quiet h a a → ⊥
   no_cycle a path = elim (target a a path) [
     | inr lt ↦ omega arith
-    | inl t ↦ elim (within t.0 a a t.1 t.2 path) [
-      | inr lt ↦ omega (arith, lt, home_moved t.0 t.1, ap (λ m. (spot_at h m).home) t.2)
-      | inl p ↦
-          let same : p.0 ≡ t.0 = moved_apart p.0 t.0 p.1 t.1 (sym p.2 ∙ t.2) in
-          G.rules.cycles t.0 (subst (λ m. Quiet g t.0 m) same p.4)
-    ]
+    | inl t ↦ grind (arith, within, home_moved, moved_apart)
   ]

@@ -1,14 +1,12 @@
 -- The spelled graph keeps the rules of graphs; it has no call, and what is live where a Send lands is what
 -- the Send brings.
-use Rattle.std.proofs.Common.{ℕ, zero, suc, ◌+◌, ◌≡◌, ◌<◌, ◌≤◌, min, Bool, true, false, if◌then◌else◌, List}
-use Rattle.std.proofs.Common.{[], ◌∷◌, ◌++◌, length, map, refl, sym, ap, ◌∙◌, subst, inl, inr, Option, Some}
-use Rattle.std.proofs.Common.{None, arith}
+use Rattle.std.proofs.Common.{ℕ, suc, ◌+◌, ◌≡◌, ◌<◌, ◌≤◌, min, Bool, true, false, if◌then◌else◌, List, []}
+use Rattle.std.proofs.Common.{◌∷◌, ◌++◌, length, map, refl, sym, ap, ◌∙◌, subst, inl, inr, Option, arith}
 use Rattle.std.specs.List.{AllByRecursion, filter}
 use Rattle.std.proofs.lemmas.Bool.{cases_lt}
 use Rattle.std.proofs.lemmas.List.{length-append, length-replicate, length_push}
-use Rattle.cfg_core.specs.Graph.{Term, Number, Var, Cell, Flip, Not, Neg, Binary, Op, Assign, Store, Print}
-use Rattle.cfg_core.specs.Graph.{Read, Give, Take, Choose, Tick, TickBy, Exit, Goto, Branch, Call, Return}
-use Rattle.cfg_core.specs.Graph.{Send, Stop, GraphProc, Graph, Spot, spots, no_spot, no_proc, spot_at}
+use Rattle.cfg_core.specs.Graph.{Term, Number, Var, Cell, Flip, Not, Neg, Binary, Op, Exit, Goto, Branch}
+use Rattle.cfg_core.specs.Graph.{Call, Return, Send, GraphProc, Graph, Spot, spots, no_spot, no_proc, spot_at}
 use Rattle.cfg_core.specs.Graph.{block_at, proc_at, entry_of}
 use Rattle.cfg_core.specs.Rules.{IsArray, TermIn, OpIn, StaysIn, TargetIn, ExitIn, BlockNumbers, ProcNumbers}
 use Rattle.cfg_core.specs.Rules.{Lands, CallsEarlier, calls, has_tick, ChoosesBare, IsGraph}
@@ -68,15 +66,7 @@ module _ (g : Graph) (live : List (List ℕ)) (G : Given g live) where
   term_in v (Binary op a b) i = (term_in v a i.0, term_in v b i.1)
 
   op_in : (v : ℕ) (op : Op) → OpIn (length g.arrays) v op → OpIn (length h.arrays) (suc v) op
-  op_in v (Assign x t) i = (omega arith, term_in v t i.1)
-  op_in v (Store a t u) i = ((i.0.0, omega (arith, i.0.1, arrays_more)), term_in v t i.1, term_in v u i.2)
-  op_in v (Print t) i = term_in v t i
-  op_in v (Read x) i = omega arith
-  op_in v (Give p x) i = (i.0, omega arith)
-  op_in v (Take p t) i = (i.0, term_in v t i.1)
-  op_in v (Choose x t a b) i = (omega arith, term_in v t i.1, term_in v a i.2, term_in v b i.3)
-  op_in v (Tick n) i = tt
-  op_in v (TickBy t n m) i = term_in v t i
+  op_in v op i = grind (arith, term_in, arrays_more)
 
   cell_there : (k : ℕ) → k < cells_in_all g → IsArray (length h.arrays) (array_of g k)
   cell_there k lt = (omega arith, omega (arith, arrays_more, lt))
@@ -99,10 +89,7 @@ module _ (g : Graph) (live : List (List ℕ)) (G : Given g live) where
       let l = lands_at g live G F f d i in
       subst (λ m. m < length (spots h)) (sym l.place)
       (spot_there h (suc (moved g l.block))
-      (omega (
-        arith,
-        ap (λ (s : Spot). s.vars) (F.point l.block l.result f l.terms l.back l.there l.exit),
-      )))
+      (omega (arith, ap (λ (s : Spot). s.vars) (F.point l.block l.result f l.terms l.back l.there l.exit))))
 
   few_params : (f : ℕ) → f < length g.procs → (proc_at g f).params ≤ (proc_at g f).vars
   unfolding proc_at
@@ -110,9 +97,8 @@ module _ (g : Graph) (live : List (List ℕ)) (G : Given g live) where
     where
       each : (ps : List GraphProc) (f : ℕ) → AllByRecursion ProcNumbers ps → f < length ps
           → (or_else (nth ps f) no_proc).params ≤ (or_else (nth ps f) no_proc).vars
-      each [] f h lt = absurd (omega arith)
-      each (p ∷ ps) zero h lt = h.0.params
       each (p ∷ ps) (suc f) h lt = each ps f h.1 (omega arith)
+      each ps f h lt = grind arith
 
   module _ (b : ℕ) (there : b < length (spots g)) where
     abbrev home : ℕ
@@ -135,8 +121,7 @@ module _ (g : Graph) (live : List (List ℕ)) (G : Given g live) where
     saves_in (Call r f ts back) e = map_in (OpIn (length h.arrays) (suc v)) (save g home)
         (saved g live home v r back) (λ x i. let c = cell_in r f ts back x e i in
         (c.1, tt, omega arith))
-    saves_in (Goto c) e = tt
-    saves_in _ e = tt
+    saves_in x e = tt
 
     left_in : (x : Exit) → (block_at g b).exit ≡ x → ExitIn h home (suc v) (left g home v b x)
     left_in (Goto c) e = stays home c (exit_in g live G F b (Goto c) e)
@@ -145,9 +130,8 @@ module _ (g : Graph) (live : List (List ℕ)) (G : Given g live) where
     left_in (Call r f ts back) e =
         let i = exit_in g live G F b (Call r f ts back) e in (
           tt,
-          all_both (TermIn (length h.arrays) (suc v)) ts (Number (address g f b) ∷ [])
-              (all_have (TermIn (length g.arrays) v) (TermIn (length h.arrays) (suc v)) ts (term_in v) i.3)
-              (tt, tt),
+          all_both (TermIn (length h.arrays) (suc v)) ts (Number (address g f b) ∷ []) (all_have (TermIn
+              (length g.arrays) v) (TermIn (length h.arrays) (suc v)) ts (term_in v) i.3) (tt, tt),
           (there_door f i.1, tt),
         )
     left_in (Return t) e = by_called (is_called g home)
@@ -160,12 +144,10 @@ module _ (g : Graph) (live : List (List ℕ)) (G : Given g live) where
           all_in (λ l. l < length (spots h)) (landings g home) (there_landing home),
         )
         by_called false = term_in v t (exit_in g live G F b (Return t) e)
-    left_in (Send t ts ls) e = tt
-    left_in Stop e = tt
+    left_in x e = tt
 
     place_low : (r : Option ℕ) → TargetIn v r → or_else r v < suc v
-    place_low None i = omega arith
-    place_low (Some x) i = omega arith
+    place_low r i = grind arith
 
   numbers : (s : Spot) → Sort g live G F s → BlockNumbers h s
   unfolding no_spot
@@ -180,24 +162,15 @@ module _ (g : Graph) (live : List (List ℕ)) (G : Given g live) where
     where
       by_called : (c : Bool) → AllByRecursion (λ x. x < suc (proc_at g f).vars)
           (if c then below (proc_at g f).params ++ (proc_at g f).vars ∷ [] else [])
-      by_called true = all_both (λ x. x < suc (proc_at g f).vars) (below (proc_at g f).params)
-          ((proc_at g f).vars ∷ [])
-          (all_in (λ x. x < suc (proc_at g f).vars) (below (proc_at g f).params)
-          (λ x i. omega (arith, below_all (proc_at g f).params x i, few_params f lt))) (omega arith, tt)
-      by_called false = tt
+      by_called c = grind (arith, all_both, all_in, below_all, few_params)
 
       once : (c : Bool) → Distinct (if c then below (proc_at g f).params ++ (proc_at g f).vars ∷ [] else [])
-      once true = apart_push (below (proc_at g f).params) (proc_at g f).vars
-          (below_apart (proc_at g f).params)
-          (λ i. omega (arith, below_all (proc_at g f).params (proc_at g f).vars i, few_params f lt))
-      once false = tt
+      once c = grind (arith, apart_push, below_apart, below_all, few_params)
   numbers _ (is_plain b lt) = record {
-    ops = all_both (OpIn (length h.arrays) (suc (spot_at g b).vars)) (block_at g b).ops
-        (saves g live (spot_at g b).home (spot_at g b).vars (block_at g b).exit)
-        (all_have (OpIn (length g.arrays) (spot_at g b).vars)
-        (OpIn (length h.arrays) (suc (spot_at g b).vars)) (block_at g b).ops (op_in (spot_at g b).vars)
-        (numbers_at g G.rules b).ops) (saves_in b lt (block_at g b).exit refl);
-    exit = left_in b lt (block_at g b).exit refl;
+    ops = all_both (OpIn (length h.arrays) (suc (spot_at g b).vars)) (block_at g b).ops (saves g live (spot_at
+        g b).home (spot_at g b).vars (block_at g b).exit) (grind (arith, all_have, op_in, numbers_at))
+        (grind (arith, saves_in));
+    exit = grind (arith, left_in);
     named = tt;
     once = tt;
   }
@@ -223,18 +196,10 @@ module _ (g : Graph) (live : List (List ℕ)) (G : Given g live) where
   lands_door : (b : ℕ) (r : Option ℕ) (f : ℕ) (ts : List Term) (back : ℕ) → b < length (spots g)
       → (block_at g b).exit ≡ Call r f ts back → length (block_at h (door g f)).named
       ≡ length (ts ++ Number (address g f b) ∷ [])
-  lands_door b r f ts back lt e =
-      let i = exit_in g live G F b (Call r f ts back) e in
-      ap (λ (s : Spot). length s.block.named) (F.entry f i.1)
-      ∙ ap (λ (c : Bool). length (if c then below (proc_at g f).params ++ (proc_at g f).vars ∷ [] else []))
-      (F.called b r f ts back lt e).0
-      ∙ (omega (
-        arith,
-        length_push (below (proc_at g f).params) (proc_at g f).vars,
-        below_count (proc_at g f).params,
-        length_push ts (Number (address g f b)),
-        i.2,
-      ))
+  lands_door b r f ts back lt e = let i = exit_in g live G F b (Call r f ts back) e in
+      ap (λ (s : Spot). length s.block.named) (F.entry f i.1) ∙ ap (λ (c : Bool). length (if c then below
+      (proc_at g f).params ++ (proc_at g f).vars ∷ [] else [])) (F.called b r f ts back lt e).0 ∙
+      (grind (arith, length_push, below_count))
 
   lands_point : (f d : ℕ) → In d (landings g f) → length (block_at h d).named ≡ 1
   lands_point f d i =
@@ -244,41 +209,25 @@ module _ (g : Graph) (live : List (List ℕ)) (G : Given g live) where
 
   landing_rule : (b : ℕ) (x : Exit) → b < length (spots g) → (block_at g b).exit ≡ x
       → Lands h (left g (spot_at g b).home (spot_at g b).vars b x)
-  landing_rule b (Goto c) lt e = tt
-  landing_rule b (Call r f ts back) lt e = (omega arith, (lands_door b r f ts back lt e, tt))
-  landing_rule b (Return t) lt e = grind (arith, h, some_landing, all_in, lands_point)
-  landing_rule b _ lt e = tt
+  landing_rule b x lt e = grind (arith, lands_door, some_landing, all_in, lands_point)
 
   lands : (s : Spot) → Sort g live G F s → Lands h s.block.exit
   unfolding no_spot
-  lands _ (is_door f lt) = tt
-  lands _ (is_plain b lt) = landing_rule b (block_at g b).exit lt refl
-  lands _ _ = tt
+  lands s x = grind (arith, landing_rule)
 
   -- no call
   left_no_call : (home v b : ℕ) (x : Exit) → NoCall (left g home v b x)
-  left_no_call home v b (Goto c) = tt
-  left_no_call home v b (Return t) = grind arith
-  left_no_call home v b _ = tt
+  left_no_call home v b x = grind arith
 
   pub no_call : (s : Spot) → Sort g live G F s → NoCall s.block.exit
   unfolding no_spot
-  no_call _ (is_door f lt) = tt
-  no_call _ (is_plain b lt) = left_no_call (spot_at g b).home (spot_at g b).vars b (block_at g b).exit
-  no_call _ _ = tt
+  no_call s x = grind (arith, left_no_call)
 
   earlier : (home : ℕ) (x : Exit) → NoCall x → CallsEarlier home x
-  earlier home (Goto c) n = tt
-  earlier home (Call r f ts back) n = absurd n
-  earlier home _ n = tt
+  earlier home x n = grind arith
 
   ticks : (x : Exit) (ops : List Op) → NoCall x → calls x ≡ true → has_tick ops ≡ true
-  ticks (Goto c) ops n e = absurd (cc)
-  ticks (Branch t c d) ops n e = absurd (cc)
-  ticks (Call r f ts back) ops n e = absurd n
-  ticks (Return t) ops n e = absurd (cc)
-  ticks (Send t ts ls) ops n e = absurd (cc)
-  ticks Stop ops n e = absurd (cc)
+  ticks x ops n e = grind arith
 
   bare_at : (b : ℕ) → AllByRecursion ChoosesBare (block_at g b).ops
   unfolding spot_at no_spot
@@ -287,14 +236,12 @@ module _ (g : Graph) (live : List (List ℕ)) (G : Given g live) where
   saves_bare : (home v : ℕ) (x : Exit) → AllByRecursion ChoosesBare (saves g live home v x)
   saves_bare home v (Call r f ts back) = map_all ChoosesBare (save g home) (saved g live home v r back)
       (λ x. tt)
-  saves_bare home v (Goto c) = tt
-  saves_bare home v _ = tt
+  saves_bare home v x = tt
 
   bare : (s : Spot) → Sort g live G F s → AllByRecursion ChoosesBare s.block.ops
   unfolding no_spot
-  bare _ (is_door f lt) =
-      map_all ChoosesBare clear (filter (is_unset g live f (proc_at g f).params) (below (proc_at g f).vars))
-      (λ x. tt)
+  bare _ (is_door f lt) = map_all ChoosesBare clear (filter (is_unset g live f (proc_at g f).params) (below
+      (proc_at g f).vars)) (λ x. tt)
   bare _ (is_plain b lt) = grind (arith, all_both, bare_at, saves_bare)
   bare _ (is_point b r f ts back lt e) = map_all ChoosesBare (load g (spot_at g b).home)
       (saved g live (spot_at g b).home (spot_at g b).vars r back) (λ x. tt)

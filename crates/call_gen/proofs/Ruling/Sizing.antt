@@ -1,18 +1,17 @@
 -- The spelled graph keeps its bounds.
 use Rattle.std.proofs.Common.{ℕ, zero, suc, ◌+◌, ◌*◌, ◌/◌, ◌≡◌, ◌<◌, ◌≤◌, min, true, false, if◌then◌else◌}
-use Rattle.std.proofs.Common.{List, [], ◌∷◌, ◌++◌, length, replicate, refl, ap, subst, Option, Some, None}
-use Rattle.std.proofs.Common.{arith}
+use Rattle.std.proofs.Common.{List, [], ◌∷◌, ◌++◌, length, replicate, refl, ap, Option, Some, arith}
 use Rattle.std.specs.List.{AllByRecursion, filter, sum_by}
 use Rattle.std.proofs.lemmas.List.{length-append, length-map}
 use Rattle.std.proofs.lemmas.List.Sums.{sum_by-append}
 use Rattle.std.proofs.Math.Nat.{mul-le-mul_right}
-use Rattle.cfg_core.specs.Graph.{Exit, Goto, Branch, Call, Return, Send, Stop, GraphArray, GraphProc, Graph}
-use Rattle.cfg_core.specs.Graph.{Spot, spots, no_spot, no_proc, spot_at, block_at, proc_at}
+use Rattle.cfg_core.specs.Graph.{Exit, Call, Return, GraphArray, GraphProc, Graph, Spot, spots, no_spot}
+use Rattle.cfg_core.specs.Graph.{no_proc, spot_at, block_at, proc_at}
 use Rattle.cfg_core.specs.Rules.{calls}
 use Rattle.cfg_core.specs.Weights.{op_nodes, exit_nodes}
-use Rattle.call_gen.specs.Spelled.{callee_is, count_of, is_call, is_saved, is_unset, address, own_cells}
-use Rattle.call_gen.specs.Spelled.{first_cell, cells_in_all, hidden_arrays, landings, landings_from, below}
-use Rattle.call_gen.specs.Spelled.{saved, save, load, saves, left, clear, spelled_procs, spelled}
+use Rattle.call_gen.specs.Spelled.{count_of, is_call, is_saved, is_unset, own_cells, first_cell, cells_in_all}
+use Rattle.call_gen.specs.Spelled.{hidden_arrays, landings, landings_from, below, saved, save, load, saves}
+use Rattle.call_gen.specs.Spelled.{left, clear, spelled_procs, spelled}
 use Rattle.call_gen.specs.Keeps.{NoCall, ParamsAtMost}
 use Rattle.call_gen.specs.Sizes.{call_count, cell_count, Sizes, LandingsAtMost, BlockWithin, ProcWithin}
 use Rattle.call_gen.specs.Sizes.{KeepsSizes, larger, most_hidden_arrays, hidden_cells, spelled_sizes}
@@ -35,26 +34,12 @@ calls_counted (s ∷ ss) = ap (λ n. (if calls s.block.exit then 1 else 0) + n) 
 -- no more landings than calls
 few_landings : (f b k : ℕ) (ss : List Spot) → length (landings_from f b k ss) ≤ call_count ss
 few_landings f b k [] = omega arith
-few_landings f b k (s ∷ ss) =
-    by_exit s.block.exit (few_landings f (suc b) ((if is_call s then 1 else 0) + k) ss)
-  where
-    by_exit : (x : Exit) → length (landings_from f (suc b) ((if is_call s then 1 else 0) + k) ss) ≤ call_count
-        ss
-        → length (if callee_is x f then suc (b + k + suc s.home) ∷ landings_from f (suc b)
-        ((if is_call s then 1 else 0) + k) ss else landings_from f (suc b)
-        ((if is_call s then 1 else 0) + k) ss) ≤ (if calls x then 1 else 0) + call_count ss
-    by_exit (Call r e ts back) h = grind arith
-    by_exit (Goto c) h = omega arith
-    by_exit (Branch t c d) h = omega arith
-    by_exit (Return t) h = omega arith
-    by_exit (Send t ts ls) h = omega arith
-    by_exit Stop h = omega arith
+few_landings f b k (s ∷ ss) = grind (arith, few_landings f (suc b) ((if is_call s then 1 else 0) + k) ss)
 
 some_call : (ss : List Spot) (i : ℕ) (s : Spot) → nth ss i ≡ Some s → calls s.block.exit ≡ true
     → 1 ≤ call_count ss
-some_call [] i s e c = absurd (cc)
-some_call (x ∷ ss) zero s e c = grind arith
 some_call (x ∷ ss) (suc i) s e c = omega (arith, some_call ss i s e c)
+some_call ss i s e c = grind arith
 
 cells_both : (xs ys : List GraphArray) → cell_count (xs ++ ys) ≡ cell_count xs + cell_count ys
 cells_both [] ys = omega arith
@@ -91,9 +76,8 @@ module _ (g : Graph) (live : List (List ℕ)) (G : Given g live) (z : Sizes) (W 
     where
       each : (ps : List GraphProc) (f : ℕ) → AllByRecursion (ProcWithin z) ps → f < length ps
           → ProcWithin z (or_else (nth ps f) no_proc)
-      each [] f i lt = absurd (omega arith)
-      each (p ∷ ps) zero i lt = i.0
       each (p ∷ ps) (suc f) i lt = each ps f i.1 (omega arith)
+      each ps f i lt = grind arith
 
   -- hidden cells
   own_few : (f : ℕ) → f < length g.procs → own_cells g f ≤ suc z.vars
@@ -113,11 +97,8 @@ module _ (g : Graph) (live : List (List ℕ)) (G : Given g live) (z : Sizes) (W 
   vars_at b lt = omega (arith, (F.home b lt).1, (few_vars (spot_at g b).home (F.home b lt).0).vars)
 
   saved_few : (home v : ℕ) (r : Option ℕ) (back : ℕ) → length (saved g live home v r back) ≤ suc v
-  saved_few home v r back = omega (
-    arith,
-    filter_few (is_saved g live home v r back) (below (suc v)),
-    below_count (suc v),
-  )
+  saved_few home v r back =
+      grind (arith, filter_few (is_saved g live home v r back) (below (suc v)), below_count (suc v))
 
   saves_few : (home v : ℕ) (x : Exit) → (length (saves g live home v x) ≤ suc v)
       × (sum_by op_nodes (saves g live home v x) ≤ 2 * suc v)
@@ -126,17 +107,10 @@ module _ (g : Graph) (live : List (List ℕ)) (G : Given g live) (z : Sizes) (W 
         omega (arith, length-map (saved g live home v r back) (save g home), s),
         omega (arith, each_sum op_nodes (save g home) 2 (saved g live home v r back) (λ x. refl), s),
       )
-  saves_few home v (Goto c) = (omega arith, omega arith)
-  saves_few home v (Branch t c d) = (omega arith, omega arith)
-  saves_few home v (Return t) = (omega arith, omega arith)
-  saves_few home v (Send t ts ls) = (omega arith, omega arith)
-  saves_few home v Stop = (omega arith, omega arith)
+  saves_few home v x = (omega arith, omega arith)
 
   left_few : (home v b : ℕ) (x : Exit) → exit_nodes (left g home v b x) ≤ exit_nodes x + 2
-  left_few home v b (Goto c) = omega arith
-  left_few home v b (Call r f ts back) = omega (arith, terms_push ts (address g f b))
-  left_few home v b (Return t) = grind arith
-  left_few home v b _ = omega arith
+  left_few home v b x = grind (arith, terms_push)
 
   landings_few : (f : ℕ) → length (landings g f) ≤ z.calls
   unfolding landings
@@ -144,11 +118,10 @@ module _ (g : Graph) (live : List (List ℕ)) (G : Given g live) (z : Sizes) (W 
 
   lands_few : (b : ℕ) → b < length (spots g) → (x : Exit) → (block_at g b).exit ≡ x
       → LandingsAtMost z.calls (left g (spot_at g b).home (spot_at g b).vars b x)
-  lands_few b lt (Goto c) e = tt
   lands_few b lt (Call r f ts back) e =
       omega (arith, some_call (spots g) b (spot_at g b) (spot_is g b lt) (ap calls e), W.calls)
   lands_few b lt (Return t) e = grind (arith, landings_few)
-  lands_few b lt _ e = tt
+  lands_few b lt x e = tt
 
   params_few : ParamsAtMost z.params g
   params_few f lt = (few_vars f lt).params
@@ -159,20 +132,15 @@ module _ (g : Graph) (live : List (List ℕ)) (G : Given g live) (z : Sizes) (W 
     where
       at_nth : (P : Spot → Type 0) (xs : List Spot) → AllByRecursion P xs → (k : ℕ) (x : Spot)
           → nth xs k ≡ Some x → P x
-      at_nth P [] i k x e = absurd (cc)
-      at_nth P (y ∷ xs) i zero x e = let same : y ≡ x = cc in subst P same i.0
       at_nth P (y ∷ xs) i (suc k) x e = at_nth P xs i.1 k x e
+      at_nth P xs i k x e = grind arith
 
   within : (s : Spot) → Sort g live G F s → BlockWithin (spelled_sizes z) s.block
   unfolding no_spot
   within _ (is_door f lt) =
       let p = proc_at g f in
       let xs = filter (is_unset g live f p.params) (below p.vars) in
-      let few : length xs ≤ p.vars = omega (
-        arith,
-        filter_few (is_unset g live f p.params) (below p.vars),
-        below_count p.vars,
-      ) in
+      let few : length xs ≤ p.vars = grind (arith, filter_few, below_count) in
       let v = (few_vars f lt).vars in
       record {
         ops = omega (arith, length-map xs clear, few, v);
@@ -185,23 +153,8 @@ module _ (g : Graph) (live : List (List ℕ)) (G : Given g live) (z : Sizes) (W 
       let s = saves_few (spot_at g b).home (spot_at g b).vars (block_at g b).exit in
       let v = vars_at b lt in
       record {
-        ops = omega (
-          arith,
-          length-append (block_at g b).ops (saves g live (spot_at g b).home (spot_at g b).vars
-              (block_at g b).exit),
-          o.ops,
-          s.0,
-          v,
-        );
-        nodes = omega (
-          arith,
-          sum_by-append op_nodes (block_at g b).ops
-              (saves g live (spot_at g b).home (spot_at g b).vars (block_at g b).exit),
-          o.nodes,
-          s.1,
-          left_few (spot_at g b).home (spot_at g b).vars b (block_at g b).exit,
-          v,
-        );
+        ops = grind (arith, length-append);
+        nodes = grind (arith, sum_by-append, left_few);
         values = few_at g live G z.params params_few _ (is_plain b lt);
         landings = lands_few b lt (block_at g b).exit refl;
       }
@@ -237,36 +190,18 @@ module _ (g : Graph) (live : List (List ℕ)) (G : Given g live) (z : Sizes) (W 
   is_within = record {
     arrays = omega (arith, arrays_more g live G, W.arrays);
     lengths = all_both (λ (a : GraphArray). a.length ≤ (spelled_sizes z).length) g.arrays (hidden_arrays g)
-        (all_have (λ (a : GraphArray). a.length ≤ z.length) (λ (a : GraphArray).
-        a.length ≤ (spelled_sizes z).length) g.arrays
-        (λ a i. omega (arith, i, larger_left z.length (suc (hidden_cells z / most_hidden_arrays))))
-        W.lengths)
-        (equal_all (λ (a : GraphArray). a.length ≤ (spelled_sizes z).length) (min 192 (cells_in_all g)) _
-        row_few);
-    cells = omega (
-      arith,
-      cells_both g.arrays (hidden_arrays g),
-      equal_cells (min 192 (cells_in_all g))
-          (record { name = None; length = suc (cells_in_all g / 192) }),
-      rows_few (cells_in_all g),
-      cells_few,
-      W.cells,
-    );
+        (grind (arith, all_have, larger_left)) (equal_all (λ (a : GraphArray). a.length ≤ (spelled_sizes
+        z).length) (min 192 (cells_in_all g)) _ row_few);
+    cells = grind (arith, cells_both, equal_cells, rows_few, cells_few);
     count_procs = omega (arith, F.count, W.count_procs);
     procs = procs_within 0 0 g.procs W.procs;
-    count_blocks = omega (
-      arith,
-      new_count g live 0 0 g.procs,
-      calls_counted (spots g),
-      W.count_blocks,
-      W.calls,
-      W.count_procs,
-    );
+    count_blocks = grind (arith, new_count, calls_counted);
     blocks = all_have (Sort g live G F) (λ s. BlockWithin (spelled_sizes z) s.block) (spots h) within
         (every_spot g live G F);
-    calls = omega (
-      arith,
-      no_calls (spots h) (all_have (Sort g live G F) (λ s. calls s.block.exit ≡ false) (spots h)
-          (λ s k. none_call s (no_call g live G s k)) (every_spot g live G F)),
-    );
+    calls =
+        omega (
+          arith,
+          no_calls (spots h) (all_have (Sort g live G F) (λ s. calls s.block.exit ≡ false) (spots h) (λ s k.
+              none_call s (no_call g live G s k)) (every_spot g live G F)),
+        );
   }

@@ -1,7 +1,6 @@
 -- Calls among the first blocks, one block more.
-use Rattle.std.proofs.Common.{ℕ, zero, suc, ◌+◌, ◌≡◌, ◌<◌, ◌≤◌, ◌||◌, nat_lt, Bool, true, false}
-use Rattle.std.proofs.Common.{if◌then◌else◌, List, [], ◌∷◌, ◌++◌, length, map, take, get_or, refl, sym, ap}
-use Rattle.std.proofs.Common.{◌∙◌, arith}
+use Rattle.std.proofs.Common.{ℕ, suc, ◌+◌, ◌≡◌, ◌<◌, ◌≤◌, ◌||◌, nat_lt, Bool, if◌then◌else◌, List, [], ◌∷◌}
+use Rattle.std.proofs.Common.{◌++◌, length, map, take, get_or, refl, sym, ap, ◌∙◌, arith}
 use Rattle.std.proofs.lemmas.List.{take_all}
 use Rattle.cfg_core.specs.Graph.{Graph, Exit, Spot, Stop, no_spot, spots, spot_at}
 use Rattle.call_gen.specs.Spelled.{count_of, some_of}
@@ -17,9 +16,8 @@ take_next xs b c e lt = ap (λ n. take n xs) e ∙ at xs b lt
   where
     at : (xs : List Spot) (b : ℕ) → b < length xs → take (suc b) xs ≡ take b xs ++ or_else (nth xs b) no_spot
         ∷ []
-    at [] b lt = absurd (omega arith)
-    at (x ∷ xs) zero lt = refl
     at (x ∷ xs) (suc b) lt = ap (λ (zs : List Spot). x ∷ zs) (at xs b (omega arith))
+    at xs b lt = grind arith
 
 count_push : (p : Spot → Bool) (xs : List Spot) (s : Spot) → count_of p (xs ++ s ∷ []) ≡ count_of p xs
     + (if p s then 1 else 0)
@@ -56,13 +54,11 @@ some_count p (x ∷ xs) = grind (arith, some_count p xs)
 
 pub home_of : (xs : List Spot) (b : ℕ) → b < length xs → get_or (map (λ (s : Spot). s.home) xs) b 0
     ≡ (or_else (nth xs b) no_spot).home
-home_of [] b lt = absurd (omega arith)
-home_of (x ∷ xs) zero lt = refl
 home_of (x ∷ xs) (suc b) lt = home_of xs b (omega arith)
+home_of xs b lt = grind arith
 
 pub one_at_most : (b : Bool) → (if b then 1 else 0) ≤ 1
-one_at_most true = omega arith
-one_at_most false = omega arith
+one_at_most b = grind arith
 
 pub home_at : (g : Graph) (homes : List ℕ) (b : ℕ) → homes ≡ map (λ (s : Spot). s.home) (spots g)
     → b < length (spots g) → get_or homes b 0 ≡ (spot_at g b).home

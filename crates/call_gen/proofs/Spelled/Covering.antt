@@ -5,8 +5,7 @@ use Rattle.std.proofs.lemmas.Bool.{cases_lt}
 use Rattle.std.proofs.lemmas.List.{length-append}
 use Rattle.cfg_core.specs.Graph.{Block, GraphProc, Graph, Spot, spots, spots_in, spots_from, entry_of}
 use Rattle.cfg_core.specs.Rules.{calls}
-use Rattle.call_gen.specs.Spelled.{count_of, is_call, moved, door, after, spelled_blocks, spelled_procs}
-use Rattle.call_gen.specs.Spelled.{spelled}
+use Rattle.call_gen.specs.Spelled.{count_of, is_call, moved, door, spelled_blocks, spelled_procs, spelled}
 use Rattle.call_gen.specs.Charged.{IsPlaced}
 use Rattle.call_gen.proofs.Spelled.Placing.{take_left, take_right, count_both, after_count, head_spots}
 use Rattle.call_gen.proofs.Spelled.Placing.{head_count, in_blocks, door_in, door_later}
@@ -28,12 +27,7 @@ record AtBlock (ss : List Spot) (k : ℕ) : Type 0 where
 -- after one more block
 one_later : (x : Spot) (ss : List Spot) (k m : ℕ) → m ≡ k + suc (if is_call x then 1 else 0) → AtBlock ss k
     → AtBlock (x ∷ ss) m
-one_later x ss k m e r = record {
-  block = suc r.block;
-  spot = r.spot;
-  is = r.is;
-  place = elim r.place [ inl p ↦ inl (omega arith) | inr p ↦ inr (p.0, omega arith) ];
-}
+one_later x ss k m e r = record { block = suc r.block; spot = r.spot; is = r.is; place = grind arith }
 
 abbrev spot_of : ℕ → ℕ → Block → Spot
 spot_of home vars x = record { home = home; vars = vars; block = x }
@@ -48,16 +42,8 @@ module _ (g : Graph) (live : List (List ℕ)) where
     is = refl;
     place = inl (omega arith);
   }
-  one_of home vars b (x ∷ xs) (suc k) lt =
-      go (calls x.exit) refl k
-      (omega (
-        arith,
-        lt,
-        length-append (after g live home vars x.exit)
-            (spelled_blocks g live home vars (suc b) xs),
-        after_count g live home vars x.exit,
-      ))
-      (λ m lm. one_of home vars (suc b) xs m lm)
+  one_of home vars b (x ∷ xs) (suc k) lt = go (calls x.exit) refl k
+      (grind (arith, length-append, after_count)) (λ m lm. one_of home vars (suc b) xs m lm)
     where
       more : (v : Bool) → calls x.exit ≡ v → 0 + (if calls x.exit then 1 else 0) ≡ 0 + (if v then 1 else 0)
       more v e = ap (λ (t : Bool). 0 + (if t then 1 else 0)) e
@@ -110,32 +96,25 @@ module _ (g : Graph) (live : List (List ℕ)) where
 
     size : length (spelled_blocks g live f p.vars b p.blocks) ≡ length p.blocks + count_of is_call
         (spots_in f p.vars p.blocks)
-    size =
-        let h = head_count g live f b p in
-        let c = spots_in_count f (suc p.vars) (spelled_blocks g live f p.vars b p.blocks) in
-        omega arith
+    size = let h = head_count g live f b p in grind (arith, spots_in_count)
 
     -- a block of a later one
     in_later : (k j : ℕ) → k ≡ length (spelled_blocks g live f p.vars b p.blocks) + j → Covered (suc f) ps j
         → Covered f (p ∷ ps) (suc k)
     in_later k j split (at_door e lt is) = at_door (suc e) (omega (arith, lt))
         (omega (arith, split, is, door_later g live f p ps e lt, size))
-    in_later k j split (at_block i s is at) = at_block (length old + i) s
-        (nth_right old rest (length old) i (length old + i) refl refl ∙ is)
+    in_later k j split (at_block i s is at) = at_block (length old + i) s (grind (arith, nth_right))
         (omega (arith, split, at, counts i, spots_in_count f p.vars p.blocks, size))
       where
         counts : (i : ℕ) → count_of is_call (take (length old + i) (old ++ rest)) ≡ count_of is_call old
             + count_of is_call (take i rest)
-        counts i = ap (count_of is_call) (take_right old rest (length old) i (length old + i) refl refl)
-            ∙ count_both is_call old (take i rest)
-    in_later k j split (at_point i s is call at) = at_point (length old + i) s
-        (nth_right old rest (length old) i (length old + i) refl refl ∙ is) call
+        counts i = ap (count_of is_call) (grind (arith, take_right)) ∙ count_both is_call old (take i rest)
+    in_later k j split (at_point i s is call at) = at_point (length old + i) s (grind (arith, nth_right)) call
         (omega (arith, split, at, counts i, spots_in_count f p.vars p.blocks, size))
       where
         counts : (i : ℕ) → count_of is_call (take (length old + i) (old ++ rest)) ≡ count_of is_call old
             + count_of is_call (take i rest)
-        counts i = ap (count_of is_call) (take_right old rest (length old) i (length old + i) refl refl)
-            ∙ count_both is_call old (take i rest)
+        counts i = ap (count_of is_call) (grind (arith, take_right)) ∙ count_both is_call old (take i rest)
 
   covered : (f b : ℕ) (ps : List GraphProc) (k : ℕ) → k < length (spots_from f (spelled_procs g live f b ps))
       → Covered f ps k
@@ -163,16 +142,5 @@ module _ (g : Graph) (live : List (List ℕ)) where
 
   -- each block is one of these
   pub each_is_placed : (c : ℕ) → c < length (spots (spelled g live)) → IsPlaced g (places g live) c
-  each_is_placed c lt = go (covered 0 0 g.procs c lt)
-    where
-      go : Covered 0 g.procs c → IsPlaced g (places g live) c
-      go (at_door e le is) = inr (inl (e, le, is ∙ door_place e))
-      go (at_block i s is at) = inl (i, nth_short (spots g) i s is, omega (arith, at, block_place i s is))
-      go (at_point i s is call at) =
-          inr (inr (
-            i,
-            nth_short (spots g) i s is,
-            ap (λ (t : Spot). calls t.block.exit) (spot_from g i s is)
-                ∙ call,
-            omega (arith, at, block_place i s is),
-          ))
+  each_is_placed c lt =
+      grind (arith, covered 0 0 g.procs c lt, places g live, door_place, nth_short, block_place, spot_from)

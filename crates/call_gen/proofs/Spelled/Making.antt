@@ -1,6 +1,6 @@
 -- The spelled graph, as the code makes it.
 use Rattle.std.proofs.Common.{ℕ, suc, ◌+◌, ◌/◌, ◌≡◌, min, List, [], ◌∷◌, ◌++◌, length, map, drop, replicate}
-use Rattle.std.proofs.Common.{None, refl, sym, ap, ◌∙◌, subst, append_assoc, arith}
+use Rattle.std.proofs.Common.{None, refl, ap, append_assoc, arith}
 use Rattle.std.specs.List.{AllByRecursion}
 use Rattle.std.proofs.lemmas.List.{map-append, length-map, length-append}
 use Rattle.cfg_core.specs.Graph as plain
@@ -42,9 +42,8 @@ module _ (items : List GraphProc) (i j : ℕ) (p : GraphProc) (ej : j ≡ suc i)
   pub numbers_next : (P : Spot → Type 0) → AllByRecursion P (spots_from i (map view.proc (drop i items)))
       → AllByRecursion P (spots_in i p.vars (map view.block p.blocks.items))
       × AllByRecursion P (spots_from j (map view.proc (drop j items)))
-  numbers_next P h = split_all P (spots_in i p.vars (map view.block p.blocks.items))
-      (spots_from j (map view.proc (drop j items))) (subst (λ (xs : List Spot). AllByRecursion P xs)
-      spots_next h)
+  numbers_next P h = split_all P (spots_in i p.vars (map view.block p.blocks.items)) (spots_from j (map
+      view.proc (drop j items))) (grind (arith, spots_next))
 
   pub count_next : length (spots_from i (map view.proc (drop i items))) ≡ length p.blocks.items + length
       (spots_from j (map view.proc (drop j items)))
@@ -56,21 +55,7 @@ module _ (items : List GraphProc) (i j : ℕ) (p : GraphProc) (ej : j ≡ suc i)
       → map view.proc old ++ spelled_procs g live i first (map view.proc (drop i items)) ≡ whole
       → map view.proc new ++ spelled_procs g live j next (map view.proc (drop j items)) ≡ whole
   procs_next g live first next n m old new whole en ec enew em h =
-      let rest = map view.proc (drop j items) in
-      let place : next ≡ first + length (map view.block p.blocks.items) =
-      omega (arith, en, ec, length-map p.blocks.items view.block) in
-      ap (λ (ps : List GraphProc). map view.proc ps ++ spelled_procs g live j next rest) enew
-      ∙ ap (λ (ps : List plain.GraphProc). ps ++ spelled_procs g live j next rest)
-      (map-append view.proc old (m ∷ []))
-      ∙ append_assoc (map view.proc old) (view.proc m ∷ []) (spelled_procs g live j next rest)
-      ∙ ap (λ (q : plain.GraphProc). map view.proc old ++ (q ∷ spelled_procs g live j next rest)) em
-      ∙ ap (λ k. map view.proc old ++ (spelled_proc g live i first (view.proc p) ∷ spelled_procs g live k next
-      rest)) ej
-      ∙ ap (λ k. map view.proc old ++ (spelled_proc g live i first (view.proc p) ∷ spelled_procs g live
-      (suc i) k rest)) place
-      ∙ ap (λ (ps : List GraphProc). map view.proc old ++ spelled_procs g live i first (map view.proc ps))
-      (sym e)
-      ∙ h
+      grind (arith, length-map, map-append, append_assoc)
 
 pub hidden_is : (g : Graph) (arrays old : List GraphArray) (count total : ℕ) → count ≡ min 192 total
     → total ≡ cells_in_all g
@@ -94,18 +79,15 @@ pub record AllKept (g : Graph) (live : List (List ℕ)) (made : Graph) : Type 0 
 
 pub all_kept : (g : Graph) (live : List (List ℕ)) (made : Graph) → made ≡ spelled g live → Given g live
     → AllKept g live made
-all_kept g live made e G = rw e
-    (record {
-      walks = walks_kept g live G;
-      arrays = arrays_kept g live G;
-      rules = is_graph g live G;
-      no_call = has_no_call g live G;
-      across = none_live_across g live G;
-      values = few_sent g live G;
-      sizes =
-          is_within g live G;
-      arms = arms_alone g live G;
-      charged = calls_charged g live G;
-      start =
-          none_named g live G;
-    })
+all_kept g live made e G = rw e (record {
+  walks = walks_kept g live G;
+  arrays = arrays_kept g live G;
+  rules = is_graph g live G;
+  no_call = has_no_call g live G;
+  across = none_live_across g live G;
+  values = few_sent g live G;
+  sizes = is_within g live G;
+  arms = arms_alone g live G;
+  charged = calls_charged g live G;
+  start = none_named g live G;
+})

@@ -1,10 +1,9 @@
 -- The places of blocks and cells in the spelled graph, together.
-use Rattle.std.proofs.Common.{ℕ, zero, suc, ◌+◌, ◌-◌, ◌==◌, ◌&&◌, ◌≡◌, ◌<◌, ◌≤◌, min, Bool, true}
-use Rattle.std.proofs.Common.{if◌then◌else◌, List, [], ◌∷◌, length, get_or, sym, ap, ◌∙◌, subst, Option, Some}
-use Rattle.std.proofs.Common.{arith}
+use Rattle.std.proofs.Common.{ℕ, zero, suc, ◌+◌, ◌-◌, ◌==◌, ◌&&◌, ◌≡◌, ◌<◌, ◌≤◌, Bool, true, if◌then◌else◌}
+use Rattle.std.proofs.Common.{List, ◌∷◌, length, ap, ◌∙◌, subst, Option, Some, arith}
 use Rattle.std.specs.List.{AllByRecursion}
-use Rattle.cfg_core.specs.Graph.{Term, Exit, Goto, Branch, Call, Return, Send, Stop, Graph, Spot, spots}
-use Rattle.cfg_core.specs.Graph.{no_spot, no_proc, spot_at, block_at, proc_at, entry_of}
+use Rattle.cfg_core.specs.Graph.{Term, Exit, Call, Graph, Spot, spots, no_spot, spot_at, block_at, proc_at}
+use Rattle.cfg_core.specs.Graph.{entry_of}
 use Rattle.cfg_core.specs.Rules.{calls, CallsEarlier, IsGraph}
 use Rattle.cfg_core.specs.Walk.{landing}
 use Rattle.call_gen.specs.Spelled.{callee_is, is_called, is_calling, moved, door, landings, address}
@@ -19,8 +18,7 @@ use Rattle.ws_words.proofs.Places.{nth_there}
 module _ (g : Graph) (live : List (List ℕ)) (rules : IsGraph g) where
   spot_is : (b : ℕ) → b < length (spots g) → nth (spots g) b ≡ Some (spot_at g b)
   unfolding spot_at
-  spot_is b lt = let r = nth_there (spots g) b lt in r.1 ∙ ap (λ (o : Option Spot). Some (or_else o no_spot))
-      (sym r.1)
+  spot_is b lt = grind (arith, nth_there (spots g) b lt)
 
   spot_from : (h : Graph) (k : ℕ) (s : Spot) → nth (spots h) k ≡ Some s → spot_at h k ≡ s
   unfolding spot_at
@@ -37,10 +35,7 @@ module _ (g : Graph) (live : List (List ℕ)) (rules : IsGraph g) where
   homes : (b : ℕ) → b < length (spots g) → ((spot_at g b).home < length g.procs)
       × ((spot_at g b).vars ≡ (proc_at g (spot_at g b).home).vars)
   unfolding proc_at
-  homes b lt =
-      let h = home_is g live 0 g.procs b (spot_at g b) (spot_is b lt) in
-      let same : h.place ≡ (spot_at g b).home = omega arith in
-      (omega arith, h.vars ∙ ap (λ n. (or_else (nth g.procs n) no_proc).vars) same)
+  homes b lt = grind (arith, home_is g live 0 g.procs b (spot_at g b) (spot_is b lt), spot_is b lt)
 
   callee_true : (r : Option ℕ) (f : ℕ) (ts : List Term) (back : ℕ) (x : Exit) → x ≡ Call r f ts back
       → callee_is x f ≡ true
@@ -58,18 +53,12 @@ module _ (g : Graph) (live : List (List ℕ)) (rules : IsGraph g) where
   )
 
   caller : (x : Exit) (f : ℕ) → callee_is x f ≡ true → (home : ℕ) → CallsEarlier home x → f < home
-  caller (Call r e ts back) f h home lt = grind arith
-  caller (Goto c) f h home lt = absurd (cc)
-  caller (Branch t c d) f h home lt = absurd (cc)
-  caller (Return t) f h home lt = absurd (cc)
-  caller (Send t ts ls) f h home lt = absurd (cc)
-  caller Stop f h home lt = absurd (cc)
+  caller x f h home lt = grind arith
 
   each_nth : {A : Type 0} (P : A → Type 0) (xs : List A) → AllByRecursion P xs → (k : ℕ) (x : A)
       → nth xs k ≡ Some x → P x
-  each_nth P [] h k x e = absurd (cc)
-  each_nth P (y ∷ xs) h zero x e = let same : y ≡ x = cc in subst P same h.0
   each_nth P (y ∷ xs) h (suc k) x e = each_nth P xs h.1 k x e
+  each_nth P xs h k x e = grind arith
 
   not_last : (f : ℕ) → is_called g f ≡ true → suc f < length g.procs
   unfolding is_called
@@ -85,28 +74,18 @@ module _ (g : Graph) (live : List (List ℕ)) (rules : IsGraph g) where
       → (block_at g b).exit ≡ Call r f ts back → landing (address g f b) (landings g f) ≡ suc (moved g b)
   unfolding address landings moved
   landing_is b r f ts back lt e =
-      let l = landing_in f 0 0 (spots g) b (spot_at g b) (spot_is b lt)
-      (callee_true r f ts back (block_at g b).exit e) in
-      ap (λ n. get_or (landings g f) n 0) (min_left (address g f b) (length (landings g f) - 1)
-      (omega arith)) ∙ l.0 ∙ (omega arith)
-    where
-      min_left : (a c : ℕ) → a ≤ c → min a c ≡ a
-      min_left a c le = omega arith
+      let l = landing_in f 0 0 (spots g) b (spot_at g b) (spot_is b lt) (grind (arith, callee_true)) in
+      grind arith
 
   first_block : (f : ℕ) → f < length g.procs → (entry_of g f < length (spots g))
       × ((spot_at g (entry_of g f)).home ≡ f)
   unfolding entry_of
-  first_block f lt =
-      let r = first_is 0 g.procs f rules.numbers.procs lt in (
-        there (spots g) (entry_of g f) r.0 r.1,
-        ap (λ (s : Spot). s.home) (spot_from g (entry_of g f) r.0 r.1)
-            ∙ r.2 ∙ (omega arith),
-      )
+  first_block f lt = let r = first_is 0 g.procs f rules.numbers.procs lt in
+      (there (spots g) (entry_of g f) r.0 r.1, grind (arith, spot_from))
     where
       there : {A : Type 0} (xs : List A) (k : ℕ) (x : A) → nth xs k ≡ Some x → k < length xs
-      there [] k x e = absurd (cc)
-      there (y ∷ xs) zero x e = omega arith
       there (y ∷ xs) (suc k) x e = omega (arith, there xs k x e)
+      there xs k x e = grind arith
 
   door_spot : (f : ℕ) → f < length g.procs → nth (spots (spelled g live)) (door g f)
       ≡ Some (Rattle.call_gen.proofs.Spelled.Placing.door_of g live f (proc_at g f))

@@ -18,17 +18,15 @@ use Rattle.ws_words.proofs.Places.{nth_append_left}
 -- Lists by place.
 
 pub take_left : {A : Type 0} (xs ys : List A) (k : ℕ) → k ≤ length xs → take k (xs ++ ys) ≡ take k xs
-take_left xs ys zero le = refl
-take_left [] ys (suc k) le = absurd (omega arith)
 take_left (x ∷ xs) ys (suc k) le = ap (λ (zs : List _). x ∷ zs) (take_left xs ys k (omega arith))
+take_left xs ys k le = grind arith
 
 pub take_right : {A : Type 0} (xs ys : List A) (n k m : ℕ) → length xs ≡ n → m ≡ n + k
     → take m (xs ++ ys) ≡ xs ++ take k ys
 take_right [] ys n k m e em = ap (λ j. take j ys) (omega arith)
-take_right (x ∷ xs) ys zero k m e em = absurd (omega arith)
-take_right (x ∷ xs) ys (suc n) k zero e em = absurd (omega arith)
 take_right (x ∷ xs) ys (suc n) k (suc m) e em =
     grind (arith, take_right xs ys n k m (omega arith) (omega arith))
+take_right (x ∷ xs) ys n k m e em = absurd (omega arith)
 
 pub count_both : (p : Spot → Bool) (xs ys : List Spot) → count_of p (xs ++ ys) ≡ count_of p xs + count_of p ys
 count_both p [] ys = omega arith
@@ -62,9 +60,8 @@ module _ (g : Graph) (live : List (List ℕ)) where
   at_later new more k m n s b e em h = grind (arith, nth_right)
 
   nth_bound : {A : Type 0} (xs : List A) (k : ℕ) (x : A) → nth xs k ≡ Some x → k < length xs
-  nth_bound [] k x e = absurd (cc)
-  nth_bound (y ∷ xs) zero x e = omega arith
   nth_bound (y ∷ xs) (suc k) x e = omega (arith, nth_bound xs k x e)
+  nth_bound xs k x e = grind arith
 
   at_front : (new more : List Spot) (k : ℕ) (s : Spot) (b : ℕ) → AtPlace new k s b
       → AtPlace (new ++ more) k s b
@@ -75,12 +72,7 @@ module _ (g : Graph) (live : List (List ℕ)) where
     spelled_spots b xs = spots_in home (suc vars) (spelled_blocks g live home vars b xs)
 
     pub after_count : (x : Exit) → length (after g live home vars x) ≡ (if calls x then 1 else 0)
-    after_count (Call r f ts back) = refl
-    after_count (Rattle.cfg_core.specs.Graph.Goto c) = refl
-    after_count (Rattle.cfg_core.specs.Graph.Branch t c d) = refl
-    after_count (Rattle.cfg_core.specs.Graph.Return t) = refl
-    after_count (Rattle.cfg_core.specs.Graph.Send t ts ls) = refl
-    after_count Rattle.cfg_core.specs.Graph.Stop = refl
+    after_count x = grind arith
 
     blocks_count : (b : ℕ) (xs : List Block) → length (spelled_blocks g live home vars b xs) ≡ length xs
         + count_of is_call (spots_in home vars xs)
@@ -89,8 +81,6 @@ module _ (g : Graph) (live : List (List ℕ)) where
 
     blocks_placed : (b : ℕ) (xs : List Block) (i k : ℕ) (s : Spot) → nth (spots_in home vars xs) i ≡ Some s
         → k ≡ i + count_of is_call (take i (spots_in home vars xs)) → AtPlace (spelled_spots b xs) k s (b + i)
-    blocks_placed b [] i k s e ek = absurd (cc)
-    blocks_placed b (x ∷ xs) zero k s e ek = grind (arith, spelled_spots)
     blocks_placed b (x ∷ xs) (suc i) k s e ek =
         let front = spelled_block g live home vars b x ∷ after g live home vars x.exit in
         let count = length (spots_in home (suc vars) front) in
@@ -103,6 +93,7 @@ module _ (g : Graph) (live : List (List ℕ)) where
         (rw (spots_in_both home (suc vars) front (spelled_blocks g live home vars (suc b) xs))
         (at_later (spelled_spots (suc b) xs) (spots_in home (suc vars) front) rest k count s (suc b + i) refl
         (omega arith) later))
+    blocks_placed b xs i k s e ek = grind arith
 
   -- the door of procedure f
   abbrev pub door_of : ℕ → GraphProc → Spot
@@ -124,15 +115,13 @@ module _ (g : Graph) (live : List (List ℕ)) where
       + count_of is_call (spots_from f ps) + length ps
   new_count f b [] = refl
   new_count f b (p ∷ ps) =
-      let old = spots_in f p.vars p.blocks in
-      omega (
+      grind (
         arith,
-        length-append (head_spots f b p) (new_spots (suc f) (b + length p.blocks) ps),
-        head_count f b p,
+        length-append,
+        head_count,
+        count_both,
+        spots_in_count,
         new_count (suc f) (b + length p.blocks) ps,
-        length-append old (spots_from (suc f) ps),
-        count_both is_call old (spots_from (suc f) ps),
-        spots_in_count f p.vars p.blocks,
       )
 
   -- Of a block: the home and the variables.
@@ -144,24 +133,19 @@ module _ (g : Graph) (live : List (List ℕ)) where
 
   pub in_blocks : (home vars : ℕ) (xs : List Block) (i : ℕ) (s : Spot) → nth (spots_in home vars xs) i
       ≡ Some s → (s.home ≡ home) × (s.vars ≡ vars)
-  in_blocks home vars [] i s e = absurd (cc)
-  in_blocks home vars (x ∷ xs) zero s e = (cc, cc)
   in_blocks home vars (x ∷ xs) (suc i) s e = in_blocks home vars xs i s e
+  in_blocks home vars xs i s e = grind arith
 
   pub home_is : (f : ℕ) (ps : List GraphProc) (i : ℕ) (s : Spot) → nth (spots_from f ps) i ≡ Some s
       → HomeIs f ps s
   home_is f [] i s e = absurd (cc)
   home_is f (p ∷ ps) i s e = elim (cases_lt i (length (spots_in f p.vars p.blocks))) [
-    | inl lt ↦
-        let r = in_blocks f p.vars p.blocks i s
-        (sym (nth_append_left (spots_in f p.vars p.blocks) (spots_from (suc f) ps) i lt) ∙ e) in
-        record { place = 0; home = omega arith; there = omega arith; vars = r.1 }
+    | inl lt ↦ grind (arith, in_blocks, nth_append_left)
     | inr ge ↦
         let n = length (spots_in f p.vars p.blocks) in
         let k = i - n in
         let r = home_is (suc f) ps k s
-        (sym (nth_right (spots_in f p.vars p.blocks) (spots_from (suc f) ps) n k i refl
-        (omega arith)) ∙ e) in
+        (grind (arith, nth_right)) in
         record {
           place = suc r.place;
           home = omega arith;
@@ -212,13 +196,12 @@ module _ (g : Graph) (live : List (List ℕ)) where
 
   entry_shift : (n : ℕ) (ps : List GraphProc) (e : ℕ) → e < length ps → entry_from n ps e ≡ n + entry_from 0
       ps e
-  entry_shift n [] e lt = absurd (omega arith)
-  entry_shift n (p ∷ ps) zero lt = omega arith
   entry_shift n (p ∷ ps) (suc e) lt = omega (
     arith,
     entry_shift (n + length p.blocks) ps e (omega arith),
     entry_shift (0 + length p.blocks) ps e (omega arith),
   )
+  entry_shift n ps e lt = grind arith
 
   -- the number of a door among these procedures, the first of which has number f
   abbrev pub door_in : ℕ → List GraphProc → ℕ → ℕ
@@ -232,32 +215,24 @@ module _ (g : Graph) (live : List (List ℕ)) where
       let old = spots_in f p.vars p.blocks in
       let later = entry_from 0 ps e in
       let z : 0 + length p.blocks ≡ length p.blocks = omega arith in
-      let s : entry_from (0 + length p.blocks) ps e ≡ length p.blocks + later =
-      entry_shift (0 + length p.blocks) ps e lt ∙ ap (λ n. n + later) z in
-      let counts : count_of is_call (take (entry_from (0 + length p.blocks) ps e)
-      (old ++ spots_from (suc f) ps)) ≡ count_of is_call old + count_of is_call
-      (take later (spots_from (suc f) ps)) =
-      ap (count_of is_call) (take_right old (spots_from (suc f) ps) (length p.blocks) later _
-      (spots_in_count f p.vars p.blocks) s) ∙ count_both is_call old
-      (take later (spots_from (suc f) ps)) in
+      let s : entry_from (0 + length p.blocks) ps e ≡ length p.blocks + later = grind (arith, entry_shift) in
+      let counts : count_of is_call (take (entry_from (0 + length p.blocks) ps e) (old ++ spots_from (suc f)
+      ps)) ≡ count_of is_call old + count_of is_call (take later (spots_from (suc f) ps)) = ap (count_of
+      is_call) (grind (arith, take_right, spots_in_count)) ∙ count_both is_call old (take later (spots_from
+      (suc f) ps)) in
       omega arith
 
   pub doors_placed : (f b : ℕ) (ps : List GraphProc) (e : ℕ) → e < length ps
       → nth (new_spots f b ps) (door_in f ps e) ≡ Some (door_of (f + e) (or_else (nth ps e) no_proc))
-  doors_placed f b [] e lt = absurd (omega arith)
-  doors_placed f b (p ∷ ps) zero lt = grind (arith, new_spots, door_of)
-  doors_placed f b (p ∷ ps) (suc e) lt =
-      nth_right (head_spots f b p) (new_spots (suc f) (b + length p.blocks) ps) (length (head_spots f b p))
-      (door_in (suc f) ps e) (door_in f (p ∷ ps) (suc e)) refl (door_later f p ps e (omega arith)
-      ∙ ap (λ n. n + door_in (suc f) ps e) (sym (head_count f b p)))
-      ∙ doors_placed (suc f) (b + length p.blocks) ps e (omega arith)
-      ∙ ap (λ n. Some (door_of n (or_else (nth ps e) no_proc))) (let z : suc f + e ≡ f + suc e =
-      omega arith in z)
+  doors_placed f b (p ∷ ps) (suc e) lt = nth_right (head_spots f b p) (new_spots (suc f) (b + length p.blocks)
+      ps) (length (head_spots f b p)) (door_in (suc f) ps e) (door_in f (p ∷ ps) (suc e)) refl (door_later f p
+      ps e (omega arith) ∙ ap (λ n. n + door_in (suc f) ps e) (sym (head_count f b p))) ∙ doors_placed (suc f)
+      (b + length p.blocks) ps e (omega arith) ∙ ap (λ n. Some (door_of n (or_else (nth ps e) no_proc))) (let
+      z : suc f + e ≡ f + suc e = omega arith in z)
+  doors_placed f b ps e lt = grind arith
 
   pub entries_are : (f b : ℕ) (ps : List GraphProc) (e : ℕ) → e < length ps
       → entry_from 0 (spelled_procs g live f b ps) e ≡ door_in f ps e
-  entries_are f b [] e lt = absurd (omega arith)
-  entries_are f b (p ∷ ps) zero lt = omega arith
   entries_are f b (p ∷ ps) (suc e) lt =
       let n = suc (length (spelled_blocks g live f p.vars b p.blocks)) in
       let c : n ≡ suc (length p.blocks + count_of is_call (spots_in f p.vars p.blocks)) =
@@ -278,6 +253,7 @@ module _ (g : Graph) (live : List (List ℕ)) where
           procs_count : (f b : ℕ) (ps : List GraphProc) → length (spelled_procs g live f b ps) ≡ length ps
           procs_count f b [] = refl
           procs_count f b (p ∷ ps) = ap suc (procs_count (suc f) (b + length p.blocks) ps)
+  entries_are f b ps e lt = grind arith
 
   pub procs_count : (f b : ℕ) (ps : List GraphProc) → length (spelled_procs g live f b ps) ≡ length ps
   procs_count f b [] = refl
@@ -285,9 +261,8 @@ module _ (g : Graph) (live : List (List ℕ)) where
 
   pub vars_are : (f b : ℕ) (ps : List GraphProc) (e : ℕ) → e < length ps
       → (or_else (nth (spelled_procs g live f b ps) e) no_proc).vars ≡ suc (or_else (nth ps e) no_proc).vars
-  vars_are f b [] e lt = absurd (omega arith)
-  vars_are f b (p ∷ ps) zero lt = refl
   vars_are f b (p ∷ ps) (suc e) lt = vars_are (suc f) (b + length p.blocks) ps e (omega arith)
+  vars_are f b ps e lt = grind arith
 
 -- the first block of a procedure
 pub first_is : (f : ℕ) (ps : List GraphProc) (e : ℕ) → AllByRecursion ProcNumbers ps → e < length ps
@@ -302,22 +277,17 @@ first_is f (p ∷ ps) zero h lt = some p.blocks h.0.some_block
 first_is f (p ∷ ps) (suc e) h lt =
     let r = first_is (suc f) ps e h.1 (omega arith) in
     let old = spots_in f p.vars p.blocks in
-    let s : entry_from (0 + length p.blocks) ps e ≡ length p.blocks + entry_from 0 ps e =
-    shift (0 + length p.blocks) ps e (omega arith) ∙ (omega arith) in (
-      r.0,
-      nth_right old (spots_from (suc f) ps) (length p.blocks) (entry_from 0 ps e) _
-          (spots_in_count f p.vars p.blocks) s ∙ r.1,
-      omega arith,
-    )
+    let s : entry_from (0 + length p.blocks) ps e ≡ length p.blocks + entry_from 0 ps e = shift (0 + length
+    p.blocks) ps e (omega arith) ∙ (omega arith) in
+    grind (arith, nth_right, spots_in_count)
   where
     shift : (n : ℕ) (ps : List GraphProc) (e : ℕ) → e < length ps → entry_from n ps e ≡ n + entry_from 0 ps e
-    shift n [] e lt = absurd (omega arith)
-    shift n (p ∷ ps) zero lt = omega arith
     shift n (p ∷ ps) (suc e) lt = omega (
       arith,
       shift (n + length p.blocks) ps e (omega arith),
       shift (0 + length p.blocks) ps e (omega arith),
     )
+    shift n ps e lt = grind arith
 
 -- the return points of a procedure's calls
 pub landing_in : (f b k : ℕ) (ss : List Spot) (i : ℕ) (s : Spot) → nth ss i ≡ Some s
@@ -325,10 +295,9 @@ pub landing_in : (f b k : ℕ) (ss : List Spot) (i : ℕ) (s : Spot) → nth ss 
     → (get_or (landings_from f b k ss) (count_of (λ s. callee_is s.block.exit f) (take i ss)) 0
     ≡ suc ((b + i) + (k + count_of is_call (take i ss)) + suc s.home))
     × (count_of (λ s. callee_is s.block.exit f) (take i ss) < length (landings_from f b k ss))
-landing_in f b k [] i s e h = absurd (cc)
-landing_in f b k (x ∷ ss) zero s e h = grind arith
 landing_in f b k (x ∷ ss) (suc i) s e h =
     grind (arith, landing_in f (suc b) ((if is_call x then 1 else 0) + k) ss i s e h)
+landing_in f b k ss i s e h = grind arith
 
 pub some_in : (p : Spot → Bool) (ss : List Spot) (i : ℕ) (s : Spot) → nth ss i ≡ Some s → p s ≡ true
     → some_of p ss ≡ true

@@ -1,11 +1,11 @@
 -- Numbers of blocks and procedures, as the code finds them.
-use Rattle.std.proofs.Common.{ℕ, zero, suc, ◌+◌, ◌-◌, ◌≡◌, ◌<◌, ◌≤◌, ◌^◌, Bool, true, false, if◌then◌else◌}
-use Rattle.std.proofs.Common.{List, [], ◌∷◌, ◌++◌, length, map, take, drop, get_or, replicate, refl, sym, ap}
-use Rattle.std.proofs.Common.{◌∙◌, append_assoc, Option, Some, arith}
+use Rattle.std.proofs.Common.{ℕ, zero, suc, ◌+◌, ◌-◌, ◌≡◌, ◌<◌, ◌≤◌, ◌^◌, Bool, if◌then◌else◌, List, [], ◌∷◌}
+use Rattle.std.proofs.Common.{◌++◌, length, map, take, drop, get_or, replicate, refl, ap, ◌∙◌, append_assoc}
+use Rattle.std.proofs.Common.{Some, arith}
 use Rattle.std.proofs.lemmas.List.{length-map, take_all, length-take-le, map-append}
 use Rattle.std.specs.List.{filter}
-use Rattle.cfg_core.specs.Graph.{Graph, Op, Spot, no_spot, spots, spots_in, spots_from, spot_at, block_at}
-use Rattle.cfg_core.specs.Graph.{proc_at, entry_of}
+use Rattle.cfg_core.specs.Graph.{Graph, Op, Spot, spots, spots_in, spots_from, spot_at, block_at, proc_at}
+use Rattle.cfg_core.specs.Graph.{entry_of}
 use Rattle.cfg_core.specs.Rules.{calls, IsGraph}
 use Rattle.cfg_core.specs.View as view
 use Rattle.cfg_core.specs.declared.blocks.GraphProc.{GraphProc}
@@ -16,7 +16,7 @@ use Rattle.call_gen.specs.Plans.{Few}
 use Rattle.call_gen.proofs.Spelled.Counting.{count_next, home_at, take_next}
 use Rattle.call_gen.proofs.Spelled.Placing.{home_is}
 use Rattle.call_gen.proofs.Spelled.Places.{all_placed}
-use Rattle.ws_words.specs.Items.{nth, or_else}
+use Rattle.ws_words.specs.Items.{nth}
 use Rattle.ws_words.proofs.Places.{nth_there}
 
 map_both : (xs ys : List Spot) → map (λ (s : Spot). s.home) (xs ++ ys) ≡ map (λ (s : Spot). s.home) xs ++ map
@@ -33,28 +33,14 @@ pub homes_more : (items : List GraphProc) (i j n : ℕ) (p : GraphProc) (old new
     → drop i items ≡ p ∷ drop j items → n ≡ length p.blocks.items → new ≡ old ++ replicate n i
     → old ++ map (λ (s : Spot). s.home) (spots_from i (map view.proc (drop i items))) ≡ whole
     → new ++ map (λ (s : Spot). s.home) (spots_from j (map view.proc (drop j items))) ≡ whole
-homes_more items i j n p old new whole ej e en enew h =
-    let rest = map view.proc (drop j items) in
-    let mine = spots_in i p.vars (map view.block p.blocks.items) in
-    ap (λ (ns : List ℕ). ns ++ map (λ (s : Spot). s.home) (spots_from j rest))
-    (enew ∙ ap (λ m. old ++ replicate m i) en)
-    ∙ append_assoc old (replicate (length p.blocks.items) i) (map (λ (s : Spot). s.home) (spots_from j rest))
-    ∙ ap (λ (ns : List ℕ). old ++ (ns ++ map (λ (s : Spot). s.home) (spots_from j rest)))
-    (sym (same_homes i p.vars p.blocks.items))
-    ∙ ap (λ m. old ++ (map (λ (s : Spot). s.home) mine ++ map (λ (s : Spot). s.home) (spots_from m rest))) ej
-    ∙ ap (λ (ns : List ℕ). old ++ ns) (sym (map_both mine (spots_from (suc i) rest)))
-    ∙ ap (λ (ps : List GraphProc). old ++ map (λ (s : Spot). s.home) (spots_from i (map view.proc ps)))
-    (sym e)
-    ∙ h
+homes_more items i j n p old new whole ej e en enew h = grind (arith, append_assoc, same_homes, map_both)
 
 pub spot_is : (g : Graph) (b : ℕ) → b < length (spots g) → nth (spots g) b ≡ Some (spot_at g b)
 unfolding spot_at
-spot_is g b lt = let r = nth_there (spots g) b lt in r.1 ∙ ap (λ (o : Option Spot). Some (or_else o no_spot))
-    (sym r.1)
+spot_is g b lt = grind (arith, nth_there (spots g) b lt)
 
 pub home_there : (g : Graph) (b : ℕ) → b < length (spots g) → (spot_at g b).home < length g.procs
-home_there g b lt = let h = home_is g [] 0 g.procs b (spot_at g b) (spot_is g b lt) in
-    omega arith
+home_there g b lt = grind (arith, home_is g [] 0 g.procs b (spot_at g b) (spot_is g b lt), spot_is g b lt)
 
 pub homes_there : (g : Graph) (homes : List ℕ) (b : ℕ) → homes ≡ map (λ (s : Spot). s.home) (spots g)
     → b < length homes → (b < length (spots g)) × (get_or homes b 0 ≡ (spot_at g b).home)
@@ -109,22 +95,9 @@ landings_push : (f b k : ℕ) (xs : List Spot) (s : Spot) → landings_from f b 
 landings_push f b k [] s = grind arith
 landings_push f b k (x ∷ xs) s =
     let one = if is_call x then 1 else 0 in
-    let place : suc ((suc b + length xs) + ((one + k) + count_of is_call xs) + suc s.home)
-    ≡ suc ((b + suc (length xs)) + (k + (one + count_of is_call xs)) + suc s.home) = omega arith in
-    ap (λ (ns : List ℕ). if callee_is x.block.exit f then suc (b + k + suc x.home) ∷ ns else ns)
-    (landings_push f (suc b) (one + k) xs s ∙ ap (λ n. if callee_is s.block.exit f
-    then landings_from f (suc b) (one + k) xs ++ n ∷ [] else landings_from f (suc b) (one + k) xs) place)
-    ∙ swap (callee_is x.block.exit f) (callee_is s.block.exit f) (suc (b + k + suc x.home))
-    (suc ((b + suc (length xs)) + (k + (one + count_of is_call xs)) + suc s.home))
-    (landings_from f (suc b) (one + k) xs)
-  where
-    swap : (c d : Bool) (m n : ℕ) (ns : List ℕ)
-        → (if c then m ∷ (if d then ns ++ n ∷ [] else ns) else (if d then ns ++ n ∷ [] else ns))
-        ≡ (if d then (if c then m ∷ ns else ns) ++ n ∷ [] else (if c then m ∷ ns else ns))
-    swap true true m n ns = refl
-    swap true false m n ns = refl
-    swap false true m n ns = refl
-    swap false false m n ns = refl
+    let place : suc ((suc b + length xs) + ((one + k) + count_of is_call xs) + suc s.home) ≡ suc ((b + suc
+    (length xs)) + (k + (one + count_of is_call xs)) + suc s.home) = omega arith in
+    grind (arith, landings_push f (suc b) (one + k) xs s)
 
 pub landings_next : (g : Graph) (f b place : ℕ) (old new : List ℕ) (hit : Bool) → b < length (spots g)
     → place ≡ moved g b → hit ≡ callee_is (block_at g b).exit f → old ≡ landings_from f 0 0 (take b (spots g))
@@ -132,17 +105,13 @@ pub landings_next : (g : Graph) (f b place : ℕ) (old new : List ℕ) (hit : Bo
     (take (b + 1) (spots g))
 unfolding spot_at
 landings_next g f b place old new hit lt ep eh eo en =
-    let xs = take b (spots g) in
-    let s = spot_at g b in
-    let count : length xs ≡ b = length-take-le b (spots g) (omega arith) in
-    let at : place + 1 ≡ suc ((0 + length xs) + (0 + count_of is_call xs) + suc s.home) =
-    omega (arith, ep, moved_is g b, count) in
-    en ∙ ap (λ (t : Bool). if t then old ++ (place + 1) ∷ [] else old) eh
-    ∙ ap (λ (ns : List ℕ). if callee_is s.block.exit f then ns ++ (place + 1) ∷ [] else ns) eo
-    ∙ ap (λ n. if callee_is s.block.exit f then landings_from f 0 0 xs ++ n ∷ []
-    else landings_from f 0 0 xs) at
-    ∙ sym (landings_push f 0 0 xs s)
-    ∙ sym (ap (landings_from f 0 0) (take_next (spots g) b (b + 1) (omega arith) lt))
+    grind (
+      arith,
+      length-take-le b (spots g) (omega arith),
+      moved_is g b,
+      landings_push,
+      take_next (spots g) b (b + 1) (omega arith) lt,
+    )
 
 pub landings_all : (g : Graph) (f b : ℕ) (points : List ℕ) → length (spots g) ≤ b
     → points ≡ landings_from f 0 0 (take b (spots g)) → points ≡ landings g f

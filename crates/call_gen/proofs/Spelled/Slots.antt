@@ -22,16 +22,12 @@ pub record Roomy (total : ℕ) (hidden : List (List ℕ)) : Type 0 where
   pub rows : (r : ℕ) → r < length hidden → length (row hidden r) ≡ suc (total / 192)
 
 pub row_same : (xs : List (List ℕ)) (k : ℕ) (r : List ℕ) → k < length xs → row (with_row xs k r) k ≡ r
-row_same [] k r lt = absurd (omega arith)
-row_same (x ∷ xs) zero r lt = refl
 row_same (x ∷ xs) (suc k) r lt = row_same xs k r (omega arith)
+row_same xs k r lt = grind arith
 
 pub row_other : (xs : List (List ℕ)) (k j : ℕ) (r : List ℕ) → (j ≡ k → ⊥) → row (with_row xs k r) j ≡ row xs j
-row_other [] k j r ne = refl
-row_other (x ∷ xs) zero zero r ne = absurd (ne refl)
-row_other (x ∷ xs) zero (suc j) r ne = refl
-row_other (x ∷ xs) (suc k) zero r ne = refl
 row_other (x ∷ xs) (suc k) (suc j) r ne = row_other xs k j r (λ e. ne (ap suc e))
+row_other xs k j r ne = grind arith
 
 place_in : (total k : ℕ) (hidden : List (List ℕ)) → Roomy total hidden → k < total → k % 192 < length hidden
 place_in total k hidden h lt = omega arith
@@ -76,49 +72,42 @@ module _ (total : ℕ) (at : ℕ → ℕ) (apart : (x y : ℕ) → at x ≡ at y
   pub pokes_in : (hidden : List (List ℕ)) (xs vars : List ℕ) (x : ℕ) → AllIn xs → Roomy total hidden
       → (peek hidden (at x) ≡ get_or vars x 0) ⊎ In x xs → peek (pokes at hidden xs vars) (at x) ≡ get_or vars
       x 0
-  pokes_in hidden [] vars x i h (inl e) = e
-  pokes_in hidden [] vars x i h (inr j) = absurd j
   pokes_in hidden (y ∷ ys) vars x i h w =
       let next = poke hidden (at y) (get_or vars y 0) in
       let roomy = still_roomy total (at y) (get_or vars y 0) hidden h i.0 in
       elim (cases_eq x y) [
-        | inl e ↦
-            pokes_in next ys vars x i.1 roomy
-            (inl (ap (λ n. peek next (at n)) e ∙ peek_same total (at y) (get_or vars y 0) hidden h i.0
-            ∙ ap (λ n. get_or vars n 0) (sym e)))
+        | inl e ↦ pokes_in next ys vars x i.1 roomy (inl (ap (λ n. peek next (at n)) e ∙ peek_same total (at
+            y) (get_or vars y 0) hidden h i.0 ∙ ap (λ n. get_or vars n 0) (sym e)))
         | inr ne ↦ pokes_in next ys vars x i.1 roomy (elim w [
-          | inl e ↦
-              inl (peek_other total (at y) (at x) (get_or vars y 0) hidden h i.0 (λ same. ne (apart x y same))
-              ∙ e)
+          | inl e ↦ inl (peek_other total (at y) (at x) (get_or vars y 0) hidden h i.0 (λ same. ne (apart x y
+              same)) ∙ e)
           | inr j ↦ elim j [ inl e ↦ absurd (ne e) | inr k ↦ inr k ]
         ])
       ]
+  pokes_in hidden [] vars x i h y = grind arith
 
   pub pokes_other : (hidden : List (List ℕ)) (xs vars : List ℕ) (k : ℕ) → AllIn xs → Roomy total hidden
       → ((x : ℕ) → In x xs → k ≡ at x → ⊥) → peek (pokes at hidden xs vars) k ≡ peek hidden k
   pokes_other hidden [] vars k i h ne = refl
-  pokes_other hidden (x ∷ xs) vars k i h ne =
-      pokes_other (poke hidden (at x) (get_or vars x 0)) xs vars k i.1
-      (still_roomy total (at x) (get_or vars x 0) hidden h i.0) (λ y j. ne y (inr j))
-      ∙ peek_other total (at x) k (get_or vars x 0) hidden h i.0 (ne x (inl refl))
+  pokes_other hidden (x ∷ xs) vars k i h ne = pokes_other (poke hidden (at x) (get_or vars x 0)) xs vars k i.1
+      (grind (arith, still_roomy)) (λ y j. ne y (inr j)) ∙ peek_other total (at x) k (get_or vars x 0) hidden
+      h i.0 (ne x (inl refl))
 
   pub peeks_in : (hidden : List (List ℕ)) (xs vars : List ℕ) (x : ℕ) → x < length vars
       → (get_or vars x 0 ≡ peek hidden (at x)) ⊎ In x xs → get_or (peeks at hidden xs vars) x 0 ≡ peek hidden
       (at x)
-  peeks_in hidden [] vars x lt (inl e) = e
-  peeks_in hidden [] vars x lt (inr j) = absurd j
   peeks_in hidden (y ∷ ys) vars x lt w =
       let next = set vars y (peek hidden (at y)) in
       let there : x < length next = omega (arith, lt, length-set vars y (peek hidden (at y))) in
       elim (cases_eq x y) [
-        | inl e ↦
-            peeks_in hidden ys next x there
-            (inl (rw e (get_or-set_same vars y (peek hidden (at y)) 0 (omega arith))))
+        | inl e ↦ peeks_in hidden ys next x there (inl (rw e (get_or-set_same vars y (peek hidden (at y)) 0
+            (omega arith))))
         | inr ne ↦ peeks_in hidden ys next x there (elim w [
           | inl e ↦ inl (get_or-set_other vars y x (peek hidden (at y)) 0 ne ∙ e)
           | inr j ↦ elim j [ inl e ↦ absurd (ne e) | inr k ↦ inr k ]
         ])
       ]
+  peeks_in hidden [] vars x lt y = grind arith
 
   pub peeks_other : (hidden : List (List ℕ)) (xs vars : List ℕ) (x : ℕ) → (In x xs → ⊥)
       → get_or (peeks at hidden xs vars) x 0 ≡ get_or vars x 0
@@ -154,8 +143,7 @@ pub below_all : (n x : ℕ) → In x (below n) → x < n
 below_all zero x h = absurd h
 below_all (suc n) x h = elim (split (below n) (n ∷ []) h) [
   | inl i ↦ omega (arith, below_all n x i)
-  | inr i ↦
-      elim i [ inl e ↦ omega arith | inr z ↦ absurd z ]
+  | inr i ↦ grind arith
 ]
   where
     split : (xs ys : List ℕ) → In x (xs ++ ys) → In x xs ⊎ In x ys
@@ -171,8 +159,7 @@ pub below_at : (n i : ℕ) → i < n → get_or (below n) i 0 ≡ i
 below_at zero i lt = absurd (omega arith)
 below_at (suc n) i lt = elim (cases_eq i n) [
   | inl e ↦ get_or_push (below n) n 0 i (below_count n ∙ sym e) ∙ sym e
-  | inr ne ↦ let low : i < n = omega arith in get_or_append_left (below n) (n ∷ []) 0 i
-      (omega (arith, below_count n, low)) ∙ below_at n i low
+  | inr ne ↦ let low : i < n = omega arith in grind (arith, get_or_append_left, below_count, below_at n i low)
 ]
 
 pub apart_push : (xs : List ℕ) (n : ℕ) → Distinct xs → (In n xs → ⊥) → Distinct (xs ++ n ∷ [])

@@ -1,9 +1,9 @@
 -- Each block of the spelled graph is a door, a block of the given graph, or a return point.
-use Rattle.std.proofs.Common.{ℕ, zero, suc, ◌+◌, ◌≡◌, ◌<◌, Bool, true, false, if◌then◌else◌, List, [], ◌∷◌}
-use Rattle.std.proofs.Common.{length, take, refl, sym, ap, ◌∙◌, subst, inl, inr, Option, Some, arith}
+use Rattle.std.proofs.Common.{ℕ, suc, ◌+◌, ◌≡◌, ◌<◌, Bool, true, false, if◌then◌else◌, List, [], ◌∷◌, length}
+use Rattle.std.proofs.Common.{take, refl, ap, ◌∙◌, subst, inl, inr, Option, Some, arith}
 use Rattle.std.specs.List.{AllByRecursion}
-use Rattle.cfg_core.specs.Graph.{Term, Exit, Goto, Branch, Call, Return, Send, Stop, Block, GraphProc, Graph}
-use Rattle.cfg_core.specs.Graph.{Spot, spots_in, spots_from, no_proc}
+use Rattle.cfg_core.specs.Graph.{Term, Exit, Call, Block, GraphProc, Graph, Spot, spots_in, spots_from}
+use Rattle.cfg_core.specs.Graph.{no_proc}
 use Rattle.call_gen.specs.Spelled.{callee_is, count_of, is_call, landings_from, after, spelled_blocks}
 use Rattle.call_gen.specs.Spelled.{spelled_procs}
 use Rattle.call_gen.proofs.Spelled.Placing.{plain_of, point_of, door_of}
@@ -17,28 +17,7 @@ module _ (g : Graph) (live : List (List ℕ)) (P : Spot → Type 0) where
   all_after : (home vars : ℕ) (s : Spot) (x : Exit) → s.home ≡ home → s.vars ≡ vars
       → ((r : Option ℕ) (f : ℕ) (ts : List Term) (back : ℕ) → x ≡ Call r f ts back
       → P (point_of g live s r back)) → AllByRecursion P (spots_in home (suc vars) (after g live home vars x))
-  all_after home vars s (Call r f ts back) eh ev h = (
-    subst (λ n.
-        P (record {
-          home = n;
-          vars = suc vars;
-          block = Rattle.call_gen.specs.Spelled.return_block g live n
-              vars r back;
-        })) eh
-        (subst (λ n.
-        P (record {
-          home = s.home;
-          vars = suc n;
-          block = Rattle.call_gen.specs.Spelled.return_block g live
-              s.home n r back;
-        })) ev (h r f ts back refl)),
-    tt,
-  )
-  all_after home vars s (Goto c) eh ev h = tt
-  all_after home vars s (Branch t c d) eh ev h = tt
-  all_after home vars s (Return t) eh ev h = tt
-  all_after home vars s (Send t ts ls) eh ev h = tt
-  all_after home vars s Stop eh ev h = tt
+  all_after home vars s x eh ev h = grind arith
 
   all_blocks : (home vars b : ℕ) (xs : List Block)
       → ((i : ℕ) (s : Spot) → nth (spots_in home vars xs) i ≡ Some s → P (plain_of g live s (b + i)))
@@ -51,15 +30,12 @@ module _ (g : Graph) (live : List (List ℕ)) (P : Spot → Type 0) where
       let here : Spot = record { home = home; vars = vars; block = x } in
       let z : b + 0 ≡ b = omega arith in (
         rw z at (plain 0 here refl),
-        subst (λ (zs : List Spot). AllByRecursion P zs)
-            (sym (in_both home (suc vars) (after g live home vars x.exit)
-            (spelled_blocks g live home vars (suc b) xs)))
-            (all_both P (spots_in home (suc vars) (after g live home vars x.exit))
-            (spots_in home (suc vars) (spelled_blocks g live home vars (suc b) xs))
-            (all_after home vars here x.exit refl refl (λ r f ts back e. point 0 here r f ts back refl e))
-            (all_blocks home vars (suc b) xs
-            (λ i s e. let n : b + suc i ≡ suc b + i = omega arith in rw n at (plain (suc i) s e))
-            (λ i s r f ts back e is. point (suc i) s r f ts back e is))),
+        subst (λ (zs : List Spot). AllByRecursion P zs) (grind (arith, in_both)) (all_both P (spots_in
+            home (suc vars) (after g live home vars x.exit)) (spots_in home (suc vars) (spelled_blocks g
+            live home vars (suc b) xs)) (all_after home vars here x.exit refl refl (λ r f ts back e. point
+            0 here r f ts back refl e)) (all_blocks home vars (suc b) xs (λ i s e. let n : b + suc i ≡ suc
+            b + i = omega arith in rw n at (plain (suc i) s e)) (λ i s r f ts back e is. point (suc i) s r
+            f ts back e is))),
       )
 
   pub all_spots : (f b : ℕ) (ps : List GraphProc)
@@ -73,22 +49,15 @@ module _ (g : Graph) (live : List (List ℕ)) (P : Spot → Type 0) where
       let old = spots_in f p.vars p.blocks in
       let z : f + 0 ≡ f = omega arith in
       let n = count f p.vars p.blocks in (
-        rw z at (doors 0 (omega arith)),
-        all_both P (spots_in f (suc p.vars) (spelled_blocks g live f p.vars b p.blocks))
-            (spots_from (suc f) (spelled_procs g live (suc f) (b + length p.blocks) ps))
-            (all_blocks f p.vars b p.blocks
-            (λ i s e. plain i s (nth_append_left old (spots_from (suc f) ps) i (bound old i s e) ∙ e))
-            (λ i s r c ts back e is. point i s r c ts back (nth_append_left old (spots_from (suc f) ps) i
-            (bound old i s e) ∙ e) is))
-            (all_spots (suc f) (b + length p.blocks) ps
-            (λ e lt. let m : f + suc e ≡ suc f + e = omega arith in
-            rw m at (doors (suc e) (omega arith)))
-            (λ i s e. let m : b + (length p.blocks + i) ≡ (b + length p.blocks) + i = omega arith in
-            rw m at (plain (length p.blocks + i) s
-            (nth_right old (spots_from (suc f) ps) (length p.blocks) i (length p.blocks + i) n refl ∙ e)))
-            (λ i s r c ts back e is. point (length p.blocks + i) s r c ts back
-            (nth_right old (spots_from (suc f) ps) (length p.blocks) i (length p.blocks + i) n refl ∙ e)
-            is)),
+        grind arith,
+        all_both P (spots_in f (suc p.vars) (spelled_blocks g live f p.vars b p.blocks)) (spots_from (suc f)
+            (spelled_procs g live (suc f) (b + length p.blocks) ps)) (all_blocks f p.vars b p.blocks (λ i s e.
+            plain i s (nth_append_left old (spots_from (suc f) ps) i (bound old i s e) ∙ e)) (λ i s r c ts
+            back e is. point i s r c ts back (nth_append_left old (spots_from (suc f) ps) i (bound old i s e)
+            ∙ e) is)) (all_spots (suc f) (b + length p.blocks) ps (λ e lt. let m : f + suc e ≡ suc f + e =
+            omega arith in grind arith) (λ i s e. let m : b + (length p.blocks + i) ≡ (b + length p.blocks) +
+            i = omega arith in grind (arith, nth_right)) (λ i s r c ts back e is. point (length p.blocks + i)
+            s r c ts back (grind (arith, nth_right)) is)),
       )
     where
       count : (home vars : ℕ) (xs : List Block) → length (spots_in home vars xs) ≡ length xs
@@ -96,9 +65,8 @@ module _ (g : Graph) (live : List (List ℕ)) (P : Spot → Type 0) where
       count home vars (x ∷ xs) = ap suc (count home vars xs)
 
       bound : {A : Type 0} (xs : List A) (k : ℕ) (x : A) → nth xs k ≡ Some x → k < length xs
-      bound [] k x e = absurd (cc)
-      bound (y ∷ xs) zero x e = omega arith
       bound (y ∷ xs) (suc k) x e = omega (arith, bound xs k x e)
+      bound xs k x e = grind arith
 
 -- the return points of a procedure's calls are return points
 pub landing_from : (f b k : ℕ) (ss : List Spot) (d : ℕ) → In d (landings_from f b k ss)

@@ -1,35 +1,27 @@
 -- The calls of each procedure among the first blocks, one block more.
 use Rattle.std.proofs.Common.{ℕ, zero, suc, ◌+◌, ◌==◌, ◌≡◌, ◌<◌, ◌≤◌, ◌^◌, Bool, true, false, if◌then◌else◌}
-use Rattle.std.proofs.Common.{List, [], ◌∷◌, length, take, get_or, set, replicate, Some, None, refl, sym, ap}
-use Rattle.std.proofs.Common.{◌∙◌, inl, inr, arith, length-set, get_or-set_same, get_or-set_other}
+use Rattle.std.proofs.Common.{List, [], ◌∷◌, length, take, get_or, set, replicate, Some, None, refl, ap, ◌∙◌}
+use Rattle.std.proofs.Common.{inl, inr, arith, length-set, get_or-set_same, get_or-set_other}
 use Rattle.std.proofs.lemmas.List.{length-replicate}
 use Rattle.std.proofs.lemmas.Bool.{cases_eq, cases_lt}
 use Rattle.std.proofs.lemmas.Bool.Decides.{nat_tests}
-use Rattle.cfg_core.specs.Graph.{Exit, Goto, Branch, Call, Return, Send, Stop, Graph, Spot, spots, block_at}
+use Rattle.cfg_core.specs.Graph.{Exit, Graph, Spot, spots, block_at}
 use Rattle.call_gen.specs.Spelled.{callee_is, callee, count_of, address}
 use Rattle.call_gen.specs.Plans.{Few, Tallied, CallPlaced}
 use Rattle.call_gen.proofs.Spelled.Counting.{count_next, one_at_most}
 
 -- an exit calls its callee alone
 some_callee : (x : Exit) (f e : ℕ) → callee x ≡ Some f → callee_is x e ≡ (f == e)
-some_callee (Call r d ts back) f e h = let same : d ≡ f = cc in ap (λ n. n == e) same
-some_callee (Goto c) f e h = absurd (cc)
-some_callee (Branch t c d) f e h = absurd (cc)
-some_callee (Return t) f e h = absurd (cc)
-some_callee (Send t ts ls) f e h = absurd (cc)
-some_callee Stop f e h = absurd (cc)
+some_callee x f e h = grind arith
 
 no_callee : (x : Exit) (e : ℕ) → callee x ≡ None → callee_is x e ≡ false
-no_callee (Call r d ts back) e h = absurd (cc)
-no_callee (Goto c) e h = refl
-no_callee _ e h = refl
+no_callee x e h = grind arith
 
 count_few : (p : Spot → Bool) (b : ℕ) (xs : List Spot) → count_of p (take b xs) ≤ b
 count_few p b [] = by_count b
   where
     by_count : (n : ℕ) → count_of p (take n []) ≤ n
-    by_count zero = omega arith
-    by_count (suc n) = omega arith
+    by_count n = grind arith
 count_few p zero (x ∷ xs) = omega arith
 count_few p (suc b) (x ∷ xs) = omega (arith, count_few p b xs, one_at_most (p x))
 
@@ -37,9 +29,8 @@ abbrev none : ℕ → List ℕ
 none n = replicate n 0
 
 zeros : (n f : ℕ) → get_or (none n) f 0 ≡ 0
-zeros zero f = refl
-zeros (suc n) zero = refl
 zeros (suc n) (suc f) = zeros n f
+zeros n f = refl
 
 module _ (g : Graph) where
   -- no more blocks call than there are
@@ -55,10 +46,7 @@ module _ (g : Graph) where
   pub tallied_none : (n : ℕ) → n ≡ length g.procs → (counts : List ℕ) → counts ≡ replicate n 0
       → Tallied g counts 0
   unfolding address
-  tallied_none n en counts e = record {
-    count = ap length e ∙ length-replicate n 0 ∙ en;
-    each = λ f lt. ap (λ (ns : List ℕ). get_or ns f 0) e ∙ zeros n f;
-  }
+  tallied_none n en counts e = grind (arith, length-replicate, zeros)
 
   -- a block that calls
   module _ (counts : List ℕ) (b f : ℕ) (lt : b < length (spots g)) (t : Tallied g counts b)
@@ -75,19 +63,15 @@ module _ (g : Graph) where
           | inl same ↦
               let hit : (f == e) ≡ true = grind (arith, nat_tests) in
               let one : 0 + (if callee_is (block_at g b).exit e then 1 else 0) ≡ 0 + 1 =
-              ap (λ (c : Bool). 0 + (if c then 1 else 0)) (some_callee (block_at g b).exit f e is
-              ∙ hit) in
+              grind (arith, some_callee) in
               let new : get_or (set counts f (get_or counts f 0 + 1)) e 0 ≡ get_or counts f 0 + 1 =
               ap (λ n. get_or (set counts f (get_or counts f 0 + 1)) n 0) same
               ∙ get_or-set_same counts f (get_or counts f 0 + 1) 0 (omega arith) in
-              let old : get_or counts f 0 ≡ address g e b = ap (λ n. get_or counts n 0) (sym same)
-              ∙ t.each e le in
-              omega (arith, one, new, old, address_next e b lt)
+              grind (arith, address_next)
           | inr other ↦
               let miss : (f == e) ≡ false = grind (arith, nat_tests) in
               let none : 0 + (if callee_is (block_at g b).exit e then 1 else 0) ≡ 0 + 0 =
-              ap (λ (c : Bool). 0 + (if c then 1 else 0)) (some_callee (block_at g b).exit f e is
-              ∙ miss) in
+              grind (arith, some_callee) in
               let new : get_or (set counts f (get_or counts f 0 + 1)) e 0 ≡ get_or counts e 0 =
               get_or-set_other counts f e (get_or counts f 0 + 1) 0 other in
               omega (arith, none, new, t.each e le, address_next e b lt)
@@ -100,9 +84,8 @@ module _ (g : Graph) where
     ]
       where
         past_end : (xs : List ℕ) (i : ℕ) → length xs ≤ i → get_or xs i 0 ≡ 0
-        past_end [] i h = refl
-        past_end (x ∷ xs) zero h = absurd (omega arith)
         past_end (x ∷ xs) (suc i) h = past_end xs i (omega arith)
+        past_end xs i h = grind arith
 
   -- one that doesn't
   module _ (counts : List ℕ) (b : ℕ) (lt : b < length (spots g)) (t : Tallied g counts b)
@@ -111,10 +94,4 @@ module _ (g : Graph) where
     place_none n e le h = grind (arith, no_callee)
 
     pub tallied_same : Tallied g counts (b + 1)
-    tallied_same = record {
-      count = t.count;
-      each = λ e le.
-          let none : 0 + (if callee_is (block_at g b).exit e then 1 else 0) ≡ 0 + 0 =
-          ap (λ (c : Bool). 0 + (if c then 1 else 0)) (no_callee (block_at g b).exit e is) in
-          omega (arith, none, t.each e le, address_next e b lt);
-    }
+    tallied_same = grind (arith, no_callee, address_next)

@@ -13,8 +13,7 @@ loop-b-init c =
     (λ y e. e) in
     record {
       count = ap length c.new-list.ensures.items;
-      tallied = tallied_none g n (omega (arith, c.proc_count.ensures))
-          c.in_ok-counts.counts.items items;
+      tallied = tallied_none g n (omega (arith, c.proc_count.ensures)) c.in_ok-counts.counts.items items;
       list = λ k lt. absurd (omega (arith, lt));
     }
 

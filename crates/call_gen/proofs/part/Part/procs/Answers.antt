@@ -10,13 +10,11 @@ use Rattle.ws_words.proofs.Lists.{drop_next}
 use Rattle.ws_words.specs.Items.{flag_at}
 
 pub loop-proc-init : goal.loop-proc-init
-loop-proc-init c =
-    record {
-      made = search rules;
-      there = all_there (view.graph c.args.self.now.table.graph.now)
-          c.requires.rules;
-      count = omega arith;
-    }
+loop-proc-init c = record {
+  made = search rules;
+  there = all_there (view.graph c.args.self.now.table.graph.now) c.requires.rules;
+  count = omega arith;
+}
 
 pub add_proc-requires-clause-count : goal.add_proc-requires-clause-count
 add_proc-requires-clause-count c =

@@ -16,7 +16,6 @@ pub place-requires-clause-there : goal.place-requires-clause-there
 place-requires-clause-there c =
     omega (
       arith,
-      entry_there (view.graph c.args.self.now.table.graph.now) c.args.f c.requires.rules
-          c.requires.there,
+      entry_there (view.graph c.args.self.now.table.graph.now) c.args.f c.requires.rules c.requires.there,
       c.room-entry.ensures.entry,
     )

@@ -8,13 +8,8 @@ use Rattle.call_gen.proofs.plan.CallPlan.landings.Goals as goal
 pub overflow_add-place : goal.overflow_add-place
 overflow_add-place c =
     let p = c.args.self.now in let g = view.graph p.table.graph.now in let b = c.loop-b.b in
-    let lt : b < length (spots g) = omega (
-      arith,
-      c.requires.count,
-      c.deref-place-items.ensures.len,
-      p.places.ok.0,
-      c.loop-b-test.true,
-    ) in
+    let lt : b < length (spots g) =
+    omega (arith, c.requires.count, c.deref-place-items.ensures.len, p.places.ok.0, c.loop-b-test.true) in
     omega (
       arith,
       small_place g b c.requires.few lt,
@@ -25,13 +20,8 @@ overflow_add-place c =
 pub loop-b-preserved : goal.loop-b-preserved
 loop-b-preserved c =
     let p = c.args.self.now in let g = view.graph p.table.graph.now in let b = c.loop-b.b in
-    let lt : b < length (spots g) = omega (
-      arith,
-      c.requires.count,
-      c.deref-place-items.ensures.len,
-      p.places.ok.0,
-      c.loop-b-test.true,
-    ) in
+    let lt : b < length (spots g) =
+    omega (arith, c.requires.count, c.deref-place-items.ensures.len, p.places.ok.0, c.loop-b-test.true) in
     let place : get_or c.deref-place-items.result.now b 0 ≡ moved g b =
     ap (λ (ns : List ℕ). get_or ns b 0) c.deref-place-items.ensures.value ∙ c.requires.places b lt in
     landings_next g c.args.f b (get_or c.deref-place-items.result.now b 0) c.loop-b.points.items
