@@ -1,51 +1,42 @@
 -- Tokens that have come, and those that are missing.
 use Rattle.std.proofs.Common.{◌≡◌, inl, inr, ℕ, zero, Bool, true, false, cond, List, [], ◌∷◌, ◌++◌, ◌+◌, ◌<◌}
-use Rattle.std.proofs.Common.{◌≤◌, suc, Option, Some, None, is_some, All, length, take, slice_index_or}
+use Rattle.std.proofs.Common.{◌≤◌, suc, Some, None, is_some, All, length, take, slice_index_or}
 use Rattle.std.proofs.Common.{add-one, arith, sym, refl, ap, ◌∙◌, subst}
 use Rattle.std.proofs.Common.{replicate, slice_set}
 use Rattle.std.proofs.lemmas.Bool.{cases_eq, cases_lt}
-use Rattle.std.proofs.lemmas.List.{take_all, append_assoc, get_or-set_same, get_or-set_other}
+use Rattle.std.proofs.lemmas.List.{take_all, get_or-set_same, get_or-set_other}
 use Rattle.std.proofs.lemmas.List.{get_or-replicate, get_or_past, length-replicate}
 use Rattle.std.proofs.lemmas.List.Elements.{All-get_or, All-more, All-push}
-use Rattle.ws_words.specs.Outside.{Outside}
 use Rattle.ws_isa.specs.declared.instr.Dest.{Dest}
 use Rattle.ws_isa.specs.Image.{Image, Token, ports, is_memory, result_of, sends, tokens_to}
 use Rattle.ws_isa.specs.Walk.{Ports}
 use Rattle.df_core.specs.Core.{Key, HasFired, has, operands_in}
 use Rattle.ws_isa.specs.Walk.{start_tokens}
-use Rattle.df_core.specs.Shown.{Buffer, owed, plain_tokens, op_tokens}
+use Rattle.df_core.specs.Shown.{Buffer, plain_tokens, op_tokens}
 use Rattle.df_core.proofs.Keeping.Ports.{has_some}
 use Rattle.df_core.proofs.Walked.SlotLists.{is_sent_append_cases}
 use Rattle.df_core.specs.Rights.{operands_of}
 use Rattle.match_table.specs.Tables.{held, of_memory, TableContent}
 use Rattle.store_buf.specs.declared.kept.Kept.{Kept}
-use Rattle.store_buf.specs.Requests.{entry_of, issued_keys, key_if, operands_if, answer_if}
+use Rattle.store_buf.specs.Requests.{entry_of, operands_if, answer_if}
 use Rattle.store_buf.specs.Contents as buf
-use Rattle.store_buf.specs.Contents.{buffer_in}
 use Rattle.store_buf.specs.Ordering.{no_request}
 use Rattle.match_table.specs.Together.{all_fired, together}
 use Rattle.match_table.specs.Growth.{content_at}
-use Rattle.fire_crew.specs.Owing.{HaveCome, IsMissing, IsKnown, AllKnown, ResultsCame, ResultsCameAt, ToldIn}
-use Rattle.fire_crew.specs.Owing.{HasAnswered}
+use Rattle.fire_crew.specs.Owing.{AllKnown, AnswersReach, HaveCome, IsKnown, IsMissing, ResultsReach}
+use Rattle.fire_crew.specs.Owing.{ResultsReachAt, ToldIn}
+use Rattle.fire_crew.specs.Solo.{Owes, Paid}
+use Rattle.store_buf.specs.Runs.{AllReach, Covers, IsOnItsWay}
+use Rattle.store_buf.proofs.Reaching.{covers_left, covers_right}
+use Rattle.store_buf.proofs.Found.{entry_case}
 use Rattle.match_table.proofs.FiredPlaces.{none_fired, fired_place, asked_there}
 use Rattle.match_table.proofs.Union.{listed_at}
 use Rattle.match_table.proofs.Held.{has_none}
 use Rattle.ws_words.specs.Items.{or_else}
 
-pub not_empty : (ts : List Token) (t : Token) → ts ++ t ∷ [] ≡ [] → ⊥
-not_empty [] t e = cc
-not_empty (x ∷ ts) t e = cc
-
 module _ (held : Ports) where
   pub come_none : HaveCome held []
   come_none w i p v s = absurd s
-
-  pub come_more : (t : Token) (ts : List Token) → has (held t.wave t.instr t.port) ≡ true → HaveCome held ts
-      → HaveCome held (t ∷ ts)
-  come_more t ts h come w i p v (inl e) =
-      has_some (held w i p) (subst (λ (x : ℕ × ℕ × ℕ). has (held x.0 x.1 x.2) ≡ true)
-      (λ j. (e.0 j, e.1 j, e.2 j)) h)
-  come_more t ts h come w i p v (inr s) = come w i p v s
 
   pub come_append : (ts us : List Token) → HaveCome held ts → HaveCome held us → HaveCome held (ts ++ us)
   come_append ts us a b w i p v s = elim (is_sent_append_cases ts us w i p v s)
@@ -79,43 +70,48 @@ module _ (held : Ports) where
   come_ops image b (k ∷ ks) each = come_append _ (op_tokens image b ks)
       (each k.wave k.instr (inl (refl, refl))) (come_ops image b ks (λ w i h. each w i (inr h)))
 
-  sent_one : (w v : ℕ) (ds : List Dest) (k : ℕ) (d : Dest) → k < length ds
-      → has (held w (slice_index_or ds k d).instr (slice_index_or ds k d).port) ≡ true
-      → HaveCome held (tokens_to w v (take k ds)) → HaveCome held (tokens_to w v (take (suc k) ds))
-  sent_one w v [] k d lt h come = absurd (omega (arith, lt))
-  sent_one w v (x ∷ ds) zero d lt h come =
-      come_more (record { wave = w; instr = x.instr; port = x.port; value = v }) [] h come_none
-  sent_one w v (x ∷ ds) (suc k) d lt h come = λ a i p u s. elim s [
-    | inl e ↦ come a i p u (inl e)
-    | inr r ↦ sent_one w v ds k d (omega (arith, lt)) h (λ b j q y z. come b j q y (inr z)) a i p u r
-  ]
+  module _ (way : List Token) where
+    reach_one : (w v : ℕ) (ds : List Dest) (k : ℕ) (d : Dest) → k < length ds
+        → IsOnItsWay held way w (slice_index_or ds k d).instr (slice_index_or ds k d).port
+        → AllReach held way (tokens_to w v (take k ds)) → AllReach held way (tokens_to w v (take (suc k) ds))
+    reach_one w v [] k d lt h come = absurd (omega (arith, lt))
+    reach_one w v (x ∷ ds) zero d lt h come = λ a i p u s. elim s [
+      | inl e ↦ subst (λ (y : ℕ × ℕ × ℕ). IsOnItsWay held way y.0 y.1 y.2) (λ j. (e.0 j, e.1 j, e.2 j)) h
+      | inr r ↦ absurd r
+    ]
+    reach_one w v (x ∷ ds) (suc k) d lt h come = λ a i p u s. elim s [
+      | inl e ↦ come a i p u (inl e)
+      | inr r ↦ reach_one w v ds k d (omega (arith, lt)) h (λ b j q y z. come b j q y (inr z)) a i p u r
+    ]
 
-  -- one more of the tokens of a word has come
-  pub come_sent : (w v : ℕ) (ds : List Dest) (k : ℕ) (d : Dest) → k < length ds
-      → has (held w (slice_index_or ds k d).instr (slice_index_or ds k d).port) ≡ true
-      → HaveCome held (tokens_to w v (take k ds)) → HaveCome held (tokens_to w v (take (k + 1) ds))
-  come_sent w v ds k d lt h come = rw (add-one k) (sent_one w v ds k d lt h come)
+    -- one more of the tokens of a word has come or is on the way
+    pub reach_sent : (w v : ℕ) (ds : List Dest) (k : ℕ) (d : Dest) → k < length ds
+        → IsOnItsWay held way w (slice_index_or ds k d).instr (slice_index_or ds k d).port
+        → AllReach held way (tokens_to w v (take k ds)) → AllReach held way (tokens_to w v (take (k + 1) ds))
+    reach_sent w v ds k d lt h come = rw (add-one k) (reach_one w v ds k d lt h come)
 
-  -- one more token has been looked at: it has come
-  pub keep_come : (all front rest : List Token) (t : Token) (found : List Token) (old : List Token)
-      → all ≡ front ++ rest → (mid : List Token) → front ≡ mid ++ t ∷ []
-      → has (held t.wave t.instr t.port) ≡ true → (found ≡ [] → (old ≡ []) × HaveCome held rest) →
-      (more : List Token) × (all ≡ mid ++ more) × (found ≡ [] → (old ≡ []) × HaveCome held more)
-  keep_come all front rest t found old is mid e h ih = (
-    t ∷ rest,
-    is ∙ ap (λ (l : List Token). l ++ rest) e ∙ append_assoc mid (t ∷ []) rest,
-    λ n. (let r = ih n in (r.0, come_more t rest h r.1)),
-  )
+    -- so one more of a list of tokens
+    pub reach_more : (t : Token) (ts : List Token) → IsOnItsWay held way t.wave t.instr t.port
+        → AllReach held way ts → AllReach held way (t ∷ ts)
+    reach_more t ts h come w i p v (inl e) =
+        subst (λ (y : ℕ × ℕ × ℕ). IsOnItsWay held way y.0 y.1 y.2) (λ j. (e.0 j, e.1 j, e.2 j)) h
+    reach_more t ts h come w i p v (inr s) = come w i p v s
 
-  -- or it is missing, and is found
-  pub keep_found : (all front rest : List Token) (t : Token) (found new : List Token) (old : List Token)
-      → all ≡ front ++ rest → (mid : List Token) → front ≡ mid ++ t ∷ [] → new ≡ found ++ t ∷ [] →
-      (more : List Token) × (all ≡ mid ++ more) × (new ≡ [] → (old ≡ []) × HaveCome held more)
-  keep_found all front rest t found new old is mid e n = (
-    t ∷ rest,
-    is ∙ ap (λ (l : List Token). l ++ rest) e ∙ append_assoc mid (t ∷ []) rest,
-    λ z. absurd (not_empty found t (sym n ∙ z)),
-  )
+    -- a token that has come, and one that was put on the way last
+    pub is_come : (w i p : ℕ) → has (held w i p) ≡ true → IsOnItsWay held way w i p
+    is_come w i p h = inl (has_some (held w i p) h)
+
+    pub is_found : (found new : List Token) (t : Token) → new ≡ found ++ t ∷ [] → Covers new way
+        → Covers found way × IsOnItsWay held way t.wave t.instr t.port
+    is_found found new t n c =
+        let d : Covers (found ++ t ∷ []) way = subst (λ (ts : List Token). Covers ts way) n c in (
+          covers_left found (t ∷ []) way d,
+          inr (
+            t.value,
+            covers_right found (t ∷ []) way d t.wave t.instr t.port t.value
+                (inl (refl, refl, refl, refl)),
+          ),
+        )
 
   pub found_missing : (found new : List Token) (t : Token) → new ≡ found ++ t ∷ []
       → has (held t.wave t.instr t.port) ≡ false → All (IsMissing held) found → All (IsMissing held) new
@@ -132,22 +128,42 @@ pub all_done : {X : Type 0} (P : X → Type 0) (all : List X) (k : ℕ) → leng
     → All P all
 all_done {X} P all k le a = subst (λ (l : List X). All P l) (take_all k all le) a
 
--- the one that a table lists at a place has told, by its key or as the code finds it
-pub told_key : (image : Image) (all : Ports) (place : ℕ) (c : TableContent) (k : Key)
-    → ((d : Key) → slice_index_or c.fired place d ≡ k)
-    → ResultsCame image all (operands_in image (held c) k.wave k.instr) k → ResultsCameAt image all place c
-told_key image all place c k at now d =
-    subst (λ (y : Key). ResultsCame image all (operands_in image (held c) y.wave y.instr) y) (sym (at d)) now
+module _ (image : Image) (all : Ports) (way : List Token) where
+  -- the one that a table lists at a place has told, by its key or as the code finds it
+  pub told_key : (place : ℕ) (c : TableContent) (k : Key) → ((d : Key) → slice_index_or c.fired place d ≡ k)
+      → ResultsReach image all way (operands_in image (held c) k.wave k.instr) k
+      → ResultsReachAt image all way place c
+  told_key place c k at now d =
+      subst (λ (y : Key). ResultsReach image all way (operands_in image (held c) y.wave y.instr) y)
+      (sym (at d)) now
 
--- one more of a stretch is done
-pub told_more : (image : Image) (all : Ports) (from place : ℕ) (c : TableContent)
-    → ToldIn image all from place c → ResultsCameAt image all place c → ToldIn image all from (place + 1) c
-told_more image all from place c before now k d low high within = elim (cases_lt k place) [
-  | inl x ↦ before k d low x within
-  | inr x ↦ (let same : place ≡ k = omega (arith, high, x) in
-      subst (λ (j : ℕ). ResultsCame image all (operands_in image (held c) (slice_index_or c.fired j d).wave
-      (slice_index_or c.fired j d).instr) (slice_index_or c.fired j d)) same (now d))
-]
+  -- one more of a stretch is done
+  pub told_more : (from place : ℕ) (c : TableContent) → ToldIn image all way from place c
+      → ResultsReachAt image all way place c → ToldIn image all way from (place + 1) c
+  told_more from place c before now k d low high within = elim (cases_lt k place) [
+    | inl x ↦ before k d low x within
+    | inr x ↦ (let same : place ≡ k = omega (arith, high, x) in
+        subst (λ (j : ℕ). ResultsReach image all way (operands_in image (held c)
+        (slice_index_or c.fired j d).wave (slice_index_or c.fired j d).instr) (slice_index_or c.fired j d))
+        same (now d))
+  ]
+
+  -- one stretch after another
+  pub told_join : (from mid to : ℕ) (c : TableContent) → ToldIn image all way from mid c
+      → ToldIn image all way mid to c → ToldIn image all way from to c
+  told_join from mid to c a b k d low high within = elim (cases_lt k mid) [
+    | inl x ↦ a k d low x within
+    | inr x ↦ b k d x high within
+  ]
+
+  -- each that the table lists has told so
+  abbrev pub AllTold : TableContent → Type 0
+  AllTold c = All (λ (k : Key). ResultsReach image all way (operands_in image (held c) k.wave k.instr) k)
+      c.fired
+
+  -- all of a list are done
+  pub told_all : (to : ℕ) (c : TableContent) → length c.fired ≤ to → ToldIn image all way 0 to c → AllTold c
+  told_all to c le told k d lt = told k d (omega arith) (omega (arith, lt, le)) lt
 
 -- each of some places that are 0, and each past them
 pub zero_at : (n k : ℕ) → slice_index_or (replicate {A = ℕ} n 0) k 0 ≡ 0
@@ -165,24 +181,6 @@ set_each P xs n v lt now k before = elim (cases_eq k n) [
       (subst (λ (x : ℕ). P n x) (sym (get_or-set_same xs n v 0 lt)) now)
   | inr ne ↦ subst (λ (x : ℕ). P k x) (sym (get_or-set_other xs n k v 0 ne)) (before ne)
 ]
-
--- one stretch after another
-pub told_join : (image : Image) (all : Ports) (from mid to : ℕ) (c : TableContent)
-    → ToldIn image all from mid c → ToldIn image all mid to c → ToldIn image all from to c
-told_join image all from mid to c a b k d low high within = elim (cases_lt k mid) [
-  | inl x ↦ a k d low x within
-  | inr x ↦ b k d x high within
-]
-
--- each that the table lists has told so
-abbrev pub AllTold : Image → Ports → TableContent → Type 0
-AllTold image all c = All (λ (k : Key). ResultsCame image all (operands_in image (held c) k.wave k.instr) k)
-    c.fired
-
--- all of a list are done
-pub told_all : (image : Image) (all : Ports) (to : ℕ) (c : TableContent) → length c.fired ≤ to
-    → ToldIn image all 0 to c → AllTold image all c
-told_all image all to c le told k d lt = told k d (omega arith) (omega (arith, lt, le)) lt
 
 -- one more table is done
 pub next_table : (P : TableContent → Type 0) (cs : List TableContent) (n : ℕ) (c : TableContent)
@@ -205,58 +203,23 @@ known_all image kept cs each w i h m =
     none_fired p.below (each r.0 r.1) in
     subst (λ (x : ℕ × ℕ). is_some (entry_of kept x.0 x.1) ≡ true) (λ j. (p.wave j, p.instr j)) k
 
-record Answered (ks : List Kept) (w i : ℕ) : Type 0 where
-  pub place : ℕ
-  pub below : place < length ks
-  pub wave : (slice_index_or ks place no_request).wave ≡ w
-  pub instr : (slice_index_or ks place no_request).instr ≡ i
-  pub word : ℕ
-  pub answer : (slice_index_or ks place no_request).answer ≡ Some word
-
-answered_at : (ks : List Kept) (w i : ℕ) → HasFired (issued_keys ks) w i → Answered ks w i
-answered_at [] w i h = absurd h
-answered_at (k ∷ ks) w i h = go k.answer refl h (λ x. answered_at ks w i x)
-  where
-    later : Answered ks w i → Answered (k ∷ ks) w i
-    later r = record {
-      place = suc r.place;
-      below = (let b = r.below in omega (arith, b));
-      wave = r.wave;
-      instr = r.instr;
-      word = r.word;
-      answer = r.answer;
-    }
-
-    go : (o : Option ℕ) → k.answer ≡ o → HasFired (key_if o k (issued_keys ks)) w i
-        → (HasFired (issued_keys ks) w i → Answered ks w i) → Answered (k ∷ ks) w i
-    go None e x ih = later (ih x)
-    go (Some a) e (inl x) ih = record {
-      place = 0;
-      below = omega arith;
-      wave = x.0;
-      instr = x.1;
-      word = a;
-      answer = e;
-    }
-    go (Some a) e (inr x) ih = later (ih x)
-
 module _ (image : Image) (cs : List TableContent) (same : (k : ℕ)
     → All (λ (f : Key). operands_in image (held (content_at cs k)) f.wave f.instr ≡ operands_in image
-    (together cs).held f.wave f.instr) (content_at cs k).fired) where
+    (together cs).held f.wave f.instr) (content_at cs k).fired) (way : List Token) where
   abbrev hold : Ports
   hold = (together cs).held
 
-  plain_all : ((k : ℕ) → k < length cs → AllTold image hold (content_at cs k)) → (w i : ℕ)
+  plain_all : ((k : ℕ) → k < length cs → AllTold image hold way (content_at cs k)) → (w i : ℕ)
       → HasFired (all_fired cs) w i → is_memory image i ≡ false
-      → HaveCome hold
+      → AllReach hold way
       (sends image w i (operands_in image hold w i) (result_of image i (operands_in image hold w i)))
   plain_all each w i h m =
       let r = listed_at cs w i h in
       let p = fired_place (content_at cs r.0).fired w i r.2 in
       let f : Key = slice_index_or (content_at cs r.0).fired p.place none_fired in
-      let k : ResultsCame image hold (operands_in image (held (content_at cs r.0)) f.wave f.instr) f =
+      let k : ResultsReach image hold way (operands_in image (held (content_at cs r.0)) f.wave f.instr) f =
       All-get_or
-      (λ (x : Key). ResultsCame image hold (operands_in image (held (content_at cs r.0)) x.wave x.instr)
+      (λ (x : Key). ResultsReach image hold way (operands_in image (held (content_at cs r.0)) x.wave x.instr)
       x) (content_at cs r.0).fired p.place none_fired p.below (each r.0 r.1) in
       let t : operands_in image (held (content_at cs r.0)) f.wave f.instr ≡ operands_in image hold f.wave
       f.instr = All-get_or (λ (x : Key). operands_in image (held (content_at cs r.0)) x.wave x.instr
@@ -264,40 +227,34 @@ module _ (image : Image) (cs : List TableContent) (same : (k : ℕ)
       (same r.0) in
       let t' : operands_in image (held (content_at cs r.0)) f.wave f.instr ≡ operands_in image hold w i =
       t ∙ ap (λ (x : ℕ × ℕ). operands_in image hold x.0 x.1) (λ j. (p.wave j, p.instr j)) in
-      subst (λ (x : ℕ × ℕ × List ℕ). HaveCome hold (sends image x.0 x.1 x.2 (result_of image x.1 x.2)))
+      subst (λ (x : ℕ × ℕ × List ℕ). AllReach hold way (sends image x.0 x.1 x.2 (result_of image x.1 x.2)))
       (λ j. (p.wave j, p.instr j, t' j)) (k (ap (is_memory image) p.instr ∙ m))
 
-  module _ (c : buf.Content) (m : Outside) (once : All (λ (k : Kept). entry_of c.kept k.wave k.instr ≡ Some k)
-      c.kept) where
-    ops_all : All (HasAnswered image hold) c.kept → (w i : ℕ) → HasFired (issued_keys c.kept) w i
-        → HaveCome hold (sends image w i (or_else ((buffer_in image c m).kept w i) [])
-        (or_else ((buffer_in image c m).issued w i) 0))
-    ops_all each w i h =
-        let p = answered_at c.kept w i h in
-        let k : Kept = slice_index_or c.kept p.place no_request in
-        let own : entry_of c.kept k.wave k.instr ≡ Some k =
-        All-get_or (λ (k : Kept). entry_of c.kept k.wave k.instr ≡ Some k) c.kept p.place no_request
-        p.below once in
-        let own' : entry_of c.kept w i ≡ Some k = ap (λ (x : ℕ × ℕ). entry_of c.kept x.0 x.1)
-        (λ j. (sym p.wave j, sym p.instr j)) ∙ own in
-        let ops : operands_of (ports image k.instr) k.first k.second ≡ or_else
-        ((buffer_in image c m).kept w i) [] = ap (λ (o : Option Kept). or_else (operands_if image o) [])
-        (sym own') in
-        let ans : p.word ≡ or_else ((buffer_in image c m).issued w i) 0 =
-        ap (λ (o : Option ℕ). or_else o 0) (sym (ap answer_if own' ∙ p.answer)) in
-        let a : HasAnswered image hold k = All-get_or (HasAnswered image hold) c.kept p.place no_request
-        p.below each in
-        subst (λ (x : ℕ × ℕ × List ℕ × ℕ). HaveCome hold (sends image x.0 x.1 x.2 x.3))
-        (λ j. (p.wave j, p.instr j, ops j, ans j)) (a p.word p.answer)
+  module _ (c : buf.Content) where
+    ops_all : All (AnswersReach image hold way) c.kept → (ts : List Token) → Owes image c ts
+        → AllReach hold way ts
+    ops_all each ts o = elim (entry_case c.kept o.0 o.1) [
+      | inl n ↦ (let g : None ≡ Some o.2 = sym (ap answer_if n) ∙ o.5 in cc)
+      | inr s ↦ (let k : Kept = slice_index_or c.kept s.place no_request in
+          let a : AnswersReach image hold way k = All-get_or (AnswersReach image hold way) c.kept s.place
+          no_request s.within each in
+          let word : k.answer ≡ Some o.2 = sym (ap answer_if s.is) ∙ o.5 in
+          let kept : Some (operands_of (ports image k.instr) k.first k.second) ≡ Some o.3 =
+          sym (ap (operands_if image) s.is) ∙ o.4 in
+          let ops : operands_of (ports image k.instr) k.first k.second ≡ o.3 = cc in
+          subst (λ (us : List Token). AllReach hold way us) (sym o.6)
+          (subst (λ (x : ℕ × ℕ × List ℕ). AllReach hold way (sends image x.0 x.1 x.2 o.2))
+          (λ j. (s.wave j, s.instr j, ops j)) (a o.2 word)))
+    ]
 
-    pub all_come : HaveCome hold (start_tokens image)
-        → ((k : ℕ) → k < length cs → AllTold image hold (content_at cs k)) → All (HasAnswered image hold)
-        c.kept
-        → HaveCome hold (owed image (together cs) (buffer_in image c m))
-    all_come start plain ops = come_append hold (start_tokens image)
-        (plain_tokens image hold (all_fired cs) ++ op_tokens image (buffer_in image c m) (issued_keys c.kept))
-        start
-        (come_append hold (plain_tokens image hold (all_fired cs))
-        (op_tokens image (buffer_in image c m) (issued_keys c.kept))
-        (come_plain hold image (all_fired cs) (plain_all plain))
-        (come_ops hold image (buffer_in image c m) (issued_keys c.kept) (ops_all ops)))
+    -- all that is owed has come or is on the way
+    pub all_paid : AllReach hold way (start_tokens image)
+        → ((k : ℕ) → k < length cs → AllTold image hold way (content_at cs k))
+        → All (AnswersReach image hold way) c.kept → AllKnown image (together cs) c.kept
+        → Paid image (together cs) c way
+    all_paid start plain ops known = record {
+      start = start;
+      told = plain_all plain;
+      asked = known;
+      answered = ops_all ops;
+    }

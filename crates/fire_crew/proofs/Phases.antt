@@ -1,13 +1,13 @@
 -- How many phases there have been.
-use Rattle.std.proofs.Common.{◌≡◌, ◌+◌, ◌-◌, ◌<◌, ◌≤◌, ℕ, suc, true, List, None, inl, inr, length, arith}
+use Rattle.std.proofs.Common.{◌≡◌, ◌+◌, ◌∙◌, ◌<◌, ◌≤◌, ℕ, suc, Bool, true, false, cond, List, [], ◌∷◌, inl}
+use Rattle.std.proofs.Common.{inr, length, length-append, refl, ap, arith}
 use Rattle.std.proofs.lemmas.Bool.{cases_lt}
-use Rattle.df_core.specs.Core.{has}
 use Rattle.match_table.specs.Growth.{AllGrow}
 use Rattle.match_table.proofs.Growth.{all_grow_same, all_grow_on}
 use Rattle.match_table.specs.Together.{ServeFrom, all_fired, together}
 use Rattle.match_table.specs.Coming.{Came}
 use Rattle.match_table.proofs.Coming.{came_keep, came_more, came_none, grow_keep}
-use Rattle.fire_crew.specs.Verdicts.{MovedOn}
+use Rattle.fire_crew.specs.Verdicts.{BroughtOne, MovedOn}
 use Rattle.match_table.specs.Tables.{TableContent}
 
 -- what is so between two phases, where there have been so many
@@ -32,42 +32,90 @@ steady_start cs budget s w = record {
   came = came_none (together cs).held;
 }
 
-module _ (old mid new : List TableContent) (budget phases left : ℕ) (s : Steady old mid budget phases)
-    (grow : AllGrow mid new) (is : left ≡ budget - length (all_fired mid)) (some : 0 < left) where
-  no_more : phases ≤ s.count
-  no_more = s.room (omega (arith, is, some))
+-- as many have fired as before, and more
+fired_more : (xs ys : List TableContent) → AllGrow xs ys → length (all_fired xs) ≤ length (all_fired ys)
+fired_more [] [] g = omega arith
+fired_more [] (y ∷ ys) g = absurd g
+fired_more (x ∷ xs) [] g = absurd g
+fired_more (x ∷ xs) (y ∷ ys) g =
+    let ih = fired_more xs ys g.1 in
+    let a = length-append x.fired (all_fired xs) in
+    let b = length-append y.fired (all_fired ys) in
+    let m = g.0.goes_on in
+    let n : length y.fired ≡ length x.fired + length m.0 = ap length m.1 ∙ length-append x.fired m.0 in
+    omega (arith, ih, a, b, n)
 
-  pub steady_last : MovedOn (together old).held (together new).held (phases + 1)
-  steady_last = (
-    s.count,
-    (let n = no_more in omega (arith, n)),
-    came_keep (together old).held
-        (together mid).held (together new).held s.count s.came (grow_keep mid new grow),
-  )
+-- tables grow in no phase
+pub steady_on : (old mid new : List TableContent) (budget phases : ℕ) → Steady old mid budget phases
+    → AllGrow mid new → ServeFrom 0 new → length (all_fired new) ≤ budget → Steady old new budget phases
+steady_on old mid new budget phases s grow serve within = record {
+  serve = serve;
+  within = within;
+  grow = all_grow_on old mid new s.grow grow;
+  count = s.count;
+  few = s.few;
+  room = λ r. s.room (let m = fired_more mid new grow in omega (arith, m, r));
+  came = came_keep (together old).held (together mid).held (together new).held s.count s.came
+      (grow_keep mid new grow);
+}
 
-  module _ (serve : ServeFrom 0 new) (within : length (all_fired new) ≤ budget) (w i p : ℕ)
-      (free : (together mid).held w i p ≡ None) (come : length (all_fired new) < budget
-      → has ((together new).held w i p) ≡ true) where
-    pub steady_more : Steady old new budget (phases + 1)
-    steady_more = elim (cases_lt (length (all_fired new)) budget) [
-      | inl x ↦ record {
+-- where tables have grown in no phase
+pub steady_left : (old mid new : List TableContent) (budget phases : ℕ) → Steady old mid budget phases
+    → AllGrow mid new → MovedOn (together old).held (together new).held phases
+steady_left old mid new budget phases s grow = (
+  s.count,
+  s.few,
+  came_keep (together old).held (together mid).held (together new).held s.count s.came
+      (grow_keep mid new grow),
+)
+
+-- there has been a phase, or none, and the run has ended
+pub steady_end : (old mid new : List TableContent) (budget phases : ℕ) (is_phase : Bool)
+    → Steady old mid budget phases → AllGrow mid new
+    → (is_phase ≡ true → length (all_fired mid) < budget)
+    → MovedOn (together old).held (together new).held (cond is_phase (phases + 1) phases)
+steady_end old mid new budget phases true s grow some = (
+  s.count,
+  (let n = s.room (some refl) in omega (arith, n)),
+  came_keep (together old).held (together mid).held (together new).held s.count s.came
+      (grow_keep mid new grow),
+)
+steady_end old mid new budget phases false s grow some = steady_left old mid new budget phases s grow
+
+-- and it goes on
+pub steady_next : (old mid new : List TableContent) (budget phases : ℕ) (is_phase : Bool)
+    → Steady old mid budget phases → AllGrow mid new → ServeFrom 0 new → length (all_fired new) ≤ budget
+    → (is_phase ≡ true → length (all_fired mid) < budget)
+    → (is_phase ≡ true → length (all_fired new) < budget
+    → BroughtOne (together mid).held (together new).held)
+    → Steady old new budget (cond is_phase (phases + 1) phases)
+steady_next old mid new budget phases false s grow serve within some moved =
+    steady_on old mid new budget phases s grow serve within
+steady_next old mid new budget phases true s grow serve within some moved =
+    let n = s.room (some refl) in
+    elim (cases_lt (length (all_fired new)) budget) [
+      | inl x ↦ (let b = moved refl x in record {
         serve = serve;
         within = within;
         grow = all_grow_on old mid new s.grow grow;
         count = suc s.count;
-        few = (let n = no_more in omega (arith, n));
-        room = λ r. (let n = no_more in omega (arith, n));
+        few = omega (arith, n);
+        room = λ r. omega (arith, n);
         came = came_more (together old).held (together mid).held (together new).held s.count
-            (grow_keep old mid s.grow) s.came (grow_keep mid new grow) w i p free (come x);
-      }
+            (grow_keep old mid s.grow) s.came (grow_keep mid new grow) b.0 b.1 b.2 b.3 b.4;
+      })
       | inr x ↦ record {
         serve = serve;
         within = within;
         grow = all_grow_on old mid new s.grow grow;
         count = s.count;
-        few = (let n = no_more in omega (arith, n));
+        few = omega (arith, n);
         room = λ r. absurd (omega (arith, r, x));
         came = came_keep (together old).held (together mid).held (together new).held s.count s.came
             (grow_keep mid new grow);
       }
     ]
+
+pub counted_most : (b : Bool) (phases round : ℕ) → phases ≤ round → cond b (phases + 1) phases ≤ round + 1
+counted_most true phases round le = omega (arith, le)
+counted_most false phases round le = omega (arith, le)

@@ -10,6 +10,7 @@ use Rattle.match_table.specs.Growth.{content_at}
 use Rattle.match_table.specs.Tables.{held, TableContent}
 use Rattle.store_buf.specs.declared.kept.Kept.{Kept}
 use Rattle.store_buf.specs.Requests.{entry_of}
+use Rattle.store_buf.specs.Runs.{AllReach}
 
 -- no table has had it
 abbrev pub IsMissing : Ports → Token → Type 0
@@ -23,37 +24,37 @@ HaveCome held ts = (w i p v : ℕ) → IsSent ts w i p v → (u : ℕ) × (held 
 abbrev pub IsKnown : List Kept → Key → Type 0
 IsKnown kept k = is_some (entry_of kept k.wave k.instr) ≡ true
 
--- if it isn't one of memory, the result tokens of these operands have come to their tables
-abbrev pub ResultsCame : Image → Ports → List ℕ → Key → Type 0
-ResultsCame image all operands k = is_memory image k.instr ≡ false →
-    HaveCome all (sends image k.wave k.instr operands (result_of image k.instr operands))
+-- if it isn't one of memory, the result tokens of these operands have come to their tables or are on the way
+abbrev pub ResultsReach : Image → Ports → List Token → List ℕ → Key → Type 0
+ResultsReach image all way operands k = is_memory image k.instr ≡ false →
+    AllReach all way (sends image k.wave k.instr operands (result_of image k.instr operands))
 
--- the one that a table lists at this place has told so
-abbrev pub ResultsCameAt : Image → Ports → ℕ → TableContent → Type 0
-ResultsCameAt image all place c = (d : Key) → ResultsCame image all
+-- so those of the one that a table lists at this place
+abbrev pub ResultsReachAt : Image → Ports → List Token → ℕ → TableContent → Type 0
+ResultsReachAt image all way place c = (d : Key) → ResultsReach image all way
     (operands_in image (held c) (slice_index_or c.fired place d).wave (slice_index_or c.fired place d).instr)
     (slice_index_or c.fired place d)
 
--- each that a table lists, from this place to before that one, has told so
-abbrev pub ToldIn : Image → Ports → ℕ → ℕ → TableContent → Type 0
-ToldIn image all from to c = (k : ℕ) (d : Key) → from ≤ k → k < to → k < length c.fired →
-    ResultsCame image all
+-- so those of each that a table lists, from this place to before that one
+abbrev pub ToldIn : Image → Ports → List Token → ℕ → ℕ → TableContent → Type 0
+ToldIn image all way from to c = (k : ℕ) (d : Key) → from ≤ k → k < to → k < length c.fired →
+    ResultsReach image all way
     (operands_in image (held c) (slice_index_or c.fired k d).wave (slice_index_or c.fired k d).instr)
     (slice_index_or c.fired k d)
 
--- each that a table lists before its place here has told so
-abbrev pub ToldUpTo : Image → Ports → List ℕ → List TableContent → Type 0
-ToldUpTo image all places cs = (k : ℕ) → k < length cs →
-    ToldIn image all 0 (slice_index_or places k 0) (content_at cs k)
+-- so those of each that a table lists before its place here
+abbrev pub ToldUpTo : Image → Ports → List Token → List ℕ → List TableContent → Type 0
+ToldUpTo image all way places cs = (k : ℕ) → k < length cs →
+    ToldIn image all way 0 (slice_index_or places k 0) (content_at cs k)
 
 -- these places are past all that the tables list
 abbrev pub AllPast : List ℕ → List TableContent → Type 0
 AllPast places cs = (k : ℕ) → k < length cs → length (content_at cs k).fired ≤ slice_index_or places k 0
 
--- if it is issued, its result tokens have come to their tables
-abbrev pub HasAnswered : Image → Ports → Kept → Type 0
-HasAnswered image held k = (a : ℕ) → k.answer ≡ Some a →
-    HaveCome held (sends image k.wave k.instr (operands_of (ports image k.instr) k.first k.second) a)
+-- if it is issued, its result tokens have come to their tables or are on the way
+abbrev pub AnswersReach : Image → Ports → List Token → Kept → Type 0
+AnswersReach image held way k = (a : ℕ) → k.answer ≡ Some a →
+    AllReach held way (sends image k.wave k.instr (operands_of (ports image k.instr) k.first k.second) a)
 
 -- these requests are kept of all memory instances that have fired
 abbrev pub AllKnown : Image → Part → List Kept → Type 0

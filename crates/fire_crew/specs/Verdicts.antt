@@ -1,9 +1,9 @@
 -- What a crew finds after a phase.
-use Rattle.std.specs.Prelude.{ℕ, ◌≡◌, ◌<◌, ◌≤◌, suc, List, Option}
+use Rattle.std.specs.Prelude.{ℕ, ◌≡◌, ◌<◌, ◌≤◌, suc, true, List, Option, None}
 use Rattle.ws_words.specs.Outside.{World}
 use Rattle.ws_isa.specs.Image.{Image, Token}
 use Rattle.ws_isa.specs.Walk.{Ports}
-use Rattle.df_core.specs.Core.{Key}
+use Rattle.df_core.specs.Core.{Key, has}
 use Rattle.df_core.specs.Shown.{Tables as Part}
 use Rattle.df_core.specs.Began.{Began}
 use Rattle.store_buf.specs.Contents.{Content}
@@ -18,6 +18,10 @@ use Rattle.fire_crew.specs.declared.judge.Verdict.TheVariants.{Go, Ends}
 -- in so many phases each but the last has brought a token that was held nowhere
 abbrev pub MovedOn : Ports → Ports → ℕ → Type 0
 MovedOn old new phases = (count : ℕ) × (phases ≤ suc count) × Came old new count
+
+-- a token has come that was held nowhere
+abbrev pub BroughtOne : Ports → Ports → Type 0
+BroughtOne old new = (w : ℕ) × (i : ℕ) × (p : ℕ) × (old w i p ≡ None) × (has (new w i p) ≡ true)
 
 -- so a run has ended with so many firings left
 abbrev pub EndingSo : Image → World → List (Option Began) → List Key → ℕ → Content → Ending → Type 0

@@ -1,6 +1,6 @@
 //! The run of a crew.
 
-ghost use Rattle.std.specs.Prelude.{◌≡◌, ◌+◌, ◌*◌, ◌≤◌, ◌-◌, ℕ, [], IfOk, length};
+ghost use Rattle.std.specs.Prelude.{◌≡◌, ◌+◌, ◌*◌, ◌<◌, ◌≤◌, ◌-◌, ◌^◌, ℕ, [], IfOk, cond, length};
 ghost use Rattle.ws_isa.specs.Walk.{CostAtMost};
 ghost use Rattle.port_set.specs.Slots.{AllOpen, contents};
 ghost use Rattle.store_buf.specs.Outdoors.{AllBegan};
@@ -15,9 +15,10 @@ ghost use Rattle.fire_crew.specs.Verdicts.{EndingSo, MovedOn};
 use crate::Gate;
 use crate::ends::few_tokens;
 use crate::finish::{CrewEnd, crew_end};
-use crate::judge::{Ending, Verdict, find_course};
+use crate::judge::{Ending, find_owed};
+use crate::share::Shared;
 use crate::shares::fitting;
-use crate::solo::run_solo;
+use crate::solo::{go_alone, run_solo};
 use df_core::{Code, Job, TokenList};
 use match_table::{Tables, fired};
 use port_set::{Port, Slots};
@@ -26,6 +27,12 @@ use std::sync::Wait;
 use std::thread::Threads;
 use store_buf::{Buffer, RunFinish};
 use ws_words::{NoMemory, Words};
+
+// How many tokens one worker brings alone behind the first phase.
+const STRETCH: u64 = 4096;
+
+// How many times as many behind each that follows, so that what is looked at after phases stays little.
+const LONGER: u64 = 64;
 
 /// Who runs an image: from 1 to 8 workers, and the gate that each asks before it brings a token. They go on
 /// until so many instances have fired.
@@ -73,7 +80,7 @@ impl<'a, G: Gate, R: Threads + Wait + Sync> Crew<'a, G, R> {
         ended
     }
 
-    // Runs phase after phase.
+    // Runs phase after phase, and a stretch of one worker behind each.
     fn run_phases<J: Job + Send + Sync, P: Port + Send>(
         &self,
         code: &Code<'_, J>,
@@ -89,35 +96,55 @@ impl<'a, G: Gate, R: Threads + Wait + Sync> Crew<'a, G, R> {
         ensures grow { AllGrow (all_contents tables) (all_contents result.tables) }
         ensures moved { MovedOn (part_of tables).held (part_of result.tables).held result.phases }
     {
-        let mut tables = tables;
         let mut buffer = buffer;
-        let mut tokens = TokenList::empty(self.alloc);
-        for phases in 0..u64::MAX {
-            let left = self.budget - fired(&tables);
-            match find_course(self.alloc, code, &tables, &mut buffer, tokens, left) {
-                Verdict::Ends(ending) => {
-                    return CrewLeft {
-                        tables,
-                        buffer,
-                        ending,
-                        phases,
-                    };
-                }
-                Verdict::Go { token, tokens: all } => {
-                    let after = self.turn(code, tables, buffer, &token, all);
-                    tables = after.tables;
-                    buffer = after.buffer;
-                    tokens = after.let_go;
-                    if after.starved {
-                        return CrewLeft {
-                            tables,
-                            buffer,
-                            ending: Ending::Starved,
-                            phases: phases + 1,
-                        };
-                    }
-                }
+        let mut phases = 0;
+        let mut most = STRETCH;
+        let tokens = match find_owed(self.alloc, code, &tables, &mut buffer) {
+            Ok(owed) => owed,
+            Err(ending) => {
+                return CrewLeft {
+                    tables,
+                    buffer,
+                    ending,
+                    phases,
+                };
             }
+        };
+        let mut tables = tables;
+        let mut tokens = tokens;
+        for round in 0..u64::MAX {
+            let Shared { left, is_phase } = self.share(code, tables, buffer, tokens);
+            phases = counted(phases, is_phase);
+            if let Some(ending) = left.ending {
+                return CrewLeft {
+                    tables: left.tables,
+                    buffer: left.buffer,
+                    ending,
+                    phases,
+                };
+            }
+            let left = go_alone(
+                self.alloc,
+                code,
+                left.tables,
+                left.buffer,
+                left.tokens,
+                self.budget,
+                most,
+                self.gate,
+            );
+            if let Some(ending) = left.ending {
+                return CrewLeft {
+                    tables: left.tables,
+                    buffer: left.buffer,
+                    ending,
+                    phases,
+                };
+            }
+            tables = left.tables;
+            buffer = left.buffer;
+            tokens = left.tokens;
+            most = most.saturating_mul(LONGER);
         }
 
         // So many tokens take more memory than there is.
@@ -125,7 +152,7 @@ impl<'a, G: Gate, R: Threads + Wait + Sync> Crew<'a, G, R> {
             tables,
             buffer,
             ending: Ending::Starved,
-            phases: u64::MAX,
+            phases,
         }
     }
 
@@ -192,6 +219,14 @@ impl<'a, G: Gate, R: Threads + Wait + Sync> Crew<'a, G, R> {
         }
         self.run_on(code, tables, buffer)
     }
+}
+
+// How many phases there have been, with one more or none.
+fn counted(phases: u64, is_phase: bool) -> u64
+    requires { phases + 1 < 2 ^ 64 }
+    ensures { result ≡ cond is_phase (phases + 1) phases }
+{
+    if is_phase { phases + 1 } else { phases }
 }
 
 /// For want of memory nothing was run.

@@ -1,12 +1,10 @@
 //! What a worker has in hand.
 
 use crate::pouring::pour_sent;
-use crate::waiting::Waiting;
 use df_core::{Job, Sent, Token, TokenList};
 use match_table::Results;
 use ready_pool::Seat;
 use std::alloc::Global;
-use std::sync::Wait;
 use store_buf::BufferAnswers;
 
 /// How a token is an item of seats, which may have other items too.
@@ -38,13 +36,11 @@ impl<X: Drop> Wrap<X, X> for Bare {
 pub const STREAK: u32 = 64;
 
 /// What a worker has in hand of a job: the results of its last firing, of which at most one token is left
-/// between two turns; the buffer's answers, while they are put by; and what waits in hand where the worker is
-/// alone.
+/// between two turns; and the buffer's answers, while they are put by.
 #[derive(Drop)]
 pub struct InHand<'i, J: Job> {
     pub results: Results<'i, J>,
     pub answers: BufferAnswers<J>,
-    waiting: Waiting<J>,
     streak: u32,
 }
 
@@ -54,20 +50,8 @@ impl<'i, J: Job> InHand<'i, J> {
         InHand {
             results: Results::none(),
             answers: BufferAnswers::none(alloc),
-            waiting: Waiting::none(alloc),
             streak: 0,
         }
-    }
-
-    /// Whether the worker keeps its tokens in hand.
-    pub fn is_alone(&self) -> bool {
-        self.waiting.is_alone()
-    }
-
-    /// From now on nobody else takes from the worker's seat: it takes into its hand what lies there, and
-    /// keeps its tokens in hand.
-    pub fn stay_alone<R: Wait>(&mut self, rt: &R, seat: &mut Seat<Token<J>>) {
-        self.waiting.stay_alone(rt, seat);
     }
 
     /// A token in hand, if there is one.
@@ -80,26 +64,9 @@ impl<'i, J: Job> InHand<'i, J> {
             }
             None => {
                 self.streak = 0;
-                self.waiting.next()
+                None
             }
         }
-    }
-
-    /// A token that waits in hand, if there is one.
-    #[inline(always)]
-    pub fn waiting(&mut self) -> Option<Token<J>> {
-        self.waiting.next()
-    }
-
-    /// Puts a token by. One that the seat refuses is let go.
-    #[inline(always)]
-    pub fn put<L: Wrap<Token<J>, T>, T: Drop>(
-        &mut self,
-        seat: &mut Seat<T>,
-        let_go: &mut TokenList<J>,
-        token: Token<J>,
-    ) {
-        self.waiting.put::<L, T>(seat, let_go, token);
     }
 
     /// Puts all results by. Those that the seat refuses are let go.
@@ -109,7 +76,7 @@ impl<'i, J: Job> InHand<'i, J> {
         seat: &mut Seat<T>,
         let_go: &mut TokenList<J>,
     ) {
-        put_sent::<L, J, T>(&mut self.waiting, seat, let_go, &mut self.results.sent, 0);
+        put_sent::<L, J, T>(seat, let_go, &mut self.results.sent, 0);
     }
 
     // How many results of a firing the worker may go on with.
@@ -126,13 +93,7 @@ impl<'i, J: Job> InHand<'i, J> {
         let_go: &mut TokenList<J>,
     ) {
         let kept = self.kept();
-        put_sent::<L, J, T>(
-            &mut self.waiting,
-            seat,
-            let_go,
-            &mut self.results.sent,
-            kept,
-        );
+        put_sent::<L, J, T>(seat, let_go, &mut self.results.sent, kept);
     }
 
     /// Puts the buffer's answers by. Those that its seat refuses are let go.
@@ -142,21 +103,19 @@ impl<'i, J: Job> InHand<'i, J> {
         let_go: &mut TokenList<J>,
     ) {
         while let Some(token) = self.answers.pop() {
-            self.waiting.put::<L, T>(seat, let_go, token);
+            put::<L, J, T>(seat, let_go, token);
         }
     }
 
     /// Puts all that is in hand behind other tokens, as far as there is memory.
     pub fn pour(self, to: &mut TokenList<J>) {
         pour_sent(self.results.sent, to);
-        self.waiting.pour(to);
     }
 }
 
 // Puts by what a firing sent, until so many tokens are left. Those that the seat refuses are let go.
 #[inline(always)]
 fn put_sent<L: Wrap<Token<J>, T>, J: Job, T: Drop>(
-    waiting: &mut Waiting<J>,
     seat: &mut Seat<T>,
     let_go: &mut TokenList<J>,
     sent: &mut Sent<'_, J>,
@@ -166,6 +125,20 @@ fn put_sent<L: Wrap<Token<J>, T>, J: Job, T: Drop>(
         let Some(token) = sent.next() else {
             break;
         };
-        waiting.put::<L, T>(seat, let_go, token);
+        put::<L, J, T>(seat, let_go, token);
+    }
+}
+
+// Puts a token into a seat. One that it refuses is let go.
+#[inline(always)]
+pub(crate) fn put<L: Wrap<Token<J>, T>, J: Job, T: Drop>(
+    seat: &mut Seat<T>,
+    let_go: &mut TokenList<J>,
+    token: Token<J>,
+) {
+    if let Err(item) = seat.put(L::wrap(token)) {
+        if let Some(back) = L::unwrap(item) {
+            let _ = let_go.push(back);
+        }
     }
 }

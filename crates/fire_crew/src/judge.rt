@@ -1,16 +1,15 @@
 //! What a crew does after a phase.
 
-ghost use Rattle.std.specs.Prelude.{◌≡◌, ℕ, [], All, IfErr, IfSome, OnOk};
-ghost use Rattle.ws_words.specs.Outside.{Outside};
-ghost use Rattle.df_core.specs.Shown.{owed as owed_in};
-ghost use Rattle.store_buf.specs.Contents.{buffer_in};
+ghost use Rattle.std.specs.Prelude.{◌≡◌, ℕ, [], All, IfErr, IfOk, IfSome, OnOk};
 ghost use Rattle.match_table.specs.Together.{AllServe, part_of};
-ghost use Rattle.fire_crew.specs.Owing.{AllKnown, HaveCome, IsMissing};
+ghost use Rattle.fire_crew.specs.Owing.{AllKnown, IsMissing};
 ghost use Rattle.fire_crew.specs.Ends.{IsGoing};
+ghost use Rattle.fire_crew.specs.Solo.{Paid};
 ghost use Rattle.fire_crew.specs.Verdicts.{CourseSo, EndingSo, GoesWith};
 
-use crate::ends::{all_run, some_run};
+use crate::ends::some_run;
 use crate::missing::missing;
+use crate::solo::see_whole;
 use crate::unknown::unknown;
 use df_core::{Code, Job, Request, Token, TokenList};
 use match_table::{Tables, is_there};
@@ -66,6 +65,29 @@ pub fn find_course<J: Job, P: Port>(
     match missing(alloc, code, tables, buffer, most) {
         Ok(owed) => settle(code, tables, buffer, owed, left),
         Err(_) => Verdict::Ends(Ending::Starved),
+    }
+}
+
+/// The tokens that are owed where a phase has ended, or why the run has.
+pub fn find_owed<J: Job, P: Port>(
+    alloc: Global,
+    code: &Code<'_, J>,
+    tables: &Tables<J>,
+    buffer: &mut Buffer<J, P>,
+) -> Result<TokenList<J>, Ending>
+    requires serve { AllServe tables.now }
+    ensures going { OnOk result (IsGoing buffer.new) }
+    ensures paid { IfOk result (λ owed. Paid J.image (part_of tables.now) buffer.new owed) }
+    ensures ends { IfErr result (λ ending. (left : ℕ) → EndingSo J.image J.world J.began
+        (part_of tables.now).fired left buffer.new ending) }
+{
+    if let Some(_) = buffer.stop() {
+        return Err(Ending::Stopped);
+    }
+    submit_unknown(alloc, code, tables, buffer)?;
+    match missing(alloc, code, tables, buffer, usize::MAX) {
+        Ok(owed) if owed.len() < usize::MAX => Ok(owed),
+        _ => Err(Ending::Starved),
     }
 }
 
@@ -132,14 +154,13 @@ fn settle<J: Job, P: Port>(
     requires going { IsGoing buffer.now }
     requires known { AllKnown J.image (part_of tables.now) buffer.now.kept }
     requires missing { All (IsMissing (part_of tables.now).held) owed }
-    requires none { owed ≡ [] → (m : Outside) → HaveCome (part_of tables.now).held
-        (owed_in J.image (part_of tables.now) (buffer_in J.image buffer.now m)) }
+    requires paid { owed ≡ [] → Paid J.image (part_of tables.now) buffer.now owed }
     ensures { CourseSo J.image J.world J.began (part_of tables.now) left buffer.now result }
 {
     let mut owed = owed;
     match owed.pop() {
         None => {
-            all_run(code, tables, buffer);
+            see_whole(code, tables, buffer);
             Verdict::Ends(Ending::Whole)
         }
         Some(token) => {

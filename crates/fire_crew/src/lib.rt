@@ -6,8 +6,8 @@
 //! of their types. No clause says that any token was brought, or that the gate was called: tests show it.
 //!
 //! `unknown` gives requests of the job; where it gives none, the buffer knows those of all memory instances
-//! that have fired. `missing` gives tokens of the job that no table has had; where one or more are wanted and
-//! it gives none, each token that tables and buffer owe has come. `all_run`: where both give none and nothing
+//! that have fired. `missing` gives tokens of the job that no table has had; where it gives fewer than are
+//! wanted, each token that tables and buffer owe has come or is among them (`Paid`). `all_run`: where both give none and nothing
 //! stops the buffer, the walk has no index fault, each of its instances has fired and as many as it costs,
 //! and what is outside is what the walk leaves. `some_run`: where a token is missing and each request is
 //! known, the walk has more instances than have fired, and what is outside is what the walk leaves with its
@@ -32,14 +32,14 @@
 //! its own instances, and together they list each fired instance once, at `Done` all of the walk, at
 //! `Budget` as many as the budget, and never more; the operations of which is told then are at least as
 //! many as are listed without a gap (`EndsSo`). An end that is so is told in the words of the walk alone
-//! (`ends_are_told`). **Every phase moves on**: `find_course` goes on only where some may fire and with a
+//! (`ends_are_told`). **Every phase moves on**: it begins only where some may fire and with a
 //! token that no table has had, after `turn` a table has had it or no more may fire, and `run_on` counts
 //! its phases: each but the last has brought a token that no table had before, no two to one port, and the
-//! tables hold all of them in the end (`MovedOn`). So a run that returns has had at most 3 n + 1 phases
+//! tables hold all of them in the end (`MovedOn`). So does `find_course`, by which `multi_wave` goes on. So a run that returns has had at most 3 n + 1 phases
 //! where the walk has at most n instances. That it returns is no clause, since its workers may wait. **A
 //! crew of one** (`run_solo`) starts no phase and waits for nothing, so it returns: it owns tables and
 //! buffer, each token that they owe has come or is on the way (`Paid`), and where none is on the way the
-//! whole walk has been run.
+//! whole walk has been run. So does one worker between two phases (`go_alone`), from what `missing` gave.
 #![tactic(auto)]
 
 mod crew;
@@ -56,12 +56,12 @@ mod own;
 mod phase;
 mod pouring;
 mod run;
+mod share;
 mod shares;
 mod solo;
 mod told;
 mod turn;
 mod unknown;
-mod waiting;
 mod work;
 
 pub use crew::{Crew, no_tables};

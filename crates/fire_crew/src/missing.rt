@@ -1,12 +1,12 @@
 //! Tokens that are owed.
 
-ghost use Rattle.std.specs.Prelude.{◌≡◌, ◌<◌, ◌≤◌, [], All, OnOk, IfOk, length, false};
-ghost use Rattle.ws_words.specs.Outside.{Outside};
-ghost use Rattle.df_core.specs.Shown.{owed};
+ghost use Rattle.std.specs.Prelude.{◌≡◌, ◌<◌, ◌≤◌, All, IfOk, List, OnOk, length, false};
+ghost use Rattle.ws_isa.specs.Image.{Token as Plain};
 ghost use Rattle.match_table.specs.Growth.{content_at};
 ghost use Rattle.match_table.specs.Rows.{contents};
-ghost use Rattle.store_buf.specs.Contents.{buffer_in};
-ghost use Rattle.fire_crew.specs.Owing.{HasAnswered, HaveCome, IsMissing, AllPast, ToldIn, ToldUpTo};
+ghost use Rattle.store_buf.specs.Runs.{Covers};
+ghost use Rattle.fire_crew.specs.Owing.{AllKnown, AllPast, AnswersReach, IsMissing, ToldIn, ToldUpTo};
+ghost use Rattle.fire_crew.specs.Solo.{Paid};
 ghost use Rattle.match_table.specs.Together.{AllServe, part_of};
 
 use crate::owed::{keep, look_up, see_at};
@@ -28,11 +28,11 @@ pub fn missing<J: Job, P: Port>(
     buffer: &Buffer<J, P>,
     most: usize,
 ) -> Result<TokenList<J>, NoMemory>
-    requires { AllServe tables.now }
+    requires serve { AllServe tables.now }
+    requires known { AllKnown J.image (part_of tables.now) buffer.now.kept }
     ensures missing { IfOk result (All (IsMissing (part_of tables.now).held)) }
-    ensures none { IfOk result (λ tokens. 0 < most → tokens ≡ [] → (m : Outside)
-        → HaveCome (part_of tables.now).held
-        (owed J.image (part_of tables.now) (buffer_in J.image buffer.now m))) }
+    ensures paid { IfOk result (λ tokens. length tokens < most
+        → Paid J.image (part_of tables.now) buffer.now tokens) }
 {
     facts(tables);
     buffer.facts();
@@ -71,13 +71,14 @@ fn look_last<J: Job>(
 ) -> Result<(), NoMemory>
     requires { All (IsMissing (part_of tables.now).held) found.old }
     ensures missing { OnOk result (All (IsMissing (part_of tables.now).held) found.new) }
-    ensures none { OnOk result (found.new ≡ [] → found.old ≡ []) }
+    ensures more { OnOk result (Covers found.old found.new) }
 {
     if most == usize::MAX {
         return Ok(());
     }
     let mut places = last_places(tables);
-    look_across(code, tables, courses, &mut places, ALL, found)
+    look_across(code, tables, courses, &mut places, ALL, found)?;
+    Ok(())
 }
 
 // The places of the last that tables list.
@@ -92,7 +93,8 @@ fn last_places<J: Job>(tables: &Tables<J>) -> [usize; 16] {
 
 // The first place of each table.
 fn begin<J: Job>(tables: &Tables<J>) -> [usize; 16]
-    ensures { ToldUpTo J.image (part_of tables.now).held result (contents tables.now) }
+    ensures { (way : List Plain)
+        → ToldUpTo J.image (part_of tables.now).held way result (contents tables.now) }
 {
     let _ = tables;
     [0; 16]
@@ -139,9 +141,9 @@ fn look_across<J: Job>(
 ) -> Result<(), NoMemory>
     requires { All (IsMissing (part_of tables.now).held) found.old }
     ensures missing { OnOk result (All (IsMissing (part_of tables.now).held) found.new) }
-    ensures none { OnOk result (found.new ≡ [] → (found.old ≡ [])
-        × (ToldUpTo J.image (part_of tables.now).held places.old (contents tables.now)
-        → ToldUpTo J.image (part_of tables.now).held places.new (contents tables.now))) }
+    ensures reach { OnOk result ((way : List Plain) → Covers found.new way → Covers found.old way
+        × (ToldUpTo J.image (part_of tables.now).held way places.old (contents tables.now)
+        → ToldUpTo J.image (part_of tables.now).held way places.new (contents tables.now))) }
     ensures all { OnOk result (wave ≡ 0 → AllPast places.new (contents tables.now)) }
 {
     for number in 0..count_of(tables) {
@@ -166,8 +168,8 @@ fn look_through<J: Job>(
 ) -> Result<usize, NoMemory>
     requires { All (IsMissing (part_of tables.now).held) found.old }
     ensures missing { OnOk result (All (IsMissing (part_of tables.now).held) found.new) }
-    ensures none { IfOk result (λ to. found.new ≡ [] → (found.old ≡ [])
-        × ToldIn J.image (part_of tables.now).held from to table.now) }
+    ensures reach { IfOk result (λ to. (way : List Plain) → Covers found.new way → Covers found.old way
+        × ToldIn J.image (part_of tables.now).held way from to table.now) }
     ensures all { IfOk result (λ to. wave ≡ 0 → length table.now.fired ≤ to) }
 {
     let end = table.fired_count();
@@ -199,8 +201,8 @@ fn look_back<J: Job, P: Port>(
 ) -> Result<(), NoMemory>
     requires { All (IsMissing (part_of tables.now).held) found.old }
     ensures missing { OnOk result (All (IsMissing (part_of tables.now).held) found.new) }
-    ensures none { OnOk result (found.new ≡ [] → (found.old ≡ [])
-        × All (HasAnswered J.image (part_of tables.now).held) buffer.now.kept) }
+    ensures reach { OnOk result ((way : List Plain) → Covers found.new way → Covers found.old way
+        × All (AnswersReach J.image (part_of tables.now).held way) buffer.now.kept) }
 {
     buffer.facts();
     code.facts();

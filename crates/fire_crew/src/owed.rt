@@ -1,14 +1,15 @@
 //! The tokens that an instance or an operation owes.
 
-ghost use Rattle.std.specs.Prelude.{◌≡◌, ◌<◌, ℕ, [], All, OnOk, length, true, false};
-ghost use Rattle.ws_isa.specs.Image.{is_memory, sends, result_of, tokens_to, ports};
+ghost use Rattle.std.specs.Prelude.{◌≡◌, ◌<◌, ℕ, All, List, OnOk, length, true, false};
+ghost use Rattle.ws_isa.specs.Image.{Token as Plain, is_memory, sends, result_of, tokens_to, ports};
 ghost use Rattle.df_core.specs.Core.{IsSent};
 ghost use Rattle.df_core.specs.Fit.{RightToken};
 ghost use Rattle.df_core.specs.Rights.{operands_of};
 ghost use Rattle.match_table.specs.Ports.{listed};
 ghost use Rattle.match_table.specs.Tables.{key_of};
 ghost use Rattle.match_table.specs.Together.{part_of};
-ghost use Rattle.fire_crew.specs.Owing.{HasAnswered, ResultsCame, ResultsCameAt, HaveCome, IsMissing};
+ghost use Rattle.store_buf.specs.Runs.{AllReach, Covers};
+ghost use Rattle.fire_crew.specs.Owing.{AnswersReach, IsMissing, ResultsReach, ResultsReachAt};
 
 use crate::told::has_told;
 use df_core::{Code, Job, Token, TokenList};
@@ -30,15 +31,16 @@ pub(crate) fn see_at<J: Job>(
     requires missing { All (IsMissing (part_of tables.now).held) found.old }
     requires place { place < length table.now.fired }
     ensures missing { OnOk result (All (IsMissing (part_of tables.now).held) found.new) }
-    ensures none { OnOk result (found.new ≡ [] → (found.old ≡ [])
-        × ResultsCameAt J.image (part_of tables.now).held place table.now) }
+    ensures reach { OnOk result ((way : List Plain) → Covers found.new way
+        → Covers found.old way × ResultsReachAt J.image (part_of tables.now).held way place table.now) }
 {
     if has_told(code, tables, courses, table, place) {
         return Ok(());
     }
     table.facts();
     code.facts();
-    look_at(code, tables, courses, table.fired_at(code, place), found)
+    look_at(code, tables, courses, table.fired_at(code, place), found)?;
+    Ok(())
 }
 
 // Those of an instance that has fired; it owes none where it is one of memory.
@@ -56,8 +58,8 @@ fn look_at<J: Job>(
         (result_of J.image fired.instr (listed fired.operands))) w i p v
         → RightToken J.image J.world w i p v }
     ensures missing { OnOk result (All (IsMissing (part_of tables.now).held) found.new) }
-    ensures none { OnOk result (found.new ≡ [] → (found.old ≡ [])
-        × ResultsCame J.image (part_of tables.now).held (listed fired.operands) (key_of fired)) }
+    ensures reach { OnOk result ((way : List Plain) → Covers found.new way
+        → Covers found.old way × ResultsReach J.image (part_of tables.now).held way (listed fired.operands) (key_of fired)) }
 {
     let op = code.program().op(fired.instr);
     if op.is_memory() {
@@ -88,8 +90,8 @@ pub(crate) fn look_up<J: Job>(
         (operands_of (ports J.image kept.instr) kept.first kept.second) a) w i p v
         → RightToken J.image J.world w i p v }
     ensures missing { OnOk result (All (IsMissing (part_of tables.now).held) found.new) }
-    ensures none { OnOk result (found.new ≡ [] → (found.old ≡ [])
-        × HasAnswered J.image (part_of tables.now).held kept) }
+    ensures reach { OnOk result ((way : List Plain) → Covers found.new way
+        → Covers found.old way × AnswersReach J.image (part_of tables.now).held way kept) }
 {
     let Some(word) = kept.answer else {
         return Ok(());
@@ -122,8 +124,8 @@ fn keep_sent<J: Job>(
     requires right { (w i p v : ℕ) → IsSent (tokens_to wave word dests.now) w i p v
         → RightToken J.image J.world w i p v }
     ensures missing { OnOk result (All (IsMissing (part_of tables.now).held) found.new) }
-    ensures none { OnOk result (found.new ≡ [] → (found.old ≡ [])
-        × HaveCome (part_of tables.now).held (tokens_to wave word dests.now)) }
+    ensures reach { OnOk result ((way : List Plain) → Covers found.new way
+        → Covers found.old way × AllReach (part_of tables.now).held way (tokens_to wave word dests.now)) }
 {
     for dest in dests {
         if !holds(tables, courses, wave, dest.instr, dest.port) {
@@ -142,8 +144,8 @@ pub(crate) fn keep<J: Job>(
 ) -> Result<(), NoMemory>
     requires { All (IsMissing (part_of tables.now).held) found.old }
     ensures missing { OnOk result (All (IsMissing (part_of tables.now).held) found.new) }
-    ensures none { OnOk result (found.new ≡ [] → (found.old ≡ [])
-        × HaveCome (part_of tables.now).held tokens) }
+    ensures reach { OnOk result ((way : List Plain) → Covers found.new way
+        → Covers found.old way × AllReach (part_of tables.now).held way tokens) }
 {
     let mut tokens = tokens;
     while let Some(token) = tokens.pop() {

@@ -6,25 +6,22 @@ ghost use Rattle.match_table.specs.Rows.{Fits, contents};
 
 use crate::crew::Crew;
 use crate::gate::Gate;
-use crate::pouring::pour;
-use crate::work::{Worked, work};
-use df_core::{Code, Job, Token, TokenList};
+use crate::work::work;
+use df_core::{Code, Job, Token};
 use match_table::{Quotas, Row, Tables};
 use port_set::Port;
 use ready_pool::{Seat, SeatList};
-use std::alloc::Global;
 use std::sync::atomic::AtomicU64;
 use std::sync::{Mutex, Wait};
 use std::thread;
 use std::thread::Threads;
 use store_buf::Buffer;
 
-/// What a phase leaves: tables, the buffer, the tokens that were let go, and whether memory ran out.
+/// What a phase leaves: tables, the buffer, and whether memory ran out.
 #[derive(Drop)]
 pub struct PhaseEnd<J: Job, P: Port> {
     pub tables: Tables<J>,
     pub buffer: Buffer<J, P>,
-    pub let_go: TokenList<J>,
     pub starved: bool,
 }
 
@@ -50,7 +47,7 @@ impl<'a, G: Gate, R: Threads + Wait + Sync> Crew<'a, G, R> {
         let gate = self.gate;
         let row: Row<J, Q> = match Row::new(alloc, tables, limits) {
             Ok(row) => row,
-            Err(tables) => return starved_phase(tables, buffer, TokenList::empty(alloc)),
+            Err(tables) => return starved_phase(tables, buffer),
         };
         let lock = Mutex::new(buffer);
         let shared = &row;
@@ -60,18 +57,17 @@ impl<'a, G: Gate, R: Threads + Wait + Sync> Crew<'a, G, R> {
         let back = thread::map_vec(
             rt,
             deal,
-            &|seat: Seat<Token<J>>| -> Worked<J> {
+            &|seat: Seat<Token<J>>| -> bool {
                 work(rt, alloc, seat, counted, shared, behind, code, gate)
             },
         );
-        let (let_go, starved) = match back {
-            Ok(all) => gather(alloc, all),
-            Err(_) => (TokenList::empty(alloc), true),
+        let starved = match back {
+            Ok(all) => all.contains(&true),
+            Err(_) => true,
         };
         PhaseEnd {
             tables: row.gather(rt),
             buffer: lock.into_inner(),
-            let_go,
             starved,
         }
     }
@@ -81,25 +77,12 @@ impl<'a, G: Gate, R: Threads + Wait + Sync> Crew<'a, G, R> {
 pub(crate) fn starved_phase<J: Job, P: Port>(
     tables: Tables<J>,
     buffer: Buffer<J, P>,
-    tokens: TokenList<J>,
 ) -> PhaseEnd<J, P>
     ensures { result.tables ≡ tables }
 {
     PhaseEnd {
         tables,
         buffer,
-        let_go: tokens,
         starved: true,
     }
-}
-
-// What all workers let go, and whether memory ran out for one of them.
-fn gather<J: Job>(alloc: Global, all: Vec<Worked<J>>) -> (TokenList<J>, bool) {
-    let mut let_go = TokenList::empty(alloc);
-    let mut starved = false;
-    for worked in all {
-        starved = starved || worked.starved;
-        pour(worked.let_go, &mut let_go);
-    }
-    (let_go, starved)
 }

@@ -4,6 +4,7 @@ ghost use Rattle.std.specs.Prelude.{◌≡◌, ◌+◌, ◌-◌, ◌<◌, ◌≤
 ghost use Rattle.ws_isa.specs.Walk.{start_tokens};
 ghost use Rattle.df_core.specs.Core.{has};
 ghost use Rattle.store_buf.specs.Runs.{Covers};
+ghost use Rattle.match_table.specs.Growth.{AllGrow};
 ghost use Rattle.match_table.specs.Rows.{contents};
 ghost use Rattle.match_table.specs.Together.{AllServe, part_of};
 ghost use Rattle.fire_crew.specs.Ends.{AllRun, IsGoing, SomeRun};
@@ -15,8 +16,8 @@ use crate::Gate;
 use crate::crew::CrewLeft;
 use crate::ends::{all_run, some_run};
 use crate::judge::Ending;
-use df_core::{Code, Job, Request, Token, start};
-use match_table::{Results, Tables, Took, bring, facts, is_there};
+use df_core::{Code, Job, Request, Token, TokenList, start};
+use match_table::{Results, Tables, Took, bring, facts, fired, is_there};
 use port_set::Port;
 use std::alloc::Global;
 use store_buf::{BufFault, Buffer, BufferAnswers, MemoryOrder, Rounds};
@@ -34,9 +35,17 @@ struct Solo<'i, J: Job, P: Port> {
     left: u64,
 }
 
+/// Where one worker has come: what it has, the tokens on the way, and how the run has ended, if it has.
+#[derive(Drop)]
+pub struct SoloLeft<J: Job, P: Port> {
+    pub tables: Tables<J>,
+    pub buffer: Buffer<J, P>,
+    pub tokens: TokenList<J>,
+    pub ending: Option<Ending>,
+}
+
 /// Brings tokens to tables, from the start pulse on, until none is on the way, so many instances have fired,
-/// or the buffer takes no more requests. Tokens go in rounds by wave, and the first result of a firing is
-/// brought at once if it is of the round.
+/// or the buffer takes no more requests.
 pub fn run_solo<J: Job, P: Port, G: Gate>(
     alloc: Global,
     code: &Code<'_, J>,
@@ -50,82 +59,152 @@ pub fn run_solo<J: Job, P: Port, G: Gate>(
     requires going { IsGoing buffer }
     requires none { buffer.kept ≡ [] }
     ensures serve { AllServe result.tables }
-    ensures as_many { length (contents result.tables) ≡ length (contents tables) }
+    ensures grow { AllGrow (contents tables) (contents result.tables) }
     ensures within { length (part_of result.tables).fired ≤ budget }
     ensures ended { EndingSo J.image J.world J.began (part_of result.tables).fired
         (budget - length (part_of result.tables).fired) result.buffer result.ending }
 {
+    let Ok(tokens) = start(alloc, code) else {
+        return CrewLeft {
+            tables,
+            buffer,
+            ending: Ending::Starved,
+            phases: 0,
+        };
+    };
+    let left = go_alone(alloc, code, tables, buffer, tokens, budget, u64::MAX, gate);
+    match left.ending {
+        Some(ending) => CrewLeft {
+            tables: left.tables,
+            buffer: left.buffer,
+            ending,
+            phases: 0,
+        },
+        None => CrewLeft {
+            tables: left.tables,
+            buffer: left.buffer,
+            ending: Ending::Starved,
+            phases: 0,
+        },
+    }
+}
+
+/// Brings these tokens, which are on the way, and what comes of them, so many at most, until none is on the
+/// way, so many instances have fired, or the buffer takes no more requests. Tokens go in rounds by wave, and
+/// the first result of a firing is brought at once if it is of the round.
+pub fn go_alone<J: Job, P: Port, G: Gate>(
+    alloc: Global,
+    code: &Code<'_, J>,
+    tables: Tables<J>,
+    buffer: Buffer<J, P>,
+    tokens: TokenList<J>,
+    budget: u64,
+    most: u64,
+    gate: &G,
+) -> SoloLeft<J, P>
+    requires serve { AllServe tables }
+    requires within { length (part_of tables).fired ≤ budget }
+    requires going { IsGoing buffer }
+    requires paid { Paid J.image (part_of tables) buffer tokens }
+    ensures serve { AllServe result.tables }
+    ensures grow { AllGrow (contents tables) (contents result.tables) }
+    ensures within { length (part_of result.tables).fired ≤ budget }
+    ensures goes { GoesOn J.image J.world J.began (part_of result.tables)
+        (budget - length (part_of result.tables).fired) result.buffer result.tokens result.ending }
+{
+    let left = budget - fired(&tables);
     let mut run = Solo {
         tables,
         buffer,
         way: Rounds::none(alloc),
         results: Results::none(),
         answers: BufferAnswers::none(alloc),
-        left: budget,
+        left,
     };
-    let ending = run_through(alloc, code, &mut run, gate);
-    CrewLeft {
-        tables: run.tables,
-        buffer: run.buffer,
-        ending,
-        phases: 0,
+    let Ok(()) = run.way.pour(tokens) else {
+        return SoloLeft {
+            tables: run.tables,
+            buffer: run.buffer,
+            tokens: TokenList::empty(alloc),
+            ending: Some(Ending::Starved),
+        };
+    };
+    let ending = go_on(code, &mut run, most, gate);
+    leave(alloc, run, ending)
+}
+
+// What is left where one worker stops.
+fn leave<J: Job, P: Port>(
+    alloc: Global,
+    run: Solo<'_, J, P>,
+    ending: Option<Ending>,
+) -> SoloLeft<J, P>
+    requires { GoesOn J.image J.world J.began (part_of run.tables) run.left run.buffer
+        (run.results.sent ++ run.way) ending }
+    ensures tables { result.tables ≡ run.entry.tables }
+    ensures goes { GoesOn J.image J.world J.began (part_of result.tables) run.entry.left result.buffer
+        result.tokens result.ending }
+{
+    let mut tokens = run.results.sent.listed(alloc);
+    if let Some(ending) = ending {
+        return SoloLeft {
+            tables: run.tables,
+            buffer: run.buffer,
+            tokens,
+            ending: Some(ending),
+        };
+    }
+    match pour_way(run.way, &mut tokens) {
+        Ok(()) => SoloLeft {
+            tables: run.tables,
+            buffer: run.buffer,
+            tokens,
+            ending: None,
+        },
+        Err(_) => SoloLeft {
+            tables: run.tables,
+            buffer: run.buffer,
+            tokens,
+            ending: Some(Ending::Starved),
+        },
     }
 }
 
-// Brings tokens, from the start pulse on, until the run has ended.
-fn run_through<'i, J: Job, P: Port, G: Gate>(
-    alloc: Global,
-    code: &Code<'i, J>,
-    run: &mut Solo<'i, J, P>,
-    gate: &G,
-) -> Ending
-    requires serve { AllServe run.old.tables }
-    requires fresh { length (part_of run.old.tables).fired ≡ 0 }
-    requires going { IsGoing run.old.buffer }
-    requires none { run.old.buffer.kept ≡ [] }
-    requires sent { run.old.results.sent ≡ [] }
-    ensures serve { AllServe run.new.tables }
-    ensures as_many { length (contents run.new.tables) ≡ length (contents run.old.tables) }
-    ensures count { length (part_of run.new.tables).fired + run.new.left ≡ run.old.left }
-    ensures ended { EndingSo J.image J.world J.began (part_of run.new.tables).fired run.new.left
-        run.new.buffer result }
+// Puts what is on the way behind other tokens.
+fn pour_way<J: Job>(way: Rounds<J>, tokens: &mut TokenList<J>) -> Result<(), NoMemory>
+    ensures { OnOk result (Covers (tokens.old ++ way) tokens.new) }
 {
-    let Ok(()) = begin(alloc, code, &mut run.way) else {
-        return Ending::Starved;
-    };
-    go_on(code, run, gate)
+    let mut way = way;
+    while let Some(token) = way.take() {
+        tokens.push(token)?;
+    }
+    Ok(())
 }
 
-// Puts the start pulse on the way.
-fn begin<J: Job>(alloc: Global, code: &Code<'_, J>, way: &mut Rounds<J>) -> Result<(), NoMemory>
-    ensures { OnOk result (Covers (start_tokens J.image) way.new) }
-{
-    way.pour(start(alloc, code)?)
-}
-
-// Brings tokens until the run has ended.
+// Brings so many tokens, or until the run has ended.
 fn go_on<'i, J: Job, P: Port, G: Gate>(
     code: &Code<'i, J>,
     run: &mut Solo<'i, J, P>,
+    most: u64,
     gate: &G,
-) -> Ending
+) -> Option<Ending>
     requires serve { AllServe run.old.tables }
     requires going { IsGoing run.old.buffer }
     requires paid { Paid J.image (part_of run.old.tables) run.old.buffer
         (run.old.results.sent ++ run.old.way) }
     ensures serve { AllServe run.new.tables }
-    ensures as_many { length (contents run.new.tables) ≡ length (contents run.old.tables) }
+    ensures grow { AllGrow (contents run.old.tables) (contents run.new.tables) }
     ensures count { length (part_of run.new.tables).fired + run.new.left
         ≡ length (part_of run.old.tables).fired + run.old.left }
-    ensures ended { EndingSo J.image J.world J.began (part_of run.new.tables).fired run.new.left
-        run.new.buffer result }
+    ensures goes { GoesOn J.image J.world J.began (part_of run.new.tables) run.new.left run.new.buffer
+        (run.new.results.sent ++ run.new.way) result }
 {
-    for _ in 0..u64::MAX {
+    for _ in 0..most {
         if let Some(ending) = step(code, run, gate) {
-            return ending;
+            return Some(ending);
         }
     }
-    Ending::Starved
+    None
 }
 
 // Brings the next token, if there is one and more may fire.
@@ -139,7 +218,7 @@ fn step<'i, J: Job, P: Port, G: Gate>(
     requires paid { Paid J.image (part_of run.old.tables) run.old.buffer
         (run.old.results.sent ++ run.old.way) }
     ensures serve { AllServe run.new.tables }
-    ensures as_many { length (contents run.new.tables) ≡ length (contents run.old.tables) }
+    ensures grow { AllGrow (contents run.old.tables) (contents run.new.tables) }
     ensures count { length (part_of run.new.tables).fired + run.new.left
         ≡ length (part_of run.old.tables).fired + run.old.left }
     ensures goes { GoesOn J.image J.world J.began (part_of run.new.tables) run.new.left run.new.buffer
@@ -162,8 +241,12 @@ fn step<'i, J: Job, P: Port, G: Gate>(
     bring_on(code, run, token)
 }
 
-// Nothing is on the way: the whole walk has been run.
-fn see_whole<J: Job, P: Port>(code: &Code<'_, J>, tables: &Tables<J>, buffer: &Buffer<J, P>)
+/// Nothing is on the way: the whole walk has been run.
+pub(crate) fn see_whole<J: Job, P: Port>(
+    code: &Code<'_, J>,
+    tables: &Tables<J>,
+    buffer: &Buffer<J, P>,
+)
     requires serve { AllServe tables.now }
     requires going { IsGoing buffer.now }
     requires paid { Paid J.image (part_of tables.now) buffer.now [] }
@@ -207,7 +290,7 @@ fn bring_on<'i, J: Job, P: Port>(
     requires some { 0 < run.old.left }
     requires paid { Paid J.image (part_of run.old.tables) run.old.buffer (token ∷ run.old.way) }
     ensures serve { AllServe run.new.tables }
-    ensures as_many { length (contents run.new.tables) ≡ length (contents run.old.tables) }
+    ensures grow { AllGrow (contents run.old.tables) (contents run.new.tables) }
     ensures count { length (part_of run.new.tables).fired + run.new.left
         ≡ length (part_of run.old.tables).fired + run.old.left }
     ensures goes { GoesOn J.image J.world J.began (part_of run.new.tables) run.new.left run.new.buffer

@@ -1,11 +1,12 @@
 //! Whether an instance has told.
 
-ghost use Rattle.std.specs.Prelude.{◌≡◌, ◌<◌, ℕ, length, slice_index_or, true};
-ghost use Rattle.ws_isa.specs.Image.{selector_of, tokens_to};
+ghost use Rattle.std.specs.Prelude.{◌≡◌, ◌<◌, ℕ, List, length, slice_index_or, true};
+ghost use Rattle.ws_isa.specs.Image.{Token as Plain, selector_of, tokens_to};
 ghost use Rattle.df_core.specs.Core.{Key, operands_in};
 ghost use Rattle.match_table.specs.Tables.{held};
 ghost use Rattle.match_table.specs.Together.{part_of};
-ghost use Rattle.fire_crew.specs.Owing.{ResultsCameAt, HaveCome};
+ghost use Rattle.store_buf.specs.Runs.{AllReach};
+ghost use Rattle.fire_crew.specs.Owing.{ResultsReachAt};
 
 use df_core::{Code, Job};
 use match_table::{Course, Table, Tables, holds, number_of, selector, table_of};
@@ -22,7 +23,8 @@ pub(crate) fn has_told<J: Job>(
     place: usize,
 ) -> bool
     requires { place < length table.now.fired }
-    ensures { result ≡ true → ResultsCameAt J.image (part_of tables.now).held place table.now }
+    ensures { result ≡ true → (way : List Plain)
+        → ResultsReachAt J.image (part_of tables.now).held way place table.now }
 {
     let (wave, instr) = table.key_at(place);
     let op = code.program().op(instr);
@@ -65,8 +67,8 @@ fn have_come<J: Job>(
     wave: u64,
     dests: &[Dest],
 ) -> bool
-    ensures { result ≡ true → (word : ℕ)
-        → HaveCome (part_of tables.now).held (tokens_to wave word dests.now) }
+    ensures { result ≡ true → (way : List Plain) → (word : ℕ)
+        → AllReach (part_of tables.now).held way (tokens_to wave word dests.now) }
 {
     for dest in dests {
         if !holds(tables, courses, wave, dest.instr, dest.port) {

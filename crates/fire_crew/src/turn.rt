@@ -44,13 +44,14 @@ impl<'a, G: Gate, R: Threads + Wait + Sync> Crew<'a, G, R> {
     {
         let first = table_of(token.wave(), token.instr());
         let mut after = self.run_phase(code, tables, buffer, tokens, first);
+        let mut results = TokenList::empty(self.alloc);
         let brought = see_brought(
             self.alloc,
             code,
             &mut after.tables,
             &mut after.buffer,
             token,
-            &mut after.let_go,
+            &mut results,
             self.budget,
         );
         after.starved = after.starved || brought.is_err();
@@ -74,10 +75,10 @@ impl<'a, G: Gate, R: Threads + Wait + Sync> Crew<'a, G, R> {
     {
         let left = self.budget - fired(&tables);
         let Ok(limits) = limits(self.alloc, &tables, left, first) else {
-            return starved_phase(tables, buffer, tokens);
+            return starved_phase(tables, buffer);
         };
         let Ok(deal) = dealt(self.alloc, tokens, self.workers) else {
-            return starved_phase(tables, buffer, TokenList::empty(self.alloc));
+            return starved_phase(tables, buffer);
         };
         let after = self.phase::<J, Brand, P>(code, tables, buffer, &limits, deal);
         fitting(&after.tables, &limits);

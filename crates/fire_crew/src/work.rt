@@ -2,7 +2,7 @@
 
 use crate::follow::{Next, carry_on};
 use crate::gate::Gate;
-use crate::hand::{Bare, InHand, STREAK};
+use crate::hand::{Bare, InHand, STREAK, put};
 use df_core::{Code, Job, Token, TokenList};
 use match_table::{Quotas, Row};
 use port_set::Port;
@@ -12,17 +12,13 @@ use std::sync::atomic::{AtomicU64, Ordering};
 use std::sync::{Mutex, Wait};
 use store_buf::Buffer;
 
-/// What a worker brings back at the end of a phase: tokens that it let go, which their tables still
-/// want, and whether memory ran out.
-#[derive(Drop)]
-pub struct Worked<J: Job> {
-    pub let_go: TokenList<J>,
-    pub starved: bool,
-}
+// How often a worker takes a token from a seat in one phase, at most.
+const TAKES: u32 = 256;
 
-/// Brings tokens to their tables until none is found, the buffer takes no more requests, or memory
-/// runs out. A worker goes on with one result token of a firing, and the others go into its seat. Once it is
-/// the last of those at work, whom all workers count together, it keeps them in hand.
+/// Brings tokens to their tables until none is found, it is the last at work, it has had its turn, the buffer
+/// takes no more requests, or memory runs out. A worker goes on with one result token of a firing, and the
+/// others go into its seat. All workers count together who is at work. What it lets go or leaves in its seat is
+/// found among what is owed. Answers whether memory ran out.
 pub fn work<J: Job, Q: Quotas, P: Port, G: Gate, R: Wait>(
     rt: &R,
     alloc: Global,
@@ -32,18 +28,14 @@ pub fn work<J: Job, Q: Quotas, P: Port, G: Gate, R: Wait>(
     buffer: &Mutex<Buffer<J, P>>,
     code: &Code<'_, J>,
     gate: &G,
-) -> Worked<J> {
+) -> bool {
     let mut seat = seat;
     let mut let_go = TokenList::empty(alloc);
     let mut hand = InHand::empty(alloc);
     let mut starved = false;
-    for _ in rt.forever() {
-        let token = match hand.waiting() {
-            Some(token) => token,
-            None => match find(rt, &mut hand, &mut seat, at_work) {
-                Some(token) => token,
-                None => break,
-            },
+    for _ in 0..TAKES {
+        let Some(token) = seat.find(rt) else {
+            break;
         };
         match run_along(
             rt,
@@ -63,10 +55,12 @@ pub fn work<J: Job, Q: Quotas, P: Port, G: Gate, R: Wait>(
                 break;
             }
         }
+        if at_work.load(Ordering::SeqCst) == 1 {
+            break;
+        }
     }
     let _ = at_work.fetch_sub(1, Ordering::SeqCst);
-    hand.pour(&mut let_go);
-    Worked { let_go, starved }
+    starved
 }
 
 // Brings a token to its table, then one result of its instance, and so on. After a streak the next is put by,
@@ -98,23 +92,6 @@ fn run_along<'i, J: Job, Q: Quotas, P: Port, G: Gate, R: Wait>(
             }
         }
     }
-    hand.put::<Bare, Token<J>>(seat, let_go, token);
+    put::<Bare, J, Token<J>>(seat, let_go, token);
     Next::More
-}
-
-// A token of a seat. The last worker takes up all that lies in its own, and then finds what others have left
-// in theirs.
-fn find<J: Job, R: Wait>(
-    rt: &R,
-    hand: &mut InHand<'_, J>,
-    seat: &mut Seat<Token<J>>,
-    at_work: &AtomicU64,
-) -> Option<Token<J>> {
-    if !hand.is_alone() && at_work.load(Ordering::SeqCst) == 1 {
-        hand.stay_alone(rt, seat);
-        if let Some(token) = hand.waiting() {
-            return Some(token);
-        }
-    }
-    seat.find(rt)
 }

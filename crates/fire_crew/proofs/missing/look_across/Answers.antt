@@ -1,4 +1,4 @@
-use Rattle.std.proofs.Common.{◌≡◌, ◌+◌, ◌<◌, ◌≤◌, ◌∙◌, inl, inr, ℕ, length, slice_index_or, subst, arith}
+use Rattle.std.proofs.Common.{◌+◌, ◌<◌, ◌≤◌, ◌∙◌, inl, inr, ℕ, length, slice_index_or, subst, arith}
 use Rattle.std.proofs.lemmas.Bool.{cases_lt}
 use Rattle.std.proofs.lemmas.List.{length-set}
 use Rattle.match_table.specs.Growth.{content_at}
@@ -26,11 +26,11 @@ loop-number-preserved g c =
     let here : n < length cs = omega (arith, count, test) in (
       length-set places n to ∙ long,
       c.in_ok-to.ensures.missing,
-      (λ e. (let a = c.in_ok-to.ensures.none e in let b = old.2 a.0 in (
+      (λ way e. (let a = c.in_ok-to.ensures.reach way e in let b = old.2 way a.0 in (
         b.0,
-        λ told k lt. set_each (λ (j x : ℕ). ToldIn image held 0 x (content_at cs j)) places n to within
-            (told_join image held 0 (slice_index_or places n 0) to (content_at cs n) (b.1 told n here)
-            (subst (λ (t : TableContent). ToldIn image held (slice_index_or places n 0) to t)
+        λ told k lt. set_each (λ (j x : ℕ). ToldIn image held way 0 x (content_at cs j)) places n to within
+            (told_join image held way 0 (slice_index_or places n 0) to (content_at cs n) (b.1 told n here)
+            (subst (λ (t : TableContent). ToldIn image held way (slice_index_or places n 0) to t)
             c.table_at-table.ensures a.1)) k (λ apart. b.1 told k lt),
       ))),
       (λ all k lt. set_each (λ (j x : ℕ). j < n + 1 → length (content_at cs j).fired ≤ x) places n to within

@@ -1,8 +1,14 @@
-use Rattle.std.proofs.Common.{◌≡◌, ℕ, [], ◌∷◌, ◌++◌, true, false, ap, sym, ◌∙◌}
+use Rattle.std.proofs.Common.{◌≡◌, ℕ, [], ◌∷◌, ◌++◌, List, true, false, ap, sym, ◌∙◌}
+use Rattle.std.proofs.lemmas.List.{append_assoc}
+use Rattle.ws_isa.specs.Image.{Token}
 use Rattle.df_core.specs.Core.{has}
 use Rattle.match_table.specs.Together.{part_of}
-use Rattle.fire_crew.proofs.Paid.{found_missing, keep_come, keep_found}
+use Rattle.fire_crew.proofs.Paid.{found_missing, is_come, is_found, reach_more}
 use Rattle.fire_crew.proofs.owed.keep.Goals as goal
+
+split_on : (all front rest mid : List Token) (t : Token) → all ≡ front ++ rest → front ≡ mid ++ t ∷ []
+    → all ≡ mid ++ t ∷ rest
+split_on all front rest mid t is e = is ∙ ap (λ (l : List Token). l ++ rest) e ∙ append_assoc mid (t ∷ []) rest
 
 pub loop-token-preserved : goal.loop-token-preserved
 loop-token-preserved g c =
@@ -11,11 +17,15 @@ loop-token-preserved g c =
     let h : has (held t.wave t.instr t.port) ≡ true =
     sym (ap (λ (k : ℕ × ℕ × ℕ). has (held k.0 k.1 k.2))
     (λ j. (c.wave.ensures.wave j, c.instr.ensures j, c.port.ensures j))) ∙ sym c.holds.ensures
-    ∙ c.if-not-holds.false in (
-      c.loop-token.invariant.0,
-      keep_come held c.args.tokens c.loop-token.tokens c.loop-token.invariant.1.0 t
-          c.loop-token.found c.args.found.now c.loop-token.invariant.1.1 c.pop.new.self c.in-Some.ensures h
-          c.loop-token.invariant.1.2,
+    ∙ c.if-not-holds.false in
+    let i = c.loop-token.invariant in (
+      i.0,
+      (
+        t ∷ i.1.0,
+        split_on c.args.tokens c.loop-token.tokens i.1.0 c.pop.new.self t i.1.1 c.in-Some.ensures,
+        λ way k. (let r = i.1.2 way k in
+            (r.0, reach_more held way t i.1.0 (is_come held way t.wave t.instr t.port h) r.1)),
+      ),
     )
 
 pub loop-token-preserved-in-Continue-1 : goal.loop-token-preserved-in-Continue-1
@@ -26,8 +36,13 @@ loop-token-preserved-in-Continue-1 g c =
     sym (ap (λ (k : ℕ × ℕ × ℕ). has (held k.0 k.1 k.2))
     (λ j. (c.wave.ensures.wave j, c.instr.ensures j, c.port.ensures j))) ∙ sym c.holds.ensures
     ∙ c.if-not-holds.true in
-    let n : c.push.new.self ≡ c.loop-token.found ++ t ∷ [] = c.in_ok-push.ensures.ok in (
-      found_missing held c.loop-token.found c.push.new.self t n h c.loop-token.invariant.0,
-      keep_found held c.args.tokens c.loop-token.tokens c.loop-token.invariant.1.0 t c.loop-token.found
-          c.push.new.self c.args.found.now c.loop-token.invariant.1.1 c.pop.new.self c.in-Some.ensures n,
+    let n : c.push.new.self ≡ c.loop-token.found ++ t ∷ [] = c.in_ok-push.ensures.ok in
+    let i = c.loop-token.invariant in (
+      found_missing held c.loop-token.found c.push.new.self t n h i.0,
+      (
+        t ∷ i.1.0,
+        split_on c.args.tokens c.loop-token.tokens i.1.0 c.pop.new.self t i.1.1 c.in-Some.ensures,
+        λ way k. (let f = is_found held way c.loop-token.found c.push.new.self t n k in
+            let r = i.1.2 way f.0 in (r.0, reach_more held way t i.1.0 f.1 r.1)),
+      ),
     )

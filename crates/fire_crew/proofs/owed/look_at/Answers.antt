@@ -4,14 +4,14 @@ use Rattle.df_core.specs.Core.{IsSent}
 use Rattle.df_core.specs.Places.{image_of}
 use Rattle.match_table.specs.Ports.{listed}
 use Rattle.match_table.specs.Together.{part_of}
-use Rattle.fire_crew.specs.Owing.{HaveCome}
+use Rattle.store_buf.specs.Runs.{AllReach}
 use Rattle.fire_crew.proofs.Rights.{code_memory, code_op, code_sent, sent_is}
 use Rattle.fire_crew.proofs.owed.look_at.Goals as goal
 
-pub returns-then-is_memory-clause-none : goal.returns-then-is_memory-clause-none
-returns-then-is_memory-clause-none g c =
-    λ e. (
-      e,
+pub returns-then-is_memory-clause-reach : goal.returns-then-is_memory-clause-reach
+returns-then-is_memory-clause-reach g c =
+    λ way k. (
+      k,
       λ m.
           absurd (true≢false
           (sym (code_memory g.J.Job.image (image_of c.program.result.now) c.args.fired.instr c.op-op.result
@@ -37,12 +37,12 @@ keep_sent-requires-clause-right g c =
     (listed c.args.fired.operands) c.selector-choice.result c.result_of-word.result op
     c.selector-choice.ensures c.result_of-word.ensures) s)
 
-pub returns-clause-none : goal.returns-clause-none
-returns-clause-none g c = λ e. (let r = c.in_ok-keep_sent.ensures.none e in
+pub returns-clause-reach : goal.returns-clause-reach
+returns-clause-reach g c = λ way k. (let r = c.in_ok-keep_sent.ensures.reach way k in
     let op = code_op g.J.Job.image (image_of c.program.result.now) c.args.fired.instr c.op-op.result
     c.op-op.ensures c.program.ensures.image in (
       r.0,
-      λ m. subst (λ (ts : List Token). HaveCome (part_of c.args.tables.now).held ts)
+      λ m. subst (λ (ts : List Token). AllReach (part_of c.args.tables.now).held way ts)
           (code_sent g.J.Job.image (image_of c.program-2.result.now) c.args.fired.wave c.args.fired.instr
           c.op-op.result c.in-Some.number c.result_of-word.result c.selector-choice.result
           c.destinations-dests.result.now op c.in-Some.ensures.number c.destinations-dests.ensures

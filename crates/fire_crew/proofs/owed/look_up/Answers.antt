@@ -4,7 +4,7 @@ use Rattle.df_core.specs.Core.{IsSent}
 use Rattle.df_core.specs.Places.{image_of}
 use Rattle.df_core.specs.Rights.{operands_of}
 use Rattle.match_table.specs.Together.{part_of}
-use Rattle.fire_crew.specs.Owing.{HaveCome}
+use Rattle.store_buf.specs.Runs.{AllReach}
 use Rattle.fire_crew.proofs.Rights.{answer_is, code_op, code_sent}
 use Rattle.fire_crew.proofs.owed.look_up.Goals as goal
 
@@ -21,13 +21,13 @@ keep_sent-requires-clause-right g c =
     (operands_of (ports g.J.Job.image c.args.kept.instr) c.args.kept.first c.args.kept.second)
     c.in-Some.word c.requires.memory) s)
 
-pub returns-clause-none : goal.returns-clause-none
-returns-clause-none g c = λ e. (let r = c.in_ok-keep_sent.ensures.none e in (
+pub returns-clause-reach : goal.returns-clause-reach
+returns-clause-reach g c = λ way k. (let r = c.in_ok-keep_sent.ensures.reach way k in (
   r.0,
   λ a is. (let xs = operands_of (ports g.J.Job.image c.args.kept.instr) c.args.kept.first
       c.args.kept.second in
       let word : c.in-Some.word ≡ a = (let q : Some c.in-Some.word ≡ Some a = sym c.in-Some.is ∙ is in cc) in
-      subst (λ (ts : List Token). HaveCome (part_of c.args.tables.now).held ts)
+      subst (λ (ts : List Token). AllReach (part_of c.args.tables.now).held way ts)
       (code_sent g.J.Job.image (image_of c.program-program.result.now) c.args.kept.wave c.args.kept.instr
       c.op.result c.in-Some-number_of.number c.in-Some.word 0 c.destinations.result.now
       (code_op g.J.Job.image (image_of c.program-program.result.now) c.args.kept.instr c.op.result

@@ -1,13 +1,19 @@
-use Rattle.std.proofs.Common.{◌≡◌, ◌-◌, ℕ, length, subst, arith}
+use Rattle.std.proofs.Common.{[], List, refl, sym, subst}
+use Rattle.ws_isa.specs.Image.{Token}
+use Rattle.ws_isa.specs.Walk.{start_tokens}
+use Rattle.match_table.specs.Rows.{contents}
 use Rattle.match_table.specs.Together.{part_of}
-use Rattle.fire_crew.specs.Verdicts.{EndingSo}
+use Rattle.match_table.proofs.Growth.{all_grow_same}
+use Rattle.store_buf.specs.Runs.{Covers}
+use Rattle.store_buf.proofs.Reaching.{covers_self}
+use Rattle.fire_crew.proofs.Alone.{come_start}
 use Rattle.fire_crew.proofs.solo.run_solo.Goals as goal
 
-pub returns-clause-ended : goal.returns-clause-ended
-returns-clause-ended g c =
-    let run = c.run_through-ending.new.run in
-    let listed = (part_of run.tables).fired in
-    let count = c.run_through-ending.ensures.count in
-    let left : run.left ≡ c.args.budget - length listed = omega (arith, count) in
-    subst (λ (n : ℕ). EndingSo g.J.Job.image g.J.Job.world g.J.Job.began listed n run.buffer
-    c.run_through-ending.result) left c.run_through-ending.ensures.ended
+pub returns-in_default-clause-grow : goal.returns-in_default-clause-grow
+returns-in_default-clause-grow g c = all_grow_same (contents c.args.tables)
+
+pub go_alone-left-requires-clause-paid : goal.go_alone-left-requires-clause-paid
+go_alone-left-requires-clause-paid g c κs within = come_start g.J.Job.image (part_of c.args.tables) c.args.buffer []
+    c.in-Ok.tokens c.requires.fresh c.requires.none refl
+    (subst (λ (ts : List Token). Covers (start_tokens g.J.Job.image) ts) (sym c.in-Ok.ensures)
+    (covers_self (start_tokens g.J.Job.image)))

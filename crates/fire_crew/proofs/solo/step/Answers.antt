@@ -1,11 +1,25 @@
 use Rattle.std.proofs.Common.{◌∷◌, ◌++◌, List, sym, subst}
 use Rattle.ws_isa.specs.Image.{Token}
 use Rattle.df_core.proofs.Keeping.Ports.{has_some}
+use Rattle.match_table.specs.Rows.{contents}
 use Rattle.match_table.specs.Together.{part_of}
+use Rattle.match_table.proofs.Growth.{all_grow_same}
 use Rattle.store_buf.proofs.Paying.{pay_held, pay_more}
 use Rattle.fire_crew.specs.Solo.{Knows, Owes, Paid}
 use Rattle.fire_crew.proofs.Alone.{next_none, next_some}
 use Rattle.fire_crew.proofs.solo.step.Goals as goal
+
+pub returns-in_default-clause-grow : goal.returns-in_default-clause-grow
+returns-in_default-clause-grow g c = all_grow_same (contents c.args.run.now.tables)
+
+pub returns-in_default-next-clause-grow : goal.returns-in_default-next-clause-grow
+returns-in_default-next-clause-grow g c = all_grow_same (contents c.args.run.now.tables)
+
+pub returns-then-run-eq0-clause-grow : goal.returns-then-run-eq0-clause-grow
+returns-then-run-eq0-clause-grow g c = all_grow_same (contents c.args.run.now.tables)
+
+pub returns-then-see_come-clause-grow : goal.returns-then-see_come-clause-grow
+returns-then-see_come-clause-grow g c = all_grow_same (contents c.args.run.now.tables)
 
 pub see_whole-requires-clause-paid : goal.see_whole-requires-clause-paid
 see_whole-requires-clause-paid g c =

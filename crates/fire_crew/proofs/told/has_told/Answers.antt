@@ -4,7 +4,7 @@ use Rattle.df_core.specs.Core.{Key, operands_in}
 use Rattle.df_core.specs.Places.{image_of}
 use Rattle.match_table.specs.Tables.{held}
 use Rattle.match_table.specs.Together.{part_of}
-use Rattle.fire_crew.specs.Owing.{HaveCome}
+use Rattle.store_buf.specs.Runs.{AllReach}
 use Rattle.fire_crew.proofs.Paid.{told_key}
 use Rattle.fire_crew.proofs.Rights.{code_memory, code_op, code_sent, sent_is}
 use Rattle.fire_crew.proofs.told.has_told.Goals as goal
@@ -12,7 +12,7 @@ use Rattle.fire_crew.proofs.told.has_told.Goals as goal
 pub returns-then-is_memory : goal.returns-then-is_memory
 returns-then-is_memory g c =
     let key : Key = record { wave = c.key_at-wave.result.0; instr = c.key_at-wave.result.1 } in
-    λ _. told_key g.J.Job.image (part_of c.args.tables.now).held c.args.place c.args.table.now key
+    λ _ way. told_key g.J.Job.image (part_of c.args.tables.now).held way c.args.place c.args.table.now key
     c.key_at-wave.ensures
     (λ m. absurd
     (true≢false
@@ -29,12 +29,12 @@ returns g c =
     c.program.ensures.image in
     let chosen = c.choice_at-choice.ensures key ∙ ap (λ (k : Key). selector_of op (of k))
     (c.key_at-wave.ensures key) in
-    λ come. told_key g.J.Job.image (part_of c.args.tables.now).held c.args.place c.args.table.now key
+    λ come way. told_key g.J.Job.image (part_of c.args.tables.now).held way c.args.place c.args.table.now key
     c.key_at-wave.ensures
-    (λ m. subst (λ (ts : List Token). HaveCome (part_of c.args.tables.now).held ts)
+    (λ m. subst (λ (ts : List Token). AllReach (part_of c.args.tables.now).held way ts)
     (code_sent g.J.Job.image (image_of c.program-2.result.now) key.wave key.instr op c.in-Some.number
     (result_of_op op (of key)) c.choice_at-choice.result c.destinations-dests.result.now is
     c.in-Some.ensures.number c.destinations-dests.ensures c.program-2.ensures.image
     ∙ sent_is g.J.Job.image key.wave key.instr op (of key) c.choice_at-choice.result
     (result_of_op op (of key)) is chosen refl)
-    (c.have_come.ensures come (result_of_op op (of key))))
+    (c.have_come.ensures come way (result_of_op op (of key))))

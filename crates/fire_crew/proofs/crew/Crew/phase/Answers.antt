@@ -10,12 +10,12 @@ pub map_vec-back-requires-after_bounds : goal.map_vec-back-requires-after_bounds
 map_vec-back-requires-after_bounds g c κs within = λ i x lt at. search sendable depth 20
 
 pub returns-clause-fits : goal.returns-clause-fits
-returns-clause-fits g c = subst (λ (most : List ℕ). Fits c.gather-2.result most) (sym c.requires.limits.0)
-    c.gather-2.ensures.fits
+returns-clause-fits g c = subst (λ (most : List ℕ). Fits c.gather.result most) (sym c.requires.limits.0)
+    c.gather.ensures.fits
 
 pub returns-clause-grow : goal.returns-clause-grow
-returns-clause-grow g c = subst (λ (began : List TableContent). AllGrow began (contents c.gather-2.result))
-    (sym c.requires.began) c.gather-2.ensures.grow
+returns-clause-grow g c = subst (λ (began : List TableContent). AllGrow began (contents c.gather.result))
+    (sym c.requires.began) c.gather.ensures.grow
 
 pub returns-in-Err-clause-fits : goal.returns-in-Err-clause-fits
 returns-in-Err-clause-fits g c = subst (λ t. Fits t c.args.limits.now)

@@ -1,43 +1,83 @@
-use Rattle.std.proofs.Common.{◌-◌, ℕ, ap, subst, arith}
+use Rattle.std.proofs.Common.{◌-◌, ◌+◌, ◌≤◌, ℕ, Option, cond, length, subst, sym, arith}
 use Rattle.match_table.specs.Rows.{contents}
-use Rattle.match_table.proofs.Growth.{all_grow_on}
 use Rattle.match_table.specs.Together.{part_of}
-use Rattle.fire_crew.specs.Verdicts.{EndingSo}
-use Rattle.fire_crew.proofs.Phases.{steady_last, steady_more, steady_start}
+use Rattle.match_table.proofs.Growth.{all_grow_on, all_grow_same}
+use Rattle.fire_crew.specs.Ends.{IsGoing}
+use Rattle.fire_crew.specs.Solo.{GoesOn, Paid}
+use Rattle.fire_crew.specs.Verdicts.{MovedOn}
+use Rattle.fire_crew.specs.declared.judge.Ending.{Ending}
+use Rattle.fire_crew.proofs.Phases.{Steady, counted_most, steady_end, steady_left, steady_next, steady_on}
+use Rattle.fire_crew.proofs.Phases.{steady_start}
 use Rattle.fire_crew.proofs.crew.Crew.run_phases.Goals as goal
 
-pub loop-phases-init : goal.loop-phases-init
-loop-phases-init g c = steady_start (contents c.args.tables) c.args.self.now.budget c.requires.serve
-    c.requires.within
+pub returns-in-Err-clause-ended : goal.returns-in-Err-clause-ended
+returns-in-Err-clause-ended g c =
+    c.in-Err.ensures.ends (c.args.self.now.budget - length (part_of c.args.tables).fired)
 
-pub loop-phases-preserved : goal.loop-phases-preserved
-loop-phases-preserved g c = steady_more (contents c.args.tables) (contents c.loop-phases.tables)
-    (contents c.turn-after.result.tables) c.args.self.now.budget c.loop-phases.phases
-    (c.args.self.now.budget - c.fired.result) c.loop-phases.invariant c.turn-after.ensures.grow
-    (ap (λ (n : ℕ). c.args.self.now.budget - n) c.fired.ensures)
-    c.in-Go.ensures.0
-    c.turn-after.ensures.serve c.turn-after.ensures.within c.in-Go.token.wave c.in-Go.token.instr
-    c.in-Go.token.port c.in-Go.ensures.1 (c.turn-after.ensures.come c.if-after.false)
+pub returns-in-Err-clause-grow : goal.returns-in-Err-clause-grow
+returns-in-Err-clause-grow g c = all_grow_same (contents c.args.tables)
 
-pub returns-then-after-clause-grow : goal.returns-then-after-clause-grow
-returns-then-after-clause-grow g c = all_grow_on (contents c.args.tables) (contents c.loop-phases.tables)
-    (contents c.turn-after.result.tables) c.loop-phases.invariant.grow c.turn-after.ensures.grow
+pub loop-round-init : goal.loop-round-init
+loop-round-init g c = (
+  steady_start (contents c.args.tables) c.args.self.now.budget c.requires.serve c.requires.within,
+  omega arith,
+  c.in-Ok.ensures.going,
+  c.in-Ok.ensures.paid,
+)
 
-pub returns-then-after-clause-moved : goal.returns-then-after-clause-moved
-returns-then-after-clause-moved g c = steady_last (contents c.args.tables) (contents c.loop-phases.tables)
-    (contents c.turn-after.result.tables) c.args.self.now.budget c.loop-phases.phases
-    (c.args.self.now.budget - c.fired.result) c.loop-phases.invariant c.turn-after.ensures.grow
-    (ap (λ (n : ℕ). c.args.self.now.budget - n) c.fired.ensures)
-    c.in-Go.ensures.0
+pub returns-in-Some-clause-grow : goal.returns-in-Some-clause-grow
+returns-in-Some-clause-grow g c = all_grow_on (contents c.args.tables) (contents c.loop-round.tables)
+    (contents c.share-left.result.left.tables) c.loop-round.invariant.0.grow c.share-left.ensures.grow
 
-pub returns-clause-moved : goal.returns-clause-moved
-returns-clause-moved g c =
-    let s = c.loop-phases.invariant in
-    let few = s.few in
-    let end = c.loop-phases-test.false in
-    (s.count, omega (arith, few, end), s.came)
+pub returns-in-Some-clause-moved : goal.returns-in-Some-clause-moved
+returns-in-Some-clause-moved g c =
+    let shared = contents c.share-left.result.left.tables in
+    subst (λ (n : ℕ). MovedOn (part_of c.args.tables).held (part_of c.share-left.result.left.tables).held n)
+    (sym c.counted-phases.ensures)
+    (steady_end (contents c.args.tables) (contents c.loop-round.tables) shared c.args.self.now.budget
+    c.loop-round.phases c.share-left.result.is_phase c.loop-round.invariant.0 c.share-left.ensures.grow
+    c.share-left.ensures.some)
 
-pub returns-in-Ends-clause-ended : goal.returns-in-Ends-clause-ended
-returns-in-Ends-clause-ended g c = subst (λ (n : ℕ). EndingSo g.J.Job.image g.J.Job.world g.J.Job.began
-    (part_of c.loop-phases.tables).fired (c.args.self.now.budget - n) c.find_course.new.buffer
-    c.in-Ends.ending) c.fired.ensures c.in-Ends.ensures
+pub returns-in-Some-ending-clause-grow : goal.returns-in-Some-ending-clause-grow
+returns-in-Some-ending-clause-grow g c =
+    let shared = contents c.share-left.result.left.tables in
+    all_grow_on (contents c.args.tables) shared (contents c.go_alone-left.result.tables)
+    (all_grow_on (contents c.args.tables) (contents c.loop-round.tables) shared
+    c.loop-round.invariant.0.grow c.share-left.ensures.grow) c.go_alone-left.ensures.grow
+
+pub returns-in-Some-ending-clause-moved : goal.returns-in-Some-ending-clause-moved
+returns-in-Some-ending-clause-moved g c =
+    let shared = contents c.share-left.result.left.tables in
+    subst (λ (n : ℕ). MovedOn (part_of c.args.tables).held (part_of c.go_alone-left.result.tables).held n)
+    (sym c.counted-phases.ensures)
+    (steady_left (contents c.args.tables) shared (contents c.go_alone-left.result.tables)
+    c.args.self.now.budget (cond c.share-left.result.is_phase (c.loop-round.phases + 1) c.loop-round.phases)
+    (steady_next (contents c.args.tables) (contents c.loop-round.tables) shared c.args.self.now.budget
+    c.loop-round.phases c.share-left.result.is_phase c.loop-round.invariant.0 c.share-left.ensures.grow
+    c.share-left.ensures.serve c.share-left.ensures.within c.share-left.ensures.some
+    (λ p. c.share-left.ensures.moved p c.in_default.is)) c.go_alone-left.ensures.grow)
+
+pub loop-round-preserved : goal.loop-round-preserved
+loop-round-preserved g c =
+    let shared = contents c.share-left.result.left.tables in
+    let left = c.go_alone-left.result in
+    let phases = cond c.share-left.result.is_phase (c.loop-round.phases + 1) c.loop-round.phases in
+    let goes : IsGoing left.buffer × Paid g.J.Job.image (part_of left.tables) left.buffer left.tokens =
+    subst (λ (o : Option Ending). GoesOn g.J.Job.image g.J.Job.world g.J.Job.began (part_of left.tables)
+    (c.args.self.now.budget - length (part_of left.tables).fired) left.buffer left.tokens o)
+    c.in_default-ending.is c.go_alone-left.ensures.goes in (
+      subst (λ (n : ℕ). Steady (contents c.args.tables) (contents left.tables) c.args.self.now.budget n)
+          (sym c.counted-phases.ensures)
+          (steady_on (contents c.args.tables) shared (contents left.tables) c.args.self.now.budget phases
+          (steady_next (contents c.args.tables) (contents c.loop-round.tables) shared
+          c.args.self.now.budget c.loop-round.phases c.share-left.result.is_phase
+          c.loop-round.invariant.0 c.share-left.ensures.grow c.share-left.ensures.serve
+          c.share-left.ensures.within c.share-left.ensures.some
+          (λ p. c.share-left.ensures.moved p c.in_default.is)) c.go_alone-left.ensures.grow
+          c.go_alone-left.ensures.serve c.go_alone-left.ensures.within),
+      subst (λ (n : ℕ). n ≤ c.loop-round.round + 1) (sym c.counted-phases.ensures)
+          (counted_most c.share-left.result.is_phase c.loop-round.phases c.loop-round.round
+          c.loop-round.invariant.1),
+      goes.0,
+      goes.1,
+    )
