@@ -1,22 +1,19 @@
 -- Threads over a phase, and how many phases there have been.
 use Rattle.std.proofs.Common.{ℕ, ◌≡◌, ◌+◌, ◌-◌, ◌*◌, ◌<◌, ◌≤◌, ◌⊎◌, ◌∙◌, List, Option, Some, None}
-use Rattle.std.proofs.Common.{inl, inr, length, refl, sym, subst, arith}
+use Rattle.std.proofs.Common.{true, inl, inr, length, sym, subst, arith}
 use Rattle.ws_words.specs.Outside.{World}
 use Rattle.ws_isa.specs.Image.{Image, Token}
 use Rattle.match_table.specs.Growth.{AllGrow}
 use Rattle.match_table.specs.Tables.{TableContent}
 use Rattle.match_table.specs.Together.{AllServe, part_of, together}
 use Rattle.match_table.proofs.Growth.{all_grow_on}
-use Rattle.fire_crew.proofs.Phases.{Steady, steady_more, steady_start}
+use Rattle.fire_crew.proofs.Phases.{Steady, steady_next, steady_start}
 use Rattle.multi_wave.specs.Fours.{EachIs, EachTo, Fourfold}
 use Rattle.multi_wave.specs.Parts.{Alone, CostsAtMost, image_in, world_in}
 use Rattle.multi_wave.specs.Stands.{EndTold}
 use Rattle.multi_wave.specs.Stands.{ApartSo, CameHome, HasCome, Housed, IsApart, IsJoined}
 use Rattle.multi_wave.specs.Stands.{IsJudged, IsJudgedOf, IsOver, JoinedSo, MovesTo, On, Off, Stand, StaysAs}
 use Rattle.multi_wave.specs.Stands.{Taker}
-
-some_left : (old new fired : ℕ) → old ≡ new → fired < old → 0 < new - fired
-some_left old new fired e lt = omega (arith, e, lt)
 
 pub some_may_fire : (left fired budget : ℕ) → left ≡ fired → 0 < budget - left → fired < budget
 some_may_fire left fired budget e lt = omega (arith, e, lt)
@@ -63,11 +60,16 @@ in_step_more image world phases (On g) (On h) n m f = λ serve within.
     let room = n.room in
     let r = f n.serve (omega (arith, room)) in (
       r.0,
-      steady_more r.0 g.tables h.tables h.budget phases (h.budget - length (part_of g.tables).fired)
-          (subst (λ (x : ℕ). Steady r.0 g.tables x phases) m.budget_is r.1)
-          m.grow refl (some_left g.budget h.budget (length (part_of g.tables).fired) m.budget_is room)
-          serve within n.token.wave n.token.instr n.token.port n.missing
-          (λ lt. subst (λ (t : Option Token). HasCome t h.tables) n.named (m.come lt)),
+      steady_next r.0 g.tables h.tables h.budget phases true
+          (subst (λ (x : ℕ). Steady r.0 g.tables x phases) m.budget_is r.1) m.grow serve within
+          (λ _. (let e = m.budget_is in omega (arith, e, room)))
+          (λ _ lt. (
+            n.token.wave,
+            n.token.instr,
+            n.token.port,
+            n.missing,
+            subst (λ (t : Option Token). HasCome t h.tables) n.named (m.come lt),
+          )),
     )
 in_step_more image world phases (On g) (Off end) n m f = tt
 in_step_more image world phases (Off end) new n m f = subst (λ (x : Stand). InStep (phases + 1) x) m tt
