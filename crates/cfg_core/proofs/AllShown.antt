@@ -1,8 +1,8 @@
 -- Where no array is hidden, all acts on arrays that are there and all cells are shown as they are.
-use Rattle.std.proofs.Common.{ℕ, zero, suc, ◌-◌, ◌≡◌, ◌<◌, ◌≤◌, Bool, true, false, List, [], ◌∷◌, ◌++◌}
+use Rattle.std.proofs.Common.{ℕ, suc, ◌-◌, ◌≡◌, ◌<◌, ◌≤◌, Bool, true, false, List, [], ◌∷◌}
 use Rattle.std.proofs.Common.{length, if◌then◌else◌, refl, ap, ◌∙◌, arith}
 use Rattle.ws_words.specs.Operators.{flag}
-use Rattle.ws_words.specs.Outside.{Act, loads, stores, reads, prints, gives, takes, Outside, World}
+use Rattle.ws_words.specs.Outside.{Act, Outside, World}
 use Rattle.cfg_core.specs.Graph.{GraphArray, Graph}
 use Rattle.cfg_core.specs.Walk.{Ends, Goes}
 use Rattle.cfg_core.specs.Rules.{IsArray, IsGraph}
@@ -13,18 +13,16 @@ use Rattle.ws_words.specs.Items.{nth}
 
 named_at : (arrays : List GraphArray) → NoneHidden arrays → (k : ℕ) → k < length arrays
     → hidden (nth arrays k) ≡ false
-named_at [] h k lt = absurd (omega arith)
-named_at (a ∷ arrays) h zero lt = ap (λ (b : Bool). if b then false else true) h.0
 named_at (a ∷ arrays) h (suc k) lt = named_at arrays h.1 k (omega arith)
+named_at arrays h k lt = grind arith
 
 counted : (arrays : List GraphArray) → NoneHidden arrays → (n : ℕ) → n ≤ length arrays
     → shown_among n arrays ≡ n
-counted arrays h zero le = refl
-counted [] h (suc n) le = absurd (omega arith)
 counted (a ∷ arrays) h (suc n) le =
     let e : flag (has_name a) ≡ 1 = ap flag h.0 in
     let r : shown_among n arrays ≡ n = counted arrays h.1 n (omega arith) in
     omega (arith, e, r)
+counted arrays h n le = grind arith
 
 cells_shown : (arrays : List GraphArray) → NoneHidden arrays → (cells : List (List ℕ))
     → length cells ≡ length arrays → shown_cells arrays cells ≡ cells
@@ -40,44 +38,24 @@ module _ (g : Graph) (none : NoneHidden g.arrays) where
   not_hidden a h = named_at g.arrays none (a - 1) (omega arith)
 
   act_shown : (act : Act) → ActIn g act → shown_act g.arrays act ≡ act ∷ []
-  act_shown (loads a i) h =
-      ap (λ (b : Bool). if b then [] else loads (shown_among a g.arrays) i ∷ []) (not_hidden a h)
-      ∙ ap (λ n. loads n i ∷ []) (counted g.arrays none a h.1)
-  act_shown (stores a i w) h =
-      ap (λ (b : Bool). if b then [] else stores (shown_among a g.arrays) i w ∷ []) (not_hidden a h)
-      ∙ ap (λ n. stores n i w ∷ []) (counted g.arrays none a h.1)
-  act_shown reads h = refl
-  act_shown (prints w) h = refl
-  act_shown (gives p) h = refl
-  act_shown (takes p w) h = refl
+  act_shown act h = grind (arith, not_hidden, counted)
 
   acts_shown : (acts : List Act) → ActsIn g acts → shown_acts g.arrays acts ≡ acts
   acts_shown [] h = refl
-  acts_shown (act ∷ acts) h =
-      ap (λ (xs : List Act). xs ++ shown_acts g.arrays acts) (act_shown act h.0)
-      ∙ ap (λ (xs : List Act). act ∷ xs) (acts_shown acts h.1)
+  acts_shown (act ∷ acts) h = grind (arith, act_shown, acts_shown acts h.1)
 
   both_ways : (b : Bool) → b ≡ true → b ≡ false → ⊥
   both_ways b e d = absurd (cc)
 
   act_inside : (act : Act) → ActIn g act → IsInside g.arrays act
-  act_inside (loads a i) h = λ e. absurd (both_ways (is_hidden g.arrays a) e (not_hidden a h))
-  act_inside (stores a i w) h = λ e. absurd (both_ways (is_hidden g.arrays a) e (not_hidden a h))
-  act_inside reads h = tt
-  act_inside (prints w) h = tt
-  act_inside (gives p) h = tt
-  act_inside (takes p w) h = tt
+  act_inside act h = grind (arith, both_ways, not_hidden)
 
   acts_inside : (acts : List Act) → ActsIn g acts → AllInside g.arrays acts
   acts_inside [] h = tt
   acts_inside (act ∷ acts) h = (act_inside act h.0, acts_inside acts h.1)
 
   all_shown : (o : Outside) → OutIn g o → ShowsAll g o
-  all_shown o h = record {
-    acts = acts_shown o.acts h.acts;
-    cells = cells_shown g.arrays none o.cells
-        h.cells;
-  }
+  all_shown o h = grind (arith, acts_shown, o.acts, cells_shown, o.cells)
 
 -- where no array is hidden, all is shown at the end of a walk
 pub ended_shown : (g : Graph) → IsGraph g → NoneHidden g.arrays → (world : World) (turns : ℕ) (o : Outside)

@@ -1,10 +1,10 @@
 -- The acts of a walk name arrays that are there, and as many arrays are left as the graph has.
-use Rattle.std.proofs.Common.{ℕ, zero, suc, ◌-◌, ◌≡◌, ◌==◌, Bool, true, false, List, [], ◌∷◌, ◌++◌, length}
-use Rattle.std.proofs.Common.{if◌then◌else◌, refl, sym, ap, ◌∙◌, subst}
+use Rattle.std.proofs.Common.{arith, ℕ, zero, suc, ◌-◌, ◌≡◌, ◌==◌, Bool, List, [], ◌∷◌, ◌++◌, length}
+use Rattle.std.proofs.Common.{if◌then◌else◌, refl, ap}
 use Rattle.std.specs.List.{AllByRecursion}
 use Rattle.ws_words.specs.Outside.{Act, loads, stores, reads, prints, gives, takes, Outside, ProcState, World}
 use Rattle.ws_words.specs.Outside.{with_row}
-use Rattle.cfg_core.specs.Graph.{Term, Number, Var, Cell, Flip, Not, Neg, Binary, Op, Assign, Store, Print}
+use Rattle.cfg_core.specs.Graph.{Term, Cell, Flip, Not, Neg, Binary, Op, Assign, Store, Print}
 use Rattle.cfg_core.specs.Graph.{Read, Give, Take, Choose, Tick, TickBy, Exit, Goto, Branch, Call, Return}
 use Rattle.cfg_core.specs.Graph.{Send, Stop, GraphArray, Graph, no_spot, spots, spot_at, block_at}
 use Rattle.cfg_core.specs.Walk.{loads_of, all_loads, value_of, values_of, OpsOutcome, Done, Out, and_then}
@@ -42,9 +42,8 @@ ConfigIn g (Over o k) = OutIn g o
 ConfigIn g (Going o) = OutIn g o
 
 pub length_with_row : (rows : List (List ℕ)) (k : ℕ) (r : List ℕ) → length (with_row rows k r) ≡ length rows
-length_with_row [] k r = refl
-length_with_row (x ∷ rows) zero r = refl
 length_with_row (x ∷ rows) (suc k) r = ap suc (length_with_row rows k r)
+length_with_row rows k r = grind arith
 
 length_cells_of : (arrays : List GraphArray) → length (cells_of arrays) ≡ length arrays
 length_cells_of [] = refl
@@ -57,30 +56,23 @@ module _ (g : Graph) where
 
   loads_in : (n : ℕ) (t : Term) → TermIn (length g.arrays) n t → (vars : List ℕ) (cells : List (List ℕ))
       → ActsIn g (loads_of t vars cells)
-  loads_in n (Number m) h vars cells = tt
-  loads_in n (Var x) h vars cells = tt
-  loads_in n (Cell a t) h vars cells = both_in (loads_of t vars cells) _ (loads_in n t h.1 vars cells)
-      (h.0, tt)
+  loads_in n (Cell a t) h vars cells = grind (arith, both_in, loads_in n t h.1 vars cells)
   loads_in n (Flip t) h vars cells = loads_in n t h vars cells
   loads_in n (Not t) h vars cells = loads_in n t h vars cells
   loads_in n (Neg t) h vars cells = loads_in n t h vars cells
-  loads_in n (Binary op a b) h vars cells = both_in (loads_of a vars cells) (loads_of b vars cells)
-      (loads_in n a h.0 vars cells) (loads_in n b h.1 vars cells)
+  loads_in n (Binary op a b) h vars cells =
+      grind (arith, both_in, loads_in n a h.0 vars cells, loads_in n b h.1 vars cells)
+  loads_in n t h vars cells = grind arith
 
   all_loads_in : (n : ℕ) (ts : List Term) → AllByRecursion (TermIn (length g.arrays) n) ts
       → (vars : List ℕ) (cells : List (List ℕ)) → ActsIn g (all_loads ts vars cells)
   all_loads_in n [] h vars cells = tt
-  all_loads_in n (t ∷ ts) h vars cells = both_in (loads_of t vars cells) (all_loads ts vars cells)
-      (loads_in n t h.0 vars cells) (all_loads_in n ts h.1 vars cells)
+  all_loads_in n (t ∷ ts) h vars cells = grind (arith, both_in, loads_in, all_loads_in n ts h.1 vars cells)
 
   -- more acts
   more_in : (o p : Outside) (acts : List Act) → p.acts ≡ o.acts ++ acts → length p.cells ≡ length o.cells
       → ActsIn g acts → OutIn g o → OutIn g p
-  more_in o p acts e c h i =
-      record {
-        acts = subst (λ (xs : List Act). ActsIn g xs) (sym e) (both_in o.acts acts i.acts h);
-        cells = c ∙ i.cells;
-      }
+  more_in o p acts e c h i = grind (arith, both_in, o.acts, i.acts)
 
   loaded_in : (n : ℕ) (t : Term) → TermIn (length g.arrays) n t → (s : ProcState) → OutIn g s.out
       → OutIn g (value_of t s).1.out
@@ -99,17 +91,14 @@ module _ (g : Graph) where
 
   if_outcome : (b : Bool) (o p : OpsOutcome) → OutcomeIn g o → OutcomeIn g p
       → OutcomeIn g (if b then o else p)
-  if_outcome true o p h i = h
-  if_outcome false o p h i = i
+  if_outcome b o p h i = grind arith
 
   if_config : (b : Bool) (c d : Config) → ConfigIn g c → ConfigIn g d → ConfigIn g (if b then c else d)
-  if_config true c d h i = h
-  if_config false c d h i = i
+  if_config b c d h i = grind arith
 
   spend_in : (n : ℕ) (s : ProcState) (k : ℕ) → OutIn g s.out → OutcomeIn g (spend n s k)
-  spend_in zero s k h = h
-  spend_in (suc n) s zero h = h
   spend_in (suc n) s (suc k) h = spend_in n s k h
+  spend_in n s k h = grind arith
 
   op_in : (n : ℕ) (op : Op) → OpIn (length g.arrays) n op → (s : ProcState) (k : ℕ) → OutIn g s.out
       → OutcomeIn g (run_op op s k)
@@ -129,43 +118,34 @@ module _ (g : Graph) where
       if_outcome ((value_of t s).0 == 0) _ _ (loaded_in n b h.3 (value_of t s).1 j)
       (loaded_in n a h.2 (value_of t s).1 j)
   op_in n (Tick m) h s k i = spend_in m s k i
-  op_in n (TickBy t m l) h s k i =
-      let j = loaded_in n t h s i in
-      if_outcome ((value_of t s).0 == 0) _ _ (spend_in l (value_of t s).1 k j)
-      (spend_in m (value_of t s).1 k j)
+  op_in n (TickBy t m l) h s k i = grind (arith, loaded_in, if_outcome, value_of, spend_in)
 
   then_in : (o : OpsOutcome) (go : ProcState → ℕ → OpsOutcome) → OutcomeIn g o
       → ((s : ProcState) (k : ℕ) → OutIn g s.out → OutcomeIn g (go s k)) → OutcomeIn g (and_then o go)
-  then_in (Done s k) go h f = f s k h
-  then_in (Out o) go h f = h
+  then_in o go h f = grind arith
 
   ops_in : (n : ℕ) (ops : List Op) → AllByRecursion (OpIn (length g.arrays) n) ops → (s : ProcState) (k : ℕ)
       → OutIn g s.out → OutcomeIn g (run_ops ops s k)
   ops_in n [] h s k i = i
-  ops_in n (op ∷ ops) h s k i = then_in (run_op op s k) (run_ops ops) (op_in n op h.0 s k i)
-      (ops_in n ops h.1)
+  ops_in n (op ∷ ops) h s k i = grind (arith, then_in, op_in, ops_in n ops h.1)
 
   returned_in : (v : ℕ) (o : Outside) (frames : List Frame) (k : ℕ) → OutIn g o
       → ConfigIn g (returned v o frames k)
-  returned_in v o [] k h = h
-  returned_in v o (f ∷ frames) k h = h
+  returned_in v o frames k h = grind arith
 
   leave_in : (home n : ℕ) (exit : Exit) → ExitIn g home n exit → (s : ProcState) (frames : List Frame) (k : ℕ)
       → OutIn g s.out → ConfigIn g (leave g exit s frames k)
   leave_in home n (Goto b) h s frames k i = i
-  leave_in home n (Branch t a b) h s frames k i = let j = loaded_in n t h.0 s i in
-      if_config ((value_of t s).0 == 0) _ _ j j
+  leave_in home n (Branch t a b) h s frames k i = grind (arith, loaded_in, if_config, value_of)
   leave_in home n (Call x f ts back) h s frames k i = all_loaded_in n ts h.3 s i
-  leave_in home n (Return t) h s frames k i = returned_in (value_of t s).0 (value_of t s).1.out frames k
-      (loaded_in n t h s i)
+  leave_in home n (Return t) h s frames k i = grind (arith, returned_in, value_of, loaded_in)
   leave_in home n (Send t ts ls) h s frames k i = all_loaded_in n ts h.1 (value_of t s).1
       (loaded_in n t h.0 s i)
   leave_in home n Stop h s frames k i = i
 
   passed_in : (home n : ℕ) (o : OpsOutcome) (exit : Exit) → ExitIn g home n exit → (frames : List Frame)
       → OutcomeIn g o → ConfigIn g (passed g o exit frames)
-  passed_in home n (Done s k) exit h frames i = leave_in home n exit h s frames k i
-  passed_in home n (Out o) exit h frames i = i
+  passed_in home n o exit h frames i = grind (arith, leave_in)
 
   module _ (numbers : GraphNumbers g) where
     block_numbers : (b : ℕ) → BlockNumbers g (spot_at g b)
@@ -187,8 +167,7 @@ module _ (g : Graph) where
 
     answer_in : (world : World) (turns n : ℕ) (c : Config) → walk g n (opening g world turns) ≡ c
         → ConfigIn g c
-    answer_in world turns n c e = subst (λ (d : Config). ConfigIn g d) e
-        (walk_in n (opening g world turns) (record { acts = tt; cells = length_cells_of g.arrays }))
+    answer_in world turns n c e = grind (arith, walk_in, length_cells_of)
 
     -- the same at the end of a walk
     pub ended_in : (world : World) (turns : ℕ) (o : Outside) → Ends g world turns o → OutIn g o

@@ -3,8 +3,7 @@
 use Rattle.std.proofs.Common.{ℕ, zero, suc, ◌+◌, ◌-◌, ◌≡◌, ◌≤◌, ◌⊎◌, ◌==◌, Bool, true, false, List, [], ◌∷◌}
 use Rattle.std.proofs.Common.{if◌then◌else◌, refl, sym, ap, ◌∙◌, subst, inl, inr, arith}
 use Rattle.ws_words.specs.Outside.{Outside, ProcState, World}
-use Rattle.cfg_core.specs.Graph.{Op, Assign, Store, Print, Read, Give, Take, Choose, Tick, TickBy, Exit, Goto}
-use Rattle.cfg_core.specs.Graph.{Branch, Call, Return, Send, Stop, Graph, block_at}
+use Rattle.cfg_core.specs.Graph.{Op, Exit, Goto, Branch, Call, Return, Send, Stop, Graph, block_at}
 use Rattle.cfg_core.specs.Walk.{value_of, OpsOutcome, Done, Out, and_then, spend, run_op, run_ops, Frame}
 use Rattle.cfg_core.specs.Walk.{Config, At, Over, Going, returned, leave, passed, step, walk, opening, Ends}
 use Rattle.cfg_core.specs.Walk.{EndsWith, Goes, IsOver}
@@ -16,12 +15,7 @@ record Cost (h : ℕ → OpsOutcome) (u : ProcState) (j k : ℕ) : Type 0 where
   again : (i : ℕ) → h (i + cost) ≡ Done u i
 
 no_cost : (s u : ProcState) (j k : ℕ) → Done s k ≡ Done u j → Cost (λ i. Done s i) u j k
-no_cost s u j k e = record {
-  cost = 0;
-  sum = (let z : k ≡ j = cc in omega (arith, z));
-  again = λ i. let z : i + 0 ≡ i = omega arith in let w : s ≡ u = cc in
-      ap (λ n. Done s n) z ∙ ap (λ (x : ProcState). Done x i) w;
-}
+no_cost s u j k e = grind arith
 
 then_cost : (h : ℕ → OpsOutcome) (go : ProcState → ℕ → OpsOutcome) (u : ProcState) (j k : ℕ)
     → ((s : ProcState) (i : ℕ) → h k ≡ Done s i → Cost h s i k)
@@ -39,34 +33,21 @@ then_cost h go u j k f g (Out o) e d = absurd (cc)
 if_cost : (b : Bool) (h g : ℕ → OpsOutcome) (u : ProcState) (j k : ℕ) → (h k ≡ Done u j → Cost h u j k)
     → (g k ≡ Done u j → Cost g u j k) → (if b then h k else g k) ≡ Done u j
     → Cost (λ i. if b then h i else g i) u j k
-if_cost true h g u j k f i e = f e
-if_cost false h g u j k f i e = i e
+if_cost b h g u j k f i e = grind arith
 
 spend_cost : (n : ℕ) (s : ProcState) (k : ℕ) (u : ProcState) (j : ℕ) → spend n s k ≡ Done u j
     → Cost (spend n s) u j k
-spend_cost zero s k u j e = no_cost s u j k e
-spend_cost (suc n) s zero u j e = absurd (cc)
 spend_cost (suc n) s (suc k) u j e = let r = spend_cost n s k u j e in record {
   cost = suc r.cost;
   sum = omega (arith, r.sum);
   again = λ i. let z : i + suc r.cost ≡ suc (i + r.cost) = omega arith in ap (λ m. spend (suc n) s m) z
       ∙ r.again i;
 }
+spend_cost n s k u j e = grind (arith, no_cost)
 
 op_cost : (op : Op) (s : ProcState) (k : ℕ) (u : ProcState) (j : ℕ) → run_op op s k ≡ Done u j
     → Cost (run_op op s) u j k
-op_cost (Assign x t) s k u j e = no_cost _ u j k e
-op_cost (Store a t w) s k u j e = no_cost _ u j k e
-op_cost (Print t) s k u j e = no_cost _ u j k e
-op_cost (Read x) s k u j e = no_cost _ u j k e
-op_cost (Give p x) s k u j e = no_cost _ u j k e
-op_cost (Take p t) s k u j e = no_cost _ u j k e
-op_cost (Choose x t a b) s k u j e = if_cost ((value_of t s).0 == 0) _ _ u j k (no_cost _ u j k)
-    (no_cost _ u j k) e
-op_cost (Tick n) s k u j e = spend_cost n s k u j e
-op_cost (TickBy t n m) s k u j e = if_cost ((value_of t s).0 == 0) (spend m (value_of t s).1)
-    (spend n (value_of t s).1) u j k (spend_cost m (value_of t s).1 k u j)
-    (spend_cost n (value_of t s).1 k u j) e
+op_cost op s k u j e = grind (arith, no_cost, if_cost, value_of, spend_cost)
 
 ops_cost : (ops : List Op) (s : ProcState) (k : ℕ) (u : ProcState) (j : ℕ) → run_ops ops s k ≡ Done u j
     → Cost (run_ops ops s) u j k
@@ -115,26 +96,13 @@ module _ (g : Graph) where
   -- a walk that ends from its end on has just that end
   pub over_again : (m : ℕ) (p o : Outside) (k j : ℕ) → walk g m (Over p k) ≡ Over o j
       → (k ≡ j) × ((i : ℕ) → walk g m (Over p i) ≡ Over o i)
-  over_again m p o k j e =
-      let w : Over p k ≡ Over o j = sym (walk_over m p k) ∙ e in
-      let q : p ≡ o = cc in
-      (cc, λ i. walk_over m p i ∙ ap (λ (x : Outside). Over x i) q)
+  over_again m p o k j e = grind (arith, walk_over)
 
   -- what follows the operations
   exit_cost : (m : ℕ) (o : Outside) (j : ℕ) → ((c : ℕ) (v : ProcState) (fs : List Frame) (i : ℕ)
       → walk g m (At c v fs i) ≡ Over o j → WalkCost m (At c v fs) o j i) → (h : ℕ → Config) (i : ℕ)
       → Onward h → walk g m (h i) ≡ Over o j → WalkCost m h o j i
-  exit_cost m o j f h i (at c v fs same) d =
-      let r = f c v fs i (sym (ap (walk g m) (same i)) ∙ d) in
-      record { cost = r.cost; sum = r.sum; again = λ n. ap (walk g m) (same (n + r.cost)) ∙ r.again n }
-  exit_cost m o j f h i (over p same) d =
-      let r = over_again m p o i j (sym (ap (walk g m) (same i)) ∙ d) in
-      record {
-        cost = 0;
-        sum = omega (arith, r.0);
-        again = λ n. let z : n + 0 ≡ n = omega arith in
-            ap (walk g m) (same (n + 0)) ∙ r.1 (n + 0) ∙ ap (λ x. Over o x) z;
-      }
+  exit_cost m o j f h i k d = grind (arith, over_again)
 
   passed_cost : (m : ℕ) (o : Outside) (j : ℕ) → ((c : ℕ) (v : ProcState) (fs : List Frame) (i : ℕ)
       → walk g m (At c v fs i) ≡ Over o j → WalkCost m (At c v fs) o j i)
@@ -166,12 +134,10 @@ module _ (g : Graph) where
 
   -- a walk that has come to an answer has the same one after more blocks
   over_stays : (n : ℕ) (c d : Config) → IsOver d → c ≡ d → walk g n c ≡ d
-  over_stays n c (At b s fs k) h e = absurd h
-  over_stays n c (Over o k) h e = ap (walk g n) e ∙ walk_over n o k
-  over_stays n c (Going o) h e = ap (walk g n) e ∙ walk_going n o
+  over_stays n c d h e = grind (arith, walk_over, walk_going)
 
   stays : (m n : ℕ) (c d : Config) → IsOver d → walk g m c ≡ d → walk g (m + n) c ≡ d
-  stays zero n c d h e = let z : 0 + n ≡ n = omega arith in ap (λ x. walk g x c) z ∙ over_stays n c d h e
+  stays zero n c d h e = grind (arith, over_stays)
   stays (suc m) n c d h e = let z : suc m + n ≡ suc (m + n) = omega arith in
       ap (λ x. walk g x c) z ∙ stays m n (step g c) d h e
 
@@ -231,6 +197,5 @@ one_end g world n m o p e d = elim (le_total n m) [
 ]
   where
     le_total : (n m : ℕ) → (n ≤ m) ⊎ (m ≤ n)
-    le_total zero m = inl (omega arith)
-    le_total (suc n) zero = inr (omega arith)
     le_total (suc n) (suc m) = elim (le_total n m) [ inl h ↦ inl (omega arith) | inr h ↦ inr (omega arith) ]
+    le_total n m = grind arith

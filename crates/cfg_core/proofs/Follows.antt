@@ -1,5 +1,5 @@
 -- What the code does at each operation is what the walk does.
-use Rattle.std.proofs.Common.{ℕ, zero, suc, ◌-◌, ◌≡◌, ◌<◌, ◌≤◌, ◌==◌, Bool, true, false, List, [], ◌∷◌, drop}
+use Rattle.std.proofs.Common.{ℕ, suc, ◌-◌, ◌≡◌, ◌<◌, ◌≤◌, ◌==◌, Bool, true, false, List, [], ◌∷◌, drop}
 use Rattle.std.proofs.Common.{map, if◌then◌else◌, slice_set, refl, sym, ap, ◌∙◌, subst, arith}
 use Rattle.std.proofs.lemmas.Bool.Decides.{nat_tests}
 use Rattle.ws_words.specs.Outside.{Outside, ProcState, write, with_out}
@@ -20,13 +20,11 @@ use Rattle.cfg_core.proofs.Acts.{silent_loads, silent_all}
 module _ (s : ProcState) (frames : List Frame) (k : ℕ) (w : Walker) (sh : Shows s frames k w) where
   -- the value of a term is the same on what the code holds
   pub value_is : (t : Term) → value t w.vars w.memory.cells ≡ (value_of t s).0
-  value_is t = ap (λ (vs : List ℕ). value t vs w.memory.cells) (sym sh.vars)
-      ∙ ap (λ (cs : List (List ℕ)). value t s.vars cs) (sym sh.outside.same_cells)
+  value_is t = grind (arith, s.vars)
 
   -- so are the values of terms
   pub values_is : (ts : List Term) → values ts w.vars w.memory.cells ≡ (values_of ts s).0
-  values_is ts = ap (λ (vs : List ℕ). values ts vs w.memory.cells) (sym sh.vars)
-      ∙ ap (λ (cs : List (List ℕ)). values ts s.vars cs) (sym sh.outside.same_cells)
+  values_is ts = grind (arith, s.vars)
 
   -- loads leave what the code holds
   pub loaded : (t : Term) → Shows (value_of t s).1 frames k w
@@ -52,12 +50,7 @@ module _ (s : ProcState) (frames : List Frame) (k : ℕ) (w : Walker) (sh : Show
   -- a variable is written
   pub written_is : (x v : ℕ) (now : List ℕ) → now ≡ slice_set w.vars x v
       → Shows (write s x v) frames k (record w { vars = now })
-  written_is x v now e = record {
-    vars = ap (λ (vs : List ℕ). slice_set vs x v) sh.vars ∙ sym e;
-    outside = sh.outside;
-    waiting = sh.waiting;
-    turns = sh.turns;
-  }
+  written_is x v now e = grind (arith, slice_set)
 
   -- an act is done, and the variables stay
   pub acted_is : (o : Outside) (m : Memory) → OutIs o m → Shows (with_out s o) frames k
@@ -68,40 +61,25 @@ module _ (s : ProcState) (frames : List Frame) (k : ℕ) (w : Walker) (sh : Show
   pub got_is : (o : Outside) (m : Memory) (x v word : ℕ) (now : List ℕ) → OutIs o m → word ≡ v
       → now ≡ slice_set w.vars x word → Shows (record { vars = slice_set s.vars x v; out = o }) frames k
       (record w { vars = now; memory = m })
-  got_is o m x v word now h ev e = record {
-    vars = ap (λ (vs : List ℕ). slice_set vs x v) sh.vars ∙ ap (λ n. slice_set w.vars x n) (sym ev) ∙ sym e;
-    outside = h;
-    waiting = sh.waiting;
-    turns = sh.turns;
-  }
+  got_is o m x v word now h ev e = grind (arith, slice_set, w.vars)
 
   -- turns are taken
   spend_enough : (n : ℕ) (t : ProcState) (k : ℕ) → n ≤ k → spend n t k ≡ Done t (k - n)
-  spend_enough zero t k le = let z : k ≡ k - 0 = omega arith in ap (λ j. Done t j) z
-  spend_enough (suc n) t zero le = absurd (omega arith)
   spend_enough (suc n) t (suc k) le = let z : k - n ≡ suc k - suc n = omega arith in
       spend_enough n t k (omega arith) ∙ ap (λ j. Done t j) z
+  spend_enough n t k le = grind arith
 
   spend_short : (n : ℕ) (t : ProcState) (k : ℕ) → k < n → spend n t k ≡ Out t.out
-  spend_short zero t k lt = absurd (omega arith)
-  spend_short (suc n) t zero lt = refl
   spend_short (suc n) t (suc k) lt = spend_short n t k (omega arith)
+  spend_short n t k lt = grind arith
 
   -- where there are enough turns, they are taken
   pub spent : (n : ℕ) → n ≤ w.turns → PaceIs (spend n s k) frames pace.Done (record w { turns = w.turns - n })
-  spent n le = subst (λ (o : OpsOutcome). PaceIs o frames pace.Done (record w { turns = w.turns - n }))
-      (sym (spend_enough n s k (omega (arith, sh.turns))))
-      (record {
-        vars = sh.vars;
-        outside = sh.outside;
-        waiting = sh.waiting;
-        turns = ap (λ j. j - n) sh.turns;
-      })
+  spent n le = grind (arith, spend_enough)
 
   -- where there are too few, the walk is out of turns
   pub none_left : (n : ℕ) → w.turns < n → PaceIs (spend n s k) frames pace.Out w
-  none_left n lt = subst (λ (o : OpsOutcome). PaceIs o frames pace.Out w)
-      (sym (spend_short n s k (omega (arith, sh.turns)))) sh.outside
+  none_left n lt = grind (arith, spend_short)
 
 -- an operation of the code is that of the graph
 pub from_op : (x y : GraphOp) (s : ProcState) (frames : List Frame) (k : ℕ) (p : Pace) (w : Walker) → y ≡ x
@@ -166,25 +144,21 @@ pub record Upto (now : ProcState → ℕ → OpsOutcome) (whole : OpsOutcome) (f
 
 done_then : (o : OpsOutcome) (go : ProcState → ℕ → OpsOutcome) (frames : List Frame) (w : Walker)
     (whole : OpsOutcome) → PaceIs o frames pace.Done w → and_then o go ≡ whole → Upto go whole frames w
-done_then (Done s k) go frames w whole h e = record { state = s; left = k; shows = h; same = e }
-done_then (Out o) go frames w whole h e = absurd h
+done_then o go frames w whole h e = grind arith
 
 out_then : (o : OpsOutcome) (go : ProcState → ℕ → OpsOutcome) (frames : List Frame) (w : Walker)
     → PaceIs o frames pace.Out w → PaceIs (and_then o go) frames pace.Out w
-out_then (Done s k) go frames w h = absurd h
-out_then (Out o) go frames w h = h
+out_then o go frames w h = grind arith
 
 -- operations that are not out of turns are done
 pub is_done : (o : OpsOutcome) (frames : List Frame) (p : Pace) (w : Walker) → out_flag p ≡ false
     → PaceIs o frames p w → PaceIs o frames pace.Done w
-is_done o frames pace.Done w e h = h
-is_done o frames pace.Out w e h = absurd (cc)
+is_done o frames p w e h = grind arith
 
 -- operations that are out of turns
 pub is_out : (o : OpsOutcome) (frames : List Frame) (p : Pace) (w : Walker) → out_flag p ≡ true
     → PaceIs o frames p w → PaceIs o frames pace.Out w
-is_out o frames pace.Done w e h = absurd (cc)
-is_out o frames pace.Out w e h = h
+is_out o frames p w e h = grind arith
 
 -- the operations from one on
 abbrev pub from : List GraphOp → ℕ → ProcState → ℕ → OpsOutcome
@@ -199,23 +173,16 @@ pub one_more : (ops : List GraphOp) (i j : ℕ) (x : GraphOp) (frames : List Fra
     (whole : OpsOutcome) → drop i ops ≡ x ∷ drop j ops → Upto (from ops i) whole frames w
     → ((s : ProcState) (k : ℕ) → Shows s frames k w → PaceIs (run_op (view.op x) s k) frames pace.Done n)
     → Upto (from ops j) whole frames n
-one_more ops i j x frames w n whole e u f =
-    done_then (run_op (view.op x) u.state u.left) (from ops j) frames n whole (f u.state u.left u.shows)
-    (sym (next_ops ops i j x e u.state u.left) ∙ u.same)
+one_more ops i j x frames w n whole e u f = grind (arith, done_then, u.left, next_ops)
 
 -- an operation is out of turns
 pub stopped_at : (ops : List GraphOp) (i j : ℕ) (x : GraphOp) (frames : List Frame) (w n : Walker)
     (whole : OpsOutcome) → drop i ops ≡ x ∷ drop j ops → Upto (from ops i) whole frames w
     → ((s : ProcState) (k : ℕ) → Shows s frames k w → PaceIs (run_op (view.op x) s k) frames pace.Out n)
     → PaceIs whole frames pace.Out n
-stopped_at ops i j x frames w n whole e u f =
-    subst (λ (o : OpsOutcome). PaceIs o frames pace.Out n) (sym (next_ops ops i j x e u.state u.left)
-    ∙ u.same)
-    (out_then (run_op (view.op x) u.state u.left) (from ops j) frames n (f u.state u.left u.shows))
+stopped_at ops i j x frames w n whole e u f = grind (arith, next_ops, out_then, u.left)
 
 -- no operation is left
 pub no_more : (ops : List GraphOp) (i : ℕ) (frames : List Frame) (w : Walker) (whole : OpsOutcome)
     → drop i ops ≡ [] → Upto (from ops i) whole frames w → PaceIs whole frames pace.Done w
-no_more ops i frames w whole e u =
-    subst (λ (o : OpsOutcome). PaceIs o frames pace.Done w)
-    (sym (ap (λ (os : List GraphOp). run_ops (map view.op os) u.state u.left) e) ∙ u.same) u.shows
+no_more ops i frames w whole e u = grind arith

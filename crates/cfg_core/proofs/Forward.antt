@@ -1,6 +1,6 @@
 -- Where each edge leads forward, or to a block that takes a turn, no cycle is without one.
-use Rattle.std.proofs.Common.{ℕ, zero, suc, ◌+◌, ◌≡◌, ◌<◌, ◌⊎◌, nat_lt, Bool, true, false, ◌&&◌, ◌||◌, List}
-use Rattle.std.proofs.Common.{[], ◌∷◌, refl, sym, subst, inl, inr, arith}
+use Rattle.std.proofs.Common.{ℕ, suc, ◌+◌, ◌≡◌, ◌<◌, ◌⊎◌, nat_lt, Bool, true, false, ◌&&◌, ◌||◌, List}
+use Rattle.std.proofs.Common.{[], ◌∷◌, inl, inr, arith}
 use Rattle.std.proofs.lemmas.Bool.Decides.{nat_tests}
 use Rattle.cfg_core.specs.Graph.{Exit, Goto, Branch, Call, Return, Send, Stop, Graph, Spot, no_spot, spots}
 use Rattle.cfg_core.specs.Graph.{spot_at, block_at}
@@ -24,9 +24,8 @@ starts_quiet g b c (more _ d _ q h l) = starts_quiet g b d q
 on_at : (g : Graph) (b : ℕ) (xs : List Spot) → AllOn g b xs → (k c : ℕ) → c ≡ k + b
     → OnlyOn g c (or_else (nth xs k) no_spot).block.exit
 unfolding no_spot
-on_at g b [] h k c e = λ d l. absurd l
-on_at g b (s ∷ xs) h zero c e = let z : b ≡ c = omega (arith, e) in subst (λ n. OnlyOn g n s.block.exit) z h.0
 on_at g b (s ∷ xs) h (suc k) c e = on_at g (suc b) xs h.1 k c (omega (arith, e))
+on_at g b xs h k c e = grind arith
 
 module _ (g : Graph) (all : AllOn g 0 (spots g)) where
   only_on : (b : ℕ) → OnlyOn g b (block_at g b).exit
@@ -35,17 +34,10 @@ module _ (g : Graph) (all : AllOn g 0 (spots g)) where
 
   forward : (b c : ℕ) → Quiet g b c → (b < c) ⊎ (has_turn (block_at g c).ops ≡ true)
   forward b c (one _ _ h l) = only_on b c l
-  forward b c (more _ d _ q h l) = elim (forward b d q) [
-    | inl lt ↦ elim (only_on d c l) [ inl lu ↦ inl (omega arith) | inr t ↦ inr t ]
-    | inr t ↦ absurd (no_both t h)
-  ]
+  forward b c (more _ d _ q h l) = grind (arith, only_on, no_both, forward b d q)
 
   pub no_quiet_cycle : (b : ℕ) → Quiet g b b → ⊥
-  no_quiet_cycle b q = elim (forward b b q) [
-    | inl lt ↦ omega arith
-    | inr t ↦
-        no_both t (starts_quiet g b b q)
-  ]
+  no_quiet_cycle b q = grind (arith, forward, no_both, starts_quiet)
 
 -- the same as a test
 abbrev pub edge_on : Graph → ℕ → ℕ → Bool
@@ -72,13 +64,7 @@ all_on g c (s ∷ xs) = exit_on g c s.block.exit && all_on g (suc c) xs
 
 edge_is : (g : Graph) (c d e : ℕ) → e ≡ d → edge_on g c d ≡ true → (c < e)
     ⊎ (has_turn (block_at g e).ops ≡ true)
-edge_is g c d e same h = subst (λ n. (c < n) ⊎ (has_turn (block_at g n).ops ≡ true)) (sym same)
-    (by_test (nat_lt c d) refl h)
-  where
-    by_test : (b : Bool) → nat_lt c d ≡ b → (b || has_turn (block_at g d).ops) ≡ true
-        → (c < d) ⊎ (has_turn (block_at g d).ops ≡ true)
-    by_test true t h = inl (grind (arith, nat_tests))
-    by_test false t h = inr h
+edge_is g c d e same h = grind (arith, nat_lt, nat_tests)
 
 edges_are : (g : Graph) (c : ℕ) (ls : List ℕ) → edges_on g c ls ≡ true → (e : ℕ) → In e ls
     → (c < e) ⊎ (has_turn (block_at g e).ops ≡ true)
@@ -87,17 +73,7 @@ edges_are g c (l ∷ ls) h e (inl same) = edge_is g c l e same (and_left (edge_o
 edges_are g c (l ∷ ls) h e (inr i) = edges_are g c ls (and_right (edge_on g c l) _ h) e i
 
 exit_is : (g : Graph) (c : ℕ) (exit : Exit) → exit_on g c exit ≡ true → OnlyOn g c exit
-exit_is g c (Goto b) h = λ e l. edge_is g c b e l h
-exit_is g c (Branch t a b) h =
-    λ e l. elim l [
-      | inl l ↦ edge_is g c a e l (and_left (edge_on g c a) _ h)
-      | inr l ↦
-          edge_is g c b e l (and_right (edge_on g c a) _ h)
-    ]
-exit_is g c (Call x f ts back) h = λ e l. edge_is g c back e l h
-exit_is g c (Return t) h = λ e l. absurd l
-exit_is g c (Send t ts ls) h = λ e i. edges_are g c ls h e i
-exit_is g c Stop h = λ e l. absurd l
+exit_is g c exit h = grind (arith, edge_is, and_left, and_right, edges_are)
 
 all_are : (g : Graph) (c : ℕ) (xs : List Spot) → all_on g c xs ≡ true → AllOn g c xs
 all_are g c [] h = tt

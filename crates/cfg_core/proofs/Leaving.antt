@@ -1,6 +1,6 @@
 -- What the code does at exits is what the walk does.
-use Rattle.std.proofs.Common.{ℕ, zero, suc, ◌-◌, ◌≡◌, ◌<◌, ◌≤◌, Bool, true, false, List, [], ◌∷◌, ◌++◌}
-use Rattle.std.proofs.Common.{length, drop, if◌then◌else◌, slice_index, slice_set, refl, sym, ap, ◌∙◌, subst}
+use Rattle.std.proofs.Common.{ℕ, suc, ◌-◌, ◌≡◌, ◌<◌, ◌≤◌, Bool, true, false, List, [], ◌∷◌, ◌++◌}
+use Rattle.std.proofs.Common.{length, drop, if◌then◌else◌, slice_index, slice_set, refl, sym, subst}
 use Rattle.std.proofs.Common.{append_assoc, arith}
 use Rattle.ws_words.specs.Outside.{ProcState, zeros}
 use Rattle.ws_words.proofs.Rows.{zeros_more}
@@ -24,27 +24,20 @@ use Rattle.ws_words.proofs.Lists.{drop_all}
 
 -- one zero more at the entry of a procedure
 pub entered_more : (vs ws : List ℕ) (n m : ℕ) → m ≡ suc n → ws ≡ vs ++ zeros n → ws ++ 0 ∷ [] ≡ vs ++ zeros m
-entered_more vs ws n m e h = ap (λ (xs : List ℕ). xs ++ 0 ∷ []) h ∙ append_assoc vs (zeros n) (0 ∷ [])
-    ∙ ap (λ (xs : List ℕ). vs ++ xs) (zeros_more n m e)
+entered_more vs ws n m e h = grind (arith, append_assoc, zeros_more)
 
 -- the words from one on begin with it
 pub drop_word : (words : List ℕ) (i : ℕ) → i < length words → drop i words ≡ slice_index words i ∷ drop
     (suc i) words
-drop_word [] i lt = absurd (omega arith)
-drop_word (w ∷ words) zero lt = refl
 drop_word (w ∷ words) (suc i) lt = drop_word words i (omega arith)
+drop_word words i lt = grind arith
 
 -- one variable more is filled
 pub landed_next : (named words vars now whole : List ℕ) (i j x v : ℕ) → j ≡ suc i
     → drop i named ≡ x ∷ drop j named → i < length words → v ≡ slice_index words i → now ≡ slice_set vars x v
     → landed (drop i named) (drop i words) vars ≡ whole → landed (drop j named) (drop j words) now ≡ whole
 landed_next named words vars now whole i j x v ej en lt ev e h =
-    ap (λ (vs : List ℕ). landed (drop j named) (drop j words) vs) e
-    ∙ ap (λ n. landed (drop j named) (drop j words) (slice_set vars x n)) ev
-    ∙ ap (λ n. landed (drop j named) (drop n words) (slice_set vars x (slice_index words i))) ej
-    ∙ sym (ap (λ (ws : List ℕ). landed (x ∷ drop j named) ws vars) (drop_word words i lt))
-    ∙ sym (ap (λ (xs : List ℕ). landed xs (drop i words) vars) en)
-    ∙ h
+    grind (arith, slice_set, slice_index, drop_word)
 
 landed_none : (named vars : List ℕ) → landed named [] vars ≡ vars
 landed_none [] vars = refl
@@ -53,11 +46,7 @@ landed_none (x ∷ named) vars = refl
 -- no word is left to fill with
 pub landed_past : (named words vars whole : List ℕ) (i j : ℕ) → i ≤ j → length words ≤ i
     → landed (drop i named) (drop i words) vars ≡ whole → landed (drop j named) (drop j words) vars ≡ whole
-landed_past named words vars whole i j lt le h =
-    ap (λ (ws : List ℕ). landed (drop j named) ws vars) (drop_all words j (omega arith))
-    ∙ landed_none (drop j named) vars
-    ∙ sym (landed_none (drop i named) vars)
-    ∙ sym (ap (λ (ws : List ℕ). landed (drop i named) ws vars) (drop_all words i le)) ∙ h
+landed_past named words vars whole i j lt le h = grind (arith, drop_all, landed_none)
 
 stacked_last : (fs : List Frame) (f : Frame) (below : List walks.Frame)
     → stacked (fs ++ f ∷ []) below ≡ record { result = f.result; back = f.back; vars = f.vars } ∷ stacked fs
@@ -70,18 +59,13 @@ stacked_last (g ∷ fs) f below =
 pub given_back : (s : ProcState) (frames : List walks.Frame) (k v : ℕ) (w n : Walker) (f : Frame)
     → Shows s frames k w → w.frames.items ≡ n.frames.items ++ f ∷ [] → n.vars ≡ with_result f.result v f.vars
     → OutIs s.out n.memory → n.turns ≡ w.turns → NextIs (returned v s.out frames k) (next.At f.back) n
-given_back s frames k v w n f sh ef ev on et =
-    let same : frames ≡ record { result = f.result; back = f.back; vars = f.vars } ∷ stacked n.frames.items
-    [] = sh.waiting ∙ ap (λ (fs : List Frame). stacked fs []) ef ∙ stacked_last n.frames.items f [] in
-    subst (λ (fs : List walks.Frame). NextIs (returned v s.out fs k) (next.At f.back) n) (sym same)
-    (refl, record { vars = sym ev; outside = on; waiting = refl; turns = sh.turns ∙ sym et })
+given_back s frames k v w n f sh ef ev on et = grind (arith, n.frames.items, stacked_last)
 
 -- the code's exit is that of the graph
 pub from_exit : (g : Graph) (x y : Leave) (s : ProcState) (frames : List walks.Frame) (k : ℕ) (n : Next)
     (w : Walker) → y ≡ x → NextIs (leave g (view.exit x) s frames k) n w
     → NextIs (leave g (view.exit y) s frames k) n w
-from_exit g x y s frames k n w e h = subst (λ (z : Leave). NextIs (leave g (view.exit z) s frames k) n w)
-    (sym e) h
+from_exit g x y s frames k n w e h = grind arith
 
 -- a choice of ways by a test that holds
 pub if_true : (b : Bool) (c d : Config) (n : Next) (w : Walker) → b ≡ true → NextIs c n w
@@ -106,22 +90,7 @@ module _ (g : Graph) (s : ProcState) (frames : List walks.Frame) (k : ℕ) (w : 
       } ∷ [] → NextIs (leave g (Call x f ts back) s frames k) (next.At room.entry)
       (record w { vars = now; frames = fs })
   called x f ts back room words now fs ee ep ev ew en ef =
-      let after = all_loaded s frames k w sh ts in (
-        sym ee,
-        record {
-          vars = ap (λ (vs : List ℕ). vs ++ zeros ((proc_at g f).vars - (proc_at g f).params))
-              (sym (ew ∙ values_is s frames k w sh ts))
-              ∙ ap (λ n. words ++ zeros (n - (proc_at g f).params)) (sym ev)
-              ∙ ap (λ n. words ++ zeros (room.vars - n)) (sym ep) ∙ sym en;
-          outside = after.outside;
-          waiting = ap (λ (vs : List ℕ). record { result = x; back = back; vars = vs } ∷ frames) sh.vars
-              ∙ ap (λ (below : List walks.Frame). record { result = x; back = back; vars = w.vars } ∷ below)
-              sh.waiting
-              ∙ sym (stacked_last w.frames.items (record { result = x; back = back; vars = w.vars }) [])
-              ∙ ap (λ (xs : List Frame). stacked xs []) (sym ef);
-          turns = sh.turns;
-        },
-      )
+      let after = all_loaded s frames k w sh ts in grind (arith, values_is, stacked_last, w.frames.items)
 
   -- a send comes to its landing
   pub sent : (t : Term) (ts : List Term) (ls : List ℕ) (place b : ℕ) (words now : List ℕ)
@@ -130,15 +99,4 @@ module _ (g : Graph) (s : ProcState) (frames : List walks.Frame) (k : ℕ) (w : 
       → NextIs (leave g (Send t ts ls) s frames k) (next.At b) (record w { vars = now })
   sent t ts ls place b words now et ew eb en =
       let after = all_loaded (value_of t s).1 frames k w (loaded s frames k w sh t) ts in
-      let same : landing (value_of t s).0 ls ≡ b = ap (λ n. landing n ls)
-      (sym (et ∙ value_is s frames k w sh t)) ∙ sym eb in (
-        same,
-        record {
-          vars = ap (λ n. landed (spot_at g n).block.named (values_of ts s).0 (zeros (spot_at g n).vars)) same
-              ∙ ap (λ (vs : List ℕ). landed (spot_at g b).block.named vs (zeros (spot_at g b).vars))
-              (sym (ew ∙ values_is s frames k w sh ts)) ∙ sym en;
-          outside = after.outside;
-          waiting = sh.waiting;
-          turns = sh.turns;
-        },
-      )
+      grind (arith, value_of, value_is, values_of, values_is)

@@ -10,7 +10,7 @@ use Rattle.cfg_core.proofs.Cost.{one_answer}
 
 -- a walk of blocks, and then of others
 pub walk_add : (g : Graph) (n m : ℕ) (c : Config) → walk g (n + m) c ≡ walk g m (walk g n c)
-walk_add g zero m c = ap (λ k. walk g k c) (let z : zero + m ≡ m = omega arith in z)
+walk_add g zero m c = grind arith
 walk_add g (suc n) m c = ap (λ k. walk g k c) (let z : suc n + m ≡ suc (n + m) = omega arith in z)
     ∙ walk_add g n m (step g c)
 
@@ -25,14 +25,10 @@ module _ (g h : Graph) (rules : IsGraph g) (R : Outside → Outside → Type 0)
     → (n : ℕ) × Match R (walk g m (opening g world turns)) (walk h n (opening h world turns))) where
   ended : (o : Outside) (k n : ℕ) (c d : Config) → c ≡ d → Match R (Over o k) c
       → (p : Outside) × (d ≡ Over p k) × R o p
-  ended o k n (Over p j) d e m = (p, sym e ∙ ap (λ i. Over p i) (sym m.0), m.1)
-  ended o k n (At b s frames j) d e m = absurd m
-  ended o k n (Going p) d e m = absurd m
+  ended o k n c d e m = grind arith
 
   going : (o : Outside) (c d : Config) → c ≡ d → Match R (Going o) c → (p : Outside) × (d ≡ Going p) × R o p
-  going o (Going p) d e m = (p, sym e, m)
-  going o (At b s frames j) d e m = absurd m
-  going o (Over p j) d e m = absurd m
+  going o c d e m = grind arith
 
   over_is : (c : Config) (o : Outside) (k : ℕ) → c ≡ Over o k → IsOver c
   over_is c o k e = subst IsOver (sym e) tt
@@ -43,20 +39,12 @@ module _ (g h : Graph) (rules : IsGraph g) (R : Outside → Outside → Type 0)
   -- where the first walk ends, the second does
   pub ends : (world : World) (turns : ℕ) (o : Outside) → Ends g world turns o
       → (p : Outside) × Ends h world turns p × R o p
-  ends world turns o e =
-      let f = forth world turns e.0 (over_is _ o 0 e.1) in
-      let r = ended o 0 f.0 _ _ refl (subst (λ (c : Config). Match R c (walk h f.0 (opening h world turns)))
-      e.1 f.1) in
-      (r.0, (f.0, r.1), r.2)
+  ends world turns o e = grind (arith, over_is, ended)
 
   -- where the first walk is going, the second is
   pub goes : (world : World) (turns : ℕ) (o : Outside) → Goes g world turns o
       → (p : Outside) × Goes h world turns p × R o p
-  goes world turns o e =
-      let f = forth world turns e.0 (going_is _ o e.1) in
-      let r = going o _ _ refl (subst (λ (c : Config). Match R c (walk h f.0 (opening h world turns))) e.1
-      f.1) in
-      (r.0, (f.0, r.1), r.2)
+  goes world turns o e = grind (arith, going_is, going)
 
   -- the first walk's answer, and the second one's that goes with it
   pub record Answered (world : World) (turns : ℕ) : Type 0 where

@@ -37,13 +37,7 @@ most_less r (l ∷ ls) c (inl e) = let h : r c ≡ r l = ap r e in omega arith
 most_less r (l ∷ ls) c (inr i) = let h = most_less r ls c i in omega arith
 
 over_less : (r : ℕ → ℕ) (exit : Exit) (c : ℕ) → Leads exit c → r c < over_exit r exit
-over_less r (Goto b) c e = let h : r c ≡ r b = ap r e in omega arith
-over_less r (Branch t a b) c (inl e) = let h : r c ≡ r a = ap r e in omega arith
-over_less r (Branch t a b) c (inr e) = let h : r c ≡ r b = ap r e in omega arith
-over_less r (Call x f ts back) c e = let h : r c ≡ r back = ap r e in omega arith
-over_less r (Return t) c e = absurd e
-over_less r (Send t ts ls) c i = most_less r ls c i
-over_less r Stop c e = absurd e
+over_less r exit c e = grind (arith, most_less)
 
 most_most : (r : ℕ → ℕ) (n : ℕ) (ls : List ℕ) → ((c : ℕ) → r c ≤ n) → most_over r ls ≤ suc n
 most_most r n [] f = omega arith
@@ -64,13 +58,7 @@ most_same r q (l ∷ ls) f = ap (λ n. max (suc n) (most_over r ls)) (f l (inl r
 
 over_same : (r q : ℕ → ℕ) (exit : Exit) → ((c : ℕ) → Leads exit c → r c ≡ q c)
     → over_exit r exit ≡ over_exit q exit
-over_same r q (Goto b) f = ap suc (f b refl)
-over_same r q (Branch t a b) f = ap (λ n. max (suc n) (suc (r b))) (f a (inl refl))
-    ∙ ap (λ n. max (suc (q a)) (suc n)) (f b (inr refl))
-over_same r q (Call x f ts back) h = ap suc (h back refl)
-over_same r q (Return t) f = refl
-over_same r q (Send t ts ls) f = most_same r q ls f
-over_same r q Stop f = refl
+over_same r q exit f = grind (arith, most_same)
 
 over_none : (r : ℕ → ℕ) (exit : Exit) → ((c : ℕ) → Leads exit c → ⊥) → over_exit r exit ≡ 0
 over_none r (Goto b) f = absurd (f b refl)
@@ -84,9 +72,8 @@ over_none r Stop f = refl
 -- only a block that is there leads on
 nth_there : {A : Type 0} (xs : List A) (b : ℕ) (P : A → Type 0) (d : A) → (P d → ⊥) → P (or_else (nth xs b) d)
     → b < length xs
-nth_there [] b P d none h = absurd (none h)
-nth_there (x ∷ xs) zero P d none h = omega arith
 nth_there (x ∷ xs) (suc b) P d none h = let r = nth_there xs b P d none h in omega arith
+nth_there xs b P d none h = grind arith
 
 there : (g : Graph) (b c : ℕ) → Leads (block_at g b).exit c → b < length (spots g)
 unfolding spot_at no_spot
@@ -94,8 +81,7 @@ there g b c h = nth_there (spots g) b (λ (x : Spot). Leads x.block.exit c) no_s
 
 module _ (g : Graph) where
   edges_turn : (n b : ℕ) → has_turn (block_at g b).ops ≡ true → edges g n b ≡ 0
-  edges_turn zero b e = refl
-  edges_turn (suc n) b e = ap (λ (v : Bool). if v then 0 else over_exit (edges g n) (block_at g b).exit) e
+  edges_turn n b e = grind arith
 
   edges_quiet : (n b : ℕ) → has_turn (block_at g b).ops ≡ false → edges g (suc n) b ≡ over_exit (edges g n)
       (block_at g b).exit
@@ -121,12 +107,7 @@ module _ (g : Graph) where
       longer_apart = ((λ i. cycles b (quiet b i)), apart)
 
       longer_below : (c : ℕ) → Leads (block_at g b).exit c → (y : ℕ) → In y (b ∷ seen) → y < length (spots g)
-      longer_below c edge y i =
-          elim i [
-            | inl h ↦ subst (λ (n : ℕ). n < length (spots g)) (sym h) (there g b c edge)
-            | inr h ↦
-                below y h
-          ]
+      longer_below c edge y i = grind (arith, there)
 
       longer_quiet : has_turn (block_at g b).ops ≡ false → (c : ℕ) → Leads (block_at g b).exit c → (y : ℕ)
           → In y (b ∷ seen) → Quiet g y c
@@ -143,10 +124,7 @@ module _ (g : Graph) where
           (longer_below c edge) in omega arith
 
       none_left : length (spots g) ≤ length seen → (n : ℕ) → edges g n b ≡ 0
-      none_left full zero = refl
-      none_left full (suc n) = by_bool (has_turn (block_at g b).ops) (edges g (suc n) b ≡ 0)
-          (λ e. edges_turn (suc n) b e)
-          (λ e. edges_quiet n b e ∙ over_none (edges g n) (block_at g b).exit (no_room full e))
+      none_left full n = grind (arith, edges_turn, edges_quiet, over_none, no_room)
 
     stable : (room : ℕ) (seen : List ℕ) (b : ℕ) → length (spots g) ≤ length seen + room → Distinct seen
         → ((y : ℕ) → In y seen → y < length (spots g)) → ((y : ℕ) → In y seen → Quiet g y b) → (n : ℕ)

@@ -1,6 +1,6 @@
 -- Lemmas on the blocks of a graph and their lists.
-use Rattle.std.proofs.Common.{◌≡◌, length, map, ap, arith, ℕ, List, [], ◌∷◌, set, refl, ◌∙◌, suc, inl, inr}
-use Rattle.std.proofs.Common.{◌++◌, zero, ◌≤◌, ◌+◌, Bool, true, false, if◌then◌else◌}
+use Rattle.std.proofs.Common.{◌≡◌, length, ap, arith, ℕ, List, [], ◌∷◌, set, refl, ◌∙◌, suc, inl, inr}
+use Rattle.std.proofs.Common.{◌++◌, zero, ◌≤◌, ◌+◌, Bool, true, if◌then◌else◌}
 use Rattle.std.proofs.lemmas.List.{length-map, length-set}
 use Rattle.cfg_core.specs.Graph.{spots, Term, Spot, no_spot, Block, spots_in, Graph, GraphProc, spot_at}
 use Rattle.cfg_core.specs.View as view
@@ -13,20 +13,11 @@ use Rattle.cfg_core.specs.Rules.{BlockNumbers, IsGraph}
 
 pub count_is : (table : GraphTable) → length table.spots.items
     ≡ length (spots (view.graph table.graph.now))
-count_is table =
-    let e : length (map spot_in_code table.spots.items) ≡ length
-    (map spot_in_graph (spots (view.graph table.graph.now))) = ap length table.spots_listed in
-    omega (
-      arith,
-      e,
-      length-map table.spots.items spot_in_code,
-      length-map (spots (view.graph table.graph.now)) spot_in_graph,
-    )
+count_is table = grind (arith, spot_in_code, spot_in_graph, length-map, table.spots.items)
 
 pub landed_count : (names words vars : List ℕ) → length (landed names words vars) ≡ length vars
-landed_count [] words vars = refl
-landed_count (x ∷ names) [] vars = refl
-landed_count (x ∷ names) (w ∷ words) vars = landed_count names words (set vars x w) ∙ length-set vars x w
+landed_count (x ∷ names) (w ∷ words) vars = grind (arith, length-set, landed_count names words (set vars x w))
+landed_count names words vars = grind arith
 
 pub values_count : (ts : List Term) (vars : List ℕ) (cells : List (List ℕ))
     → length (values ts vars cells) ≡ length ts
@@ -38,16 +29,13 @@ all_from P [] h = tt
 all_from P (x ∷ xs) h = (h x (inl refl), all_from P xs (λ y i. h y (inr i)))
 
 pub past : (xs : List Spot) (k : ℕ) → length xs ≤ k → or_else (nth xs k) no_spot ≡ no_spot
-past [] k le = refl
-past (x ∷ xs) zero le = absurd (omega arith)
 past (x ∷ xs) (suc k) le = past xs k (omega arith)
+past xs k le = grind arith
 
 pub nth_right : {A : Type 0} (xs ys : List A) (n k m : ℕ) → length xs ≡ n → m ≡ n + k
     → nth (xs ++ ys) m ≡ nth ys k
-nth_right [] ys n k m e em = ap (nth ys) (omega (arith, e, em))
-nth_right (x ∷ xs) ys zero k m e em = absurd (omega (arith, e))
-nth_right (x ∷ xs) ys (suc n) k zero e em = absurd (omega (arith, em))
 nth_right (x ∷ xs) ys (suc n) k (suc m) e em = nth_right xs ys n k m (omega (arith, e)) (omega (arith, em))
+nth_right xs ys n k m e em = grind arith
 
 pub spots_in_both : (home vars : ℕ) (xs ys : List Block) → spots_in home vars (xs ++ ys) ≡ spots_in home vars
     xs ++ spots_in home vars ys
@@ -62,10 +50,7 @@ in_filter p (y ∷ xs) x h e = by_test (p y) refl h (λ i. in_filter p xs x i e)
   where
     by_test : (b : Bool) → p y ≡ b → In x (y ∷ xs) → (In x xs → In x (filter p xs))
         → In x (if b then y ∷ filter p xs else filter p xs)
-    by_test true ey (inl same) rest = inl same
-    by_test true ey (inr i) rest = inr (rest i)
-    by_test false ey (inl same) rest = let z : p x ≡ p y = ap p same in absurd (cc)
-    by_test false ey (inr i) rest = rest i
+    by_test b ey h rest = grind arith
 
 pub filter_in : (p : ℕ → Bool) (xs : List ℕ) (x : ℕ) → In x (filter p xs) → In x xs × (p x ≡ true)
 filter_in p [] x h = absurd h
@@ -73,9 +58,7 @@ filter_in p (y ∷ xs) x h = by_test (p y) refl h (λ i. filter_in p xs x i)
   where
     by_test : (b : Bool) → p y ≡ b → In x (if b then y ∷ filter p xs else filter p xs)
         → (In x (filter p xs) → In x xs × (p x ≡ true)) → In x (y ∷ xs) × (p x ≡ true)
-    by_test true ey (inl same) rest = (inl same, ap p same ∙ ey)
-    by_test true ey (inr i) rest = let r = rest i in (inr r.0, r.1)
-    by_test false ey i rest = let r = rest i in (inr r.0, r.1)
+    by_test b ey i rest = grind arith
 
 pub spot_beyond : (g : Graph) (b : ℕ) → length (spots g) ≤ b → spot_at g b ≡ no_spot
 unfolding spot_at

@@ -1,6 +1,6 @@
 -- The table of a graph has its blocks and procedures.
 use Rattle.std.proofs.Common.{ℕ, zero, suc, ◌+◌, ◌≡◌, ◌<◌, ◌≤◌, List, [], ◌∷◌, ◌++◌, length, drop, map}
-use Rattle.std.proofs.Common.{slice_index_or, refl, sym, ap, ◌∙◌, subst, append_assoc, length-append, arith}
+use Rattle.std.proofs.Common.{slice_index_or, refl, ap, subst, append_assoc, length-append, arith}
 use Rattle.std.proofs.lemmas.List.{length-map}
 use Rattle.cfg_core.specs.Graph as plain
 use Rattle.cfg_core.specs.Graph.{Block, no_spot, no_proc, spots_in, spots_from, entry_from}
@@ -18,13 +18,8 @@ use Rattle.ws_words.specs.Items.{nth, or_else}
 pub spot_in : (xs : List Spot) (ys : List plain.Spot) (b : ℕ) (x : Spot)
     → map spot_in_code xs ≡ map spot_in_graph ys → b < length xs → x ≡ slice_index_or xs b x
     → SpotIs (or_else (nth ys b) no_spot) x
-spot_in [] ys b x e lt h = absurd (omega arith)
-spot_in (z ∷ xs) [] b x e lt h = absurd (cc)
-spot_in (z ∷ xs) (y ∷ ys) zero x e lt h =
-    let p : (z.vars, view.block z.block.now) ≡ (y.vars, y.block) = cc in
-    let q : spot_in_code x ≡ spot_in_graph y = ap spot_in_code h ∙ p in
-    record { vars = sym (ap (λ (r : ℕ × Block). r.0) q); block = sym (ap (λ (r : ℕ × Block). r.1) q) }
 spot_in (z ∷ xs) (y ∷ ys) (suc b) x e lt h = spot_in xs ys b x (cc) (omega arith) h
+spot_in xs ys b x e lt h = grind (arith, spot_in_code, spot_in_graph)
 
 -- past the last block none stands
 pub spot_past : (xs : List Spot) (ys : List plain.Spot) (b : ℕ) → map spot_in_code xs ≡ map spot_in_graph ys
@@ -48,14 +43,9 @@ room_in first procs rooms f x e lt h = at first procs f (subst (λ (rs : List Ro
   where
     at : (first : ℕ) (procs : List plain.GraphProc) (f : ℕ) → f < length (rooms_from first procs)
         → x ≡ slice_index_or (rooms_from first procs) f x → RoomIs first procs f x
-    at first [] f lt h = absurd (omega arith)
-    at first (p ∷ procs) zero lt h = record {
-      entry = ap (λ (r : Room). r.entry) h;
-      params = ap (λ (r : Room). r.params) h;
-      vars = ap (λ (r : Room). r.vars) h;
-    }
     at first (p ∷ procs) (suc f) lt h = let r = at (first + length p.blocks) procs f (omega arith) h in
         record { entry = r.entry; params = r.params; vars = r.vars }
+    at first procs f lt h = grind arith
 
 -- past the last procedure none stands
 pub entry_past : (first : ℕ) (procs : List plain.GraphProc) (rooms : List Room) (f : ℕ)
@@ -65,9 +55,8 @@ entry_past first procs rooms f e le = at first procs f (subst (λ (rs : List Roo
   where
     at : (first : ℕ) (procs : List plain.GraphProc) (f : ℕ) → length (rooms_from first procs) ≤ f
         → (0 ≡ entry_from first procs f) × (no_proc ≡ or_else (nth procs f) no_proc)
-    at first [] f le = (refl, refl)
-    at first (p ∷ procs) zero le = absurd (omega arith)
     at first (p ∷ procs) (suc f) le = at (first + length p.blocks) procs f (omega arith)
+    at first procs f le = grind arith
 
 in_graph : (home vars : ℕ) (blocks : List GraphBlock)
     → map spot_in_graph (spots_in home vars (map view.block blocks)) ≡ map (λ b. (vars, view.block b)) blocks
@@ -81,18 +70,7 @@ pub spots_more : (items : List GraphProc) (i j : ℕ) (p : GraphProc) (done next
     p.blocks.items → done ++ map spot_in_graph (spots_from i (map view.proc (drop i items))) ≡ whole
     → next ++ map spot_in_graph (spots_from j (map view.proc (drop j items))) ≡ whole
 spots_more items i j p done next whole ej e en h =
-    let rest = map view.proc (drop j items) in
-    let mine = spots_in i p.vars (map view.block p.blocks.items) in
-    ap (λ (zs : List (ℕ × Block)). zs ++ map spot_in_graph (spots_from j rest)) en
-    ∙ ap (λ n. (done ++ map (λ b. (p.vars, view.block b)) p.blocks.items) ++ map spot_in_graph
-    (spots_from n rest)) ej
-    ∙ append_assoc done _ _
-    ∙ ap (λ (zs : List (ℕ × Block)). done ++ (zs ++ map spot_in_graph (spots_from (suc i) rest)))
-    (sym (in_graph i p.vars p.blocks.items))
-    ∙ ap (λ (zs : List (ℕ × Block)). done ++ zs)
-    (sym (map_append spot_in_graph mine (spots_from (suc i) rest)))
-    ∙ ap (λ (ps : List GraphProc). done ++ map spot_in_graph (spots_from i (map view.proc ps))) (sym e)
-    ∙ h
+    grind (arith, p.vars, spot_in_graph, append_assoc, in_graph, map_append)
 
 -- one procedure more
 pub rooms_more : (items : List GraphProc) (i j : ℕ) (p : GraphProc) (n m : ℕ) (done next whole : List Room)
@@ -100,28 +78,10 @@ pub rooms_more : (items : List GraphProc) (i j : ℕ) (p : GraphProc) (n m : ℕ
     → next ≡ done ++ room ∷ [] → room ≡ record { entry = n; params = p.params; vars = p.vars }
     → done ++ rooms_from n (map view.proc (drop i items)) ≡ whole
     → next ++ rooms_from m (map view.proc (drop j items)) ≡ whole
-rooms_more items i j p n m done next whole room e em en er h =
-    let rest = map view.proc (drop j items) in
-    ap (λ (zs : List Room). zs ++ rooms_from m rest) en
-    ∙ append_assoc done (room ∷ []) (rooms_from m rest)
-    ∙ ap (λ (r : Room). done ++ (r ∷ rooms_from m rest)) er
-    ∙ ap (λ k. done ++ (record { entry = n; params = p.params; vars = p.vars } ∷ rooms_from k rest)) em
-    ∙ ap (λ (ps : List GraphProc). done ++ rooms_from n (map view.proc ps)) (sym e)
-    ∙ h
+rooms_more items i j p n m done next whole room e em en er h = grind (arith, append_assoc)
 
 -- its blocks
 pub count_more : (vars : ℕ) (old new : List Spot) (blocks : List GraphBlock)
     → map spot_in_code new ≡ map spot_in_code old ++ map (λ b. (vars, view.block b)) blocks
     → length new ≡ length old + length (map view.block blocks)
-count_more vars old new blocks e =
-    let pair : GraphBlock → ℕ × Block = λ b. (vars, view.block b) in
-    let n : length (map spot_in_code new) ≡ length (map spot_in_code old ++ map pair blocks) = ap length e in
-    omega (
-      arith,
-      n,
-      length-map new spot_in_code,
-      length-append (map spot_in_code old) (map pair blocks),
-      length-map old spot_in_code,
-      length-map blocks pair,
-      length-map blocks view.block,
-    )
+count_more vars old new blocks e = grind (arith, spot_in_code, length-map, length-append)

@@ -1,6 +1,6 @@
 -- A walk of any number of turns comes to an answer: each block makes it lighter.
-use Rattle.std.proofs.Common.{ℕ, zero, suc, ◌+◌, ◌-◌, ◌*◌, ◌≡◌, ◌<◌, ◌≤◌, ◌==◌, min, Bool, true, false, List}
-use Rattle.std.proofs.Common.{[], ◌∷◌, length, if◌then◌else◌, refl, ap, inl, inr, arith}
+use Rattle.std.proofs.Common.{ℕ, zero, suc, ◌+◌, ◌-◌, ◌*◌, ◌≡◌, ◌<◌, ◌≤◌, min, Bool, true, false, List}
+use Rattle.std.proofs.Common.{◌∷◌, length, if◌then◌else◌, refl, arith}
 use Rattle.ws_words.specs.Outside.{Outside, ProcState}
 use Rattle.cfg_core.specs.Graph.{Exit, Goto, Branch, Call, Return, Send, Stop, Graph, Spot, no_spot, spots}
 use Rattle.cfg_core.specs.Graph.{spot_at, block_at, entry_of}
@@ -41,32 +41,27 @@ module _ (g : Graph) where
 
   lower_rank : (f k j b c : ℕ) → j ≤ k → rank g c < rank g b → weight g f j c < weight g f k b
   unfolding weight
-  lower_rank f k j b c le lt = no_more_rows (length (spots g)) (f + 2 * j) (f + 2 * k) (rank g c) (rank g b)
-      (omega arith) lt
+  lower_rank f k j b c le lt = grind (arith, no_more_rows)
 
   if_lighter : (w : ℕ) (b : Bool) (c d : Config) → Lighter g w c → Lighter g w d
       → Lighter g w (if b then c else d)
-  if_lighter w true c d h i = h
-  if_lighter w false c d h i = i
+  if_lighter w b c d h i = grind arith
 
   module _ (w : ℕ) (frames : List Frame) (k : ℕ) where
     returned_lighter : ((c : ℕ) (f : Frame) (fs : List Frame) → frames ≡ f ∷ fs
         → weight g (length fs) k c < w) → (v : ℕ) (o : Outside) (fs : List Frame) → frames ≡ fs
         → Lighter g w (returned v o fs k)
-    returned_lighter small v o [] e = tt
-    returned_lighter small v o (f ∷ fs) e = small f.back f fs e
+    returned_lighter small v o fs e = grind arith
 
     -- after a turn
     leave_turn : ((c : ℕ) (fs : List Frame) → length fs ≤ suc (length frames) → weight g (length fs) k c < w)
         → (exit : Exit) (s : ProcState) → Lighter g w (leave g exit s frames k)
     leave_turn small (Goto b) s = small b frames (omega arith)
-    leave_turn small (Branch t a b) s = if_lighter w ((value_of t s).0 == 0) _ _
-        (small b frames (omega arith)) (small a frames (omega arith))
+    leave_turn small (Branch t a b) s = grind (arith, if_lighter, value_of)
     leave_turn small (Call x f ts back) s =
         small (entry_of g f) (record { result = x; back = back; vars = (values_of ts s).1.vars } ∷ frames)
         (omega arith)
-    leave_turn small (Return t) s = returned_lighter (λ c f fs e. small c fs (omega (arith, ap length e))) _ _
-        frames refl
+    leave_turn small (Return t) s = grind (arith, returned_lighter)
     leave_turn small (Send t ts ls) s = small _ frames (omega arith)
     leave_turn small Stop s = tt
 
@@ -75,19 +70,12 @@ module _ (g : Graph) where
         → (exit : Exit) → Lands g exit → calls exit ≡ false
         → ((c : ℕ) → Leads exit c → weight g (length frames) k c < w) → (s : ProcState)
         → Lighter g w (leave g exit s frames k)
-    leave_quiet small (Goto b) lands none edge s = edge b refl
-    leave_quiet small (Branch t a b) lands none edge s = if_lighter w ((value_of t s).0 == 0) _ _
-        (edge b (inr refl)) (edge a (inl refl))
-    leave_quiet small (Call x f ts back) lands none edge s = absurd (no_both refl none)
-    leave_quiet small (Return t) lands none edge s = returned_lighter small _ _ frames refl
-    leave_quiet small (Send t ts ls) lands none edge s = edge _ (in_landing (value_of t s).0 ls lands.0)
-    leave_quiet small Stop lands none edge s = tt
+    leave_quiet small exit lands none edge s =
+        grind (arith, if_lighter, value_of, no_both, returned_lighter, in_landing)
 
   passed_turn : (o : OpsOutcome) (exit : Exit) (frames : List Frame) (k b : ℕ) → Fewer k o
       → Lighter g (weight g (length frames) k b) (passed g o exit frames)
-  passed_turn (Done s j) exit frames k b lt = leave_turn (weight g (length frames) k b) frames j
-      (λ c fs le. fewer_rounds (length frames) k (length fs) j b c (omega arith)) exit s
-  passed_turn (Out o) exit frames k b lt = tt
+  passed_turn o exit frames k b lt = grind (arith, leave_turn, fewer_rounds)
 
   module _ (rules : IsGraph g) where
     -- the landings of a block fit what it sends
@@ -104,14 +92,12 @@ module _ (g : Graph) where
         (k : ℕ) → AtMost k o → Lighter g (weight g (length frames) k b)
         (passed g o (block_at g b).exit frames)
     passed_quiet b e (Done s j) frames k le = leave_quiet (weight g (length frames) k b) frames j
-        (λ c f fs d. fewer_rounds (length frames) k (length fs) j b c
-        (let h : length frames ≡ suc (length fs) = ap length d in omega arith))
+        (grind (arith, fewer_rounds))
         (block_at g b).exit (lands_at b) (no_call (calls (block_at g b).exit) refl)
-        (λ c edge. lower_rank (length frames) k j b c le (rank_falls g rules.cycles b c e edge)) s
+        (grind (arith, lower_rank, rank_falls, rules.cycles)) s
       where
         no_call : (v : Bool) → calls (block_at g b).exit ≡ v → calls (block_at g b).exit ≡ false
-        no_call true c = absurd (no_both (has_tick_turns (block_at g b).ops (ticks_at b c)) e)
-        no_call false c = c
+        no_call v c = grind (arith, no_both, has_tick_turns, ticks_at)
     passed_quiet b e (Out o) frames k le = tt
 
     -- each block leads to a place that weighs less

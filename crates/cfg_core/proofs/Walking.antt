@@ -1,7 +1,6 @@
 -- What the code does block by block is what the walk does.
 use Rattle.std.proofs.Common.{ℕ, zero, suc, ◌+◌, ◌-◌, ◌≡◌, ◌<◌, ◌≤◌, Bool, true, false, List, [], ◌∷◌, ◌++◌}
-use Rattle.std.proofs.Common.{length, drop, map, if◌then◌else◌, refl, sym, ap, ◌∙◌, subst, append_assoc}
-use Rattle.std.proofs.Common.{arith}
+use Rattle.std.proofs.Common.{length, drop, map, if◌then◌else◌, refl, ap, ◌∙◌, subst, append_assoc, arith}
 use Rattle.ws_words.specs.Outside.{Outside, ProcState, World, zeros, opening_out}
 use Rattle.std.proofs.lemmas.List.{length-map}
 use Rattle.cfg_core.specs.Graph.{Graph, GraphArray, entry_of, proc_at}
@@ -9,7 +8,7 @@ use Rattle.cfg_core.specs.View as view
 use Rattle.cfg_core.specs.Shown.{has_name, shown_cells}
 use Rattle.cfg_core.specs.declared.blocks.GraphArray.{GraphArray as CodeArray}
 use Rattle.cfg_core.specs.Walk as walks
-use Rattle.cfg_core.specs.Walk.{Config, At, Over, Going, step, walk, opening, Ends, EndsWith}
+use Rattle.cfg_core.specs.Walk.{Config, At, Over, Going, step, walk, opening, EndsWith}
 use Rattle.cfg_core.specs.Answer.{EndsInTurns, GoesSo}
 use Rattle.cfg_core.specs.Rules.{IsGraph}
 use Rattle.ws_words.specs.Memory.{OutIs}
@@ -37,16 +36,7 @@ pub record WalkUpto (g : Graph) (c : Config) (b : ℕ) (w : Walker) : Type 0 whe
 
 at_next : (g : Graph) (c d : Config) (n : ℕ) (b : ℕ) (w : Walker) → walk g n c ≡ d → NextIs d (next.At b) w
     → WalkUpto g c b w
-at_next g c (At e s frames k) n b w same h = record {
-  blocks = n;
-  state = s;
-  frames = frames;
-  left = k;
-  shows = h.1;
-  same = same ∙ ap (λ m. At m s frames k) h.0;
-}
-at_next g c (Over o k) n b w same h = absurd h
-at_next g c (Going o) n b w same h = absurd h
+at_next g c d n b w same h = grind arith
 
 -- the code has come to the next block
 pub walk_next : (g : Graph) (c : Config) (b d : ℕ) (w n : Walker) → WalkUpto g c b w
@@ -56,14 +46,10 @@ walk_next g c b d w n u f = at_next g c (step g (At b u.state u.frames u.left)) 
     (walk_more g u.blocks c ∙ ap (step g) u.same) (f u.state u.frames u.left u.shows)
 
 over_final : (d : Config) (w : Walker) → NextIs d next.Over w → FinalIs d true w
-over_final (At e s frames k) w h = absurd h
-over_final (Over o k) w h = h
-over_final (Going o) w h = absurd h
+over_final d w h = grind arith
 
 going_final : (d : Config) (w : Walker) → NextIs d next.Going w → FinalIs d false w
-going_final (At e s frames k) w h = absurd h
-going_final (Over o k) w h = absurd h
-going_final (Going o) w h = h
+going_final d w h = grind arith
 
 -- the code has come to the end
 pub walk_over : (g : Graph) (c : Config) (b : ℕ) (w n : Walker) → WalkUpto g c b w
@@ -73,7 +59,7 @@ walk_over g c b w n u f = record {
   blocks = suc u.blocks;
   final = step g (At b u.state u.frames u.left);
   same = walk_more g u.blocks c ∙ ap (step g) u.same;
-  is = over_final (step g (At b u.state u.frames u.left)) n (f u.state u.frames u.left u.shows);
+  is = grind (arith, over_final, u.left);
 }
 
 -- the code is out of turns
@@ -84,7 +70,7 @@ walk_going g c b w n u f = record {
   blocks = suc u.blocks;
   final = step g (At b u.state u.frames u.left);
   same = walk_more g u.blocks c ∙ ap (step g) u.same;
-  is = going_final (step g (At b u.state u.frames u.left)) n (f u.state u.frames u.left u.shows);
+  is = grind (arith, going_final, u.left);
 }
 
 length_stacked : (fs : List Frame) (below : List walks.Frame) → length (stacked fs below) ≡ length fs + length
@@ -95,13 +81,10 @@ length_stacked (f ∷ fs) below = let h =
 
 frames_of : (s : ProcState) (frames : List walks.Frame) (k : ℕ) (w : Walker) → Shows s frames k w
     → length frames ≡ length w.frames.items
-frames_of s frames k w sh = let h = length_stacked w.frames.items [] in
-    ap length sh.waiting ∙ omega (arith, h)
+frames_of s frames k w sh = grind (arith, length_stacked, w.frames.items)
 
 held_next : (d : Config) (b : ℕ) (w : Walker) → NextIs d (next.At b) w → Held w
-held_next (At e s frames k) b w h = record { state = s; frames = frames; left = k; shows = h.1 }
-held_next (Over o k) b w h = absurd h
-held_next (Going o) b w h = absurd h
+held_next d b w h = grind arith
 
 -- the code holds a state at the next block
 pub still_held : (g : Graph) (b d : ℕ) (w n : Walker) → Held w
@@ -129,12 +112,8 @@ pub falls : (g : Graph) → IsGraph g → (b d : ℕ) (w n : Walker) → Held w
     → NextIs (step g (At b s frames k)) (next.At d) n) → heft g d n < heft g b w
 falls g rules b d w n h f =
     let l : Lighter g (heft g b w) (step g (At b h.state h.frames h.left)) =
-    subst (λ m. Lighter g (weight g m w.turns b) (step g (At b h.state h.frames h.left)))
-    (frames_of h.state h.frames h.left w h.shows)
-    (subst (λ m. Lighter g (weight g (length h.frames) m b) (step g (At b h.state h.frames h.left)))
-    h.shows.turns (step_lighter g rules b h.state h.frames h.left)) in
-    lighter_next g (heft g b w) (step g (At b h.state h.frames h.left)) d n l
-    (f h.state h.frames h.left h.shows)
+    grind (arith, w.turns, frames_of, h.left, h.shows.turns, step_lighter) in
+    grind (arith, lighter_next, h.left)
 
 -- one array more
 shown_one : (a : GraphArray) (more : List GraphArray) (cells : List (List ℕ)) (i : ℕ)
@@ -157,8 +136,7 @@ shown_one a more (r ∷ cells) zero = by_name (has_name a)
   where
     by_name : (b : Bool) → (if b then r ∷ shown_cells more cells else shown_cells more cells)
         ≡ (if b then r ∷ [] else []) ++ shown_cells more cells
-    by_name true = refl
-    by_name false = refl
+    by_name b = grind arith
 shown_one a more (r ∷ cells) (suc i) = shown_one a more cells i
 
 -- one array more is shown
@@ -166,14 +144,7 @@ pub shown_more : (arrays : List CodeArray) (cells rows next whole : List (List �
     → j ≡ suc i → drop i arrays ≡ a ∷ drop j arrays → next ≡ rows ++ shown_at (view.array a) cells i
     → rows ++ shown_cells (map view.array (drop i arrays)) (drop i cells) ≡ whole
     → next ++ shown_cells (map view.array (drop j arrays)) (drop j cells) ≡ whole
-shown_more arrays cells rows next whole i j a ej e en h =
-    let more = map view.array (drop j arrays) in
-    ap (λ (rs : List (List ℕ)). rs ++ shown_cells more (drop j cells)) en
-    ∙ append_assoc rows (shown_at (view.array a) cells i) (shown_cells more (drop j cells))
-    ∙ ap (λ n. rows ++ (shown_at (view.array a) cells i ++ shown_cells more (drop n cells))) ej
-    ∙ ap (λ (rs : List (List ℕ)). rows ++ rs) (sym (shown_one (view.array a) more cells i))
-    ∙ ap (λ (xs : List CodeArray). rows ++ shown_cells (map view.array xs) (drop i cells)) (sym e)
-    ∙ h
+shown_more arrays cells rows next whole i j a ej e en h = grind (arith, append_assoc, shown_one)
 
 -- the walk begins at this block, with so many variables
 abbrev pub start : Graph → World → ℕ → ℕ → ℕ → Config
@@ -183,10 +154,7 @@ start g world turns b n = At b (record { vars = zeros n; out = opening_out (walk
 begun : (g : Graph) (world : World) (turns main entry vars : ℕ) (ended : Bool) (w : Walker)
     → main ≡ length g.procs - 1 → entry ≡ entry_of g main → vars ≡ (proc_at g main).vars
     → AnswerIs g (start g world turns entry vars) ended w → AnswerIs g (opening g world turns) ended w
-begun g world turns main entry vars ended w em ee ev h =
-    subst (λ (c : Config). AnswerIs g c ended w)
-    (ap (λ n. start g world turns n vars) (ee ∙ ap (entry_of g) em)
-    ∙ ap (start g world turns (entry_of g (length g.procs - 1))) (ev ∙ ap (λ n. (proc_at g n).vars) em)) h
+begun g world turns main entry vars ended w em ee ev h = grind arith
 
 -- the walk that the code begins is that of the graph
 pub opened : (table graph : CodeGraph) (world : World) (turns main entry vars : ℕ) (ended : Bool) (w : Walker)
@@ -195,13 +163,7 @@ pub opened : (table graph : CodeGraph) (world : World) (turns main entry vars : 
     (start (view.graph graph) world turns entry vars) ended w → AnswerIs (view.graph graph)
     (opening (view.graph graph) world turns) ended w
 opened table graph world turns main entry vars ended w same em ee ev h =
-    let last : main ≡ length (map view.proc graph.procs.items) - 1 =
-    omega (arith, em, length-map graph.procs.items view.proc) in
-    begun (view.graph graph) world turns main entry vars ended w last
-    (subst (λ (x : CodeGraph). entry ≡ entry_of (view.graph x) main) same ee)
-    (subst (λ (x : CodeGraph). vars ≡ (proc_at (view.graph x) main).vars) same ev)
-    (subst (λ (x : CodeGraph). AnswerIs (view.graph x) (start (view.graph graph) world turns entry vars) ended
-    w) same h)
+    grind (arith, length-map, graph.procs.items, begun)
 
 pub record EndedIs (g : Graph) (world : World) (turns : ℕ) (w : Walker) : Type 0 where
   pub outside : Outside
@@ -211,27 +173,12 @@ pub record EndedIs (g : Graph) (world : World) (turns : ℕ) (w : Walker) : Type
 -- a run that ended is a walk that ends
 pub ended_is : (g : Graph) (world : World) (turns : ℕ) (w : Walker) (ended : Bool) → ended ≡ true
     → AnswerIs g (opening g world turns) ended w → EndedIs g world turns w
-ended_is g world turns w ended t h =
-    by_final h.final h.same (subst (λ (b : Bool). FinalIs h.final b w) t h.is)
-  where
-    by_final : (c : Config) → walk g h.blocks (opening g world turns) ≡ c → FinalIs c true w
-        → EndedIs g world turns w
-    by_final (At b s frames k) e f = absurd f
-    by_final (Over o k) e f =
-        record { outside = o; shows = f.0; ends = (h.blocks, e ∙ ap (λ n. Over o n) f.1) }
-    by_final (Going o) e f = absurd f
+ended_is g world turns w ended t h = grind (arith, h.same)
 
 -- a run that did not is a walk that is going
 pub going_is : (g : Graph) (world : World) (turns : ℕ) (w : Walker) (ended : Bool) → ended ≡ false
     → AnswerIs g (opening g world turns) ended w → GoesSo g world turns w.memory.printed
-going_is g world turns w ended t h =
-    by_final h.final h.same (subst (λ (b : Bool). FinalIs h.final b w) t h.is)
-  where
-    by_final : (c : Config) → walk g h.blocks (opening g world turns) ≡ c → FinalIs c false w
-        → GoesSo g world turns w.memory.printed
-    by_final (At b s frames k) e f = absurd f
-    by_final (Over o k) e f = absurd f
-    by_final (Going o) e f = record { outside = o; goes = (h.blocks, e); prints = sym f.same_printed }
+going_is g world turns w ended t h = grind (arith, h.same)
 
 -- no more turns are left than were given
 pub in_time : (g : Graph) (world : World) (turns : ℕ) (w : Walker) → EndedIs g world turns w → w.turns ≤ turns
@@ -241,14 +188,4 @@ in_time g world turns w h = let r = fewer g world turns w.turns h.outside h.ends
 pub ends_so : (g : Graph) (world : World) (turns : ℕ) (w : Walker) (arrays : List (List ℕ))
     → EndedIs g world turns w → arrays ≡ shown_cells g.arrays w.memory.cells
     → EndsInTurns g world turns w.memory.printed arrays w.memory.took (turns - w.turns)
-ends_so g world turns w arrays h e =
-    let r = fewer g world turns w.turns h.outside h.ends in
-    let n : r.0 ≡ turns - w.turns = omega (arith, r.1) in
-    record {
-      outside = h.outside;
-      within = omega arith;
-      ends = subst (λ m. Ends g world m h.outside) n r.2;
-      prints = sym h.shows.same_printed;
-      leaves = e ∙ ap (λ (cs : List (List ℕ)). shown_cells g.arrays cs) (sym h.shows.same_cells);
-      taken = sym h.shows.same_took;
-    }
+ends_so g world turns w arrays h e = let r = fewer g world turns w.turns h.outside h.ends in grind arith

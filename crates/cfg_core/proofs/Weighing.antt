@@ -1,19 +1,18 @@
 -- What the blocks of a walk weigh is paid by a potential and by the turns.
-use Rattle.std.proofs.Common.{ℕ, zero, suc, ◌+◌, ◌-◌, ◌*◌, ◌≡◌, ◌<◌, ◌≤◌, ◌==◌, min, max, Bool, true, false}
-use Rattle.std.proofs.Common.{List, [], ◌∷◌, ◌++◌, length, if◌then◌else◌, refl, sym, ap, ◌∙◌, subst, inl, inr}
-use Rattle.std.proofs.Common.{arith}
+use Rattle.std.proofs.Common.{ℕ, zero, suc, ◌+◌, ◌*◌, ◌≡◌, ◌<◌, ◌≤◌, ◌==◌, max, Bool, List, [], ◌∷◌, length}
+use Rattle.std.proofs.Common.{if◌then◌else◌, refl, sym, ap, subst, inl, inr, arith}
 use Rattle.std.specs.List.{AllByRecursion, sum_by}
 use Rattle.std.proofs.Math.Nat.{mul-add, add-mul, mul_assoc, mul_comm}
 use Rattle.std.proofs.lemmas.Nat.{mul-le}
 use Rattle.std.proofs.lemmas.List.{length-append}
 use Rattle.std.proofs.lemmas.List.Sums.{sum_by-cons, sum_by-append}
 use Rattle.ws_words.specs.Outside.{Outside, ProcState, zeros}
-use Rattle.cfg_core.specs.Graph.{Op, Assign, Store, Print, Read, Give, Take, Choose, Tick, TickBy, Exit, Goto}
+use Rattle.cfg_core.specs.Graph.{Op, Exit, Goto}
 use Rattle.cfg_core.specs.Graph.{Branch, Call, Return, Send, Stop, Block, GraphProc, Graph, no_spot, spots_in}
 use Rattle.cfg_core.specs.Graph.{spots_from, spots, spot_at, block_at, proc_at, entry_from, entry_of}
 use Rattle.cfg_core.specs.Walk.{value_of, values_of, OpsOutcome, Done, Out, and_then, spend, run_op, run_ops}
 use Rattle.cfg_core.specs.Walk.{Frame, Config, At, Over, Going, landed, landing, with_result, entered}
-use Rattle.cfg_core.specs.Walk.{returned, leave, passed, step, opening}
+use Rattle.cfg_core.specs.Walk.{returned, leave, passed, step}
 use Rattle.cfg_core.specs.Rules.{Lands, ExitIn, ProcNumbers, BlockNumbers, IsGraph}
 use Rattle.cfg_core.specs.Weights.{turns_of, turns_at, block_left, path, highest, handed_on, IsPotential}
 use Rattle.cfg_core.specs.Weights.{WeighsAtMost, first_block, WalksWeigh}
@@ -31,53 +30,31 @@ no_turn : (s : ProcState) (k : ℕ) → Takes 0 k (Done s k)
 no_turn s k = omega arith
 
 one_more : (n k : ℕ) (o : OpsOutcome) → Takes n k o → Takes (suc n) (suc k) o
-one_more n k (Done s j) h = omega arith
-one_more n k (Out o) h = tt
+one_more n k o h = grind arith
 
 less : (n m k : ℕ) (o : OpsOutcome) → m ≤ n → Takes n k o → Takes m k o
-less n m k (Done s j) le h = omega arith
-less n m k (Out o) le h = tt
+less n m k o le h = grind arith
 
 if_takes : (n k : ℕ) (b : Bool) (o u : OpsOutcome) → Takes n k o → Takes n k u
     → Takes n k (if b then o else u)
-if_takes n k true o u h i = h
-if_takes n k false o u h i = i
+if_takes n k b o u h i = grind arith
 
 spend_takes : (n : ℕ) (s : ProcState) (k : ℕ) → Takes n k (spend n s k)
-spend_takes zero s k = no_turn s k
-spend_takes (suc n) s zero = tt
 spend_takes (suc n) s (suc k) = one_more n k (spend n s k) (spend_takes n s k)
+spend_takes n s k = grind (arith, no_turn)
 
 op_takes : (op : Op) (s : ProcState) (k : ℕ) → Takes (turns_of op) k (run_op op s k)
-op_takes (Assign x t) s k = no_turn s k
-op_takes (Store a t u) s k = no_turn s k
-op_takes (Print t) s k = no_turn s k
-op_takes (Read x) s k = no_turn s k
-op_takes (Give p x) s k = no_turn s k
-op_takes (Take p t) s k = no_turn s k
-op_takes (Choose x t a b) s k = if_takes 0 k ((value_of t s).0 == 0) _ _ (no_turn s k) (no_turn s k)
-op_takes (Tick n) s k = spend_takes n s k
-op_takes (TickBy t n m) s k =
-    let v = value_of t s in
-    if_takes (min n m) k (v.0 == 0) (spend m v.1 k) (spend n v.1 k)
-    (less m (min n m) k (spend m v.1 k) (omega arith) (spend_takes m v.1 k))
-    (less n (min n m) k (spend n v.1 k) (omega arith) (spend_takes n v.1 k))
+op_takes op s k = grind (arith, no_turn, if_takes, value_of, spend_takes, less)
 
 then_takes : (n m k : ℕ) (o : OpsOutcome) (go : ProcState → ℕ → OpsOutcome) → Takes n k o
     → ((s : ProcState) (j : ℕ) → Takes m j (go s j)) → Takes (n + m) k (and_then o go)
-then_takes n m k (Done s j) go h f = still (go s j) (f s j)
-  where
-    still : (u : OpsOutcome) → Takes m j u → Takes (n + m) k u
-    still (Done t i) e = omega (arith, h, e)
-    still (Out o) e = tt
-then_takes n m k (Out o) go h f = tt
+then_takes n m k o go h f = grind arith
 
 ops_take : (ops : List Op) (s : ProcState) (k : ℕ) → Takes (sum_by turns_of ops) k (run_ops ops s k)
 ops_take [] s k = no_turn s k
 ops_take (op ∷ ops) s k =
     subst (λ n. Takes n k (run_ops (op ∷ ops) s k)) (sym (sum_by-cons turns_of op ops))
-    (then_takes (turns_of op) (sum_by turns_of ops) k (run_op op s k) (run_ops ops) (op_takes op s k)
-    (ops_take ops))
+    (grind (arith, then_takes, op_takes, ops_take ops))
 
 -- Procedures begin at blocks that are there.
 
@@ -87,14 +64,6 @@ count_in home vars (x ∷ xs) = ap suc (count_in home vars xs)
 
 entry_there : (home first : ℕ) (ps : List GraphProc) → AllByRecursion ProcNumbers ps → (f : ℕ) → f < length ps
     → entry_from first ps f < first + length (spots_from home ps)
-entry_there home first [] h f lt = absurd (omega arith)
-entry_there home first (p ∷ ps) h zero lt =
-    omega (
-      arith,
-      length-append (spots_in home p.vars p.blocks) (spots_from (suc home) ps),
-      count_in home p.vars p.blocks,
-      h.0.some_block,
-    )
 entry_there home first (p ∷ ps) h (suc f) lt =
     omega (
       arith,
@@ -103,6 +72,7 @@ entry_there home first (p ∷ ps) h (suc f) lt =
       entry_there (suc home) (first + length p.blocks) ps h.1 f
           (omega arith),
     )
+entry_there home first ps h f lt = grind (arith, length-append, count_in)
 
 highest_of : (p : ℕ → ℕ) (b : ℕ) (bs : List ℕ) → In b bs → p b ≤ highest p bs
 highest_of p b (c ∷ bs) (inl e) = let h : p b ≡ p c = ap p e in omega (arith, h)
@@ -110,8 +80,7 @@ highest_of p b (c ∷ bs) (inr i) = let h = highest_of p b bs i in omega (arith,
 highest_of p b [] i = absurd i
 
 paid_by_turns : (pay j n k : ℕ) → j + n ≤ k → pay * j + pay * n ≤ pay * k
-paid_by_turns pay j n k le = let e = mul-add pay j n in let h = mul-le pay (j + n) pay k (omega arith) le in
-    omega (arith, e, h)
+paid_by_turns pay j n k le = let e = mul-add pay j n in grind (arith, mul-le)
 
 all_in : (P : ℕ → Type 0) (bs : List ℕ) → AllByRecursion P bs → (b : ℕ) → In b bs → P b
 all_in P [] h b i = absurd i
@@ -125,8 +94,7 @@ module _ (g : Graph) (rules : IsGraph g) (weight : ℕ → ℕ) (pay : ℕ) (p :
 
   entry_in : (f : ℕ) → f < length g.procs → There (entry_of g f)
   unfolding entry_of
-  entry_in f lt = let z : 0 + length (spots g) ≡ length (spots g) = omega arith in
-      subst (λ n. entry_of g f < n) z (entry_there 0 0 g.procs rules.numbers.procs f lt)
+  entry_in f lt = grind (arith, entry_there, g.procs, rules.numbers.procs)
 
   numbers_at : (b : ℕ) → BlockNumbers g (spot_at g b)
   unfolding spot_at no_spot
@@ -161,17 +129,14 @@ module _ (g : Graph) (rules : IsGraph g) (weight : ℕ → ℕ) (pay : ℕ) (p :
     leads_to : (c : ℕ) (t : ProcState) (fs : List Frame) (j : ℕ) → There c → AllThere fs
         → weight b + (p c + waiting fs) ≤ p b + pay * turns_at g b + waiting frames → j + turns_at g b ≤ k
         → Stepped (At c t fs j)
-    leads_to c t fs j here all h le =
-        ((here, all), omega (arith, sum_by-cons weight b [], paid_by_turns pay j (turns_at g b) k le, h))
+    leads_to c t fs j here all h le = grind (arith, sum_by-cons, paid_by_turns)
 
     ends_at : (o : Outside) (j : ℕ) → weight b ≤ p b + pay * turns_at g b → j + turns_at g b ≤ k
         → Stepped (Over o j)
-    ends_at o j h le =
-        (tt, omega (arith, sum_by-cons weight b [], paid_by_turns pay j (turns_at g b) k le, h))
+    ends_at o j h le = grind (arith, sum_by-cons, paid_by_turns)
 
     if_stepped : (v : Bool) (c d : Config) → Stepped c → Stepped d → Stepped (if v then c else d)
-    if_stepped true c d h i = h
-    if_stepped false c d h i = i
+    if_stepped v c d h i = grind arith
 
     returned_pays : (v : ℕ) (o : Outside) (fs : List Frame) (j : ℕ) → AllThere fs
         → waiting fs ≡ waiting frames → weight b ≤ p b + pay * turns_at g b → j + turns_at g b ≤ k
@@ -195,8 +160,7 @@ module _ (g : Graph) (rules : IsGraph g) (weight : ℕ → ℕ) (pay : ℕ) (p :
         leads_to (entry_of g f) (record { vars = entered (proc_at g f) vs.0; out = vs.1.out })
         (record { result = x; back = back; vars = vs.1.vars } ∷ frames) j (entry_in f fit.1)
         (fit.4.0, there) (omega (arith, h)) le
-    leave_pays (Return u) home vars fit lands h t j le = returned_pays (value_of u t).0 (value_of u t).1.out
-        frames j there refl (omega (arith, h)) le
+    leave_pays (Return u) home vars fit lands h t j le = grind (arith, returned_pays, value_of)
     leave_pays (Send u ts ls) home vars fit lands h t j le =
         let a = value_of u t in let c = landing a.0 ls in
         let i : In c ls = in_landing a.0 ls lands.0 in
@@ -219,27 +183,19 @@ module _ (g : Graph) (rules : IsGraph g) (weight : ℕ → ℕ) (pay : ℕ) (p :
 
   none_left : (n : ℕ) (c : Config) → step g c ≡ c → block_left c c ≡ [] → path g n c ≡ []
   none_left zero c e h = refl
-  none_left (suc n) c e h = subst (λ (d : Config). block_left c d ++ path g n d ≡ []) (sym e)
-      (ap (λ (bs : List ℕ). bs ++ path g n c) h ∙ none_left n c e h)
+  none_left (suc n) c e h = grind (arith, none_left n c e h)
 
   path_paid : (n : ℕ) (c : Config) → IsThere c → sum_by weight (path g n c) ≤ left c
-  path_paid zero c h = omega arith
   path_paid (suc n) (At b s frames k) h =
       let c = At b s frames k in let d = step g c in
       let r : IsThere d × (sum_by weight (block_left c d) + left d ≤ left c) =
       step_pays b s frames k h.1 h.0 in
       omega (arith, sum_by-append weight (block_left c d) (path g n d), path_paid n d r.0, r.1)
-  path_paid (suc n) (Over o k) h = let e = ap (sum_by weight) (none_left (suc n) (Over o k) refl refl) in
-      omega (arith, e)
-  path_paid (suc n) (Going o) h = let e = ap (sum_by weight) (none_left (suc n) (Going o) refl refl) in
-      omega (arith, e)
+  path_paid n c h = grind (arith, none_left)
 
   -- from the first block of the last procedure, with n turns
   pub walk_paid : WalksWeigh g weight (p (first_block g)) pay
-  walk_paid world n m =
-      let main = length g.procs - 1 in
-      let h = path_paid m (opening g world n) (entry_in main (omega (arith, rules.numbers.some_proc)), tt) in
-      omega (arith, h)
+  walk_paid world n m = grind (arith, path_paid, entry_in)
 
 -- Weights of one kind have a potential that is a multiple of the one of weights 1.
 
@@ -248,38 +204,25 @@ highest_times d p [] = omega arith
 highest_times d p (b ∷ bs) = most_times d (p b) (highest p bs) _ (highest_times d p bs)
   where
     most_times : (d m n k : ℕ) → k ≤ d * n → max (d * m) k ≤ d * max m n
-    most_times d m n k le = let h = mul-le d m d (max m n) (omega arith) (omega arith) in
-        let i = mul-le d n d (max m n) (omega arith) (omega arith) in omega (arith, h, i)
+    most_times d m n k le = grind (arith, mul-le)
 
 max_times : (d m n : ℕ) → max (d * m) (d * n) ≤ d * max m n
-max_times d m n = let h = mul-le d m d (max m n) (omega arith) (omega arith) in
-    let i = mul-le d n d (max m n) (omega arith) (omega arith) in omega (arith, h, i)
+max_times d m n = grind (arith, mul-le)
 
 handed_times : (g : Graph) (d : ℕ) (p : ℕ → ℕ) (exit : Exit) → handed_on g (λ b. d * p b) exit ≤ d * handed_on
     g p exit
-handed_times g d p (Goto b) = omega arith
-handed_times g d p (Branch t a b) = max_times d (p a) (p b)
-handed_times g d p (Call x f ts back) = let e = mul-add d (p (entry_of g f)) (p back) in omega (arith, e)
-handed_times g d p (Return t) = omega arith
-handed_times g d p (Send t ts ls) = highest_times d p ls
-handed_times g d p Stop = omega arith
+handed_times g d p exit = grind (arith, max_times, mul-add, highest_times)
 
 scale : (base pay more weight turns p after times : ℕ) → weight ≤ base + pay * turns
     → 1 + after ≤ p + more * turns → times ≤ base * after → weight + times ≤ base * p + (pay + more * base)
     * turns
 scale base pay more weight turns p after times h i j =
     let a = mul-le base (1 + after) base (p + more * turns) (omega arith) i in
-    let b = mul-add base 1 after in let c = mul-add base p (more * turns) in
-    let d = add-mul pay (more * base) turns in
-    let e : base * (more * turns) ≡ more * base * turns = sym (mul_assoc base more turns)
-    ∙ ap (λ n. n * turns) (mul_comm base more) in
-    omega (arith, a, b, c, d, e, h, j)
+    grind (arith, mul-add, add-mul, mul_assoc, mul_comm)
 
 pub multiple_pays : (g : Graph) (weight p : ℕ → ℕ) (base pay more : ℕ) → IsPotential g (λ b. 1) more p
     → WeighsAtMost g weight base pay → IsPotential g weight (pay + more * base) (λ b. base * p b)
-multiple_pays g weight p base pay more one most b lt =
-    scale base pay more (weight b) (turns_at g b) (p b) (handed_on g p (block_at g b).exit) _ (most b lt)
-    (one b lt) (handed_times g base p (block_at g b).exit)
+multiple_pays g weight p base pay more one most b lt = grind (arith, scale, handed_times)
 
 -- where the walk begins at a potential of at most 1
 pub walk_bounded : (g : Graph) (weight p : ℕ → ℕ) (base pay more : ℕ) → IsGraph g

@@ -1,7 +1,7 @@
 -- What the code does at an action is what the run does.
+use Rattle.std.proofs.Common.{arith, ◌≡◌, ℕ, ◌-◌, ◌<◌, ◌≤◌, true, false, List, Option, Some, None, slice_set}
+use Rattle.std.proofs.Common.{refl, ◌∙◌, subst}
 use Rattle.std.specs.Option.{is_some}
-use Rattle.std.proofs.Common.{◌≡◌, ℕ, ◌-◌, ◌<◌, ◌≤◌, true, false, List, Option, Some, None, slice_set, refl}
-use Rattle.std.proofs.Common.{sym, ap, ◌∙◌, subst}
 use Rattle.ws_words.specs.Memory.{OutIs, Does, lengths_of}
 use Rattle.ws_words.specs.Outside.{loads, stores, reads, prints, gives, takes, Outside, ProcState, row}
 use Rattle.ws_words.specs.Outside.{head_or_zero}
@@ -28,8 +28,7 @@ module _ (start : Outside) (s : ProcState) (m : Memory) (vars : List ℕ) (h : H
       → Holds start (done (resolved.Assign x t) s) m now
   assign_holds x v t now none ev en = record {
     out = (value_holds start s m vars h t none).out;
-    same_vars = ap (λ (w : ℕ). slice_set s.vars x w) (sym (value_is start s m vars h t) ∙ sym ev)
-        ∙ ap (λ (vs : List ℕ). slice_set vs x v) h.same_vars ∙ sym en;
+    same_vars = grind (arith, slice_set, s.vars, value_is);
   }
 
   -- one with such a load stops
@@ -44,7 +43,7 @@ module _ (start : Outside) (s : ProcState) (m : Memory) (vars : List ℕ) (h : H
   print_holds v t n none ev d = record {
     out = act_shows start (value_of t s).1.out m n (prints (value_of t s).0)
         (value_holds start s m vars h t none).out
-        (subst (λ (w : ℕ). Does (prints w) m n) (ev ∙ value_is start s m vars h t) d) tt;
+        (grind (arith, value_is)) tt;
     same_vars = h.same_vars;
   }
 
@@ -59,8 +58,7 @@ module _ (start : Outside) (s : ProcState) (m : Memory) (vars : List ℕ) (h : H
       → Holds start (done (resolved.Take p t) s) n vars
   take_holds p v t n none ev d = record {
     out = act_shows start (value_of t s).1.out m n (takes p (value_of t s).0)
-        (value_holds start s m vars h t none).out (subst (λ (w : ℕ). Does (takes p w) m n)
-        (ev ∙ value_is start s m vars h t) d) tt;
+        (value_holds start s m vars h t none).out (grind (arith, value_is)) tt;
     same_vars = h.same_vars;
   }
 
@@ -75,8 +73,7 @@ module _ (start : Outside) (s : ProcState) (m : Memory) (vars : List ℕ) (h : H
       → Holds start (done (resolved.Read x) s) n now
   read_holds x w n now ew d en = record {
     out = act_shows start s.out m n reads h.out d tt;
-    same_vars = ap (λ (v : ℕ). slice_set s.vars x v) (sym (ew s.out h.out.out))
-        ∙ ap (λ (vs : List ℕ). slice_set vs x w) h.same_vars ∙ sym en;
+    same_vars = grind (arith, slice_set, s.vars);
   }
 
   -- a port gives a word
@@ -85,8 +82,7 @@ module _ (start : Outside) (s : ProcState) (m : Memory) (vars : List ℕ) (h : H
       → now ≡ slice_set vars x w → Holds start (done (resolved.Give p x) s) n now
   give_holds p x w n now ew d en = record {
     out = act_shows start s.out m n (gives p) h.out d tt;
-    same_vars = ap (λ (v : ℕ). slice_set s.vars x v) (sym (ew s.out h.out.out))
-        ∙ ap (λ (vs : List ℕ). slice_set vs x w) h.same_vars ∙ sym en;
+    same_vars = grind (arith, slice_set, s.vars);
   }
 
   -- a store notes the first past of the loads of its index, of those of its value, and itself
@@ -150,47 +146,36 @@ module _ (start : Outside) (s : ProcState) (m : Memory) (vars : List ℕ) (h : H
         → first_past (lengths_of m.cells) (loads_of u vars m.cells) ≡ two
         → past_array (lengths_of m.cells) (loads a i) ≡ own → (c : ℕ) → first_some (first_some one two) own
         ≡ Some c → Stops start (done (resolved.Store a t u) s).out.acts c m
-    noted (Some x) two own e f g c is = index_stops c (e ∙ is)
-    noted None (Some x) own e f g c is = word_stops c e (f ∙ is)
-    noted None None own e f g c is = store_stops c e f (g ∙ is)
+    noted one two own e f g c is = grind (arith, index_stops, word_stops, store_stops)
 
     -- nothing was noted in a store: it is done
     pub none_noted : (n : Memory) (one two own : Option ℕ) → first_past (lengths_of m.cells)
         (loads_of t vars m.cells) ≡ one → first_past (lengths_of m.cells) (loads_of u vars m.cells) ≡ two
         → past_array (lengths_of m.cells) (loads a i) ≡ own → first_some (first_some one two) own ≡ None
         → Does (stores a i v) m n → Holds start (done (resolved.Store a t u) s) n vars
-    none_noted n (Some x) two own e f g is d = absurd (cc)
-    none_noted n None (Some x) own e f g is d = absurd (cc)
-    none_noted n None None own e f g is d = store_holds n e f (g ∙ is) d
+    none_noted n one two own e f g is d = grind (arith, store_holds)
 
 -- what the code noted decides
 pub some_done : (start : Outside) (a b : CodeAction) (s : ProcState) (past : Option ℕ) (m : Memory)
     (vars : List ℕ) → b ≡ a → ((c : ℕ) → past ≡ Some c → Stops start (done (view.action a) s).out.acts c m)
     → (past ≡ None → ⊥) → IsDone start (view.action b) s past m vars
-some_done start a b s None m vars e f g = absurd (g refl)
-some_done start a b s (Some c) m vars e f g =
-    subst (λ (x : CodeAction). Stops start (done (view.action x) s).out.acts c m) (sym e) (f c refl)
+some_done start a b s past m vars e f g = grind arith
 
 -- where nothing was noted the action is done
 pub none_done : (start : Outside) (a b : CodeAction) (s : ProcState) (past : Option ℕ) (m : Memory)
     (vars : List ℕ) → b ≡ a → past ≡ None → Holds start (done (view.action a) s) m vars
     → IsDone start (view.action b) s past m vars
-none_done start a b s None m vars e n h =
-    subst (λ (x : CodeAction). Holds start (done (view.action x) s) m vars) (sym e) h
-none_done start a b s (Some c) m vars e n h = absurd (cc)
+none_done start a b s past m vars e n h = grind arith
 
 -- an array is there, or none
 pub some_there : (p : Option ℕ) → true ≡ is_some p → p ≡ None → ⊥
-some_there None e h = absurd (cc)
-some_there (Some c) e h = absurd (cc)
+some_there p e h = grind arith
 
 -- no array is there
 pub none_there : (p : Option ℕ) → false ≡ is_some p → p ≡ None
-none_there None e = refl
-none_there (Some c) e = absurd (cc)
+none_there p e = grind arith
 
 -- an action that can't be past
 pub from_action : (start : Outside) (a b : CodeAction) (s : ProcState) (m : Memory) (vars : List ℕ) → b ≡ a
     → Holds start (done (view.action a) s) m vars → Holds start (done (view.action b) s) m vars
-from_action start a b s m vars e h = subst (λ (x : CodeAction). Holds start (done (view.action x) s) m vars)
-    (sym e) h
+from_action start a b s m vars e h = grind arith

@@ -1,9 +1,9 @@
 -- A run that ended with turns left ends with each other number of turns left, if it has as many more or
 -- fewer.
 use Rattle.std.proofs.Common.{ℕ, zero, suc, ◌+◌, ◌-◌, ◌≡◌, ◌<◌, ◌≤◌, ◌==◌, Bool, true, false, List, [], ◌++◌}
-use Rattle.std.proofs.Common.{length, Option, Some, None, if◌then◌else◌, refl, ap, ◌∙◌, subst, arith}
+use Rattle.std.proofs.Common.{length, Option, if◌then◌else◌, refl, ap, ◌∙◌, arith}
 use Rattle.ws_words.specs.Outside.{Outside, ProcState, zeros, World, opening_out}
-use Rattle.src_ast.specs.Turns.{PartEnd, Ended, Out, and_then, turn, CallEnd, Returned, Stopped, with_result}
+use Rattle.src_ast.specs.Turns.{PartEnd, Ended, Out, and_then, turn, CallEnd, Returned, Stopped}
 use Rattle.src_ast.specs.Turns.{back_in, ending, loop}
 use Rattle.src_ast.specs.Meaning.{Calls, empty_cells}
 use Rattle.cfg_core.specs.Graph.{Term}
@@ -30,12 +30,7 @@ CallsCost calls = (f : ℕ) (args : List ℕ) (o : Outside) (k v : ℕ) (p : Out
     → calls f args o k ≡ Returned v p j → CallCost (calls f args o) v p j k
 
 no_cost : (s u : ProcState) (j k : ℕ) → Ended s k ≡ Ended u j → Cost (λ i. Ended s i) u j k
-no_cost s u j k e = record {
-  cost = 0;
-  sum = (let z : k ≡ j = cc in omega (arith, z));
-  again = λ i. let z : i + 0 ≡ i = omega arith in let w : s ≡ u = cc in
-      ap (λ n. Ended s n) z ∙ ap (λ (x : ProcState). Ended x i) w;
-}
+no_cost s u j k e = grind arith
 
 turn_cost : (s : ProcState) (go : ℕ → PartEnd) (u : ProcState) (j k : ℕ)
     → ((i : ℕ) → go i ≡ Ended u j → Cost go u j i) → turn k s go ≡ Ended u j → Cost (λ i. turn i s go) u j k
@@ -61,22 +56,12 @@ then_cost h go u j k f g (Out o) e d = absurd (cc)
 if_cost : (b : Bool) (h g : ℕ → PartEnd) (u : ProcState) (j k : ℕ) → (h k ≡ Ended u j → Cost h u j k)
     → (g k ≡ Ended u j → Cost g u j k) → (if b then h k else g k) ≡ Ended u j
     → Cost (λ i. if b then h i else g i) u j k
-if_cost true h g u j k f i e = f e
-if_cost false h g u j k f i e = i e
+if_cost b h g u j k f i e = grind arith
 
 back_cost : (h : ℕ → CallEnd) (vars : List ℕ) (x : Option ℕ) (u : ProcState) (j k : ℕ)
     → ((v : ℕ) (p : Outside) (i : ℕ) → h k ≡ Returned v p i → CallCost h v p i k) → (e : CallEnd) → h k ≡ e
     → back_in vars x e ≡ Ended u j → Cost (λ i. back_in vars x (h i)) u j k
-back_cost h vars x u j k f (Returned v p i) e d =
-    let r = f v p i e in
-    let z : i ≡ j = cc in
-    let w : record { vars = with_result x v vars; out = p } ≡ u = cc in
-    record {
-      cost = r.cost;
-      sum = omega (arith, r.sum, z);
-      again = λ n. ap (back_in vars x) (r.again n)
-          ∙ ap (λ (y : ProcState). Ended y n) w;
-    }
+back_cost h vars x u j k f (Returned v p i) e d = let r = f v p i e in grind (arith, r.again)
 back_cost h vars x u j k f (Stopped o) e d = absurd (cc)
 
 record LoopCost (test : ProcState → ℕ × ProcState) (body : ProcState → ℕ → PartEnd) (s u : ProcState)
@@ -90,8 +75,6 @@ module _ (test : ProcState → ℕ × ProcState) (body : ProcState → ℕ → P
     → Cost (body s) u j k) where
   loop_cost : (fuel : ℕ) (s : ProcState) (k : ℕ) (u : ProcState) (j : ℕ) → k < fuel
       → loop fuel test body s k ≡ Ended u j → LoopCost test body s u j k
-  loop_cost zero s k u j lt e = absurd (omega arith)
-  loop_cost (suc fuel) s zero u j lt e = absurd (cc)
   loop_cost (suc fuel) s (suc k) u j lt e = by_test ((test s).0 == 0) refl (body (test s).1 k) refl
       (most (test s).1 k) e (λ t i le d. loop_cost fuel t i u j (omega arith) d)
     where
@@ -105,12 +88,7 @@ module _ (test : ProcState → ℕ × ProcState) (body : ProcState → ℕ → P
           record { cost = 1; sum = omega (arith, z); again = λ i g lg. one_turn i g lg w }
         where
           one_turn : (i g : ℕ) → i + 1 < g → (test s).1 ≡ u → loop g test body s (i + 1) ≡ Ended u i
-          one_turn i zero lg w = absurd (omega arith)
-          one_turn i (suc g) lg w =
-              let y : i + 1 ≡ suc i = omega arith in
-              ap (λ n. loop (suc g) test body s n) y ∙ ap (λ (v : Bool). if v then Ended (test s).1 i
-              else and_then (body (test s).1 i) (loop g test body)) eb
-              ∙ ap (λ (x : ProcState). Ended x i) w
+          one_turn i g lg w = grind arith
       by_test false eb (Out o) eo le d f = absurd (cc)
       by_test false eb (Ended t i) eo le d f =
           let r = costs (test s).1 k t i eo in
@@ -131,6 +109,7 @@ module _ (test : ProcState → ℕ × ProcState) (body : ProcState → ℕ → P
               else and_then (body (test s).1 ((n + q.cost) + r.cost)) (loop g test body)) eb
               ∙ ap (λ (o : PartEnd). and_then o (loop g test body)) (r.again (n + q.cost))
               ∙ q.again n g (omega arith)
+  loop_cost fuel s k u j lt e = grind arith
 
 module _ (calls : Calls) (cm : CallsAtMost calls) (cc_ : CallsCost calls) where
   leaf : (s v : ProcState) (u : ProcState) (j k : ℕ) → turn k s (λ i. Ended v i) ≡ Ended u j
@@ -166,24 +145,7 @@ module _ (calls : Calls) (cm : CallsAtMost calls) (cc_ : CallsCost calls) where
 
 finish_cost : (r : Option Term) (s : ProcState) (k v : ℕ) (o : Outside) (j : ℕ)
     → finish r s k ≡ Returned v o j → CallCost (finish r s) v o j k
-finish_cost None s k v o j e = record {
-  cost = 0;
-  sum = (let z : k ≡ j = cc in omega (arith, z));
-  again = λ i. let z : i + 0 ≡ i = omega arith in let w : s.out ≡ o = cc in let y : 0 ≡ v = cc in
-      ap (λ n. Returned 0 s.out n) z ∙ ap (λ (x : Outside). Returned 0 x i) w ∙ ap (λ n. Returned n o i) y;
-}
-finish_cost (Some t) s zero v o j e = absurd (cc)
-finish_cost (Some t) s (suc k) v o j e =
-    let z : k ≡ j = cc in
-    let w : (value_of t s).1.out ≡ o = cc in
-    let y : (value_of t s).0 ≡ v = cc in
-    record {
-      cost = 1;
-      sum = omega (arith, z);
-      again = λ i. let q : i + 1 ≡ suc i = omega arith in
-          ap (λ n. finish (Some t) s n) q ∙ ap (λ (x : Outside). Returned (value_of t s).0 x i) w
-          ∙ ap (λ n. Returned n o i) y;
-    }
+finish_cost r s k v o j e = grind (arith, value_of)
 
 ending_cost : (h : ℕ → PartEnd) (r : Option Term) (v : ℕ) (p : Outside) (j k : ℕ)
     → ((s : ProcState) (i : ℕ) → h k ≡ Ended s i → Cost h s i k) → (o : PartEnd) → h k ≡ o
@@ -208,8 +170,7 @@ proc_cost calls cm cs q args o k v p j e =
 if_call_cost : (b : Bool) (h g : ℕ → CallEnd) (v : ℕ) (p : Outside) (j k : ℕ)
     → (h k ≡ Returned v p j → CallCost h v p j k) → (g k ≡ Returned v p j → CallCost g v p j k)
     → (if b then h k else g k) ≡ Returned v p j → CallCost (λ i. if b then h i else g i) v p j k
-if_call_cost true h g v p j k f i e = f e
-if_call_cost false h g v p j k f i e = i e
+if_call_cost b h g v p j k f i e = grind arith
 
 -- so do the calls of a program
 pub calls_cost : (n : ℕ) (procs : List Proc) → CallsCost (calls_below n procs)
@@ -217,8 +178,7 @@ calls_cost zero procs f args o k v p j e = absurd (cc)
 calls_cost (suc n) procs f args o k v p j e =
     if_call_cost (f == n) (run_proc (calls_below n procs) (nth_proc procs n) args o)
     (calls_below n procs f args o) v p j k
-    (proc_cost (calls_below n procs) (calls_most n procs) (calls_cost n procs) (nth_proc procs n) args o k v p
-    j)
+    (grind (arith, proc_cost, calls_most, calls_cost n procs))
     (calls_cost n procs f args o k v p j) e
 
 at_cost : (main : ℕ) (program : ResolvedProgram) (world : World) (k v : ℕ) (o : Outside) (j : ℕ)
@@ -232,13 +192,10 @@ pub exactly : (program : ResolvedProgram) (world : World) (k v : ℕ) (o : Outsi
     → run program world k ≡ Returned v o j → (n : ℕ) × (k ≡ j + n) × (run program world n ≡ Returned v o 0)
 exactly program world k v o j e =
     let r = at_cost (length program.procs - 1) program world k v o j e in
-    let z : 0 + r.cost ≡ r.cost = omega arith in
-    (r.cost, r.sum, subst (λ (n : ℕ). run program world n ≡ Returned v o 0) z (r.again 0))
+    let z : 0 + r.cost ≡ r.cost = omega arith in grind (arith, r.again)
 
 -- a run that ended with none left ends with so many left if it has so many more
 pub more_turns : (program : ResolvedProgram) (world : World) (k v : ℕ) (o : Outside) (i : ℕ)
     → run program world k ≡ Returned v o 0 → run program world (i + k) ≡ Returned v o i
 more_turns program world k v o i e =
-    let r = at_cost (length program.procs - 1) program world k v o 0 e in
-    let z : k ≡ r.cost = omega (arith, r.sum) in
-    ap (λ (n : ℕ). run program world (i + n)) z ∙ r.again i
+    let r = at_cost (length program.procs - 1) program world k v o 0 e in grind (arith, r.again)

@@ -30,9 +30,8 @@ taken_more {X} xs i x lt is = ap (λ (n : ℕ). take n xs) (let z : i + 1 ≡ su
   where
     at : (xs : List X) (i : ℕ) → i < length xs → x ≡ slice_index_or xs i x
         → take (suc i) xs ≡ take i xs ++ x ∷ []
-    at [] i lt is = absurd (omega arith)
-    at (y ∷ xs) zero lt is = ap (λ (z : X). z ∷ []) (sym is)
     at (y ∷ xs) (suc i) lt is = ap (λ (zs : List X). y ∷ zs) (at xs i (omega arith) is)
+    at xs i lt is = grind arith
 
 map_append : (f : Item → Part) (xs ys : List Item) → map f (xs ++ ys) ≡ map f xs ++ map f ys
 map_append f [] ys = refl
@@ -98,9 +97,7 @@ one_further first i next now e d = omega (arith, e, d)
 pub declared_more : (first : ℕ) (names list : List Name) (i : ℕ) (x : Name) (table : NameNumbers)
     → i < length list → x ≡ slice_index_or list i x → IsTable first ((names ++ take i list) ++ x ∷ []) table
     → IsTable first (names ++ take (i + 1) list) table
-declared_more first names list i x table lt is h = subst (λ (ns : List Name). IsTable first ns table)
-    (append_assoc names (take i list) (x ∷ []) ∙ ap (λ (ns : List Name). names ++ ns)
-    (sym (taken_more list i x lt is))) h
+declared_more first names list i x table lt is h = grind (arith, append_assoc, taken_more)
 
 length_take : {X : Type 0} (xs : List X) (i : ℕ) → length (take i xs) ≤ i
 length_take [] zero = omega arith
@@ -135,14 +132,9 @@ few_procs xs i = let h = at (take i xs) in let l = length_take xs i in omega (ar
 pub few_at : (xs : List Item) (i : ℕ) (x : Item) (p : Procedure)
     → AllByRecursion FewVars (procs_of (ast.parts xs)) → i < length xs → x ≡ slice_index_or xs i x
     → ast.part x ≡ Proc p → FewVars p
-few_at [] i x p h lt is e = absurd (omega arith)
-few_at (y ∷ ys) zero x p h lt is e =
-    let q : List Procedure = procs_of (ast.part y ∷ ast.parts ys) in
-    let d : q ≡ p ∷ procs_of (ast.parts ys) = ap (λ (z : Part). procs_of (z ∷ ast.parts ys))
-    (ap ast.part (sym is) ∙ e) in
-    (subst (λ (ps : List Procedure). AllByRecursion FewVars ps) d h).0
 few_at (items.Array z n at ∷ ys) (suc i) x p h lt is e = few_at ys i x p h (omega arith) is e
 few_at (items.Proc z ps vs body ending ∷ ys) (suc i) x p h lt is e = few_at ys i x p h.1 (omega arith) is e
+few_at xs i x p h lt is e = grind arith
 
 -- all items are taken
 pub take_whole : {X : Type 0} (xs : List X) (i : ℕ) → length xs ≤ i → take i xs ≡ xs
@@ -158,8 +150,7 @@ module _ (xs : List Item) (i : ℕ) (x : Item) (lt : i < length xs) (is : x ≡ 
 
   proc_names_more : names_of (procs_of (ast.parts (take (i + 1) xs))) ≡ names_of
       (procs_of (ast.parts (take i xs))) ++ names_of (procs_of (ast.part x ∷ []))
-  proc_names_more = more (λ ps. names_of (procs_of ps)) (λ ps qs. ap names_of (procs_append ps qs)
-      ∙ names_append (procs_of ps) (procs_of qs))
+  proc_names_more = more (λ ps. names_of (procs_of ps)) (grind (arith, procs_append, names_append))
 
   -- an array more
   module _ (name : Name) (n : ℕ) (at : Place) (isa : x ≡ items.Array name n at) where
@@ -173,9 +164,7 @@ module _ (xs : List Item) (i : ℕ) (x : Item) (lt : i < length xs) (is : x ≡ 
     -- and none of procedures
     pub array_no_proc : (table : NameNumbers) → IsTable 0 (names_of (procs_of (ast.parts (take i xs)))) table
         → IsTable 0 (names_of (procs_of (ast.parts (take (i + 1) xs)))) table
-    array_no_proc table h = subst (λ (ns : List Name). IsTable 0 ns table)
-        (sym (proc_names_more ∙ ap (λ (y : Item). names_of (procs_of (ast.parts (take i xs))) ++ names_of
-        (procs_of (ast.part y ∷ []))) isa ∙ append-nil (names_of (procs_of (ast.parts (take i xs)))))) h
+    array_no_proc table h = grind (arith, proc_names_more, append-nil)
 
     -- its name
     pub shape_name : (list now : List ArrayShape) (s : ArrayShape)
@@ -184,8 +173,7 @@ module _ (xs : List Item) (i : ℕ) (x : Item) (lt : i < length xs) (is : x ≡ 
     shape_name list now s so en es =
         ap view.names en ∙ view_names_append list (s ∷ []) ∙ ap (λ (ts : List (List ℕ)). ts ++ s.name ∷ []) so
         ∙ ap (λ (t : List ℕ). name_texts (arrays_of (ast.parts (take i xs))) ++ t ∷ []) es
-        ∙ sym (more (λ ps. name_texts (arrays_of ps)) (λ ps qs. ap name_texts (arrays_append ps qs)
-        ∙ texts_append (arrays_of ps) (arrays_of qs))
+        ∙ sym (more (λ ps. name_texts (arrays_of ps)) (grind (arith, arrays_append, texts_append))
         ∙ ap (λ (y : Item). name_texts (arrays_of (ast.parts (take i xs))) ++ name_texts
         (arrays_of (ast.part y ∷ []))) isa)
 
@@ -205,8 +193,7 @@ module _ (xs : List Item) (i : ℕ) (x : Item) (lt : i < length xs) (is : x ≡ 
         (procs_of (ast.parts (take i xs)))
     array_procs_same arrays names =
         more (λ ps. resolving.procs arrays names (procs_of ps))
-        (λ ps qs. ap (resolving.procs arrays names) (procs_append ps qs)
-        ∙ resolving_append arrays names (procs_of ps) (procs_of qs))
+        (grind (arith, procs_append, resolving_append))
         ∙ ap (λ (y : Item). resolving.procs arrays names (procs_of (ast.parts (take i xs))) ++ resolving.procs
         arrays names (procs_of (ast.part y ∷ []))) isa
         ∙ append-nil (resolving.procs arrays names (procs_of (ast.parts (take i xs))))
@@ -217,9 +204,7 @@ module _ (xs : List Item) (i : ℕ) (x : Item) (lt : i < length xs) (is : x ≡ 
     pub proc_more : (table : NameNumbers)
         → IsTable 0 (names_of (procs_of (ast.parts (take i xs))) ++ p.name ∷ []) table
         → IsTable 0 (names_of (procs_of (ast.parts (take (i + 1) xs)))) table
-    proc_more table h = subst (λ (ns : List Name). IsTable 0 ns table)
-        (sym (proc_names_more ∙ ap (λ (y : Part). names_of (procs_of (ast.parts (take i xs))) ++ names_of
-        (procs_of (y ∷ []))) isp)) h
+    proc_more table h = grind (arith, proc_names_more)
 
     -- and none of arrays
     pub proc_no_array : (table : NameNumbers) → IsTable 1 (arrays_of (ast.parts (take i xs))) table
@@ -255,8 +240,7 @@ module _ (xs : List Item) (i : ℕ) (x : Item) (lt : i < length xs) (is : x ≡ 
         ∙ ap (λ (t : resolved.Proc). resolving.procs arrays names (procs_of (ast.parts (take i xs))) ++ t
         ∷ []) eq
         ∙ sym (more (λ ps. resolving.procs arrays names (procs_of ps))
-        (λ ps qs. ap (resolving.procs arrays names) (procs_append ps qs)
-        ∙ resolving_append arrays names (procs_of ps) (procs_of qs))
+        (grind (arith, procs_append, resolving_append))
         ∙ ap (λ (y : Part). resolving.procs arrays names (procs_of (ast.parts (take i xs)))
         ++ resolving.procs arrays names (procs_of (y ∷ []))) isp)
 
@@ -294,10 +278,4 @@ pub moved : (arrays procs : List Name) (name : Name) (ending : Option Last) (q :
     (a b c d : List Name) (s t : List Stmt) → a ≡ b → c ≡ d → s ≡ t
     → q ≡ resolving.proc (scope_of arrays procs (procedure name a c s ending)) (procedure name a c s ending)
     → q ≡ resolving.proc (scope_of arrays procs (procedure name b d t ending)) (procedure name b d t ending)
-moved arrays procs name ending q a b c d s t ab cd st h =
-    h ∙ ap (λ (x : List Name). resolving.proc (scope_of arrays procs (procedure name x c s ending))
-    (procedure name x c s ending)) ab
-    ∙ ap (λ (x : List Name). resolving.proc (scope_of arrays procs (procedure name b x s ending))
-    (procedure name b x s ending)) cd
-    ∙ ap (λ (x : List Stmt). resolving.proc (scope_of arrays procs (procedure name b d x ending))
-    (procedure name b d x ending)) st
+moved arrays procs name ending q a b c d s t ab cd st h = grind arith

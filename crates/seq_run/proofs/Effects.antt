@@ -1,8 +1,8 @@
 -- What the code holds after acts, and where one is past.
-use Rattle.std.proofs.Common.{◌≡◌, ℕ, List, [], ◌∷◌, ◌++◌, Some, None, refl, sym, ap, ◌∙◌, subst}
+use Rattle.std.proofs.Common.{arith, ◌≡◌, ℕ, List, [], ◌∷◌, ◌++◌, Some, None, refl, sym, ap, ◌∙◌, subst}
 use Rattle.std.proofs.Common.{append_assoc}
 use Rattle.ws_words.specs.Memory.{OutIs, Does, lengths_of}
-use Rattle.ws_words.specs.Outside.{Act, loads, stores, reads, prints, gives, takes, Outside, ProcState}
+use Rattle.ws_words.specs.Outside.{Act, loads, Outside, ProcState}
 use Rattle.ws_words.specs.Past.{ActsBegin, IsWithin, AreWithin, after_act, after_acts}
 use Rattle.ws_words.specs.declared.memory.Memory.{Memory}
 use Rattle.ws_words.proofs.Acts.{Silent, after_append, acts_of, with_more, begins_then}
@@ -17,8 +17,7 @@ use Rattle.seq_run.proofs.FirstPasts.{all_within, found, within_both}
 -- the lengths that the code holds are those from the start
 pub lengths_held : (start o : Outside) (m : Memory) → ShowsMemory start o m
     → lengths_of m.cells ≡ lengths_of start.cells
-lengths_held start o m sh = ap lengths_of (sym sh.out.same_cells) ∙ ap (λ (p : Outside). lengths_of p.cells)
-    sh.told ∙ lengths_stay_all start o.acts
+lengths_held start o m sh = grind (arith, lengths_stay_all)
 
 after_shows : (start o : Outside) (m n : Memory) (acts : List Act) → ShowsMemory start o m
     → OutIs (after_acts o acts) n → AreWithin (lengths_of start.cells) acts
@@ -29,8 +28,7 @@ after_shows start o m n acts sh out w =
       out = out;
       within = subst (AreWithin (lengths_of start.cells)) e (within_both (lengths_of start.cells) o.acts acts
           sh.within w);
-      told = ap (λ (p : Outside). after_acts p acts) sh.told ∙ sym (after_append start o.acts acts)
-          ∙ ap (after_acts start) e;
+      told = grind (arith, after_append, o.acts);
     }
 
 -- after one act more
@@ -39,14 +37,8 @@ pub act_shows : (start o : Outside) (m n : Memory) (act : Act) → ShowsMemory s
 act_shows start o m n act sh d w = after_shows start o m n (act ∷ []) sh (d o sh.out) (w, tt)
 
 silent_loads : (acts : List Act) → OnlyLoads acts → Silent acts
-silent_loads [] h = record { printed = refl; took = λ p. refl }
-silent_loads (loads a i ∷ acts) h = let s = silent_loads acts h.1 in
-    record { printed = s.printed; took = λ p. s.took p }
-silent_loads (stores a i w ∷ acts) h = absurd h.0
-silent_loads (reads ∷ acts) h = absurd h.0
-silent_loads (prints w ∷ acts) h = absurd h.0
-silent_loads (gives p ∷ acts) h = absurd h.0
-silent_loads (takes p w ∷ acts) h = absurd h.0
+silent_loads (loads a i ∷ acts) h = grind (arith, silent_loads acts h.1)
+silent_loads acts h = grind arith
 
 -- after loads more
 pub loads_show : (start o : Outside) (m : Memory) (acts : List Act) → ShowsMemory start o m → OnlyLoads acts
@@ -97,37 +89,27 @@ module _ (start : Outside) (s : ProcState) (m : Memory) (vars : List ℕ) (h : H
 
   -- the code's value is the run's
   pub value_is : (t : Term) → value t vars m.cells ≡ (value_of t s).0
-  value_is t = ap (λ (vs : List ℕ). value t vs m.cells) (sym h.same_vars)
-      ∙ ap (λ (cs : List (List ℕ)). value t s.vars cs) (sym h.out.out.same_cells)
+  value_is t = grind (arith, s.vars)
 
   -- so are the values of arguments
   pub values_are : (ts : List Term) → values ts vars m.cells ≡ (values_of ts s).0
-  values_are ts = ap (λ (vs : List ℕ). values ts vs m.cells) (sym h.same_vars)
-      ∙ ap (λ (cs : List (List ℕ)). values ts s.vars cs) (sym h.out.out.same_cells)
+  values_are ts = grind (arith, s.vars)
 
   -- so are its loads
   pub loads_are : (t : Term) → first_past (lengths_of m.cells) (loads_of t vars m.cells) ≡ first_past
       (lengths_of start.cells) (loads_of t s.vars s.out.cells)
-  loads_are t =
-      ap (λ (ns : List ℕ). first_past ns (loads_of t vars m.cells)) lens
-      ∙ ap (λ (vs : List ℕ). first_past (lengths_of start.cells) (loads_of t vs m.cells)) (sym h.same_vars)
-      ∙ ap (λ (cs : List (List ℕ)). first_past (lengths_of start.cells) (loads_of t s.vars cs))
-      (sym h.out.out.same_cells)
+  loads_are t = grind (arith, lens, s.vars)
 
   all_loads_are : (ts : List Term) → first_past (lengths_of m.cells) (all_loads ts vars m.cells) ≡ first_past
       (lengths_of start.cells) (all_loads ts s.vars s.out.cells)
-  all_loads_are ts =
-      ap (λ (ns : List ℕ). first_past ns (all_loads ts vars m.cells)) lens
-      ∙ ap (λ (vs : List ℕ). first_past (lengths_of start.cells) (all_loads ts vs m.cells)) (sym h.same_vars)
-      ∙ ap (λ (cs : List (List ℕ)). first_past (lengths_of start.cells) (all_loads ts s.vars cs))
-      (sym h.out.out.same_cells)
+  all_loads_are ts = grind (arith, lens, s.vars)
 
   -- no load is past
   pub value_holds : (t : Term) → first_past (lengths_of m.cells) (loads_of t vars m.cells) ≡ None
       → Holds start (value_of t s).1 m vars
   value_holds t e = record {
     out = loads_show start s.out m (loads_of t s.vars s.out.cells) h.out (only_loads t s.vars s.out.cells)
-        (all_within (lengths_of start.cells) _ (sym (loads_are t) ∙ e));
+        (grind (arith, all_within, loads_are));
     same_vars = h.same_vars;
   }
 
@@ -136,22 +118,19 @@ module _ (start : Outside) (s : ProcState) (m : Memory) (vars : List ℕ) (h : H
       → Holds start (values_of ts s).1 m vars
   values_hold ts e = record {
     out = loads_show start s.out m (all_loads ts s.vars s.out.cells) h.out
-        (only_all_loads ts s.vars s.out.cells) (all_within (lengths_of start.cells) _
-        (sym (all_loads_are ts) ∙ e));
+        (only_all_loads ts s.vars s.out.cells) (grind (arith, all_within, all_loads_are));
     same_vars = h.same_vars;
   }
 
   -- a load is past
   pub value_stops : (t : Term) (c : ℕ) (all : List Act) → first_past (lengths_of m.cells)
       (loads_of t vars m.cells) ≡ Some c → ActsBegin (value_of t s).1.out.acts all → Stops start all c m
-  value_stops t c all e b = loads_stop start s.out m (loads_of t s.vars s.out.cells) all c h.out
-      (only_loads t s.vars s.out.cells) (sym (loads_are t) ∙ e) b
+  value_stops t c all e b = grind (arith, loads_stop, s.vars, only_loads, loads_are)
 
   -- a load of the arguments is past
   pub values_stop : (ts : List Term) (c : ℕ) (all : List Act) → first_past (lengths_of m.cells)
       (all_loads ts vars m.cells) ≡ Some c → ActsBegin (values_of ts s).1.out.acts all → Stops start all c m
-  values_stop ts c all e b = loads_stop start s.out m (all_loads ts s.vars s.out.cells) all c h.out
-      (only_all_loads ts s.vars s.out.cells) (sym (all_loads_are ts) ∙ e) b
+  values_stop ts c all e b = grind (arith, loads_stop, s.vars, only_all_loads, all_loads_are)
 
 -- acts more at the end
 pub one_more : (xs : List Act) (a : Act) → ActsBegin xs (xs ++ a ∷ [])

@@ -35,9 +35,7 @@ few_from before (Proc p ∷ parts) la lp h =
 
 -- an accepted program has few arrays and procedures
 pub accepted_few : (parts : List Part) (finish : Place) → IsAccepted parts finish → length parts + 1 < 2 ^ 32
-accepted_few parts finish a =
-    let h = few_from [] parts (omega arith) (omega arith) (kept_front (rules_after [] parts) _ a) in
-    omega (arith, h)
+accepted_few parts finish a = grind (arith, few_from, kept_front)
 
 few_vars : (n m : ℕ) → n + m ≤ 32 → n + m < 2 ^ 32
 few_vars n m h = omega (arith, h)
@@ -47,7 +45,7 @@ vars_from : (before parts : List Part) → Kept (rules_after before parts)
 vars_from before [] h = tt
 vars_from before (Array x n at ∷ parts) h =
     let next = before ++ Array x n at ∷ [] in
-    vars_from next parts (kept_after (part_rules before (Array x n at)) (rules_after next parts) h)
+    vars_from next parts (grind (arith, kept_after))
 vars_from before (Proc p ∷ parts) h =
     let next = before ++ Proc p ∷ [] in
     let kept = proc_kept before p (kept_front (part_rules before (Proc p)) (rules_after next parts) h) in

@@ -1,66 +1,43 @@
 -- The first act that is past.
-use Rattle.std.proofs.Common.{ℕ, ◌≡◌, ◌<◌, ◌≤◌, Bool, true, false, List, [], ◌∷◌, ◌++◌, Option, Some, None}
+use Rattle.std.proofs.Common.{ℕ, ◌≡◌, ◌<◌, ◌≤◌, Bool, List, [], ◌∷◌, ◌++◌, Option, Some, None}
 use Rattle.std.proofs.Common.{if◌then◌else◌, refl, sym, ap, ◌∙◌, subst, arith}
 use Rattle.std.specs.Prelude.{nat_lt}
 use Rattle.std.proofs.lemmas.Bool.{ltb-true, lt-ltb}
 use Rattle.std.proofs.lemmas.Bool.Decides.{nat_tests}
-use Rattle.ws_words.specs.Outside.{Act, loads, stores, reads, prints, gives, takes}
-use Rattle.ws_words.specs.Past.{ActsBegin, length_of, IsPast, IsWithin, AreWithin, FirstPast}
+use Rattle.ws_words.specs.Outside.{Act}
+use Rattle.ws_words.specs.Past.{ActsBegin, IsPast, IsWithin, AreWithin, FirstPast}
 use Rattle.seq_run.specs.Firsts.{past_array, first_past}
 use Rattle.ws_words.specs.Items.{first_some}
 
 -- one index against one length
 module _ (a i n : ℕ) where
   none_less : (b : Bool) → nat_lt i n ≡ b → (if b then None else Some a) ≡ None → i < n
-  none_less true e h = ltb-true i n e
-  none_less false e h = absurd (cc)
+  none_less b e h = grind (arith, ltb-true)
 
   some_not_less : (c : ℕ) (b : Bool) → nat_lt i n ≡ b → (if b then None else Some a) ≡ Some c
       → (a ≡ c) × (n ≤ i)
-  some_not_less c true e h = absurd (cc)
-  some_not_less c false e h = (cc, grind (arith, nat_tests))
+  some_not_less c b e h = grind (arith, nat_tests)
 
   less_none : i < n → (if nat_lt i n then None else Some a) ≡ None
   less_none lt = ap (λ (b : Bool). if b then None else Some a) (lt-ltb i n lt)
 
   not_less_some : (c : ℕ) → a ≡ c → n ≤ i → (if nat_lt i n then None else Some a) ≡ Some c
-  not_less_some c e le = let f : nat_lt i n ≡ false = grind (arith, nat_tests) in
-      ap (λ (b : Bool). if b then None else Some a) f ∙ ap Some e
+  not_less_some c e le = grind (arith, nat_tests)
 
 -- an act that is not past
 pub none_within : (lengths : List ℕ) (act : Act) → past_array lengths act ≡ None → IsWithin lengths act
-none_within lengths (loads a i) h = none_less a i (length_of lengths a) _ refl h
-none_within lengths (stores a i w) h = none_less a i (length_of lengths a) _ refl h
-none_within lengths reads h = tt
-none_within lengths (prints w) h = tt
-none_within lengths (gives p) h = tt
-none_within lengths (takes p w) h = tt
+none_within lengths act h = grind (arith, none_less)
 
 -- one that is
 pub some_past : (lengths : List ℕ) (act : Act) (c : ℕ) → past_array lengths act ≡ Some c
     → IsPast lengths c act
-some_past lengths (loads a i) c h = some_not_less a i (length_of lengths a) c _ refl h
-some_past lengths (stores a i w) c h = some_not_less a i (length_of lengths a) c _ refl h
-some_past lengths reads c h = absurd (cc)
-some_past lengths (prints w) c h = absurd (cc)
-some_past lengths (gives p) c h = absurd (cc)
-some_past lengths (takes p w) c h = absurd (cc)
+some_past lengths act c h = grind (arith, some_not_less)
 
 within_none : (lengths : List ℕ) (act : Act) → IsWithin lengths act → past_array lengths act ≡ None
-within_none lengths (loads a i) h = less_none a i (length_of lengths a) h
-within_none lengths (stores a i w) h = less_none a i (length_of lengths a) h
-within_none lengths reads h = refl
-within_none lengths (prints w) h = refl
-within_none lengths (gives p) h = refl
-within_none lengths (takes p w) h = refl
+within_none lengths act h = grind (arith, less_none)
 
 past_some : (lengths : List ℕ) (act : Act) (c : ℕ) → IsPast lengths c act → past_array lengths act ≡ Some c
-past_some lengths (loads a i) c h = not_less_some a i (length_of lengths a) c h.0 h.1
-past_some lengths (stores a i w) c h = not_less_some a i (length_of lengths a) c h.0 h.1
-past_some lengths reads c h = absurd h
-past_some lengths (prints w) c h = absurd h
-past_some lengths (gives p) c h = absurd h
-past_some lengths (takes p w) c h = absurd h
+past_some lengths act c h = grind (arith, not_less_some)
 
 -- none is past
 pub all_within : (lengths : List ℕ) (acts : List Act) → first_past lengths acts ≡ None
@@ -70,14 +47,12 @@ all_within lengths (act ∷ acts) h = by_act (past_array lengths act) refl h (al
   where
     by_act : (r : Option ℕ) → past_array lengths act ≡ r → first_some r (first_past lengths acts) ≡ None
         → (first_past lengths acts ≡ None → AreWithin lengths acts) → AreWithin lengths (act ∷ acts)
-    by_act (Some c) e d f = absurd (cc)
-    by_act None e d f = (none_within lengths act e, f d)
+    by_act r e d f = grind (arith, none_within)
 
 pub within_all : (lengths : List ℕ) (acts : List Act) → AreWithin lengths acts
     → first_past lengths acts ≡ None
 within_all lengths [] h = refl
-within_all lengths (act ∷ acts) h = ap (λ (r : Option ℕ). first_some r (first_past lengths acts))
-    (within_none lengths act h.0) ∙ within_all lengths acts h.1
+within_all lengths (act ∷ acts) h = grind (arith, within_none, within_all lengths acts h.1)
 
 -- the acts before the first that is past
 pub record Found (lengths : List ℕ) (acts : List Act) (array : ℕ) : Type 0 where
@@ -92,17 +67,7 @@ found lengths (act ∷ acts) c h = by_act (past_array lengths act) refl h (found
   where
     by_act : (r : Option ℕ) → past_array lengths act ≡ r → first_some r (first_past lengths acts) ≡ Some c
         → (first_past lengths acts ≡ Some c → Found lengths acts c) → Found lengths (act ∷ acts) c
-    by_act (Some d) e f next =
-        record {
-          before = [];
-          first = record {
-            within = tt;
-            act = act;
-            past = some_past lengths act c (e ∙ f);
-            after = acts;
-            split = refl;
-          };
-        }
+    by_act (Some d) e f next = grind (arith, some_past)
     by_act None e f next =
         let r = next f in
         record {
@@ -129,23 +94,17 @@ before_past lengths (act ∷ acts) = before_with (past_array lengths act) act (b
 module _ (lengths : List ℕ) (act : Act) (after : List Act) (c : ℕ) (past : IsPast lengths c act) where
   first_at : (before : List Act) → AreWithin lengths before → first_past lengths (before ++ act ∷ after)
       ≡ Some c
-  first_at [] w = ap (λ (r : Option ℕ). first_some r (first_past lengths after))
-      (past_some lengths act c past)
-  first_at (x ∷ before) w = ap (λ (r : Option ℕ). first_some r (first_past lengths (before ++ act ∷ after)))
-      (within_none lengths x w.0) ∙ first_at before w.1
+  first_at [] w = grind (arith, past_some)
+  first_at (x ∷ before) w = grind (arith, within_none, first_at before w.1)
 
   before_at : (before : List Act) → AreWithin lengths before → before_past lengths (before ++ act ∷ after)
       ≡ before
-  before_at [] w = ap (λ (r : Option ℕ). before_with r act (before_past lengths after))
-      (past_some lengths act c past)
-  before_at (x ∷ before) w =
-      ap (λ (r : Option ℕ). before_with r x (before_past lengths (before ++ act ∷ after)))
-      (within_none lengths x w.0) ∙ ap (λ (xs : List Act). x ∷ xs) (before_at before w.1)
+  before_at [] w = grind (arith, past_some)
+  before_at (x ∷ before) w = grind (arith, within_none, before_at before w.1)
 
 pub first_is : (lengths : List ℕ) (acts before : List Act) (c : ℕ) → FirstPast lengths acts before c
     → first_past lengths acts ≡ Some c
-first_is lengths acts before c h = ap (first_past lengths) h.split ∙ first_at lengths h.act h.after c h.past
-    before h.within
+first_is lengths acts before c h = grind (arith, first_at, h.act)
 
 -- one list of acts has one first act that is past
 pub one_array : (lengths : List ℕ) (acts before began : List Act) (c d : ℕ) → FirstPast lengths acts before c
@@ -183,32 +142,26 @@ pub within_front : (lengths : List ℕ) (xs ys : List Act) → ActsBegin xs ys �
 within_front lengths xs ys b h = within_take lengths xs b.0 (subst (AreWithin lengths) b.1 h)
 
 or_assoc : (a b c : Option ℕ) → first_some (first_some a b) c ≡ first_some a (first_some b c)
-or_assoc (Some x) b c = refl
-or_assoc None b c = refl
+or_assoc a b c = grind arith
 
 -- the first past act of one list after another
 pub first_append : (lengths : List ℕ) (xs ys : List Act) → first_past lengths (xs ++ ys) ≡ first_some
     (first_past lengths xs) (first_past lengths ys)
 first_append lengths [] ys = refl
-first_append lengths (x ∷ xs) ys = ap (first_some (past_array lengths x)) (first_append lengths xs ys)
-    ∙ sym (or_assoc (past_array lengths x) (first_past lengths xs) (first_past lengths ys))
+first_append lengths (x ∷ xs) ys = grind (arith, or_assoc, first_append lengths xs ys)
 
 -- nothing more is noted
 pub or_none : (b : Option ℕ) → first_some b None ≡ b
-or_none (Some x) = refl
-or_none None = refl
+or_none b = grind arith
 
 -- what is noted in acts one list after another
 pub noted_then : (lengths : List ℕ) (xs ys : List Act) (p q r : Option ℕ)
     → q ≡ first_some p (first_past lengths xs) → r ≡ first_some q (first_past lengths ys)
     → r ≡ first_some p (first_past lengths (xs ++ ys))
-noted_then lengths xs ys p q r h i =
-    i ∙ ap (λ (x : Option ℕ). first_some x (first_past lengths ys)) h ∙ or_assoc p (first_past lengths xs)
-    (first_past lengths ys) ∙ ap (first_some p) (sym (first_append lengths xs ys))
+noted_then lengths xs ys p q r h i = grind (arith, or_assoc, first_append)
 
 -- what is noted in one act more
 pub noted_one : (lengths : List ℕ) (xs : List Act) (act : Act) (p q r : Option ℕ)
     → q ≡ first_some p (first_past lengths xs) → r ≡ first_some q (past_array lengths act)
     → r ≡ first_some p (first_past lengths (xs ++ act ∷ []))
-noted_one lengths xs act p q r h i = noted_then lengths xs (act ∷ []) p q r h
-    (i ∙ ap (first_some q) (sym (or_none (past_array lengths act))))
+noted_one lengths xs act p q r h i = grind (arith, noted_then, or_none)

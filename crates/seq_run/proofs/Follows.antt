@@ -4,15 +4,14 @@ use Rattle.std.proofs.Common.{rules, ◌≡◌, ℕ, zero, suc, ◌+◌, ◌-◌
 use Rattle.std.proofs.Common.{◌∷◌, ◌++◌, Option, Some, None, length, map, take, drop, if◌then◌else◌}
 use Rattle.std.proofs.Common.{slice_index_or, refl, sym, ap, ◌∙◌, subst, append_assoc, arith}
 use Rattle.std.proofs.lemmas.List.{append-nil}
-use Rattle.std.proofs.lemmas.Bool.{eqb-true}
 use Rattle.std.proofs.lemmas.Bool.Decides.{nat_tests}
 use Rattle.std.specs.Prelude.{Vec}
 use Rattle.std.specs.declared.alloc.Global.{Global}
 use Rattle.ws_words.specs.Memory.{lengths_of}
 use Rattle.ws_words.specs.Outside.{Act, Outside, ProcState, zeros}
-use Rattle.ws_words.specs.Past.{ActsBegin, AreWithin}
+use Rattle.ws_words.specs.Past.{ActsBegin}
 use Rattle.ws_words.specs.declared.memory.Memory.{Memory}
-use Rattle.src_ast.specs.Turns.{PartEnd, Ended, Out, and_then, CallEnd, Returned, Stopped, with_result}
+use Rattle.src_ast.specs.Turns.{PartEnd, Ended, Out, and_then, CallEnd, Stopped, with_result}
 use Rattle.src_ast.specs.Turns.{back_in, ending, loop}
 use Rattle.src_ast.specs.Meaning.{Calls}
 use Rattle.src_ast.specs.Runs.{outside_of}
@@ -21,7 +20,7 @@ use Rattle.cfg_core.specs.Walk.{value, values, loads_of, all_loads, value_of, va
 use Rattle.cfg_core.specs.View as graph
 use Rattle.cfg_core.specs.declared.blocks.Term.{Term as CodeTerm}
 use Rattle.seq_run.specs.Resolved as resolved
-use Rattle.seq_run.specs.Resolved.{Steps, Nothing, Then, Proc, run_one, run_all, run_proc, finish}
+use Rattle.seq_run.specs.Resolved.{Steps, Then, Proc, run_one, run_all, run_proc, finish}
 use Rattle.seq_run.specs.Resolved.{calls_below, nth_proc}
 use Rattle.seq_run.specs.Firsts.{first_past}
 use Rattle.seq_run.specs.Seen.{seen, call_seen}
@@ -41,7 +40,7 @@ use Rattle.seq_run.specs.declared.flow.Reply.{Reply}
 use Rattle.seq_run.specs.declared.flow.Reply.TheVariants as replies
 use Rattle.seq_run.proofs.TurnsLeft.{calls_most, CallsAtMost}
 use Rattle.seq_run.proofs.Cost.{Cost, one_cost, all_cost, calls_cost, CallsCost}
-use Rattle.seq_run.proofs.Grows.{OutcomeTells, CallTells, CallsTell, all_tells, finish_tells, loop_tells}
+use Rattle.seq_run.proofs.Grows.{OutcomeTells, CallsTell, all_tells, finish_tells, loop_tells}
 use Rattle.ws_words.proofs.Acts.{begins_all}
 use Rattle.seq_run.proofs.Fronts.{outcome_begins, call_begins, then_begins, back_begins}
 use Rattle.seq_run.proofs.Effects.{value_is, values_are, value_holds, value_stops, values_stop, stops_more}
@@ -66,41 +65,27 @@ shifted start p q cost turns k c m left e x f = record {
       subst (λ (n : ℕ). Stops start (q n).0 c m) z
       (stops_more start (p (suc f.earlier)).0 (q (suc f.earlier + cost)).0 c m (x (suc f.earlier)).1
       f.stops);
-  wants = ap (λ (y : List Act × Bool). y.1) ((x f.earlier).0 f.wants) ∙ f.wants;
-  within = subst (λ (y : List Act × Bool). AreWithin (lengths_of start.cells) y.0)
-      (sym ((x f.earlier).0 f.wants)) f.within;
+  wants = grind arith;
+  within = grind arith;
 }
 
 -- a part that goes on as another does, some turns later
 pub flow_shift : (start : Outside) (p q : ℕ → PartEnd) (cost turns k : ℕ) (f : Flow) (m : Memory)
     (vars : List ℕ) (left : ℕ) → turns ≡ k + cost → ((n : ℕ) → q (n + cost) ≡ p n)
     → FlowIs start p k f m vars left → FlowIs start q turns f m vars left
-flow_shift start p q cost turns k flows.Ended m vars left e x h =
-    subst (λ (o : PartEnd). PartEnded start o m vars left) (sym (x k) ∙ ap q (sym e)) h
-flow_shift start p q cost turns k flows.Out m vars left e x h = subst (λ (o : PartEnd). PartOut start o m)
-    (sym (x k) ∙ ap q (sym e)) h
-flow_shift start p q cost turns k (flows.Fault c) m vars left e x h = shifted start (λ n. seen (p n))
-    (λ n. seen (q n)) cost turns k c m left e (λ n. extends_same (seen (p n)) (seen (q (n + cost)))
-    (ap seen (x n))) h
+flow_shift start p q cost turns k f m vars left e x h = grind (arith, shifted, seen, extends_same)
 
 -- so with a call
 pub reply_shift : (start : Outside) (p q : ℕ → CallEnd) (cost turns k : ℕ) (r : Reply) (m : Memory) (left : ℕ)
     → turns ≡ k + cost → ((n : ℕ) → q (n + cost) ≡ p n) → ReplyIs start p k r m left
     → ReplyIs start q turns r m left
-reply_shift start p q cost turns k (replies.Value w) m left e x h =
-    subst (λ (o : CallEnd). CallReturned start o w m left) (sym (x k) ∙ ap q (sym e)) h
-reply_shift start p q cost turns k replies.Out m left e x h = subst (λ (o : CallEnd). CallOut start o m)
-    (sym (x k) ∙ ap q (sym e)) h
-reply_shift start p q cost turns k (replies.Fault c) m left e x h = shifted start (λ n. call_seen (p n))
-    (λ n. call_seen (q n)) cost turns k c m left e
-    (λ n. extends_same (call_seen (p n)) (call_seen (q (n + cost))) (ap call_seen (x n))) h
+reply_shift start p q cost turns k r m left e x h = grind (arith, shifted, call_seen, extends_same)
 
 -- after one turn
 pub after_turn : (start : Outside) (p q : ℕ → PartEnd) (turns : ℕ) (f : Flow) (m : Memory) (vars : List ℕ)
     (left : ℕ) → 0 < turns → ((n : ℕ) → q (suc n) ≡ p n) → FlowIs start p (turns - 1) f m vars left
     → FlowIs start q turns f m vars left
-after_turn start p q turns f m vars left lt x h = flow_shift start p q 1 turns (turns - 1) f m vars left
-    (omega arith) (λ n. let z : n + 1 ≡ suc n = omega arith in ap q z ∙ x n) h
+after_turn start p q turns f m vars left lt x h = grind (arith, flow_shift)
 
 -- what stops first stops the whole
 pub then_stops : (start : Outside) (p : ℕ → PartEnd) (go : ℕ → ProcState → ℕ → PartEnd) (turns : ℕ) (f : Flow)
@@ -111,28 +96,21 @@ then_stops start p go turns flows.Ended m vars now left e t h = absurd (cc)
 then_stops start p go turns flows.Out m vars now left e t h = at (p turns) h
   where
     at : (o : PartEnd) → PartOut start o m → PartOut start (and_then o (go turns)) m
-    at (Ended s k) h = absurd h
-    at (Out o) h = h
+    at o h = grind arith
 then_stops start p go turns (flows.Fault c) m vars now left e t h =
     shifted start (λ n. seen (p n)) (λ n. seen (and_then (p n) (go n))) 0 turns turns c m left (omega arith)
     (λ n. let z : n + 0 ≡ n = omega arith in
     subst (λ (k : ℕ). Extends (seen (p n)) (seen (and_then (p k) (go k)))) (sym z) (at n (p n))) h
   where
     at : (n : ℕ) (o : PartEnd) → Extends (seen o) (seen (and_then o (go n)))
-    at n (Ended s k) = (λ h. absurd (cc), outcome_begins s.out (go n s k) (t n s k))
+    at n (Ended s k) = grind (arith, outcome_begins)
     at n (Out o) = (λ h. refl, begins_all o.acts)
 
 -- before its first turn a part wants it; with one it stops
 pub stops_at_once : (start : Outside) (part : ℕ → PartEnd) (s : ProcState) (turns c : ℕ) (m held : Memory)
     (vars : List ℕ) → 0 < turns → part 0 ≡ Out s.out → Holds start s held vars
     → Stops start (seen (part 1)).0 c m → Faulted start (λ n. seen (part n)) turns c m (turns - 1)
-stops_at_once start part s turns c m held vars lt e h st = record {
-  earlier = 0;
-  sum = omega arith;
-  stops = st;
-  wants = ap (λ (o : PartEnd). (seen o).1) e;
-  within = subst (λ (o : PartEnd). AreWithin (lengths_of start.cells) (seen o).0) (sym e) h.out.within;
-}
+stops_at_once start part s turns c m held vars lt e h st = grind (arith, seen)
 
 -- the value of one term more
 pub values_more : (ts : List CodeTerm) (vars : List ℕ) (cells : List (List ℕ)) (i : ℕ) (t : CodeTerm)
@@ -162,10 +140,9 @@ loads_more ts vars cells i t lt e = ap (λ (n : ℕ). all_loads (map graph.term 
     at : (ts : List CodeTerm) (i : ℕ) → i < length ts → t ≡ slice_index_or ts i t
         → all_loads (map graph.term (take (suc i) ts)) vars cells ≡ all_loads (map graph.term (take i ts))
         vars cells ++ loads_of (graph.term t) vars cells
-    at [] i lt e = absurd (omega arith)
-    at (x ∷ ts) zero lt e = append-nil _ ∙ ap (λ (y : CodeTerm). loads_of (graph.term y) vars cells) (sym e)
     at (x ∷ ts) (suc i) lt e = ap (λ (acts : List Act). loads_of (graph.term x) vars cells ++ acts)
         (at ts i (omega arith) e) ∙ sym (append_assoc (loads_of (graph.term x) vars cells) _ _)
+    at ts i lt e = grind (arith, append-nil)
 
 -- a choice
 module _ (calls : Calls) (tell : CallsTell calls) (start : Outside) (s : ProcState) (m : Memory)
@@ -189,52 +166,39 @@ module _ (calls : Calls) (tell : CallsTell calls) (start : Outside) (s : ProcSta
   pub if_zero : (f : Flow) (n : Memory) (now : List ℕ) (k : ℕ) → (value t vars m.cells == 0) ≡ true
       → FlowIs start (run_all calls b (value_of t s).1) (turns - 1) f n now k
       → FlowIs start (run_one calls (resolved.If t a b) s) turns f n now k
-  if_zero f n now k e g = after_turn start (run_all calls b (value_of t s).1)
-      (run_one calls (resolved.If t a b) s) turns f n now k lt (λ j. second_arm _ j (flag_is true e)) g
+  if_zero f n now k e g = grind (arith, after_turn, value_of, second_arm, flag_is)
 
   -- the first arm
   pub if_other : (f : Flow) (n : Memory) (now : List ℕ) (k : ℕ) → (value t vars m.cells == 0) ≡ false
       → FlowIs start (run_all calls a (value_of t s).1) (turns - 1) f n now k
       → FlowIs start (run_one calls (resolved.If t a b) s) turns f n now k
-  if_other f n now k e g = after_turn start (run_all calls a (value_of t s).1)
-      (run_one calls (resolved.If t a b) s) turns f n now k lt (λ j. first_arm _ j (flag_is false e)) g
+  if_other f n now k e g = grind (arith, after_turn, value_of, first_arm, flag_is)
 
   -- the test has a load that is past
   pub if_stops : (c : ℕ) (now : List ℕ) → first_past (lengths_of m.cells) (loads_of t vars m.cells) ≡ Some c
       → FlowIs start (run_one calls (resolved.If t a b) s) turns (flows.Fault c) m now (turns - 1)
-  if_stops c now e = stops_at_once start (run_one calls (resolved.If t a b) s) s turns c m m vars lt refl h
-      (value_stops start s m vars h t c _ e (arm ((value_of t s).0 == 0)))
-    where
-      arm : (f : Bool) → ActsBegin (value_of t s).1.out.acts
-          (seen (if f then run_all calls b (value_of t s).1 0 else run_all calls a (value_of t s).1 0)).0
-      arm true = outcome_begins (value_of t s).1.out _ (all_tells calls tell b (value_of t s).1 0)
-      arm false = outcome_begins (value_of t s).1.out _ (all_tells calls tell a (value_of t s).1 0)
+  if_stops c now e = grind (arith, stops_at_once, value_stops, value_of, outcome_begins, all_tells)
 
 -- a step among the steps that are left
 next_steps : (ss : List Step) (i : ℕ) (x : Step) → i < length ss → x ≡ slice_index_or ss i x
     → view.steps (drop i ss) ≡ Then (view.step x) (view.steps (drop (suc i) ss))
-next_steps [] i x lt e = absurd (omega arith)
-next_steps (y ∷ ss) zero x lt e = ap (λ (z : Step). Then (view.step z) (view.steps ss)) (sym e)
 next_steps (y ∷ ss) (suc i) x lt e = next_steps ss i x (omega arith) e
+next_steps ss i x lt e = grind arith
 
 pub heft_some : (st : Steps) → 0 < heft st
-heft_some Nothing = omega arith
-heft_some (Then s rest) = omega arith
+heft_some st = grind arith
 
 -- a step weighs less than the steps that it is among
 pub weight_lt : (ss : List Step) (i : ℕ) (x : Step) → i < length ss → x ≡ slice_index_or ss i x
     → suc (weight (view.step x)) < heft (view.steps ss)
-weight_lt [] i x lt e = absurd (omega arith)
-weight_lt (y ∷ ss) zero x lt e = let h : weight (view.step x) ≡ weight (view.step y) =
-    ap (λ (z : Step). weight (view.step z)) e in let s = heft_some (view.steps ss) in omega arith
 weight_lt (y ∷ ss) (suc i) x lt e = let h = weight_lt ss i x (omega arith) e in omega arith
+weight_lt ss i x lt e = grind (arith, heft_some)
 
 -- what is left goes as the whole does
 pub upto_is : (start : Outside) (now : ProcState → ℕ → PartEnd) (whole : ℕ → PartEnd) (turns left k : ℕ)
     (m n : Memory) (vars later : List ℕ) (f : Flow) → (u : Upto start now whole turns m vars left)
     → FlowIs start (now u.at) left f n later k → FlowIs start whole turns f n later k
-upto_is start now whole turns left k m n vars later f u g = flow_shift start (now u.at) whole u.spent turns
-    left f n later k u.sum u.same g
+upto_is start now whole turns left k m n vars later f u g = grind (arith, flow_shift, u.same)
 
 -- the state at the end of a part, and what the part took
 record Ends (start : Outside) (p : ℕ → PartEnd) (k : ℕ) (m : Memory) (vars : List ℕ) (left : ℕ) : Type 0 where
@@ -250,13 +214,7 @@ ends : (start : Outside) (p : ℕ → PartEnd) (k : ℕ) (m : Memory) (vars : Li
 ends start p k m vars left f h = at (p k) refl h
   where
     at : (o : PartEnd) → p k ≡ o → PartEnded start o m vars left → Ends start p k m vars left
-    at (Ended s i) e g = let r = f s i e in record {
-      at = s;
-      holds = g.0;
-      cost = r.cost;
-      sum = omega (arith, r.sum, g.1);
-      again = r.again;
-    }
+    at (Ended s i) e g = let r = f s i e in grind arith
     at (Out o) e g = absurd g
 
 -- among steps
@@ -274,7 +232,7 @@ module _ (calls : Calls) (most : CallsAtMost calls) (costs : CallsCost calls) (t
       → Upto start (run_all calls (view.steps (drop next ss))) whole turns n now k
   stepped n now k next en h =
       let e = ends start (run_one calls (view.step x) u.at) left n now k
-      (λ s j d. one_cost calls most costs (view.step x) u.at left s j d) h in
+      (grind (arith, one_cost, u.at)) h in
       subst (λ (j : ℕ). Upto start (run_all calls (view.steps (drop j ss))) whole turns n now k) (sym en)
       (record {
         at = e.at;
@@ -299,17 +257,14 @@ module _ (calls : Calls) (most : CallsAtMost calls) (costs : CallsCost calls) (t
 -- what has not stopped has ended
 pub is_ended : (start : Outside) (p : ℕ → PartEnd) (turns : ℕ) (f : Flow) (m : Memory) (vars : List ℕ) (k : ℕ)
     → stop_flag f ≡ false → FlowIs start p turns f m vars k → FlowIs start p turns flows.Ended m vars k
-is_ended start p turns flows.Ended m vars k e h = h
-is_ended start p turns flows.Out m vars k e h = absurd (cc)
-is_ended start p turns (flows.Fault c) m vars k e h = absurd (cc)
+is_ended start p turns f m vars k e h = grind arith
 
 -- calls
 module _ (calls : Calls) (tell : CallsTell calls) (start : Outside) (s : ProcState) (m : Memory)
     (vars : List ℕ) (h : Holds start s m vars) (turns : ℕ) (lt : 0 < turns) (x : Option ℕ) (f : ℕ)
     (ts : List Term) where
   back_seen : (e : CallEnd) → seen (back_in s.vars x e) ≡ call_seen e
-  back_seen (Returned v o k) = refl
-  back_seen (Stopped o) = refl
+  back_seen e = grind arith
 
   module _ (words : List ℕ) (ew : words ≡ values ts vars m.cells) where
     called : (j : ℕ) → run_one calls (resolved.Call x f ts) s (suc j) ≡ back_in s.vars x
@@ -319,37 +274,22 @@ module _ (calls : Calls) (tell : CallsTell calls) (start : Outside) (s : ProcSta
 
     back_is : (e : CallEnd) (n : Memory) (v k : ℕ) (now : List ℕ) → CallReturned start e v n k
         → now ≡ with_result x v vars → PartEnded start (back_in s.vars x e) n now k
-    back_is (Returned w o j) n v k now g en = (
-      record {
-        out = g.0;
-        same_vars = ap (λ (u : ℕ). with_result x u s.vars) g.1
-            ∙ ap (λ (vs : List ℕ). with_result x v vs) h.same_vars ∙ sym en;
-      },
-      g.2,
-    )
-    back_is (Stopped o) n v k now g en = absurd g
+    back_is e n v k now g en = grind arith
 
     back_out : (e : CallEnd) (n : Memory) → CallOut start e n → PartOut start (back_in s.vars x e) n
-    back_out (Returned w o j) n g = absurd g
-    back_out (Stopped o) n g = g
+    back_out e n g = grind arith
 
     -- the call gave a word
     pub call_is : (n : Memory) (v k : ℕ) (now : List ℕ) → ReplyIs start (calls f words (values_of ts s).1.out)
         (turns - 1) (replies.Value v) n k → now ≡ with_result x v vars
         → FlowIs start (run_one calls (resolved.Call x f ts) s) turns flows.Ended n now k
-    call_is n v k now g en =
-        after_turn start (λ j. back_in s.vars x (calls f words (values_of ts s).1.out j))
-        (run_one calls (resolved.Call x f ts) s) turns flows.Ended n now k lt called
-        (back_is (calls f words (values_of ts s).1.out (turns - 1)) n v k now g en)
+    call_is n v k now g en = grind (arith, after_turn, s.vars, values_of, called, back_is)
 
     -- it wants a turn
     pub call_out : (n : Memory) (k : ℕ) (now : List ℕ) → ReplyIs start (calls f words (values_of ts s).1.out)
         (turns - 1) replies.Out n k → FlowIs start (run_one calls (resolved.Call x f ts) s) turns flows.Out n
         now k
-    call_out n k now g =
-        after_turn start (λ j. back_in s.vars x (calls f words (values_of ts s).1.out j))
-        (run_one calls (resolved.Call x f ts) s) turns flows.Out n now k lt called
-        (back_out (calls f words (values_of ts s).1.out (turns - 1)) n g)
+    call_out n k now g = grind (arith, after_turn, s.vars, values_of, called, back_out)
 
     -- it stopped
     pub call_faulted : (n : Memory) (c k : ℕ) (now : List ℕ)
@@ -364,22 +304,13 @@ module _ (calls : Calls) (tell : CallsTell calls) (start : Outside) (s : ProcSta
   -- an argument has a load that is past
   pub arguments_stop : (c : ℕ) (now : List ℕ) → first_past (lengths_of m.cells) (all_loads ts vars m.cells)
       ≡ Some c → FlowIs start (run_one calls (resolved.Call x f ts) s) turns (flows.Fault c) m now (turns - 1)
-  arguments_stop c now e = stops_at_once start (run_one calls (resolved.Call x f ts) s) s turns c m m vars lt
-      refl h
-      (values_stop start s m vars h ts c _ e (at (calls f (values_of ts s).0 (values_of ts s).1.out 0)
-      (tell f (values_of ts s).0 (values_of ts s).1.out 0)))
-    where
-      at : (r : CallEnd) → CallTells (values_of ts s).1.out r → ActsBegin (values_of ts s).1.out.acts
-          (seen (back_in s.vars x r)).0
-      at r t = back_begins (values_of ts s).1.out.acts s.vars x r (call_begins (values_of ts s).1.out r t)
+  arguments_stop c now e =
+      grind (arith, stops_at_once, values_stop, values_of, back_begins, s.vars, call_begins)
 
 -- a loop's fuel, of which there is enough, makes no difference
 loop_fuel : (test : ProcState → ℕ × ProcState) (body : ProcState → ℕ → PartEnd)
     → ((s : ProcState) (k : ℕ) → AtMost k (body s k)) → (f g : ℕ) (s : ProcState) (k : ℕ) → k < f → k < g
     → loop f test body s k ≡ loop g test body s k
-loop_fuel test body most zero g s k lf lg = absurd (omega arith)
-loop_fuel test body most (suc f) zero s k lf lg = absurd (omega arith)
-loop_fuel test body most (suc f) (suc g) s zero lf lg = refl
 loop_fuel test body most (suc f) (suc g) s (suc j) lf lg =
     ap (λ (o : PartEnd). if (test s).0 == 0 then Ended (test s).1 j else o)
     (after (body (test s).1 j) (loop f test body) (loop g test body) (most (test s).1 j)
@@ -387,8 +318,8 @@ loop_fuel test body most (suc f) (suc g) s (suc j) lf lg =
   where
     after : (o : PartEnd) (go went : ProcState → ℕ → PartEnd) → AtMost j o
         → ((u : ProcState) (i : ℕ) → i ≤ j → go u i ≡ went u i) → and_then o go ≡ and_then o went
-    after (Ended u i) go went le h = h u i le
-    after (Out o) go went le h = refl
+    after o go went le h = grind arith
+loop_fuel test body most f g s k lf lg = grind arith
 
 -- a loop, some of whose turns are spent
 module _ (t : Term) (body : ProcState → ℕ → PartEnd) (most : (s : ProcState) (k : ℕ) → AtMost k (body s k))
@@ -423,13 +354,7 @@ module _ (t : Term) (body : ProcState → ℕ → PartEnd) (most : (s : ProcStat
     -- the test is 0
     pub loop_zero : 0 < left → first_past (lengths_of m.cells) (loads_of t vars m.cells) ≡ None
         → (value t vars m.cells == 0) ≡ true → FlowIs start whole turns flows.Ended m vars (left - 1)
-    loop_zero lt none e =
-        upto_is start looped whole turns left (left - 1) m m vars vars flows.Ended u
-        (after_turn start (λ k. Ended (value_of t u.at).1 k) (looped u.at) left flows.Ended m vars (left - 1)
-        lt
-        (λ k. ap (λ (f : Bool). if f then Ended (value_of t u.at).1 k else and_then
-        (body (value_of t u.at).1 k) (loop (suc k) (value_of t) body)) (flag_at true e))
-        (value_holds start u.at m vars u.holds t none, refl))
+    loop_zero lt none e = grind (arith, upto_is, after_turn, value_of, flag_at, value_holds, u.at)
 
     again_at : (value t vars m.cells == 0) ≡ false → (k : ℕ) → looped u.at (suc k) ≡ and_then
         (body (value_of t u.at).1 k) (loop (suc k) (value_of t) body)
@@ -481,8 +406,7 @@ calls_at zero f procs lt args o k = absurd (omega arith)
 calls_at (suc n) f procs lt args o k =
     by_bool (f == n) (calls_below (suc n) procs f args o k ≡ run_proc (calls_below f procs) (nth_proc procs f)
     args o k)
-    (λ e. if_true (f == n) _ _ e ∙ ap (λ (i : ℕ). run_proc (calls_below i procs) (nth_proc procs i) args o k)
-    (sym (eqb-true f n e)))
+    (grind (arith, if_true))
     (λ e. if_false (f == n) _ _ e ∙ calls_at n f procs (grind (arith, nat_tests)) args o k)
 
 -- there is no procedure with a larger number
@@ -496,49 +420,35 @@ calls_past (suc n) f procs le args o k =
 
 nth_procs : (ps : List CodeProc) (f : ℕ) (p : CodeProc) → f < length ps → p ≡ slice_index_or ps f p
     → nth_proc (view.procs ps) f ≡ view.proc p
-nth_procs [] f p lt e = absurd (omega arith)
-nth_procs (x ∷ ps) zero p lt e = ap view.proc (sym e)
 nth_procs (x ∷ ps) (suc f) p lt e = nth_procs ps f p (omega arith) e
+nth_procs ps f p lt e = grind arith
 
 pub weight_call : (n f : ℕ) (procs : List Proc) → f < n → weight_below f procs + heft (nth_proc procs f).body
     < weight_below n procs
 weight_call zero f procs lt = absurd (omega arith)
 weight_call (suc n) f procs lt =
     by_bool (f == n) (weight_below f procs + heft (nth_proc procs f).body < weight_below (suc n) procs)
-    (λ e. subst (λ (i : ℕ). weight_below i procs + heft (nth_proc procs i).body < weight_below (suc n) procs)
-    (sym (eqb-true f n e)) (omega arith))
+    (grind arith)
     (λ e. let h = weight_call n f procs (grind (arith, nat_tests)) in omega arith)
 
 -- the result of a procedure
 pub result_is : (start : Outside) (t : Term) (s : ProcState) (m : Memory) (vars : List ℕ) (v j : ℕ)
     → Holds start s m vars → 0 < j → first_past (lengths_of m.cells) (loads_of t vars m.cells) ≡ None
     → v ≡ value t vars m.cells → ReplyIs start (finish (Some t) s) j (replies.Value v) m (j - 1)
-result_is start t s m vars v zero h lt none ev = absurd (omega arith)
-result_is start t s m vars v (suc j) h lt none ev = (
-  (value_holds start s m vars h t none).out,
-  sym (value_is start s m vars h t) ∙ sym ev,
-  omega arith,
-)
+result_is start t s m vars v j h lt none ev = grind (arith, value_holds, value_is)
 
 -- it has a load that is past
 pub result_stops : (start : Outside) (t : Term) (s : ProcState) (m : Memory) (vars : List ℕ) (c j : ℕ)
     → Holds start s m vars → 0 < j → first_past (lengths_of m.cells) (loads_of t vars m.cells) ≡ Some c
     → ReplyIs start (finish (Some t) s) j (replies.Fault c) m (j - 1)
-result_stops start t s m vars c j h lt e = record {
-  earlier = 0;
-  sum = omega arith;
-  stops = value_stops start s m vars h t c _ e (begins_all _);
-  wants = refl;
-  within = h.out.within;
-}
+result_stops start t s m vars c j h lt e = grind (arith, value_stops, begins_all)
 
 -- the callee, and what its steps did
 module _ (below f : ℕ) (ps : List CodeProc) (p : CodeProc) (lt : f < below) (in_ps : f < length ps)
     (is : p ≡ slice_index_or ps f p) (start : Outside) (args : List ℕ) (m : Memory) (turns : ℕ) where
   callee : (o : Outside) (k : ℕ) → calls_below below (view.procs ps) f args o k ≡ run_proc
       (calls_below f (view.procs ps)) (view.proc p) args o k
-  callee o k = calls_at below f (view.procs ps) lt args o k
-      ∙ ap (λ (q : Proc). run_proc (calls_below f (view.procs ps)) q args o k) (nth_procs ps f p in_ps is)
+  callee o k = grind (arith, calls_at, nth_procs)
 
   module _ (vars : List ℕ) (starts : vars ≡ args ++ zeros p.locals) (o : Outside)
       (sh : ShowsMemory start o m) where
@@ -554,10 +464,7 @@ module _ (below f : ℕ) (ps : List CodeProc) (p : CodeProc) (lt : f < below) (i
     as_call : (r : Reply) (n : Memory) (k : ℕ)
         → ReplyIs start (λ j. ending (steps j) (finish (view.result p.result))) turns r n k
         → ReplyIs start (calls_below below (view.procs ps) f args o) turns r n k
-    as_call r n k h = reply_shift start (λ j. ending (steps j) (finish (view.result p.result)))
-        (calls_below below (view.procs ps) f args o) 0 turns turns r n k (omega arith)
-        (λ j. let z : j + 0 ≡ j = omega arith in ap (calls_below below (view.procs ps) f args o) z
-        ∙ callee o j) h
+    as_call r n k h = grind (arith, reply_shift, callee)
 
     -- they ended, and then the result was made
     pub call_ended : (n e : Memory) (now : List ℕ) (r : Reply) (j k : ℕ)
@@ -582,8 +489,7 @@ module _ (below f : ℕ) (ps : List CodeProc) (p : CodeProc) (lt : f < below) (i
     call_wants n now k h = as_call replies.Out n k (at (steps turns) (h first first_holds))
       where
         at : (x : PartEnd) → PartOut start x n → CallOut start (ending x (finish (view.result p.result))) n
-        at (Ended s j) g = absurd g
-        at (Out q) g = g
+        at x g = grind arith
 
     -- they stopped
     pub call_stops : (n : Memory) (now : List ℕ) (c k : ℕ)
@@ -602,8 +508,7 @@ module _ (below f : ℕ) (ps : List CodeProc) (p : CodeProc) (lt : f < below) (i
       where
         same_acts : (acts : List Act) (e : CallEnd) → ActsBegin acts (outside_of e).acts
             → ActsBegin acts (call_seen e).0
-        same_acts acts (Returned v q j) b = b
-        same_acts acts (Stopped q) b = b
+        same_acts acts e b = grind arith
 
         at : (x : PartEnd) → Extends (seen x) (call_seen (ending x (finish (view.result p.result))))
         at (Ended s j) = (
@@ -628,8 +533,7 @@ while_view t a = search (rules, the_lemmas, row_list)
 pub from_step : (calls : Calls) (start : Outside) (a b : Step) (s : ProcState) (turns : ℕ) (f : Flow)
     (m : Memory) (vars : List ℕ) (k : ℕ) → b ≡ a → FlowIs start (run_one calls (view.step a) s) turns f m vars
     k → FlowIs start (run_one calls (view.step b) s) turns f m vars k
-from_step calls start a b s turns f m vars k e h =
-    subst (λ (st : Step). FlowIs start (run_one calls (view.step st) s) turns f m vars k) (sym e) h
+from_step calls start a b s turns f m vars k e h = grind arith
 
 -- a reply that is known
 pub as_reply : (start : Outside) (p : ℕ → CallEnd) (turns : ℕ) (r q : Reply) (m : Memory) (k : ℕ) → r ≡ q
@@ -645,15 +549,13 @@ as_flow start p turns f g m vars k e h = subst (λ (x : Flow). FlowIs start p tu
 pub as_result : (start : Outside) (r q : Option CodeTerm) (s : ProcState) (j : ℕ) (reply : Reply) (m : Memory)
     (k : ℕ) → r ≡ q → ReplyIs start (finish (view.result q) s) j reply m k
     → ReplyIs start (finish (view.result r) s) j reply m k
-as_result start r q s j reply m k e h =
-    subst (λ (x : Option CodeTerm). ReplyIs start (finish (view.result x) s) j reply m k) (sym e) h
+as_result start r q s j reply m k e h = grind arith
 
 -- steps that are known
 pub as_steps : (calls : Calls) (start : Outside) (x y : List Step) (u : ProcState) (k : ℕ) (f : Flow)
     (m : Memory) (vars : List ℕ) (j : ℕ) → x ≡ y → FlowIs start (run_all calls (view.steps x) u) k f m vars j
     → FlowIs start (run_all calls (view.steps y) u) k f m vars j
-as_steps calls start x y u k f m vars j e h =
-    subst (λ (ss : List Step). FlowIs start (run_all calls (view.steps ss) u) k f m vars j) e h
+as_steps calls start x y u k f m vars j e h = grind arith
 
 -- a choice of the code
 pub if_step : (calls : Calls) (start : Outside) (s : ProcState) (turns : ℕ) (t : CodeTerm)
@@ -661,11 +563,7 @@ pub if_step : (calls : Calls) (start : Outside) (s : ProcState) (turns : ℕ) (t
     → (f : Flow) (n : Memory) (now : List ℕ) (k : ℕ)
     → FlowIs start (run_one calls (resolved.If (graph.term t) (view.steps xs) (view.steps ys)) s) turns f n
     now k → FlowIs start (run_one calls (view.step st) s) turns f n now k
-if_step calls start s turns t a b st xs ys is ea eb f n now k h =
-    subst (λ (x : resolved.Step). FlowIs start (run_one calls x s) turns f n now k)
-    (ap (λ (zs : List Step). resolved.If (graph.term t) (view.steps zs) (view.steps ys)) ea
-    ∙ ap (λ (zs : List Step). resolved.If (graph.term t) (view.steps a.items) (view.steps zs)) eb
-    ∙ sym (ap (λ (x : Step). view.step x) is ∙ if_view t a b)) h
+if_step calls start s turns t a b st xs ys is ea eb f n now k h = grind (arith, if_view)
 
 -- a call of the code
 pub call_step : (calls : Calls) (start : Outside) (s : ProcState) (turns : ℕ) (x : Option ℕ) (c : ℕ)
@@ -673,10 +571,7 @@ pub call_step : (calls : Calls) (start : Outside) (s : ProcState) (turns : ℕ) 
     → (f : Flow) (n : Memory) (now : List ℕ) (k : ℕ)
     → FlowIs start (run_one calls (resolved.Call x c (map graph.term ts)) s) turns f n now k
     → FlowIs start (run_one calls (view.step st) s) turns f n now k
-call_step calls start s turns x c a st ts is e f n now k h =
-    subst (λ (z : resolved.Step). FlowIs start (run_one calls z s) turns f n now k)
-    (ap (λ (us : List CodeTerm). resolved.Call x c (map graph.term us)) e
-    ∙ sym (ap (λ (z : Step). view.step z) is)) h
+call_step calls start s turns x c a st ts is e f n now k h = grind arith
 
 -- a loop of the code
 pub while_step : (calls : Calls) (start : Outside) (s : ProcState) (turns : ℕ) (t : CodeTerm)
@@ -684,10 +579,7 @@ pub while_step : (calls : Calls) (start : Outside) (s : ProcState) (turns : ℕ)
     → (f : Flow) (n : Memory) (now : List ℕ) (k : ℕ)
     → FlowIs start (run_one calls (resolved.While (graph.term t) (view.steps ss)) s) turns f n now k
     → FlowIs start (run_one calls (view.step st) s) turns f n now k
-while_step calls start s turns t a st ss is e f n now k h =
-    subst (λ (x : resolved.Step). FlowIs start (run_one calls x s) turns f n now k)
-    (ap (λ (xs : List Step). resolved.While (graph.term t) (view.steps xs)) e
-    ∙ sym (ap (λ (x : Step). view.step x) is ∙ while_view t a)) h
+while_step calls start s turns t a st ss is e f n now k h = grind (arith, while_view)
 
 -- what a choice weighs
 pub if_weight : (t : CodeTerm) (a b : Vec Step Global) (st : Step) → st ≡ code.If t a b

@@ -1,6 +1,6 @@
 -- A part of a run that is given more turns does the same, and then more.
-use Rattle.std.proofs.Common.{ℕ, zero, suc, ◌≡◌, ◌+◌, ◌<◌, ◌≤◌, ◌==◌, Bool, true, false, List, [], ◌++◌}
-use Rattle.std.proofs.Common.{Option, Some, None, if◌then◌else◌, refl, sym, ap, ◌∙◌, subst, arith}
+use Rattle.std.proofs.Common.{ℕ, zero, suc, ◌≡◌, ◌+◌, ◌<◌, ◌≤◌, ◌==◌, Bool, List, [], ◌++◌}
+use Rattle.std.proofs.Common.{Option, if◌then◌else◌, refl, sym, subst, arith}
 use Rattle.ws_words.specs.Outside.{Act, Outside, ProcState, zeros, World, opening_out}
 use Rattle.src_ast.specs.Turns.{PartEnd, Ended, Out, and_then, turn, CallEnd, Returned, Stopped, back_in}
 use Rattle.src_ast.specs.Turns.{ending, loop}
@@ -20,7 +20,7 @@ use Rattle.seq_run.proofs.Grows.{finish_tells, calls_tell}
 
 -- acts are never taken back
 pub tells_begins : (o p : Outside) → Tells o p → ActsBegin o.acts p.acts
-tells_begins o p h = (h.more, ap (λ (q : Outside). q.acts) h.after ∙ acts_after o h.more)
+tells_begins o p h = (grind (arith, acts_after))
 
 -- the acts at the end of a part, or where it wants a turn
 abbrev pub acts_of : PartEnd → List Act
@@ -28,8 +28,7 @@ acts_of x = (seen x).0
 
 -- a part keeps the acts before it
 pub outcome_begins : (o : Outside) (x : PartEnd) → OutcomeTells o x → ActsBegin o.acts (acts_of x)
-outcome_begins o (Ended s k) h = tells_begins o s.out h
-outcome_begins o (Out p) h = tells_begins o p h
+outcome_begins o x h = grind (arith, tells_begins)
 
 -- with j turns more: the same with j more left, or what begins with the same acts
 abbrev pub Longer : ℕ → PartEnd → PartEnd → Type 0
@@ -53,33 +52,25 @@ then_begins acts (Out p) go h f = h
 
 turn_longer : (j k : ℕ) (s : ProcState) (go went : ℕ → PartEnd) → ((i : ℕ) → Longer j (go i) (went (i + j)))
     → ((i : ℕ) → OutcomeTells s.out (turn i s went)) → Longer j (turn k s go) (turn (k + j) s went)
-turn_longer j zero s go went f g = outcome_begins s.out (turn (0 + j) s went) (g (0 + j))
-turn_longer j (suc k) s go went f g =
-    let e : suc k + j ≡ suc (k + j) = omega arith in
-    subst (λ (n : ℕ). Longer j (go k) (turn n s went)) (sym e) (f k)
+turn_longer j k s go went f g = grind (arith, outcome_begins)
 
 then_longer : (j b : ℕ) (x y : PartEnd) (go went : ProcState → ℕ → PartEnd) → AtMost b x → Longer j x y
     → ((s : ProcState) (i : ℕ) → i ≤ b → Longer j (go s i) (went s (i + j)))
     → ((s : ProcState) (i : ℕ) → OutcomeTells s.out (went s i)) → Longer j (and_then x go) (and_then y went)
-then_longer j b (Ended s k) y go went le h f g = subst (λ (z : PartEnd). Longer j (go s k) (and_then z went))
-    (sym h) (f s k le)
-then_longer j b (Out p) y go went le h f g = then_begins p.acts y went h g
+then_longer j b x y go went le h f g = grind (arith, then_begins)
 
 if_longer : (j : ℕ) (b : Bool) (x y z w : PartEnd) → Longer j x y → Longer j z w
     → Longer j (if b then x else z) (if b then y else w)
-if_longer j true x y z w h i = h
-if_longer j false x y z w h i = i
+if_longer j b x y z w h i = grind arith
 
 -- back in the caller no act is taken back
 pub back_begins : (acts : List Act) (vars : List ℕ) (x : Option ℕ) (e : CallEnd)
     → ActsBegin acts (outside_of e).acts → ActsBegin acts (acts_of (back_in vars x e))
-back_begins acts vars x (Returned v p k) h = h
-back_begins acts vars x (Stopped p) h = h
+back_begins acts vars x e h = grind arith
 
 back_longer : (j : ℕ) (vars : List ℕ) (x : Option ℕ) (e f : CallEnd) → CallLonger j e f
     → Longer j (back_in vars x e) (back_in vars x f)
-back_longer j vars x (Returned v p k) f h = ap (back_in vars x) h
-back_longer j vars x (Stopped p) f h = back_begins p.acts vars x f h
+back_longer j vars x e f h = grind (arith, back_begins)
 
 module _ (t : Term) (body : ProcState → ℕ → PartEnd) (most : (s : ProcState) (k : ℕ) → AtMost k (body s k))
     (tells : (s : ProcState) (k : ℕ) → OutcomeTells s.out (body s k)) (longer : (s : ProcState) (k j : ℕ)
@@ -132,16 +123,10 @@ module _ (calls : Calls) (most : CallsAtMost calls) (tell : CallsTell calls)
 
 -- a call keeps the acts before it
 pub call_begins : (o : Outside) (e : CallEnd) → CallTells o e → ActsBegin o.acts (outside_of e).acts
-call_begins o (Returned v p k) h = tells_begins o p h
-call_begins o (Stopped p) h = tells_begins o p h
+call_begins o e h = grind (arith, tells_begins)
 
 finish_longer : (r : Option Term) (s : ProcState) (k j : ℕ) → CallLonger j (finish r s k) (finish r s (k + j))
-finish_longer None s k j = refl
-finish_longer (Some t) s zero j = call_begins s.out (finish (Some t) s (0 + j))
-    (finish_tells (Some t) s (0 + j))
-finish_longer (Some t) s (suc k) j =
-    let e : suc k + j ≡ suc (k + j) = omega arith in
-    ap (λ (n : ℕ). finish (Some t) s n) e
+finish_longer r s k j = grind (arith, call_begins, finish_tells)
 
 -- so does the end of a procedure
 pub ending_begins : (acts : List Act) (y : PartEnd) (r : Option Term) → ActsBegin acts (acts_of y)
@@ -152,9 +137,7 @@ ending_begins acts (Out p) r h = h
 
 ending_longer : (j : ℕ) (x y : PartEnd) (r : Option Term) → Longer j x y
     → CallLonger j (ending x (finish r)) (ending y (finish r))
-ending_longer j (Ended s k) y r h = subst (λ (z : PartEnd). CallLonger j (finish r s k) (ending z (finish r)))
-    (sym h) (finish_longer r s k j)
-ending_longer j (Out p) y r h = ending_begins p.acts y r h
+ending_longer j x y r h = grind (arith, finish_longer, ending_begins)
 
 proc_longer : (calls : Calls) → CallsAtMost calls → CallsTell calls → CallsLonger calls
     → (p : Proc) (args : List ℕ) (o : Outside) (k j : ℕ) → CallLonger j (run_proc calls p args o k)
@@ -166,8 +149,7 @@ proc_longer calls m t l p args o k j =
 
 if_call_longer : (j : ℕ) (b : Bool) (x y z w : CallEnd) → CallLonger j x y → CallLonger j z w
     → CallLonger j (if b then x else z) (if b then y else w)
-if_call_longer j true x y z w h i = h
-if_call_longer j false x y z w h i = i
+if_call_longer j b x y z w h i = grind arith
 
 pub calls_longer : (n : ℕ) (procs : List Proc) → CallsLonger (calls_below n procs)
 calls_longer zero procs f args o k j = begins_all o.acts

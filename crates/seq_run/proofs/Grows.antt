@@ -1,6 +1,6 @@
 -- What a part of a run does outside is what its acts do.
-use Rattle.std.proofs.Common.{ℕ, zero, suc, ◌≡◌, ◌==◌, Bool, true, false, List, [], ◌∷◌, ◌++◌, Option, Some}
-use Rattle.std.proofs.Common.{None, if◌then◌else◌, refl, sym, ap, ◌∙◌, append_assoc}
+use Rattle.std.proofs.Common.{arith, ℕ, zero, suc, ◌≡◌, ◌==◌, Bool, List, [], ◌∷◌, ◌++◌, Option}
+use Rattle.std.proofs.Common.{if◌then◌else◌, refl, sym, append_assoc}
 use Rattle.std.proofs.lemmas.List.{append-nil}
 use Rattle.std.specs.List.{AllByRecursion}
 use Rattle.ws_words.specs.Outside.{Act, loads, stores, reads, prints, gives, takes, Outside, ProcState, zeros}
@@ -10,7 +10,7 @@ use Rattle.ws_words.proofs.Acts.{after_append, with_more}
 use Rattle.src_ast.specs.Turns.{PartEnd, Ended, Out, and_then, turn, CallEnd, Returned, Stopped, back_in}
 use Rattle.src_ast.specs.Turns.{ending, loop}
 use Rattle.src_ast.specs.Meaning.{Calls, empty_cells}
-use Rattle.cfg_core.specs.Graph.{Term, Number, Var, Cell, Flip, Not, Neg, Binary}
+use Rattle.cfg_core.specs.Graph.{Term, Cell, Flip, Not, Neg, Binary}
 use Rattle.cfg_core.specs.Walk.{loads_of, all_loads, value_of, values_of}
 use Rattle.seq_run.specs.Resolved.{Action, Assign, Store, Print, Read, Give, Take, Step, Do, Call, If, While}
 use Rattle.seq_run.specs.Resolved.{Steps, Nothing, Then, Proc, ResolvedProgram, done, run_one, run_all}
@@ -29,7 +29,7 @@ tells_none o = record { more = []; after = refl }
 pub tells_then : (o p q : Outside) → Tells o p → Tells p q → Tells o q
 tells_then o p q h i = record {
   more = h.more ++ i.more;
-  after = i.after ∙ ap (λ (x : Outside). after_acts x i.more) h.after ∙ sym (after_append o h.more i.more);
+  after = grind (arith, after_append, h.more);
 }
 
 abbrev pub IsLoad : Act → Type 0
@@ -52,36 +52,25 @@ loads_front (x ∷ xs) ys h = (h.0, loads_front xs ys h.1)
 
 -- evaluation does nothing but load
 pub only_loads : (t : Term) (vars : List ℕ) (cells : List (List ℕ)) → OnlyLoads (loads_of t vars cells)
-only_loads (Number n) vars cells = tt
-only_loads (Var x) vars cells = tt
-only_loads (Cell a t) vars cells = loads_both (loads_of t vars cells) _ (only_loads t vars cells) (tt, tt)
+only_loads (Cell a t) vars cells = grind (arith, loads_both, only_loads t vars cells)
 only_loads (Flip t) vars cells = only_loads t vars cells
 only_loads (Not t) vars cells = only_loads t vars cells
 only_loads (Neg t) vars cells = only_loads t vars cells
-only_loads (Binary op a b) vars cells = loads_both (loads_of a vars cells) (loads_of b vars cells)
-    (only_loads a vars cells) (only_loads b vars cells)
+only_loads (Binary op a b) vars cells =
+    grind (arith, loads_both, only_loads a vars cells, only_loads b vars cells)
+only_loads t vars cells = grind arith
 
 -- so it is with arguments
 pub only_all_loads : (ts : List Term) (vars : List ℕ) (cells : List (List ℕ))
     → OnlyLoads (all_loads ts vars cells)
 only_all_loads [] vars cells = tt
-only_all_loads (t ∷ ts) vars cells = loads_both (loads_of t vars cells) (all_loads ts vars cells)
-    (only_loads t vars cells) (only_all_loads ts vars cells)
+only_all_loads (t ∷ ts) vars cells = grind (arith, loads_both, only_loads, only_all_loads ts vars cells)
 
 -- loads leave everything as it was, but for the acts
 pub loads_leave : (o : Outside) (acts : List Act) → OnlyLoads acts → after_acts o acts ≡ with_more o acts
-loads_leave o [] h =
-    ap (λ (acts : List Act). record { cells = o.cells; input = o.input; left = o.left; acts = acts })
-    (sym (append-nil o.acts))
 loads_leave o (loads a i ∷ acts) h =
-    loads_leave (after_act o (loads a i)) acts h.1
-    ∙ ap (λ (xs : List Act). record { cells = o.cells; input = o.input; left = o.left; acts = xs })
-    (append_assoc o.acts (loads a i ∷ []) acts)
-loads_leave o (stores a i w ∷ acts) h = absurd h.0
-loads_leave o (reads ∷ acts) h = absurd h.0
-loads_leave o (prints w ∷ acts) h = absurd h.0
-loads_leave o (gives p ∷ acts) h = absurd h.0
-loads_leave o (takes p w ∷ acts) h = absurd h.0
+    grind (arith, append_assoc, o.acts, loads_leave (after_act o (loads a i)) acts h.1)
+loads_leave o acts h = grind (arith, append-nil)
 
 -- evaluation leaves what its loads leave
 pub value_tells : (t : Term) (s : ProcState) → Tells s.out (value_of t s).1.out
@@ -94,7 +83,7 @@ value_tells t s = record {
 pub values_tell : (ts : List Term) (s : ProcState) → Tells s.out (values_of ts s).1.out
 values_tell ts s = record {
   more = all_loads ts s.vars s.out.cells;
-  after = sym (loads_leave s.out _ (only_all_loads ts s.vars s.out.cells));
+  after = sym (grind (arith, loads_leave, only_all_loads, s.vars));
 }
 
 pub act_tells : (o : Outside) (a : Act) → Tells o (after_act o a)
@@ -129,32 +118,26 @@ abbrev pub CallsTell : Calls → Type 0
 CallsTell calls = (f : ℕ) (args : List ℕ) (o : Outside) (k : ℕ) → CallTells o (calls f args o k)
 
 outcome_from : (o p : Outside) (x : PartEnd) → Tells o p → OutcomeTells p x → OutcomeTells o x
-outcome_from o p (Ended s k) h i = tells_then o p s.out h i
-outcome_from o p (Out q) h i = tells_then o p q h i
+outcome_from o p x h i = grind (arith, tells_then)
 
 call_from : (o p : Outside) (e : CallEnd) → Tells o p → CallTells p e → CallTells o e
-call_from o p (Returned v q k) h i = tells_then o p q h i
-call_from o p (Stopped q) h i = tells_then o p q h i
+call_from o p e h i = grind (arith, tells_then)
 
 then_tells : (o : Outside) (x : PartEnd) (go : ProcState → ℕ → PartEnd) → OutcomeTells o x
     → ((s : ProcState) (k : ℕ) → OutcomeTells s.out (go s k)) → OutcomeTells o (and_then x go)
-then_tells o (Ended s k) go h f = outcome_from o s.out (go s k) h (f s k)
-then_tells o (Out p) go h f = h
+then_tells o x go h f = grind (arith, outcome_from)
 
 turn_tells : (k : ℕ) (s : ProcState) (go : ℕ → PartEnd) → ((j : ℕ) → OutcomeTells s.out (go j))
     → OutcomeTells s.out (turn k s go)
-turn_tells zero s go f = tells_none s.out
-turn_tells (suc k) s go f = f k
+turn_tells k s go f = grind (arith, tells_none)
 
 if_tells : (o : Outside) (b : Bool) (x y : PartEnd) → OutcomeTells o x → OutcomeTells o y
     → OutcomeTells o (if b then x else y)
-if_tells o true x y h i = h
-if_tells o false x y h i = i
+if_tells o b x y h i = grind arith
 
 back_tells : (o : Outside) (vars : List ℕ) (x : Option ℕ) (e : CallEnd) → CallTells o e
     → OutcomeTells o (back_in vars x e)
-back_tells o vars x (Returned v p k) h = h
-back_tells o vars x (Stopped p) h = h
+back_tells o vars x e h = grind arith
 
 -- so a loop
 pub loop_tells : (fuel : ℕ) (t : Term) (body : ProcState → ℕ → PartEnd)
@@ -195,14 +178,11 @@ mutual
 
 -- so the result of a procedure
 pub finish_tells : (r : Option Term) (s : ProcState) (k : ℕ) → CallTells s.out (finish r s k)
-finish_tells None s k = tells_none s.out
-finish_tells (Some t) s zero = tells_none s.out
-finish_tells (Some t) s (suc j) = value_tells t s
+finish_tells r s k = grind (arith, tells_none, value_tells)
 
 pub ending_tells : (o : Outside) (x : PartEnd) (r : Option Term) → OutcomeTells o x
     → CallTells o (ending x (finish r))
-ending_tells o (Ended s k) r h = call_from o s.out (finish r s k) h (finish_tells r s k)
-ending_tells o (Out p) r h = h
+ending_tells o x r h = grind (arith, call_from, finish_tells)
 
 proc_tells : (calls : Calls) → CallsTell calls → (p : Proc) (args : List ℕ) (o : Outside) (k : ℕ)
     → CallTells o (run_proc calls p args o k)
@@ -211,15 +191,13 @@ proc_tells calls c p args o k =
 
 if_call_tells : (o : Outside) (b : Bool) (x y : CallEnd) → CallTells o x → CallTells o y
     → CallTells o (if b then x else y)
-if_call_tells o true x y h i = h
-if_call_tells o false x y h i = i
+if_call_tells o b x y h i = grind arith
 
 -- what is outside after a call is what its acts leave
 pub calls_tell : (n : ℕ) (procs : List Proc) → CallsTell (calls_below n procs)
 calls_tell zero procs f args o k = tells_none o
 calls_tell (suc n) procs f args o k =
-    if_call_tells o (f == n) _ _ (proc_tells (calls_below n procs) (calls_tell n procs) (nth_proc procs n)
-    args o k) (calls_tell n procs f args o k)
+    grind (arith, if_call_tells, proc_tells, calls_tell n procs, calls_tell n procs f args o k)
 
 -- so it is after a run
 pub run_tells : (main : ℕ) (program : ResolvedProgram) (world : World) (k : ℕ)

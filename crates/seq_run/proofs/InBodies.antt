@@ -1,21 +1,19 @@
 -- Where the rules are kept, each number in the body of a procedure names something.
-use Rattle.std.proofs.Common.{◌≡◌, ℕ, suc, ◌+◌, ◌<◌, ◌≤◌, nat_le, true, ◌&&◌, List, [], ◌∷◌, ◌++◌, Option}
+use Rattle.std.proofs.Common.{◌≡◌, ℕ, suc, ◌+◌, ◌<◌, ◌≤◌, nat_le, true, List, [], ◌∷◌, ◌++◌, Option}
 use Rattle.std.proofs.Common.{Some, None, length, refl, sym, ap, ◌∙◌, arith}
 use Rattle.std.proofs.lemmas.List.Folds.{list_all-append}
 use Rattle.std.proofs.lemmas.Bool.{ltb-true, leb-true}
 use Rattle.std.specs.List.{list_all, AllByRecursion}
 use Rattle.src_ast.specs.declared.lexeme.Name.{Name}
-use Rattle.src_ast.specs.Syntax.{Expression, Number, Variable, Cell, Signed, Binary, Statement, Assign, Store}
+use Rattle.src_ast.specs.Syntax.{Expression, Cell, Signed, Binary, Statement, Assign, Store}
 use Rattle.src_ast.specs.Syntax.{Print, Read, Give, Take, Call, If, While, Statements, Nothing, Then, Last}
-use Rattle.src_ast.specs.Rules.{Rule, Sort, variable, array, procedure, Declared, is_visible, has_kind}
-use Rattle.src_ast.specs.Rules.{has_sort, use_rules, expression_rules, argument_rules, statement_rule}
-use Rattle.src_ast.specs.Rules.{port_rule, statement_rules, body_rules, ending_rules, size_of, size_of_all}
-use Rattle.src_ast.specs.Rules.{size_of_ending}
+use Rattle.src_ast.specs.Rules.{Rule, Sort, variable, array, procedure, Declared, has_sort, use_rules}
+use Rattle.src_ast.specs.Rules.{expression_rules, argument_rules, statement_rule, port_rule, statement_rules}
+use Rattle.src_ast.specs.Rules.{body_rules, ending_rules, size_of, size_of_all, size_of_ending}
 use Rattle.src_ast.specs.Meaning.{Scope, place_of, var_number, array_number, proc_number}
 use Rattle.seq_run.specs.Resolved.{Proc, nth_proc}
 use Rattle.cfg_core.specs.Graph.{Term}
 use Rattle.src_ast.specs.declared.tree.Unary.{Unary}
-use Rattle.src_ast.specs.declared.tree.Unary.TheVariants.{Flip, Not, Neg}
 use Rattle.seq_run.specs.Resolving.{signed, term, terms, one, all, result}
 use Rattle.cfg_core.specs.Rules.{IsArray, IsPort, TermIn}
 use Rattle.seq_run.specs.InRange.{ResultIn, StepIn, StepsIn, size, size_all}
@@ -31,8 +29,7 @@ kept_front xs ys h = first_holds _ _ (sym (list_all-append (λ r. r.kept) xs ys)
 
 -- the rules of the second list
 pub kept_after : (xs ys : List Rule) → Kept (xs ++ ys) → Kept ys
-kept_after xs ys h = second_holds (list_all (λ r. r.kept) xs) _ (sym (list_all-append (λ r. r.kept) xs ys)
-    ∙ h)
+kept_after xs ys h = grind (arith, second_holds, list_all-append)
 
 -- the first rule
 pub kept_one : (r : Rule) (rs : List Rule) → Kept (r ∷ rs) → r.kept ≡ true
@@ -59,9 +56,7 @@ pub record Seen (scope : Scope) (visible : List Declared) (arrays : ℕ) (procs 
 module _ (scope : Scope) (visible : List Declared) (arrays : ℕ) (procs : List Proc) (home vars : ℕ)
     (seen : Seen scope visible arrays procs home vars) where
   used : (x : Name) (s : Sort) → Kept (use_rules visible x s) → has_sort visible x.text s ≡ true
-  used x s h =
-      first_holds _ true
-      (second_holds (has_kind visible x.text s) _ (second_holds (is_visible visible x.text) _ h))
+  used x s h = grind (arith, first_holds, second_holds)
 
   var_in : (x : Name) → Kept (use_rules visible x variable) → var_number scope x < vars
   var_in x h = seen.var_seen x.text (used x variable h)
@@ -70,20 +65,12 @@ module _ (scope : Scope) (visible : List Declared) (arrays : ℕ) (procs : List 
   array_in a h = let lt = seen.array_seen a.text (used a array h) in (omega arith, omega (arith, lt))
 
   port_in : (port : ℕ) (at : _) → Kept (port_rule port at ∷ []) → IsPort port
-  port_in port at h =
-      let both = first_holds (nat_le 1 port && nat_le port 7) true h in (
-        leb-true 1 port (first_holds (nat_le 1 port) _ both),
-        leb-true port 7 (second_holds (nat_le 1 port) _ both),
-      )
+  port_in port at h = grind (arith, first_holds, nat_le, leb-true, second_holds)
 
   signed_in : (u : Unary) (t : Term) → TermIn arrays vars t → TermIn arrays vars (signed u t)
-  signed_in Flip t h = h
-  signed_in Not t h = h
-  signed_in Neg t h = h
+  signed_in u t h = grind arith
 
   pub term_in : (e : Expression) → Kept (expression_rules visible e) → TermIn arrays vars (term scope e)
-  term_in (Number n) h = tt
-  term_in (Variable x) h = var_in x h
   term_in (Cell a e) h =
       let us = use_rules visible a array in let es = expression_rules visible e in
       (array_in a (kept_front us es h), term_in e (kept_after us es h))
@@ -91,18 +78,18 @@ module _ (scope : Scope) (visible : List Declared) (arrays : ℕ) (procs : List 
   term_in (Binary op a b) h =
       let xs = expression_rules visible a in let ys = expression_rules visible b in
       (term_in a (kept_front xs ys h), term_in b (kept_after xs ys h))
+  term_in e h = grind (arith, var_in)
 
   terms_in : (es : List Expression) → Kept (argument_rules visible es) → AllByRecursion (TermIn arrays vars)
       (terms scope es)
   terms_in [] h = tt
   terms_in (e ∷ es) h =
       let xs = expression_rules visible e in let ys = argument_rules visible es in
-      (term_in e (kept_front xs ys h), terms_in es (kept_after xs ys h))
+      grind (arith, term_in, kept_front, kept_after, terms_in es (kept_after xs ys h))
 
   call_in : (f : Name) (es : List Expression) → Kept (use_rules visible f (procedure (length es)))
       → length (terms scope es) ≡ (nth_proc procs (proc_number scope f)).params
-  call_in f es h = length_terms scope es ∙ seen.count_seen f.text (length es)
-      (used f (procedure (length es)) h)
+  call_in f es h = grind (arith, length_terms, seen.count_seen, used)
 
   mutual
     one_in : (k : ℕ) (s : Statement) → Kept (statement_rules visible k s)
@@ -174,9 +161,7 @@ module _ (scope : Scope) (visible : List Declared) (arrays : ℕ) (procs : List 
   -- so in a result
   pub result_in : (k : ℕ) (r : Option Last) → Kept (ending_rules visible k r)
       → ResultIn arrays vars (result scope r)
-  result_in k None h = tt
-  result_in k (Some last) h =
-      term_in last.value (kept_rest (statement_rule k last.place) (expression_rules visible last.value) h)
+  result_in k r h = grind (arith, term_in, kept_rest)
 
 -- A statement is as large as its step.
 mutual
@@ -252,6 +237,4 @@ module _ (visible : List Declared) where
   -- with a result too
   pub ending_few : (k : ℕ) (r : Option Last) → k ≤ 2048 → Kept (ending_rules visible k r)
       → k + size_of_ending r ≤ 2048
-  ending_few k None le h = omega (arith, le)
-  ending_few k (Some last) le h = let lt = room k last.place (expression_rules visible last.value) h in
-      omega (arith, lt)
+  ending_few k r le h = grind (arith, room)

@@ -1,12 +1,11 @@
 -- Where the rules of a program are kept, each number of the tree with numbers names something.
-use Rattle.std.proofs.Common.{◌≡◌, ℕ, zero, suc, ◌+◌, ◌-◌, ◌<◌, ◌≤◌, inl, inr, Bool, true, false, ◌||◌, List}
-use Rattle.std.proofs.Common.{[], ◌∷◌, ◌++◌, length, refl, sym, ap, ◌∙◌, subst, append_assoc, length-append}
-use Rattle.std.proofs.Common.{arith}
+use Rattle.std.proofs.Common.{◌≡◌, ℕ, zero, suc, ◌+◌, ◌-◌, ◌<◌, ◌≤◌, Bool, true, false, ◌||◌, List, [], ◌∷◌}
+use Rattle.std.proofs.Common.{◌++◌, length, refl, ap, ◌∙◌, subst, append_assoc, length-append, arith}
 use Rattle.std.specs.List.{AllByRecursion}
 use Rattle.src_ast.specs.declared.lexeme.Place.{Place}
 use Rattle.src_ast.specs.declared.lexeme.Name.{Name}
 use Rattle.src_ast.specs.Syntax.{Part, Array, Proc, Procedure}
-use Rattle.src_ast.specs.Rules.{Declared, variable, array, procedure, declared_by, variables, has_sort}
+use Rattle.src_ast.specs.Rules.{Declared, array, procedure, declared_by, variables, has_sort}
 use Rattle.src_ast.specs.Rules.{is_main, has_main, procs_in, statements_in, size_of_all, parameter_rules}
 use Rattle.src_ast.specs.Rules.{part_rules, rules_after, IsAccepted}
 use Rattle.src_ast.specs.Meaning.{Scope, scope_of, arrays_of, lengths_of, procs_of, names_of, nth_procedure}
@@ -18,7 +17,7 @@ use Rattle.seq_run.proofs.Declares.{procs_append}
 use Rattle.seq_run.proofs.Places.{length_procs}
 use Rattle.seq_run.proofs.Whole.{some_proc, accepted_has_proc, list_all_end}
 use Rattle.seq_run.proofs.Visible.{in_front_or_after, variable_place, no_variable, only_variables}
-use Rattle.seq_run.proofs.Visible.{array_place, procedure_place, proc_place, array_stays, proc_stays}
+use Rattle.seq_run.proofs.Visible.{array_place, procedure_place, array_stays, proc_stays}
 use Rattle.seq_run.proofs.Visible.{nth_stays, Known, known_none, known_array, known_procedure}
 use Rattle.seq_run.proofs.InBodies.{Kept, kept_front, kept_after, Seen, all_in, result_in, body_size}
 use Rattle.seq_run.proofs.InBodies.{body_few, ending_few}
@@ -34,9 +33,8 @@ lengths_more (Proc p ∷ ps) qs = lengths_more ps qs
 
 params_at : (arrays names : List Name) (ps : List Procedure) (k : ℕ)
     → (nth_proc (resolving.procs arrays names ps) k).params ≡ length (nth_procedure ps k).params
-params_at arrays names [] k = refl
-params_at arrays names (p ∷ ps) zero = refl
 params_at arrays names (p ∷ ps) (suc k) = params_at arrays names ps k
+params_at arrays names ps k = grind arith
 
 abbrev scope_in : List Part → Procedure → Scope
 scope_in whole p = scope_of (arrays_of whole) (names_of (procs_of whole)) p
@@ -52,80 +50,45 @@ InRangeAt whole home q = ProcIn (length (lengths_of whole)) (resolving.program w
 module _ (before rest : List Part) (p : Procedure) (known : Known before) where
   declared_array : (text : List ℕ) → has_sort (visible_in before p) text array ≡ true
       → has_sort (declared_by before) text array ≡ true
-  declared_array text h = elim (in_front_or_after (variables (p.params ++ p.vars)) (declared_by before) text
-      array h) [
-        | inl i ↦ absurd (no_both i (only_variables (p.params ++ p.vars) text array refl))
-        | inr i ↦ i
-      ]
+  declared_array text h = grind (arith, in_front_or_after, no_both, only_variables)
 
   declared_procedure : (text : List ℕ) (n : ℕ) → has_sort (visible_in before p) text (procedure n) ≡ true
       → has_sort (declared_by before) text (procedure n) ≡ true
-  declared_procedure text n h =
-      elim (in_front_or_after (variables (p.params ++ p.vars)) (declared_by before) text (procedure n) h) [
-        | inl i ↦ absurd (no_both i (only_variables (p.params ++ p.vars) text (procedure n) refl))
-        | inr i ↦ i
-      ]
+  declared_procedure text n h = grind (arith, in_front_or_after, no_both, only_variables)
 
   seen : Seen (scope_in (before ++ rest) p) (visible_in before p) (length (lengths_of (before ++ rest)))
       (resolving.program (before ++ rest)).procs (length (procs_of before)) (length p.params + length p.vars)
-  seen = record {
-    var_seen = λ text h. elim (in_front_or_after (variables (p.params ++ p.vars)) (declared_by before) text
-        variable h) [
-          | inl i ↦ let lt = variable_place (p.params ++ p.vars) text i in let l =
-              length-append p.params p.vars in omega (arith, lt, l)
-          | inr i ↦ absurd (no_both i (no_variable before text))
-        ];
-    array_seen = λ text h.
-        let lt = array_place before text (declared_array text h) in
-        let e = array_stays before rest text lt in
-        let l = lengths_more before rest in
-        omega (arith, lt, e, l);
-    proc_seen = λ text n h.
-        let lt = procedure_place before text n (declared_procedure text n h) in
-        let e = proc_stays before rest text lt in
-        omega (arith, lt, e);
-    count_seen = λ text n h.
-        let i = declared_procedure text n h in
-        let lt = procedure_place before text n i in
-        let whole = before ++ rest in
-        sym
-        (params_at (arrays_of whole) (names_of (procs_of whole)) (procs_of whole) (proc_place whole text)
-        ∙ ap (λ (k : ℕ). length (nth_procedure (procs_of whole) k).params) (proc_stays before rest text lt)
-        ∙ ap (λ (q : Procedure). length q.params) (nth_stays before rest text (proc_place before text) lt)
-        ∙ known text n i);
-  }
+  seen = grind (
+    arith,
+    in_front_or_after,
+    variable_place,
+    length-append,
+    no_both,
+    no_variable,
+    array_place,
+    declared_array,
+    array_stays,
+    lengths_more,
+    procedure_place,
+    declared_procedure,
+    proc_stays,
+    params_at,
+    nth_stays,
+  )
 
   proc_in : Kept (part_rules before (Proc p)) → InRangeAt (before ++ rest) (length (procs_of before))
       (resolving.proc (scope_in (before ++ rest) p) p)
-  proc_in h =
-      let kept = proc_kept before p h in
-      let whole = before ++ rest in
-      let few = params_few (is_main p) (declared_by before) 0 p.params (omega arith) kept.params in
-      let few_vars = vars_few (variables p.params ++ declared_by before) (length p.params) p.vars
-      (omega (arith, few)) kept.vars in
-      record {
-        body = all_in (scope_in whole p) (visible_in before p) (length (lengths_of whole))
-            (resolving.program whole).procs (length (procs_of before)) (length p.params + length p.vars) seen
-            (statements_in before) p.body kept.body;
-        result = result_in (scope_in whole p) (visible_in before p) (length (lengths_of whole))
-            (resolving.program whole).procs (length (procs_of before)) (length p.params + length p.vars) seen
-            (statements_in before + size_of_all p.body) p.ending kept.ending;
-        few_params = omega (arith, few);
-        few_vars = few_vars;
-      }
+  proc_in h = grind (arith, proc_kept, params_few, vars_few, p.vars, all_in, seen, result_in, p.ending)
 
 -- counts with one more part
 module _ (before : List Part) where
   length_array : (x : Name) (n : ℕ) (at : Place) → length (procs_of (before ++ Array x n at ∷ []))
       ≡ length (procs_of before)
-  length_array x n at = let e = ap (λ (ps : List Procedure). length ps)
-      (procs_append before (Array x n at ∷ [])) in let l = length-append (procs_of before) [] in
-      omega (arith, e, l)
+  length_array x n at = grind (arith, procs_append, length-append)
 
   length_procedure : (p : Procedure) → length (procs_of (before ++ Proc p ∷ []))
       ≡ suc (length (procs_of before))
-  length_procedure p = let e = ap (λ (ps : List Procedure). length ps) (procs_append before (Proc p ∷ [])) in
-      let l = length-append (procs_of before) (p ∷ []) in omega (arith, e, l)
+  length_procedure p = grind (arith, procs_append, length-append)
 
 procs_in_is : (ps : List Part) → procs_in ps ≡ length (procs_of ps)
 procs_in_is [] = refl
@@ -151,11 +114,7 @@ all_procs_in whole before (Array x n at ∷ parts) e known h k lt =
     (length_array before x n at) i
 all_procs_in whole before (Proc p ∷ parts) e known h zero lt =
     let here = proc_in before (Proc p ∷ parts) p known
-    (kept_front (part_rules before (Proc p)) (rules_after (before ++ Proc p ∷ []) parts) h) in
-    let z : length (procs_of before) ≡ length (procs_of before) + 0 = omega arith in
-    subst (λ (m : ℕ). InRangeAt whole m (resolving.proc (scope_in whole p) p)) z
-    (subst (λ (w : List Part). InRangeAt w (length (procs_of before)) (resolving.proc (scope_in w p) p)) e
-    here)
+    (kept_front (part_rules before (Proc p)) (rules_after (before ++ Proc p ∷ []) parts) h) in grind arith
 all_procs_in whole before (Proc p ∷ parts) e known h (suc k) lt =
     let next = before ++ Proc p ∷ [] in
     let kept = proc_kept before p (kept_front (part_rules before (Proc p)) (rules_after next parts) h) in
@@ -232,32 +191,27 @@ main_front (Proc p ∷ ps) qs h = by_flag (is_main p) h (main_front ps qs)
   where
     by_flag : (b : Bool) → (b || has_main ps) ≡ true → (has_main ps ≡ true → has_main (ps ++ qs) ≡ true)
         → (b || has_main (ps ++ qs)) ≡ true
-    by_flag true h f = refl
-    by_flag false h f = f h
+    by_flag b h f = grind arith
 
 main_last : (ps : List Part) (p : Procedure) → is_main p ≡ true → has_main (ps ++ Proc p ∷ []) ≡ true
 main_last [] p h = ap (λ (b : Bool). b || false) h
 main_last (Array x n at ∷ ps) p h = main_last ps p h
-main_last (Proc q ∷ ps) p h = ap (λ (b : Bool). is_main q || b) (main_last ps p h) ∙ or_true (is_main q)
+main_last (Proc q ∷ ps) p h = grind (arith, or_true, main_last ps p h)
 
 -- no procedure stands after `main`
 none_after : (before parts : List Part) → has_main before ≡ true → Kept (rules_after before parts)
     → length (procs_of parts) ≡ 0
-none_after before [] m h = refl
 none_after before (Array x n at ∷ parts) m h =
     let next = before ++ Array x n at ∷ [] in none_after next parts (main_front before (Array x n at ∷ []) m)
     (kept_after (part_rules before (Array x n at)) (rules_after next parts) h)
-none_after before (Proc p ∷ parts) m h =
-    absurd (no_both m
-    (proc_kept before p
-    (kept_front (part_rules before (Proc p)) (rules_after (before ++ Proc p ∷ []) parts) h)).first)
+none_after before parts m h = grind (arith, no_both, proc_kept, kept_front)
 
 main_in : (before parts : List Part) → Kept (rules_after before parts) → has_main parts ≡ true
     → length (nth_procedure (procs_of parts) (length (procs_of parts) - 1)).params ≡ 0
 main_in before [] h m = absurd (cc)
 main_in before (Array x n at ∷ parts) h m =
     let next = before ++ Array x n at ∷ [] in
-    main_in next parts (kept_after (part_rules before (Array x n at)) (rules_after next parts) h) m
+    main_in next parts (grind (arith, kept_after)) m
 main_in before (Proc p ∷ parts) h m =
     let next = before ++ Proc p ∷ [] in
     let following = kept_after (part_rules before (Proc p)) (rules_after next parts) h in
@@ -272,16 +226,7 @@ main_in before (Proc p ∷ parts) h m =
         → (has_main parts ≡ true
         → length (nth_procedure (procs_of parts) (length (procs_of parts) - 1)).params ≡ 0)
         → length (nth_procedure (p ∷ procs_of parts) (suc (length (procs_of parts)) - 1)).params ≡ 0
-    by_flag true e m h none later =
-        let l = none e in
-        let z : suc (length (procs_of parts)) - 1 ≡ 0 = omega (arith, l) in
-        ap (λ (k : ℕ). length (nth_procedure (p ∷ procs_of parts) k).params) z
-        ∙ no_params (declared_by before) p.params
-        (subst (λ (b : Bool). Kept (parameter_rules b (declared_by before) 0 p.params)) e h)
-    by_flag false e m h none later =
-        let some = some_proc parts m in
-        let z : suc (length (procs_of parts)) - 1 ≡ suc (length (procs_of parts) - 1) = omega (arith, some) in
-        ap (λ (k : ℕ). length (nth_procedure (p ∷ procs_of parts) k).params) z ∙ later m
+    by_flag b e m h none later = grind (arith, no_params, some_proc)
 
 -- an accepted program is in range
 pub accepted_in : (parts : List Part) (finish : Place) → IsAccepted parts finish

@@ -1,5 +1,5 @@
 -- Each run has one answer, and what it leaves is what its acts leave.
-use Rattle.std.proofs.Common.{ℕ, zero, suc, ◌≡◌, ◌+◌, ◌-◌, ◌<◌, ◌≤◌, ◌⊎◌, inl, inr, List, [], ◌++◌, Option}
+use Rattle.std.proofs.Common.{ℕ, zero, suc, ◌≡◌, ◌+◌, ◌-◌, ◌<◌, ◌≤◌, ◌⊎◌, inl, inr, List, [], Option}
 use Rattle.std.proofs.Common.{Some, None, length, refl, sym, ap, ◌∙◌, subst, arith}
 use Rattle.ws_words.specs.Outside.{Act, Outside, World}
 use Rattle.ws_words.specs.Past.{ActsBegin, AreWithin, FirstPast, after_acts}
@@ -19,18 +19,14 @@ use Rattle.seq_run.proofs.Fronts.{CallLonger, run_longer}
 use Rattle.seq_run.proofs.FirstPasts.{all_within, found, not_within, within_front, one_array, one_before}
 
 lt_or_le : (n m : ℕ) → (n < m) ⊎ (m ≤ n)
-lt_or_le n zero = inr (omega arith)
-lt_or_le zero (suc m) = inl (omega arith)
 lt_or_le (suc n) (suc m) = by_order (lt_or_le n m)
   where
     by_order : (n < m) ⊎ (m ≤ n) → (suc n < suc m) ⊎ (suc m ≤ suc n)
-    by_order (inl lt) = inl (omega arith)
-    by_order (inr le) = inr (omega arith)
+    by_order h = grind arith
+lt_or_le n m = grind arith
 
 told : (o p : Outside) (more : List Act) → o.acts ≡ [] → p ≡ after_acts o more → p ≡ after_acts o p.acts
-told o p more e h =
-    h ∙ ap (after_acts o)
-    (sym (ap (λ (q : Outside). q.acts) h ∙ acts_after o more ∙ ap (λ (xs : List Act). xs ++ more) e))
+told o p more e h = grind (arith, acts_after)
 
 call_told : (o : Outside) (e : CallEnd) → o.acts ≡ [] → CallTells o e
     → outside_of e ≡ after_acts o (outside_of e).acts
@@ -80,13 +76,7 @@ module _ (parts : List Part) (world : World) where
       }
 
   later : (m n : ℕ) → m ≤ n → FaultsWithin parts world m → FaultsWithin parts world n
-  later m n le f = record {
-    turn = f.turn;
-    array = f.array;
-    state = f.state;
-    within = omega (arith, f.within);
-    faults = f.faults;
-  }
+  later m n le f = grind arith
 
   within_or_fault : (n : ℕ) → AreWithin (lengths_of parts) (acts_in parts world n)
       ⊎ FaultsWithin parts world n
@@ -95,7 +85,7 @@ module _ (parts : List Part) (world : World) where
       by_first : (n : ℕ) → ((m : ℕ) → m < n → AreWithin (lengths_of parts) (acts_in parts world m))
           → (r : Option ℕ) → first_past (lengths_of parts) (acts_in parts world n) ≡ r
           → AreWithin (lengths_of parts) (acts_in parts world n) ⊎ FaultsWithin parts world n
-      by_first n f None e = inl (all_within (lengths_of parts) (acts_in parts world n) e)
+      by_first n f None e = grind (arith, all_within)
       by_first n f (Some c) e = inr (fault_at n c e f)
 
       by_last : (n : ℕ) → AreWithin (lengths_of parts) (acts_in parts world n) ⊎ FaultsWithin parts world n
@@ -114,7 +104,7 @@ module _ (parts : List Part) (world : World) where
     where
       by_end : (e : CallEnd) → run parts world turns ≡ e → AreWithin (lengths_of parts) (outside_of e).acts
           → HasAnswer parts world turns
-      by_end (Stopped o) is w = inr (inr (record { now = o; goes = record { flows = is; within = w } }))
+      by_end (Stopped o) is w = grind arith
       by_end (Returned v o k) is w =
           let x = exactly (program parts) world turns v o k (sym (run_same parts world turns) ∙ is) in
           inl (record {
@@ -134,16 +124,11 @@ module _ (parts : List Part) (world : World) where
       → (v : ℕ) × (run parts world turns ≡ Returned v end (turns - n))
   passed n end p turns le =
       let m = more_turns (program parts) world n p.0 end (turns - n) (sym (run_same parts world n) ∙ p.1) in
-      let z : (turns - n) + n ≡ turns = omega (arith, le) in
-      (p.0, run_same parts world turns ∙ ap (resolved.run (program parts) world) (sym z) ∙ m)
+      grind (arith, run_same)
 
   same_in_time : (n m : ℕ) (end done : Outside) → n ≤ m → Passes parts world n end → Passes parts world m done
       → (n ≡ m) × (end ≡ done)
-  same_in_time n m end done le p q =
-      let r = passed n end p m le in
-      let e : Returned r.0 end (m - n) ≡ Returned q.0 done 0 = sym r.1 ∙ q.1 in
-      let z : m - n ≡ 0 = cc in
-      (omega (arith, z, le), cc)
+  same_in_time n m end done le p q = let r = passed n end p m le in grind arith
 
   -- it ends in one way
   pub one_end : (n m : ℕ) (end done : Outside) → Runs parts world n end → Runs parts world m done
@@ -187,8 +172,7 @@ module _ (parts : List Part) (world : World) where
   end_no_fault n m a end s r f = by_order (lt_or_le n m)
     where
       acts_at : (k : ℕ) → n ≤ k → AreWithin (lengths_of parts) (acts_in parts world k)
-      acts_at k le = let p = passed n end r.passes k le in
-          subst (λ (e : CallEnd). AreWithin (lengths_of parts) (outside_of e).acts) (sym p.1) r.within
+      acts_at k le = let p = passed n end r.passes k le in grind arith
 
       by_order : (n < m) ⊎ (m ≤ n) → ⊥
       by_order (inl lt) = fault_past m m a s (omega arith) f (acts_at m (omega (arith, lt)))
@@ -197,15 +181,12 @@ module _ (parts : List Part) (world : World) where
   -- no run that has ended goes on
   pub end_no_going : (n turns : ℕ) (end now : Outside) → n ≤ turns → Runs parts world n end
       → Goes parts world turns now → ⊥
-  end_no_going n turns end now le r g = let p = passed n end r.passes turns le in
-      let e : Returned p.0 end (turns - n) ≡ Stopped now = sym p.1 ∙ g.flows in absurd (cc)
+  end_no_going n turns end now le r g = let p = passed n end r.passes turns le in grind arith
 
   -- none that met an act that is past goes on
   pub fault_no_going : (n turns a : ℕ) (s now : Outside) → n ≤ turns → Faults parts world n a s
       → Goes parts world turns now → ⊥
-  fault_no_going n turns a s now le f g =
-      fault_past n turns a s le f (subst (λ (e : CallEnd). AreWithin (lengths_of parts) (outside_of e).acts)
-      (sym g.flows) g.within)
+  fault_no_going n turns a s now le f g = fault_past n turns a s le f (grind arith)
 
   -- a run that goes on is at one point
   pub one_going : (turns : ℕ) (now still : Outside) → Goes parts world turns now

@@ -4,11 +4,11 @@ use Rattle.std.proofs.Common.{List, [], ◌∷◌, ◌++◌, length, refl, arith
 use Rattle.std.proofs.lemmas.Bool.{ltb-true, leb-true}
 use Rattle.src_ast.specs.declared.lexeme.Place.{Place}
 use Rattle.src_ast.specs.declared.lexeme.Name.{Name}
-use Rattle.src_ast.specs.declared.fault.Quantity.TheVariants.{Arrays, Length, CellSum, Procs, Params, Vars}
+use Rattle.src_ast.specs.declared.fault.Quantity.TheVariants.{Params, Vars}
 use Rattle.src_ast.specs.declared.fault.RefusalKind.TheVariants.{Twice, Main, Limit}
 use Rattle.src_ast.specs.Syntax.{Part, Array, Proc, Procedure}
 use Rattle.src_ast.specs.Rules.{Rule, Declared, variable, declared_by, variables, is_visible, is_main}
-use Rattle.src_ast.specs.Rules.{has_main, arrays_in, procs_in, cells_in, statements_in, size_of_all}
+use Rattle.src_ast.specs.Rules.{has_main, arrays_in, procs_in, statements_in, size_of_all}
 use Rattle.src_ast.specs.Rules.{parameter_rules, variable_rules, body_rules, ending_rules, part_rules}
 use Rattle.seq_run.proofs.InBodies.{Kept, kept_front, kept_after, kept_one, kept_rest}
 use Rattle.ws_words.proofs.Bools.{not_true}
@@ -27,67 +27,17 @@ pub record ProcKept (before : List Part) (p : Procedure) : Type 0 where
 
 -- what the rules say of a procedure
 pub proc_kept : (before : List Part) (p : Procedure) → Kept (part_rules before (Proc p)) → ProcKept before p
-proc_kept before p h =
-    let visible = variables (p.params ++ p.vars) ++ declared_by before in
-    let ps = parameter_rules (is_main p) (declared_by before) 0 p.params in
-    let vs = variable_rules (variables p.params ++ declared_by before) (length p.params) p.vars in
-    let bs = body_rules visible (statements_in before) p.body in
-    let es = ending_rules visible (statements_in before + size_of_all p.body) p.ending in
-    let r1 : Rule = record { place = p.name.place; kind = Main; kept = not (has_main before) } in
-    let r2 : Rule = record {
-      place = p.name.place;
-      kind = Twice;
-      kept = not (is_visible (declared_by before) p.name.text);
-    } in
-    let r3 : Rule = record { place = p.name.place; kind = Limit Procs; kept = nat_lt (procs_in before) 64 } in
-    let rest = ps ++ (vs ++ (bs ++ es)) in
-    let h2 = kept_rest r1 (r2 ∷ (r3 ∷ rest)) h in
-    let h3 = kept_rest r2 (r3 ∷ rest) h2 in
-    let h4 = kept_rest r3 rest h3 in
-    let h5 = kept_after ps (vs ++ (bs ++ es)) h4 in
-    let h6 = kept_after vs (bs ++ es) h5 in
-    record {
-      first = not_true (has_main before) (kept_one r1 (r2 ∷ (r3 ∷ rest)) h);
-      new = not_true (is_visible (declared_by before) p.name.text) (kept_one r2 (r3 ∷ rest) h2);
-      room = ltb-true (procs_in before) 64 (kept_one r3 rest h3);
-      params = kept_front ps (vs ++ (bs ++ es)) h4;
-      vars = kept_front vs (bs ++ es) h5;
-      body = kept_front bs es h6;
-      ending = kept_after bs es h6;
-    }
+proc_kept before p h = grind (arith, nat_lt, kept_rest, kept_after, not_true, kept_one, ltb-true, kept_front)
 
 -- what they say of the length of an array
 pub array_kept : (before : List Part) (x : Name) (n : ℕ) (at : Place)
     → Kept (part_rules before (Array x n at)) → n ≤ 65536
-array_kept before x n at h =
-    let r1 : Rule =
-    record { place = x.place; kind = Twice; kept = not (is_visible (declared_by before) x.text) } in
-    let r2 : Rule = record { place = x.place; kind = Limit Arrays; kept = nat_lt (arrays_in before) 64 } in
-    let r3 : Rule = record { place = at; kind = Limit Length; kept = nat_le n 65536 } in
-    let r4 : Rule = record {
-      place = at;
-      kind = Limit CellSum;
-      kept = nat_le (cells_in before + n)
-          1048576;
-    } in
-    leb-true n 65536
-    (kept_one r3 (r4 ∷ []) (kept_rest r2 (r3 ∷ (r4 ∷ [])) (kept_rest r1 (r2 ∷ (r3 ∷ (r4 ∷ []))) h)))
+array_kept before x n at h = grind (arith, nat_lt, nat_le, leb-true, kept_one, kept_rest)
 
 -- there is room for an array
 pub array_room : (before : List Part) (x : Name) (n : ℕ) (at : Place)
     → Kept (part_rules before (Array x n at)) → arrays_in before < 64
-array_room before x n at h =
-    let r1 : Rule =
-    record { place = x.place; kind = Twice; kept = not (is_visible (declared_by before) x.text) } in
-    let r2 : Rule = record { place = x.place; kind = Limit Arrays; kept = nat_lt (arrays_in before) 64 } in
-    let r3 : Rule = record { place = at; kind = Limit Length; kept = nat_le n 65536 } in
-    let r4 : Rule = record {
-      place = at;
-      kind = Limit CellSum;
-      kept = nat_le (cells_in before + n)
-          1048576;
-    } in
-    ltb-true (arrays_in before) 64 (kept_one r2 (r3 ∷ (r4 ∷ [])) (kept_rest r1 (r2 ∷ (r3 ∷ (r4 ∷ []))) h))
+array_room before x n at h = grind (arith, nat_lt, nat_le, ltb-true, kept_one, kept_rest)
 
 -- there are few enough parameters
 pub params_few : (main : Bool) (visible : List Declared) (k : ℕ) (xs : List Name) → k ≤ 8

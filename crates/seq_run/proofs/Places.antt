@@ -1,71 +1,52 @@
 -- The tree with numbers runs as the tree with names.
+use Rattle.std.proofs.Common.{arith, ℕ, zero, suc, ◌-◌, ◌≡◌, ◌==◌, Bool, List, [], ◌∷◌, ◌++◌, length, Option}
+use Rattle.std.proofs.Common.{Some, None, if◌then◌else◌, refl, ap, ◌∙◌, slice_index}
 use mathlib.Core.Path.{fun_ext}
-use Rattle.std.proofs.Common.{ℕ, zero, suc, ◌-◌, ◌≡◌, ◌==◌, Bool, true, false, List, [], ◌∷◌, ◌++◌, length}
-use Rattle.std.proofs.Common.{Option, Some, None, if◌then◌else◌, refl, sym, ap, ◌∙◌, slice_index}
-use Rattle.ws_words.specs.Operators.{applied}
-use Rattle.ws_words.specs.Outside.{loads, row, with_acts, Outside, ProcState, zeros, World, opening_out}
+use Rattle.ws_words.specs.Outside.{loads, Outside, ProcState, zeros, World, opening_out}
 use Rattle.ws_words.specs.Outside.{write, stored, printed, taken}
-use Rattle.src_ast.specs.Turns.{PartEnd, Ended, Out, and_then, turn, CallEnd, Returned, back_in, ending, loop}
+use Rattle.src_ast.specs.Turns.{PartEnd, Ended, and_then, turn, CallEnd, Returned, back_in, ending, loop}
 use Rattle.src_ast.specs.declared.lexeme.Name.{Name}
-use Rattle.src_ast.specs.Syntax.{Expression, Number, Variable, Cell, Signed, Binary, Statement, Assign, Store}
+use Rattle.src_ast.specs.Syntax.{Expression, Cell, Signed, Binary, Statement, Assign, Store}
 use Rattle.src_ast.specs.Syntax.{Print, Read, Give, Take, Call, If, While, Statements, Nothing, Then, Last}
 use Rattle.src_ast.specs.Syntax.{Procedure, Part}
 use Rattle.seq_run.specs.Resolved as resolved
 use Rattle.cfg_core.specs.Graph as graph
 use Rattle.cfg_core.specs.Walk as walks
 use Rattle.src_ast.specs.declared.tree.Unary.{Unary}
-use Rattle.src_ast.specs.declared.tree.Unary.TheVariants.{Flip, Not, Neg}
 use Rattle.src_ast.specs.Meaning as meaning
 use Rattle.src_ast.specs.Meaning.{signed_value, Calls, empty_cells, Scope, var_number, array_number}
-use Rattle.src_ast.specs.Meaning.{proc_number, target, scope_of, arrays_of, lengths_of, procs_of, names_of}
-use Rattle.src_ast.specs.Meaning.{nth_procedure}
+use Rattle.src_ast.specs.Meaning.{proc_number, target, scope_of, lengths_of, procs_of, nth_procedure}
 use Rattle.seq_run.specs.Resolving.{signed, term, terms, one, all, result, proc, procs, program}
 
 signed_same : (u : Unary) (t : graph.Term) (vars : List ℕ) (cells : List (List ℕ))
     → walks.value (signed u t) vars cells ≡ signed_value u (walks.value t vars cells)
-signed_same Flip t vars cells = refl
-signed_same Not t vars cells = refl
-signed_same Neg t vars cells = refl
+signed_same u t vars cells = grind arith
 
 signed_loads : (u : Unary) (t : graph.Term) (vars : List ℕ) (cells : List (List ℕ))
     → walks.loads_of (signed u t) vars cells ≡ walks.loads_of t vars cells
-signed_loads Flip t vars cells = refl
-signed_loads Not t vars cells = refl
-signed_loads Neg t vars cells = refl
+signed_loads u t vars cells = grind arith
 
 module _ (scope : Scope) where
   value_same : (e : Expression) (vars : List ℕ) (cells : List (List ℕ))
       → meaning.value scope e vars cells ≡ walks.value (term scope e) vars cells
-  value_same (Number n) vars cells = refl
-  value_same (Variable x) vars cells = refl
-  value_same (Cell a e) vars cells = ap (λ n. slice_index (row cells (array_number scope a - 1)) n)
-      (value_same e vars cells)
-  value_same (Signed s e) vars cells = ap (signed_value s) (value_same e vars cells)
-      ∙ sym (signed_same s (term scope e) vars cells)
-  value_same (Binary op a b) vars cells = ap (λ n. applied op n (meaning.value scope b vars cells))
-      (value_same a vars cells) ∙ ap (λ n. applied op (walks.value (term scope a) vars cells) n)
-      (value_same b vars cells)
+  value_same (Cell a e) vars cells = grind (arith, slice_index, value_same e vars cells)
+  value_same (Signed s e) vars cells = grind (arith, signed_same, value_same e vars cells)
+  value_same (Binary op a b) vars cells = grind (arith, value_same a vars cells, value_same b vars cells)
+  value_same e vars cells = grind arith
 
   loads_same : (e : Expression) (vars : List ℕ) (cells : List (List ℕ))
       → meaning.loads_of scope e vars cells ≡ walks.loads_of (term scope e) vars cells
-  loads_same (Number n) vars cells = refl
-  loads_same (Variable x) vars cells = refl
   loads_same (Cell a e) vars cells =
       ap (λ acts. acts ++ loads (array_number scope a) (meaning.value scope e vars cells) ∷ [])
       (loads_same e vars cells)
       ∙ ap (λ n. walks.loads_of (term scope e) vars cells ++ loads (array_number scope a) n ∷ [])
       (value_same e vars cells)
-  loads_same (Signed s e) vars cells = loads_same e vars cells
-      ∙ sym (signed_loads s (term scope e) vars cells)
-  loads_same (Binary op a b) vars cells = ap (λ acts. acts ++ meaning.loads_of scope b vars cells)
-      (loads_same a vars cells) ∙ ap (λ acts. walks.loads_of (term scope a) vars cells ++ acts)
-      (loads_same b vars cells)
+  loads_same (Signed s e) vars cells = grind (arith, signed_loads, loads_same e vars cells)
+  loads_same (Binary op a b) vars cells = grind (arith, loads_same a vars cells, loads_same b vars cells)
+  loads_same e vars cells = grind arith
 
   of_same : (e : Expression) (s : ProcState) → meaning.value_of scope e s ≡ walks.value_of (term scope e) s
-  of_same e s = ap (λ n. (n, with_acts s (meaning.loads_of scope e s.vars s.out.cells)))
-      (value_same e s.vars s.out.cells)
-      ∙ ap (λ acts. (walks.value (term scope e) s.vars s.out.cells, with_acts s acts))
-      (loads_same e s.vars s.out.cells)
+  of_same e s = grind (arith, s.vars, value_same, loads_same)
 
   values_same : (es : List Expression) (vars : List ℕ) (cells : List (List ℕ))
       → meaning.values scope es vars cells ≡ walks.values (terms scope es) vars cells
@@ -76,42 +57,29 @@ module _ (scope : Scope) where
   all_loads_same : (es : List Expression) (vars : List ℕ) (cells : List (List ℕ))
       → meaning.all_loads scope es vars cells ≡ walks.all_loads (terms scope es) vars cells
   all_loads_same [] vars cells = refl
-  all_loads_same (e ∷ es) vars cells = ap (λ acts. acts ++ meaning.all_loads scope es vars cells)
-      (loads_same e vars cells) ∙ ap (λ acts. walks.loads_of (term scope e) vars cells ++ acts)
-      (all_loads_same es vars cells)
+  all_loads_same (e ∷ es) vars cells = grind (arith, loads_same, all_loads_same es vars cells)
 
   all_of_same : (es : List Expression) (s : ProcState) → meaning.values_of scope es s ≡ walks.values_of
       (terms scope es) s
-  all_of_same es s = ap (λ ns. (ns, with_acts s (meaning.all_loads scope es s.vars s.out.cells)))
-      (values_same es s.vars s.out.cells)
-      ∙ ap (λ acts. (walks.values (terms scope es) s.vars s.out.cells, with_acts s acts))
-      (all_loads_same es s.vars s.out.cells)
+  all_of_same es s = grind (arith, s.vars, values_same, all_loads_same)
 
 turn_same : (k : ℕ) (s : ProcState) (go went : ℕ → PartEnd) → ((j : ℕ) → go j ≡ went j)
     → turn k s go ≡ turn k s went
-turn_same zero s go went h = refl
-turn_same (suc k) s go went h = h k
+turn_same k s go went h = grind arith
 
 then_same : (o u : PartEnd) (go went : ProcState → ℕ → PartEnd) → o ≡ u
     → ((s : ProcState) (k : ℕ) → go s k ≡ went s k) → and_then o go ≡ and_then u went
-then_same (Ended s k) u go went e h = h s k ∙ ap (λ o. and_then o went) e
-then_same (Out o) u go went e h = ap (λ x. and_then x went) e
+then_same o u go went e h = grind arith
 
 if_same : (b : Bool) (o u p q : PartEnd) → o ≡ p → u ≡ q → (if b then o else u) ≡ (if b then p else q)
-if_same true o u p q e f = e
-if_same false o u p q e f = f
+if_same b o u p q e f = grind arith
 
 loop_same : (fuel : ℕ) (test tested : ProcState → ℕ × ProcState) (body went : ProcState → ℕ → PartEnd)
     → ((s : ProcState) → test s ≡ tested s) → ((s : ProcState) (k : ℕ) → body s k ≡ went s k)
     → (s : ProcState) (k : ℕ) → loop fuel test body s k ≡ loop fuel tested went s k
 loop_same zero test tested body went e h s k = refl
 loop_same (suc fuel) test tested body went e h s k =
-    turn_same k s _ _ (λ j.
-    if_same ((test s).0 == 0) _ _ _ _ refl (then_same (body (test s).1 j) (went (test s).1 j)
-    (loop fuel test body) (loop fuel tested went) (h (test s).1 j)
-    (loop_same fuel test tested body went e h))
-    ∙ ap (λ (v : ℕ × ProcState). if v.0 == 0 then Ended v.1 j else and_then (went v.1 j)
-    (loop fuel tested went)) (e s))
+    grind (arith, turn_same, if_same, then_same, loop_same fuel test tested body went e h)
 
 module _ (scope : Scope) (calls : Calls) where
   mutual
@@ -159,8 +127,7 @@ finish_same scope (Some e) s (suc j) = ap (λ (v : ℕ × ProcState). Returned v
 
 ending_same : (o u : PartEnd) (go went : ProcState → ℕ → CallEnd) → o ≡ u
     → ((s : ProcState) (k : ℕ) → go s k ≡ went s k) → ending o go ≡ ending u went
-ending_same (Ended s k) u go went e h = h s k ∙ ap (λ o. ending o went) e
-ending_same (Out o) u go went e h = ap (λ x. ending x went) e
+ending_same o u go went e h = grind arith
 
 proc_same : (scope : Scope) (calls called : Calls) → calls ≡ called
     → (p : Procedure) (args : List ℕ) (o : Outside) (k : ℕ) → meaning.run_procedure scope calls p args o k
@@ -174,22 +141,16 @@ proc_same scope calls called e p args o k =
 nth_same : (arrays names : List Name) (ps : List Procedure) (n : ℕ)
     → proc (scope_of arrays names (nth_procedure ps n)) (nth_procedure ps n) ≡ resolved.nth_proc
     (procs arrays names ps) n
-nth_same arrays names [] n = refl
-nth_same arrays names (p ∷ ps) zero = refl
 nth_same arrays names (p ∷ ps) (suc n) = nth_same arrays names ps n
+nth_same arrays names ps n = grind arith
 
 number_same : (p : List Part) (calls called : Calls) → calls ≡ called → (n : ℕ) (args : List ℕ) (o : Outside)
     (k : ℕ) → meaning.run_number p calls n args o k ≡ resolved.run_proc called
     (resolved.nth_proc (program p).procs n) args o k
-number_same p calls called e n args o k =
-    proc_same (scope_of (arrays_of p) (names_of (procs_of p)) (nth_procedure (procs_of p) n)) calls called e
-    (nth_procedure (procs_of p) n) args o k
-    ∙ ap (λ q. resolved.run_proc called q args o k) (nth_same (arrays_of p) (names_of (procs_of p))
-    (procs_of p) n)
+number_same p calls called e n args o k = grind (arith, proc_same, nth_same)
 
 if_call_same : (b : Bool) (o u p q : CallEnd) → o ≡ p → u ≡ q → (if b then o else u) ≡ (if b then p else q)
-if_call_same true o u p q e f = e
-if_call_same false o u p q e f = f
+if_call_same b o u p q e f = grind arith
 
 calls_same : (p : List Part) (n : ℕ) → meaning.calls_below n p ≡ resolved.calls_below n (program p).procs
 calls_same p zero = refl
@@ -213,4 +174,4 @@ run_same p world k =
     number_same p (meaning.calls_below m p) (resolved.calls_below m (program p).procs) (calls_same p m) m []
     (opening_out (empty_cells (lengths_of p)) world) k
     ∙ ap (λ n. resolved.run_at (n - 1) (program p) world k)
-    (sym (length_procs (arrays_of p) (names_of (procs_of p)) (procs_of p)))
+    (grind (arith, length_procs))

@@ -89,7 +89,6 @@ steps_more scope ss i s list now t lt is so st en =
     at : (ss : List Stmt) (i : ℕ) → i < length ss → s ≡ slice_index_or ss i s
         → with_last (resolving.all scope (ast.statements (take i ss))) (resolving.one scope (ast.statement s))
         ≡ resolving.all scope (ast.statements (take (suc i) ss))
-    at [] i lt is = absurd (omega arith)
-    at (x ∷ ss) zero lt is = ap (λ (y : Stmt). Then (resolving.one scope (ast.statement y)) Nothing) is
     at (x ∷ ss) (suc i) lt is = ap (λ (u : Steps). Then (resolving.one scope (ast.statement x)) u)
         (at ss i (omega arith) is)
+    at ss i lt is = grind arith

@@ -1,14 +1,12 @@
 -- A run never has more turns left than it had.
-use Rattle.std.proofs.Common.{ℕ, zero, suc, ◌≤◌, ◌==◌, Bool, true, false, List, ◌++◌, Option, Some, None}
-use Rattle.std.proofs.Common.{if◌then◌else◌, arith}
+use Rattle.std.proofs.Common.{ℕ, zero, suc, ◌≤◌, ◌==◌, Bool, List, ◌++◌, Option, if◌then◌else◌, arith}
 use Rattle.ws_words.specs.Outside.{Outside, ProcState, zeros}
-use Rattle.src_ast.specs.Turns.{PartEnd, Ended, Out, and_then, turn, CallEnd, Returned, Stopped, back_in}
-use Rattle.src_ast.specs.Turns.{ending, loop}
+use Rattle.src_ast.specs.Turns.{PartEnd, and_then, turn, CallEnd, Returned, Stopped, back_in, ending, loop}
 use Rattle.src_ast.specs.Meaning.{Calls}
 use Rattle.cfg_core.specs.Graph.{Term}
 use Rattle.cfg_core.specs.Walk.{value_of}
 use Rattle.seq_run.specs.Resolved.{Step, Do, Call, If, While, Steps, Nothing, Then, Proc, run_one, run_all}
-use Rattle.seq_run.specs.Resolved.{finish, run_proc, calls_below, nth_proc}
+use Rattle.seq_run.specs.Resolved.{finish, run_proc, calls_below}
 use Rattle.seq_run.specs.TurnsLeft.{AtMost}
 
 abbrev pub CallAtMost : ℕ → CallEnd → Type 0
@@ -20,34 +18,28 @@ abbrev pub CallsAtMost : Calls → Type 0
 CallsAtMost calls = (f : ℕ) (args : List ℕ) (o : Outside) (k : ℕ) → CallAtMost k (calls f args o k)
 
 lower : (j k : ℕ) → j ≤ k → (o : PartEnd) → AtMost j o → AtMost k o
-lower j k le (Ended s i) h = omega arith
-lower j k le (Out o) h = tt
+lower j k le o h = grind arith
 
 then_most : (k : ℕ) (o : PartEnd) (go : ProcState → ℕ → PartEnd) → AtMost k o
     → ((s : ProcState) (j : ℕ) → AtMost j (go s j)) → AtMost k (and_then o go)
-then_most k (Ended s j) go h f = lower j k h (go s j) (f s j)
-then_most k (Out o) go h f = tt
+then_most k o go h f = grind (arith, lower)
 
 turn_most : (k : ℕ) (s : ProcState) (go : ℕ → PartEnd) → ((j : ℕ) → AtMost j (go j)) → AtMost k (turn k s go)
-turn_most zero s go f = tt
-turn_most (suc k) s go f = lower k (suc k) (omega arith) (go k) (f k)
+turn_most k s go f = grind (arith, lower)
 
 if_most : (k : ℕ) (b : Bool) (o p : PartEnd) → AtMost k o → AtMost k p → AtMost k (if b then o else p)
-if_most k true o p h i = h
-if_most k false o p h i = i
+if_most k b o p h i = grind arith
 
 back_most : (k : ℕ) (vars : List ℕ) (x : Option ℕ) (e : CallEnd) → CallAtMost k e
     → AtMost k (back_in vars x e)
-back_most k vars x (Returned v o j) h = h
-back_most k vars x (Stopped o) h = tt
+back_most k vars x e h = grind arith
 
 loop_most : (fuel : ℕ) (test : ProcState → ℕ × ProcState) (body : ProcState → ℕ → PartEnd)
     → ((s : ProcState) (k : ℕ) → AtMost k (body s k)) → (s : ProcState) (k : ℕ)
     → AtMost k (loop fuel test body s k)
 loop_most zero test body f s k = tt
 loop_most (suc fuel) test body f s k =
-    turn_most k s _ (λ j. if_most j ((test s).0 == 0) _ _ (omega arith)
-    (then_most j (body (test s).1 j) (loop fuel test body) (f (test s).1 j) (loop_most fuel test body f)))
+    grind (arith, turn_most, if_most, then_most, loop_most fuel test body f)
 
 mutual
   -- nor does a step
@@ -69,22 +61,17 @@ mutual
       (one_most calls c st s k) (all_most calls c rest)
 
 finish_most : (r : Option Term) (s : ProcState) (k : ℕ) → CallAtMost k (finish r s k)
-finish_most None s k = omega arith
-finish_most (Some t) s zero = tt
-finish_most (Some t) s (suc j) = omega arith
+finish_most r s k = grind arith
 
 lower_call : (j k : ℕ) → j ≤ k → (e : CallEnd) → CallAtMost j e → CallAtMost k e
-lower_call j k le (Returned v o i) h = omega arith
-lower_call j k le (Stopped o) h = tt
+lower_call j k le e h = grind arith
 
 ending_most : (k : ℕ) (o : PartEnd) (r : Option Term) → AtMost k o → CallAtMost k (ending o (finish r))
-ending_most k (Ended s j) r h = lower_call j k h (finish r s j) (finish_most r s j)
-ending_most k (Out o) r h = tt
+ending_most k o r h = grind (arith, lower_call, finish_most)
 
 if_call_most : (k : ℕ) (b : Bool) (o p : CallEnd) → CallAtMost k o → CallAtMost k p
     → CallAtMost k (if b then o else p)
-if_call_most k true o p h i = h
-if_call_most k false o p h i = i
+if_call_most k b o p h i = grind arith
 
 pub proc_most : (calls : Calls) → CallsAtMost calls → (p : Proc) (args : List ℕ) (o : Outside) (k : ℕ)
     → CallAtMost k (run_proc calls p args o k)
@@ -95,5 +82,4 @@ proc_most calls c p args o k =
 pub calls_most : (n : ℕ) (procs : List Proc) → CallsAtMost (calls_below n procs)
 calls_most zero procs f args o k = tt
 calls_most (suc n) procs f args o k =
-    if_call_most k (f == n) _ _ (proc_most (calls_below n procs) (calls_most n procs) (nth_proc procs n) args
-    o k) (calls_most n procs f args o k)
+    grind (arith, if_call_most, proc_most, calls_most n procs, calls_most n procs f args o k)

@@ -1,7 +1,6 @@
 -- Names that are visible have places among the names declared.
-use Rattle.std.proofs.Common.{◌≡◌, ℕ, zero, suc, ◌<◌, ◌==◌, ◌⊎◌, inl, inr, Bool, true, false, ◌&&◌, ◌||◌}
-use Rattle.std.proofs.Common.{nat_eq, if◌then◌else◌, List, [], ◌∷◌, ◌++◌, length, refl, sym, ap, ◌∙◌, subst}
-use Rattle.std.proofs.Common.{arith}
+use Rattle.std.proofs.Common.{◌≡◌, ℕ, suc, ◌<◌, ◌==◌, ◌⊎◌, inl, inr, Bool, true, false, ◌&&◌, ◌||◌, nat_eq}
+use Rattle.std.proofs.Common.{if◌then◌else◌, List, [], ◌∷◌, ◌++◌, length, refl, ap, ◌∙◌, subst, arith}
 use Rattle.std.proofs.lemmas.List.Folds.{list_any-append}
 use Rattle.std.proofs.lemmas.Bool.{eqb-true}
 use Rattle.std.specs.Cmp.Lexicographic.{bytes_decides}
@@ -19,8 +18,7 @@ use Rattle.src_check.proofs.Parts.{declared_by-append as declared_append}
 -- among names in a row, a name is the first or the others
 pub in_front_or_after : (xs ys : List Declared) (text : List ℕ) (s : Sort) → has_sort (xs ++ ys) text s ≡ true
     → (has_sort xs text s ≡ true) ⊎ (has_sort ys text s ≡ true)
-in_front_or_after xs ys text s h = or_cases (has_sort xs text s) (has_sort ys text s)
-    (sym (list_any-append (λ d. pointwise nat_eq d.text text && same_sort d.sort s) xs ys) ∙ h)
+in_front_or_after xs ys text s h = grind (arith, or_cases, list_any-append, pointwise, nat_eq)
 
 -- a variable that is visible has a place
 pub variable_place : (ns : List Name) (text : List ℕ) → has_sort (variables ns) text variable ≡ true
@@ -31,17 +29,15 @@ variable_place (n ∷ ns) text h = by_flag (pointwise nat_eq n.text text) h (var
     by_flag : (b : Bool) → ((b && true) || has_sort (variables ns) text variable) ≡ true
         → (has_sort (variables ns) text variable ≡ true → place_of ns text < length ns)
         → (if b then 0 else suc (place_of ns text)) < suc (length ns)
-    by_flag true h f = omega arith
-    by_flag false h f = let lt = f h in omega (arith, lt)
+    by_flag b h f = grind arith
 
 no_test : (b c : Bool) → c ≡ false → ((b && false) || c) ≡ false
-no_test true c e = e
-no_test false c e = e
+no_test b c e = grind arith
 
 -- parts declare no variable
 pub no_variable : (parts : List Part) (text : List ℕ) → has_sort (declared_by parts) text variable ≡ false
 no_variable [] text = refl
-no_variable (Array x n at ∷ parts) text = no_test (pointwise nat_eq x.text text) _ (no_variable parts text)
+no_variable (Array x n at ∷ parts) text = grind (arith, no_test, pointwise, nat_eq, no_variable parts text)
 no_variable (Proc p ∷ parts) text = no_test (pointwise nat_eq p.name.text text) _ (no_variable parts text)
 
 -- variables are nothing else
@@ -62,10 +58,9 @@ array_place (Array x n at ∷ parts) text h = by_flag (pointwise nat_eq x.text t
         → (has_sort (declared_by parts) text array ≡ true → place_of (arrays_of parts) text
         < length (arrays_of parts)) → (if b then 0 else suc (place_of (arrays_of parts) text))
         < suc (length (arrays_of parts))
-    by_flag true h f = omega arith
-    by_flag false h f = let lt = f h in omega (arith, lt)
+    by_flag b h f = grind arith
 array_place (Proc p ∷ parts) text h = elim (or_cases (pointwise nat_eq p.name.text text && false) _ h) [
-  | inl i ↦ absurd (no_both (both_hold (pointwise nat_eq p.name.text text) false i).1 refl)
+  | inl i ↦ grind (arith, no_both, both_hold, pointwise, nat_eq)
   | inr i ↦ array_place parts text i
 ]
 
@@ -79,7 +74,7 @@ pub procedure_place : (parts : List Part) (text : List ℕ) (n : ℕ) → has_so
 procedure_place [] text n h = absurd (cc)
 procedure_place (Array x m at ∷ parts) text n h =
     elim (or_cases (pointwise nat_eq x.text text && false) _ h) [
-      | inl i ↦ absurd (no_both (both_hold (pointwise nat_eq x.text text) false i).1 refl)
+      | inl i ↦ grind (arith, no_both, both_hold, pointwise, nat_eq)
       | inr i ↦ procedure_place parts text n i
     ]
 procedure_place (Proc p ∷ parts) text n h = by_flag (pointwise nat_eq p.name.text text) h
@@ -89,8 +84,7 @@ procedure_place (Proc p ∷ parts) text n h = by_flag (pointwise nat_eq p.name.t
         ≡ true → (has_sort (declared_by parts) text (procedure n) ≡ true
         → proc_place parts text < length (procs_of parts)) → (if b then 0 else suc (proc_place parts text))
         < suc (length (procs_of parts))
-    by_flag true h f = omega arith
-    by_flag false h f = let lt = f h in omega (arith, lt)
+    by_flag b h f = grind arith
 
 -- a name that is not visible has no place
 pub hidden_place : (parts : List Part) (text : List ℕ) → is_visible (declared_by parts) text ≡ false
@@ -103,8 +97,7 @@ hidden_place (Proc p ∷ parts) text h = by_flag (pointwise nat_eq p.name.text t
     by_flag : (b : Bool) → (b || is_visible (declared_by parts) text) ≡ false
         → (is_visible (declared_by parts) text ≡ false → proc_place parts text ≡ length (procs_of parts))
         → (if b then 0 else suc (proc_place parts text)) ≡ suc (length (procs_of parts))
-    by_flag true h f = absurd (cc)
-    by_flag false h f = ap suc (f h)
+    by_flag b h f = grind arith
 
 -- more names after change no place
 pub place_front : (xs ys : List Name) (text : List ℕ) → place_of xs text < length xs
@@ -115,8 +108,7 @@ place_front (x ∷ xs) ys text lt = by_flag (pointwise nat_eq x.text text) lt (p
     by_flag : (b : Bool) → (if b then 0 else suc (place_of xs text)) < suc (length xs)
         → (place_of xs text < length xs → place_of (xs ++ ys) text ≡ place_of xs text)
         → (if b then 0 else suc (place_of (xs ++ ys) text)) ≡ (if b then 0 else suc (place_of xs text))
-    by_flag true lt f = refl
-    by_flag false lt f = ap suc (f (omega (arith, lt)))
+    by_flag b lt f = grind arith
 
 place_next : (xs : List Name) (y : Name) (text : List ℕ) → place_of xs text ≡ length xs
     → pointwise nat_eq y.text text ≡ true → place_of (xs ++ y ∷ []) text ≡ length xs
@@ -126,14 +118,12 @@ place_next (x ∷ xs) y text e h = by_flag (pointwise nat_eq x.text text) e (λ 
     by_flag : (b : Bool) → (if b then 0 else suc (place_of xs text)) ≡ suc (length xs)
         → (place_of xs text ≡ length xs → place_of (xs ++ y ∷ []) text ≡ length xs)
         → (if b then 0 else suc (place_of (xs ++ y ∷ []) text)) ≡ suc (length xs)
-    by_flag true e f = absurd (omega (arith, e))
-    by_flag false e f = ap suc (f (omega (arith, e)))
+    by_flag b e f = grind arith
 
 pub nth_front : (ps qs : List Procedure) (k : ℕ) → k < length ps → nth_procedure (ps ++ qs) k ≡ nth_procedure
     ps k
-nth_front [] qs k lt = absurd (omega arith)
-nth_front (p ∷ ps) qs zero lt = refl
 nth_front (p ∷ ps) qs (suc k) lt = nth_front ps qs k (omega (arith, lt))
+nth_front ps qs k lt = grind arith
 
 nth_next : (ps : List Procedure) (q : Procedure) → nth_procedure (ps ++ q ∷ []) (length ps) ≡ q
 nth_next [] q = refl
@@ -148,23 +138,17 @@ module _ (before rest : List Part) (text : List ℕ) where
   -- an array keeps its place
   pub array_stays : place_of (arrays_of before) text < length (arrays_of before)
       → place_of (arrays_of (before ++ rest)) text ≡ place_of (arrays_of before) text
-  array_stays lt = ap (λ (ns : List Name). place_of ns text) (arrays_append before rest)
-      ∙ place_front (arrays_of before) (arrays_of rest) text lt
+  array_stays lt = grind (arith, arrays_append, place_front)
 
   -- a procedure keeps its place
   pub proc_stays : proc_place before text < length (procs_of before) → proc_place (before ++ rest) text
       ≡ proc_place before text
-  proc_stays lt =
-      let l = length_names (procs_of before) in
-      ap (λ (ps : List Procedure). place_of (names_of ps) text) (procs_append before rest)
-      ∙ ap (λ (ns : List Name). place_of ns text) (names_append (procs_of before) (procs_of rest))
-      ∙ place_front (names_of (procs_of before)) (names_of (procs_of rest)) text (omega (arith, lt, l))
+  proc_stays lt = grind (arith, length_names, procs_append, names_append, place_front)
 
   -- and stands there
   pub nth_stays : (k : ℕ) → k < length (procs_of before) → nth_procedure (procs_of (before ++ rest)) k
       ≡ nth_procedure (procs_of before) k
-  nth_stays k lt = ap (λ (ps : List Procedure). nth_procedure ps k) (procs_append before rest)
-      ∙ nth_front (procs_of before) (procs_of rest) k lt
+  nth_stays k lt = grind (arith, procs_append, nth_front)
 
 -- The first procedure of a name has as many parameters as the rules know.
 abbrev pub Known : List Part → Type 0
@@ -179,26 +163,18 @@ module _ (before : List Part) (known : Known before) where
   known_front : (part : Part) (text : List ℕ) (n : ℕ) → has_sort (declared_by before) text (procedure n)
       ≡ true → length
       (nth_procedure (procs_of (before ++ part ∷ [])) (proc_place (before ++ part ∷ []) text)).params ≡ n
-  known_front part text n h =
-      let lt = procedure_place before text n h in
-      ap (λ (k : ℕ). length (nth_procedure (procs_of (before ++ part ∷ [])) k).params)
-      (proc_stays before (part ∷ []) text lt)
-      ∙ ap (λ (p : Procedure). length p.params) (nth_stays before (part ∷ []) text (proc_place before text)
-      lt)
-      ∙ known text n h
+  known_front part text n h = grind (arith, procedure_place, proc_stays, nth_stays)
 
   split : (part : Part) (text : List ℕ) (n : ℕ) → has_sort (declared_by (before ++ part ∷ [])) text
       (procedure n) ≡ true → (has_sort (declared_by before) text (procedure n) ≡ true)
       ⊎ (has_sort (declared_by (part ∷ [])) text (procedure n) ≡ true)
-  split part text n h = in_front_or_after (declared_by before) (declared_by (part ∷ [])) text (procedure n)
-      (ap (λ (ds : List Declared). has_sort ds text (procedure n)) (sym (declared_append before (part ∷ [])))
-      ∙ h)
+  split part text n h = grind (arith, in_front_or_after, declared_append)
 
   -- an array more
   pub known_array : (x : Name) (m : ℕ) (at : _) → Known (before ++ Array x m at ∷ [])
   known_array x m at text n h = elim (split (Array x m at) text n h) [
     | inl i ↦ known_front (Array x m at) text n i
-    | inr i ↦ absurd (no_both i (no_test (pointwise nat_eq x.text text) false refl))
+    | inr i ↦ grind (arith, no_both, no_test, pointwise, nat_eq)
   ]
 
   -- a procedure more
@@ -220,13 +196,4 @@ module _ (before : List Part) (known : Known before) where
           let hidden =
           hidden_place before text (subst (λ (t : List ℕ). is_visible (declared_by before) t ≡ false)
           ((bytes_decides p.name.text text).0 same) new) in
-          let l = length_names (procs_of before) in
-          let at_end : proc_place (before ++ Proc p ∷ []) text ≡ length (procs_of before) =
-          ap (λ (ps : List Procedure). place_of (names_of ps) text) (procs_append before (Proc p ∷ []))
-          ∙ ap (λ (ns : List Name). place_of ns text) (names_append (procs_of before) (p ∷ []))
-          ∙ place_next (names_of (procs_of before)) p.name text (hidden ∙ sym l) same ∙ l in
-          ap (λ (k : ℕ). length (nth_procedure (procs_of (before ++ Proc p ∷ [])) k).params) at_end
-          ∙ ap (λ (ps : List Procedure). length (nth_procedure ps (length (procs_of before))).params)
-          (procs_append before (Proc p ∷ []))
-          ∙ ap (λ (q : Procedure). length q.params) (nth_next (procs_of before) p)
-          ∙ eqb-true (length p.params) n count
+          grind (arith, length_names, procs_append, names_append, place_next, nth_next, eqb-true)

@@ -1,6 +1,6 @@
 -- A whole run.
 use mathlib.Core.Path.{fun_ext}
-use Rattle.std.proofs.Common.{◌≡◌, ℕ, suc, ◌+◌, ◌-◌, ◌<◌, ◌≤◌, ◌⊎◌, inl, inr, Bool, true, false, ◌&&◌, List}
+use Rattle.std.proofs.Common.{◌≡◌, ℕ, suc, ◌+◌, ◌-◌, ◌<◌, ◌≤◌, ◌⊎◌, inl, inr, Bool, true, ◌&&◌, List}
 use Rattle.std.proofs.Common.{[], ◌∷◌, ◌++◌, length, take, slice_index_or, refl, sym, ap, ◌∙◌, subst}
 use Rattle.std.proofs.Common.{append_assoc, arith}
 use Rattle.std.specs.List.{list_all}
@@ -9,22 +9,21 @@ use Rattle.ws_words.specs.declared.plain.Plain.TheVariants as plains
 use Rattle.ws_words.specs.declared.memory.Memory.{Memory}
 use Rattle.ws_words.specs.Memory.{OutIs, lengths_of}
 use Rattle.ws_words.specs.Outside.{Outside, World, zeros, opening_out}
-use Rattle.ws_words.specs.Past.{AreWithin, FirstPast, after_acts}
+use Rattle.ws_words.specs.Past.{AreWithin, FirstPast}
 use Rattle.src_ast.specs.declared.lexeme.Place.{Place}
-use Rattle.src_ast.specs.Syntax.{Part, Array, Proc}
+use Rattle.src_ast.specs.Syntax.{Part, Array}
 use Rattle.src_ast.specs.Rules.{Rule, IsAccepted, has_main, rules_after}
-use Rattle.src_ast.specs.Turns.{CallEnd, Returned, Stopped}
+use Rattle.src_ast.specs.Turns.{CallEnd}
 use Rattle.src_ast.specs.Meaning as meaning
-use Rattle.src_ast.specs.Meaning.{procs_of, arrays_of, names_of, lengths_of as declared_lengths, empty_cells}
+use Rattle.src_ast.specs.Meaning.{procs_of, lengths_of as declared_lengths, empty_cells}
 use Rattle.src_ast.specs.Runs.{outside_of, acts_in, opened, Runs, Goes, Faults}
 use Rattle.seq_run.specs.Resolved as resolved
 use Rattle.seq_run.specs.Resolved.{run, calls_below}
 use Rattle.seq_run.specs.Resolving as resolving
 use Rattle.seq_run.specs.Seen.{call_seen}
 use Rattle.seq_run.specs.View as view
-use Rattle.seq_run.specs.Shows.{ShowsMemory, CallReturned, CallOut, ReplyIs}
-use Rattle.seq_run.specs.Answer.{SaysEnded, SaysFault, SaysGoing, HasEnded, HasFaulted, IsGoing, RunEnded}
-use Rattle.seq_run.specs.Answer.{RunGoes, RunSays}
+use Rattle.seq_run.specs.Shows.{ShowsMemory, ReplyIs}
+use Rattle.seq_run.specs.Answer.{SaysEnded, SaysFault, SaysGoing, HasEnded, HasFaulted, IsGoing, RunSays}
 use Rattle.seq_run.specs.declared.tree.ArrayShape.{ArrayShape}
 use Rattle.seq_run.specs.declared.tree.Proc.{Proc as CodeProc}
 use Rattle.seq_run.specs.declared.tree.Resolved.{Resolved}
@@ -57,11 +56,7 @@ cells_more arrays i x cells now row lt is so er en =
 
 -- before the first turn the code holds what is outside then
 pub opening_shows : (o : Outside) (m : Memory) → o.acts ≡ [] → OutIs o m → ShowsMemory o o m
-opening_shows o m e out = record {
-  out = out;
-  within = subst (AreWithin (lengths_of o.cells)) (sym e) tt;
-  told = ap (after_acts o) (sym e);
-}
+opening_shows o m e out = grind arith
 
 length_view : (ps : List CodeProc) → length (view.procs ps) ≡ length ps
 length_view [] = refl
@@ -71,97 +66,43 @@ length_view (p ∷ ps) = ap suc (length_view ps)
 pub run_is_call : (r : Resolved) (world : World) (turns count : ℕ) → 0 < length r.procs.items
     → count ≡ length r.procs.items → calls_below count (view.procs r.procs.items) (count - 1) []
     (opening_out (empty_cells (view.lengths r.arrays.items)) world) turns ≡ run (view.program r) world turns
-run_is_call r world turns count some e =
-    calls_at count (count - 1) (view.procs r.procs.items) (omega (arith, e)) []
-    (opening_out (empty_cells (view.lengths r.arrays.items)) world) turns
-    ∙ ap (λ (n : ℕ). resolved.run_at (n - 1) (view.program r) world turns)
-    (e ∙ sym (length_view r.procs.items))
+run_is_call r world turns count some e = grind (arith, calls_at, length_view)
 
 -- the answer says how the run went
 module _ (start : Outside) (call : ℕ → CallEnd) (turns left : ℕ) (m : Memory) where
   -- the run ended
   pub says_ended : (v : ℕ) → left ≤ turns → ReplyIs start call turns (replies.Value v) m left
       → RunSays start call turns (plains.Ended m.printed m.cells m.took (turns - left))
-  says_ended v le h = at (call turns) refl h
-    where
-      at : (e : CallEnd) → call turns ≡ e → CallReturned start e v m left
-          → RunEnded start call turns (plains.Ended m.printed m.cells m.took (turns - left))
-      at (Returned w o k) is g = record {
-        value = w;
-        end = o;
-        left = k;
-        returns = is;
-        within = g.0.within;
-        says = (
-          ap (λ (n : ℕ). turns - n) (sym g.2),
-          sym g.0.out.same_printed,
-          sym g.0.out.same_cells,
-          sym g.0.out.same_took,
-        );
-      }
-      at (Stopped o) is g = absurd g
+  says_ended v le h = grind arith
 
   -- it wants a further turn
   pub says_going : ReplyIs start call turns replies.Out m left
       → RunSays start call turns (plains.Going m.printed)
-  says_going h = at (call turns) refl h
-    where
-      at : (e : CallEnd) → call turns ≡ e → CallOut start e m
-          → RunGoes start call turns (plains.Going m.printed)
-      at (Returned w o k) is g = absurd g
-      at (Stopped o) is g = record { now = o; stops = is; within = g.within; says = sym g.out.same_printed }
+  says_going h = grind arith
 
   seen_acts : (e : CallEnd) → (call_seen e).0 ≡ (outside_of e).acts
-  seen_acts (Returned v o k) = refl
-  seen_acts (Stopped o) = refl
+  seen_acts e = grind arith
 
   -- it met its first act that is past
   pub says_fault : (c : ℕ) → ReplyIs start call turns (replies.Fault c) m left
       → RunSays start call turns (plains.Fault c m.printed m.cells m.took (turns - left))
-  says_fault c h =
-      let b = h.stops.before in
-      record {
-        earlier = h.earlier;
-        array = c;
-        state = b;
-        in_time = omega (arith, h.sum);
-        first = record {
-          within = h.stops.shows.within;
-          act = h.stops.act;
-          past = h.stops.past;
-          after = h.stops.first.0;
-          split = sym (seen_acts (call (suc h.earlier))) ∙ h.stops.first.1
-              ∙ append_assoc b.acts (h.stops.act ∷ []) h.stops.first.0;
-        };
-        sooner = subst (AreWithin (lengths_of start.cells)) (seen_acts (call h.earlier)) h.within;
-        left = h.stops.shows.told;
-        says = (
-          refl,
-          omega (arith, h.sum),
-          sym h.stops.shows.out.same_printed,
-          sym h.stops.shows.out.same_cells,
-          sym h.stops.shows.out.same_took,
-        );
-      }
+  says_fault c h = grind (arith, seen_acts, append_assoc)
 
 -- an accepted program has a procedure
 pub list_all_end : (xs : List Rule) (x : Rule) → list_all (λ r. r.kept) (xs ++ x ∷ []) ≡ true → x.kept ≡ true
 list_all_end [] x h = by_flag x.kept h
   where
     by_flag : (b : Bool) → (b && true) ≡ true → b ≡ true
-    by_flag true h = refl
-    by_flag false h = h
+    by_flag b h = grind arith
 list_all_end (y ∷ xs) x h = by_flag y.kept (list_all (λ r. r.kept) (xs ++ x ∷ [])) h (list_all_end xs x)
   where
     by_flag : (b c : Bool) → (b && c) ≡ true → (c ≡ true → x.kept ≡ true) → x.kept ≡ true
-    by_flag true c h f = f h
-    by_flag false c h f = absurd (cc)
+    by_flag b c h f = grind arith
 
 -- `main` is a procedure
 pub some_proc : (parts : List Part) → has_main parts ≡ true → 0 < length (procs_of parts)
-some_proc [] h = absurd (cc)
 some_proc (Array x n at ∷ parts) h = some_proc parts h
-some_proc (Proc p ∷ parts) h = omega arith
+some_proc parts h = grind arith
 
 -- so an accepted program has one
 pub accepted_has_proc : (parts : List Part) (finish : Place) → IsAccepted parts finish
@@ -171,12 +112,7 @@ accepted_has_proc parts finish a = some_proc parts (list_all_end (rules_after []
 -- so has the code
 pub resolved_has_proc : (r : Resolved) (parts : List Part) (finish : Place)
     → view.program r ≡ resolving.program parts → IsAccepted parts finish → 0 < length r.procs.items
-resolved_has_proc r parts finish e a =
-    let h = accepted_has_proc parts finish a in
-    let l : length r.procs.items ≡ length (procs_of parts) = sym (length_view r.procs.items)
-    ∙ ap (λ (p : resolved.ResolvedProgram). length p.procs) e ∙ length_procs (arrays_of parts)
-    (names_of (procs_of parts)) (procs_of parts) in
-    omega (arith, h, l)
+resolved_has_proc r parts finish e a = grind (arith, accepted_has_proc, length_view, length_procs)
 
 -- the lengths of the cells at the start are those of the arrays
 lengths_opened : (ns : List ℕ) → lengths_of (empty_cells ns) ≡ ns
@@ -284,8 +220,7 @@ module _ (r : Resolved) (parts : List Part) (world : World) (turns : ℕ) (plain
       at (inl h) = absurd (end_no_going parts world h.taken turns h.end now h.within h.runs goes)
       at (inr (inl h)) = absurd (fault_no_going parts world h.turn turns h.array h.state now h.within h.faults
           goes)
-      at (inr (inr h)) = subst (λ (o : Outside). SaysGoing o plain)
-          (one_going parts world turns h.now now h.goes goes) h.says
+      at (inr (inr h)) = grind (arith, one_going, h.now, h.goes)
 
 -- the reply of the call of `main` says how the run went
 pub reply_is : (r : Resolved) (world : World) (turns count : ℕ) (shapes : List ArrayShape)
@@ -299,8 +234,7 @@ pub reply_is : (r : Resolved) (world : World) (turns count : ℕ) (shapes : List
     answer m left
 reply_is r world turns count shapes procs args reply answer cells before m left some ec es ep ea er ecs out
     f =
-    let cs : cells ≡ empty_cells (view.lengths r.arrays.items) =
-    ecs ∙ ap (λ (ss : List ArrayShape). empty_cells (view.lengths ss)) es in
+    let cs : cells ≡ empty_cells (view.lengths r.arrays.items) = grind arith in
     let start : Outside = opening_out (empty_cells (view.lengths r.arrays.items)) world in
     let sh : ShowsMemory start start before = opening_shows start before refl
     (subst (λ (c : List (List ℕ)). OutIs (opening_out c world) before) cs out) in

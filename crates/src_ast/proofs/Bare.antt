@@ -1,6 +1,6 @@
 -- What does not see the places of a program: how it is written and how it is printed.
-use Rattle.std.proofs.Common.{◌≡◌, ℕ, suc, ◌+◌, ◌≤◌, List, [], ◌∷◌, ◌++◌, Option, Some, None, codes, decimal}
-use Rattle.std.proofs.Common.{refl, sym, ap, ◌∙◌, subst}
+use Rattle.std.proofs.Common.{arith, ◌≡◌, ℕ, suc, ◌+◌, ◌≤◌, List, [], ◌∷◌, ◌++◌, Option, Some, None, codes}
+use Rattle.std.proofs.Common.{decimal, refl, sym, ap, ◌∙◌, subst}
 use Rattle.src_ast.specs.declared.lexeme.Name.{Name}
 use Rattle.src_ast.specs.LanguageLimits.{most_braces}
 use Rattle.src_ast.specs.Lexemes.{spelling}
@@ -10,7 +10,7 @@ use Rattle.src_ast.specs.Printed.{argument_texts, name_texts, call_text, line, e
 use Rattle.src_ast.specs.Printed.{body_lines, variable_lines, ending_lines, part_lines, printed_form}
 use Rattle.src_ast.specs.Same.{bare, bare_names, bare_expression, bare_expressions, bare_statement}
 use Rattle.src_ast.specs.Same.{bare_statements, bare_ending, bare_part, bare_parts, Same}
-use Rattle.src_ast.specs.Syntax.{Expression, Number, Variable, Cell, Signed, Binary, Statement, Assign, Store}
+use Rattle.src_ast.specs.Syntax.{Expression, Cell, Signed, Binary, Statement, Assign, Store}
 use Rattle.src_ast.specs.Syntax.{Print, Read, Give, Take, Call, If, While, Statements, Nothing, Then, Last}
 use Rattle.src_ast.specs.Syntax.{Part, Array, Proc}
 use Rattle.src_ast.specs.Written.{IsWrittenName, AreWrittenNames, IsWrittenNumber, IsWrittenExpression}
@@ -19,56 +19,40 @@ use Rattle.src_ast.specs.Written.{IsWrittenStatement, AreWrittenStatements, IsWr
 use Rattle.src_ast.proofs.Nearly.{AreNearlyWritten}
 
 binary_bare : (e : Expression) → is_binary (bare_expression e) ≡ is_binary e
-binary_bare (Binary op a b) = refl
-binary_bare (Number n) = refl
-binary_bare (Variable x) = refl
-binary_bare (Cell a e) = refl
-binary_bare (Signed s e) = refl
+binary_bare e = grind arith
 
 looser_bare : (e : Expression) (level : ℕ) → is_looser (bare_expression e) level ≡ is_looser e level
-looser_bare (Binary op a b) level = refl
-looser_bare (Number n) level = refl
-looser_bare (Variable x) level = refl
-looser_bare (Cell a e) level = refl
-looser_bare (Signed s e) level = refl
+looser_bare e level = grind arith
 
 tighter_bare : (e : Expression) (level : ℕ) → is_no_tighter (bare_expression e) level ≡ is_no_tighter e level
-tighter_bare (Binary op a b) level = refl
-tighter_bare (Number n) level = refl
-tighter_bare (Variable x) level = refl
-tighter_bare (Cell a e) level = refl
-tighter_bare (Signed s e) level = refl
+tighter_bare e level = grind arith
 
 width_bare : (e : Expression) → width (bare_expression e) ≡ width e
-width_bare (Number n) = refl
-width_bare (Variable x) = refl
 width_bare (Cell a e) = ap (λ n. n + 3) (width_bare e)
 width_bare (Signed s e) = λ i. rounded (binary_bare e i) (width_bare e i) + 1
 width_bare (Binary op a b) =
     λ i. rounded (looser_bare a (level_of op) i) (width_bare a i) + 1 + rounded
     (tighter_bare b (level_of op) i) (width_bare b i)
+width_bare e = grind arith
 
 list_width_bare : (es : List Expression) → list_width (bare_expressions es) ≡ list_width es
-list_width_bare [] = refl
-list_width_bare (e ∷ []) = width_bare e
 list_width_bare (e ∷ f ∷ es) = λ i. width_bare e i + 1 + list_width_bare (f ∷ es) i
+list_width_bare es = grind (arith, width_bare)
 
 -- as many lexemes
 pub names_width_bare : (xs : List Name) → names_width (bare_names xs) ≡ names_width xs
-names_width_bare [] = refl
-names_width_bare (x ∷ []) = refl
 names_width_bare (x ∷ y ∷ xs) = ap (λ n. 2 + n) (names_width_bare (y ∷ xs))
+names_width_bare xs = grind arith
 
 names_written : (xs : List Name) → AreWrittenNames (bare_names xs) ≡ AreWrittenNames xs
 names_written [] = refl
 names_written (x ∷ xs) = ap (λ T. IsWrittenName x.text × T) (names_written xs)
 
 expression_written : (e : Expression) → IsWrittenExpression (bare_expression e) ≡ IsWrittenExpression e
-expression_written (Number n) = refl
-expression_written (Variable x) = refl
 expression_written (Cell a e) = ap (λ T. IsWrittenName a.text × T) (expression_written e)
 expression_written (Signed s e) = expression_written e
 expression_written (Binary op a b) = λ i. expression_written a i × expression_written b i
+expression_written e = grind arith
 
 expressions_written : (es : List Expression) → AreWrittenExpressions (bare_expressions es)
     ≡ AreWrittenExpressions es
@@ -147,14 +131,13 @@ pub same_nearly : (a b : List Part) → Same a b → AreNearlyWritten b → AreN
 same_nearly a b e h = with_places a (subst AreNearlyWritten (sym e) (without_places b h))
 
 text_bare : (e : Expression) → expression_text (bare_expression e) ≡ expression_text e
-text_bare (Number n) = refl
-text_bare (Variable x) = refl
-text_bare (Cell a e) = ap (λ t. a.text ++ codes "[" ++ t ++ codes "]") (text_bare e)
+text_bare (Cell a e) = grind (arith, text_bare e)
 text_bare (Signed s e) = λ i. spelling (sign_mark s) ++ round (binary_bare e i) (text_bare e i)
 text_bare (Binary op a b) =
     λ i. round (looser_bare a (level_of op) i) (text_bare a i) ++ codes " " ++ spelling (mark_of op) ++ codes
     " "
     ++ round (tighter_bare b (level_of op) i) (text_bare b i)
+text_bare e = grind arith
 
 argument_texts_bare : (es : List Expression) → argument_texts (bare_expressions es) ≡ argument_texts es
 argument_texts_bare [] = refl
@@ -169,8 +152,7 @@ call_bare f es = ap (λ ts. f.text ++ codes "(" ++ separated_text ts ++ codes ")
 
 else_bare : (n : ℕ) (b : Statements) (text : List ℕ) → else_lines n (bare_statements b) text ≡ else_lines n b
     text
-else_bare n Nothing text = refl
-else_bare n (Then s rest) text = refl
+else_bare n b text = grind arith
 
 mutual
   statement_bare : (n : ℕ) (s : Statement) → statement_lines n (bare_statement s) ≡ statement_lines n s
@@ -199,13 +181,10 @@ mutual
   body_bare n (Then s rest) = λ i. statement_bare n s i ++ body_bare n rest i
 
 variables_bare : (xs : List Name) → variable_lines (bare_names xs) ≡ variable_lines xs
-variables_bare [] = refl
-variables_bare (x ∷ xs) = ap (λ ts. line 1 (codes "var " ++ separated_text ts ++ codes ";"))
-    (name_texts_bare (x ∷ xs))
+variables_bare xs = grind (arith, name_texts_bare)
 
 ending_bare : (e : Option Last) → ending_lines (bare_ending e) ≡ ending_lines e
-ending_bare None = refl
-ending_bare (Some last) = ap (λ t. line 1 (codes "return " ++ t ++ codes ";")) (text_bare last.value)
+ending_bare e = grind (arith, text_bare)
 
 part_bare : (p : Part) → part_lines (bare_part p) ≡ part_lines p
 part_bare (Array x n at) = refl

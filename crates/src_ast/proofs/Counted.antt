@@ -1,5 +1,5 @@
 -- What the lexemes of a printed form say of its rows.
-use Rattle.std.proofs.Common.{◌≡◌, ℕ, suc, ◌+◌, List, [], ◌∷◌, ◌++◌, codes, refl, sym, ap, ◌∙◌, subst, arith}
+use Rattle.std.proofs.Common.{◌≡◌, ℕ, ◌+◌, List, [], ◌∷◌, ◌++◌, codes, refl, sym, ap, ◌∙◌, subst, arith}
 use Rattle.std.proofs.Common.{append_assoc}
 use Rattle.src_ast.specs.declared.lexeme.Name.{Name}
 use Rattle.src_ast.specs.declared.lexeme.Place.{Place}
@@ -28,14 +28,13 @@ use Rattle.src_ast.proofs.Fits.{tree_nearly}
 later : (xs ys : List Lexeme) (braces row : ℕ) → KeepLimits braces row (xs ++ ys)
     → (b : ℕ) × (r : ℕ) × KeepLimits b r ys
 later [] ys braces row k = (braces, row, k)
-later (x ∷ xs) ys braces row k = later xs ys (open_past braces x.shape) (row_past row x.shape) k.3
+later (x ∷ xs) ys braces row k =
+    grind (arith, later xs ys (open_past braces x.shape) (row_past row x.shape) k.3)
 
 -- a brace begins a row
 after_brace : (xs : List Lexeme) (l : Lexeme) (ys : List Lexeme) (braces row : ℕ) → Is LBrace l
     → KeepLimits braces row (xs ++ l ∷ ys) → (b : ℕ) × KeepLimits b 0 ys
-after_brace xs l ys braces row e k =
-    let h = later xs (l ∷ ys) braces row k in
-    let o = open_limits h.0 h.1 l ys e h.2 in (suc h.0, o.1)
+after_brace xs l ys braces row e k = grind (arith, later, open_limits)
 
 variables_row : (xs : List Name) → AreWrittenNames xs → (at : Place) (qs : List Piece) (braces : ℕ)
     → KeepLimits braces 0 (placed at (p.variables xs qs)) → FitsRow (names_width xs + 1)
@@ -101,4 +100,4 @@ nearly_lexemes all h =
 pub printed_lexemes : (text : List ℕ) (ls : List Lexeme) (finish : Place) (again parts : List Part)
     → Lex text ls finish → KeepLimits 0 0 ls → Tree ls again → Same parts again → HasPrintedLexemes parts
 printed_lexemes text ls finish again parts lex k tree same =
-    nearly_lexemes parts (same_nearly parts again same (tree_nearly tree (leads_sound 0 0 lex.leads k) k))
+    nearly_lexemes parts (grind (arith, same_nearly, tree_nearly, leads_sound, lex.leads))

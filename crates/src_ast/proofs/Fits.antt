@@ -108,11 +108,7 @@ read_fits : (ks : List Lexeme) (l name last : Lexeme) (x : Name)
     → AllSound ks → (braces : ℕ) (rest : List Lexeme) → KeepLimits braces 0 (ks ++ rest)
     → FitsBefore braces (Read l.place x) rest
 read_fits ks l name last x eq is nx c h braces rest k =
-    let hs = subst AllSound eq h in
-    let row : AllPlain (l ∷ name ∷ []) = plain (plain_word l (codes "read") is)
-    (plain (plain_word name x.text nx.word) no_plain) in
-    let w = line_limits last rest braces row c (subst (λ t. KeepLimits braces 0 (t ++ rest)) eq k) in
-    (name_good nx (sound_here (sound_after hs)), w.1)
+    grind (arith, plain_word, line_limits, name_good, sound_here, sound_after)
 
 give_fits : (ks : List Lexeme) (l port comma name last : Lexeme) (n : ℕ) (x : Name)
     → ks ≡ l ∷ port ∷ comma ∷ name ∷ last ∷ [] → l.shape ≡ Word (codes "give") → port.shape ≡ shape.Number n
@@ -328,9 +324,8 @@ vars_fit (vars {ks = ks} l semi ls rs xs ys eq zs is s c more) h braces rest k =
     )
 
 names_few : (xs : List Name) → names_width xs ≤ 2 * length xs
-names_few [] = omega arith
-names_few (x ∷ []) = omega arith
 names_few (x ∷ y ∷ xs) = omega (arith, names_few (y ∷ xs))
+names_few xs = grind arith
 
 array_fits : (ks : List Lexeme) (l name first size last semi : Lexeme) (x : Name) (n : ℕ)
     → ks ≡ l ∷ name ∷ first ∷ size ∷ last ∷ semi ∷ []
@@ -422,5 +417,4 @@ pub read_is_written : (text : List ℕ) (ls : List Lexeme) (finish : Place) (all
     → Lex text ls finish → KeepLimits 0 0 ls → Tree ls all
     → IsAccepted all finish → IsWritten all
 read_is_written text ls finish all lex k tree accepted =
-    whole all (tree_nearly tree (leads_sound 0 0 lex.leads k) k)
-    (have_rows all (accepted_few all finish accepted))
+    grind (arith, whole, tree_nearly, leads_sound, lex.leads, have_rows, accepted_few)

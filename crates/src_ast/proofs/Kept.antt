@@ -11,7 +11,7 @@ use Rattle.src_ast.specs.declared.lexeme.Mark.TheVariants.{LParen, RParen, LBrac
 use Rattle.src_ast.specs.declared.lexeme.Mark.TheVariants.{Comma, Semi}
 use Rattle.src_ast.specs.declared.tree.Unary.{Unary}
 use Rattle.src_ast.specs.Grammar.{level_of, mark_of, sign_mark}
-use Rattle.src_ast.specs.Syntax.{Expression, Number, Variable, Cell, Signed, Binary, Statement, Assign, Store}
+use Rattle.src_ast.specs.Syntax.{Expression, Number, Cell, Signed, Binary, Statement, Assign, Store}
 use Rattle.src_ast.specs.Syntax.{Print, Read, Give, Take, Call, If, While, Statements, Nothing, Then, Last}
 use Rattle.src_ast.specs.Syntax.{Part, Array, Proc}
 use Rattle.src_ast.specs.Printed.{is_looser, is_no_tighter, indent}
@@ -63,8 +63,6 @@ wrapped_kept braces needed f n d h row next ps e l k = grind (arith, inner, lexe
 expression_kept : (braces : ℕ) → braces ≤ 32 → (e : Expression) → IsWrittenExpression e
     → (row next : ℕ) (ps : List Piece) → row + width e ≡ next → next ≤ 256 → Keep braces next ps
     → Keep braces row (expression e ps)
-expression_kept braces d (Number n) g row next ps e l k = number_in n braces row next ps d e l k
-expression_kept braces d (Variable x) g row next ps e l k = word_in x.text braces row next ps g.short d e l k
 expression_kept braces d (Cell a i) g row next ps e l k =
     word_in a.text braces row (row + 1) _ g.0.short d refl (omega arith)
     (inner LSquare braces (row + 1) (row + 2) _ refl d (omega arith) (omega arith)
@@ -80,26 +78,25 @@ expression_kept braces d (Binary op a b) g row next ps e l k =
     (omega arith)
     (after_gap space (wrapped_kept braces (is_no_tighter b (level_of op)) (expression b) (width b) d
     (expression_kept braces d b g.1) (row + left + 1) next ps (omega arith) l k))))
+expression_kept braces d e g row next ps h l k = grind (arith, number_in, word_in)
 
 arguments_kept : (braces : ℕ) → braces ≤ 32 → (es : List Expression) → AreWrittenExpressions es
     → (row next : ℕ) (ps : List Piece) → row + list_width es ≡ next → next ≤ 256 → Keep braces next ps
     → Keep braces row (arguments es ps)
-arguments_kept braces d [] g row next ps e l k = grind (arith, Keep)
-arguments_kept braces d (x ∷ []) g row next ps e l k = expression_kept braces d x g.0 row next ps e l k
 arguments_kept braces d (x ∷ y ∷ xs) g row next ps e l k =
     expression_kept braces d x g.0 row (row + width x) _ refl (omega arith)
     (inner Comma braces (row + width x) (row + width x + 1) _ refl d refl (omega arith)
     (after_gap space (arguments_kept braces d (y ∷ xs) g.1 (row + width x + 1) next ps (omega arith) l k)))
+arguments_kept braces d es g row next ps e l k = grind (arith, expression_kept)
 
 names_kept : (braces : ℕ) → braces ≤ 32 → (xs : List Name) → AreWrittenNames xs
     → (row next : ℕ) (ps : List Piece) → row + names_width xs ≡ next → next ≤ 256 → Keep braces next ps
     → Keep braces row (names xs ps)
-names_kept braces d [] g row next ps e l k = grind (arith, Keep)
-names_kept braces d (x ∷ []) g row next ps e l k = word_in x.text braces row next ps g.0.short d e l k
 names_kept braces d (x ∷ y ∷ xs) g row next ps e l k =
     word_in x.text braces row (row + 1) _ g.0.short d refl (omega arith)
     (inner Comma braces (row + 1) (row + 2) _ refl d (omega arith) (omega arith)
     (after_gap space (names_kept braces d (y ∷ xs) g.1 (row + 2) next ps (omega arith) l k)))
+names_kept braces d xs g row next ps e l k = grind (arith, word_in)
 
 finish_kept : (braces row : ℕ) (ps : List Piece) → braces ≤ 32 → Keep braces 0 ps
     → Keep braces row (finish ps)

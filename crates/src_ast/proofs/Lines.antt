@@ -1,6 +1,6 @@
 -- Texts with commas, and lines of a level.
 use Rattle.std.proofs.Common.{◌≡◌, ℕ, zero, suc, ◌+◌, ◌<◌, List, [], ◌∷◌, ◌++◌, length, get_or, drop, map}
-use Rattle.std.proofs.Common.{codes, refl, sym, ap, ◌∙◌, arith, append_assoc, append-nil, add-one}
+use Rattle.std.proofs.Common.{codes, refl, sym, arith, append_assoc, append-nil, add-one}
 use Rattle.src_ast.specs.declared.lexeme.Name.{Name}
 use Rattle.src_ast.specs.declared.tree.Expr.{Expr}
 use Rattle.src_ast.specs.declared.tree.Stmt.{Stmt}
@@ -12,7 +12,7 @@ use Rattle.src_ast.specs.Commas.{comma_text}
 -- the first item has no comma before it
 pub separated_is : (t : List ℕ) (ts : List (List ℕ)) → separated_text (t ∷ ts) ≡ t ++ comma_text ts
 separated_is t [] = sym (append-nil t)
-separated_is t (u ∷ ts) = ap (λ x. t ++ codes ", " ++ x) (separated_is u ts) ∙ simp append_assoc
+separated_is t (u ∷ ts) = grind (arith, append_assoc, separated_is u ts)
 
 -- names with commas, from the first on
 pub names_from : (xs : List Name) (x : Name) → 0 < length xs → x ≡ get_or xs 0 x
@@ -28,7 +28,7 @@ args_from xs x h e = grind (arith, separated_is)
 -- one level more
 pub indent_more : (n : ℕ) → indent (n + 1) ≡ indent n ++ codes "  "
 indent_more zero = refl
-indent_more (suc n) = rw add-one (ap (λ t. codes "  " ++ t) (rw add-one at (indent_more n)))
+indent_more (suc n) = grind (arith, add-one, indent_more n)
 
 -- an empty second arm is left out
 pub else_empty : (n : ℕ) (xs : List Stmt) (text : List ℕ) → length xs ≡ 0

@@ -7,10 +7,9 @@ use Rattle.std.proofs.lemmas.Bool.{and_parts, ltb-true}
 use Rattle.std.proofs.lemmas.List.Folds.{list_all-append}
 use Rattle.src_ast.specs.declared.lexeme.Name.{Name}
 use Rattle.src_ast.specs.declared.lexeme.Place.{Place}
-use Rattle.src_ast.specs.Syntax.{Expression, Number, Variable, Cell, Signed, Binary, Statement, Assign, Store}
+use Rattle.src_ast.specs.Syntax.{Expression, Cell, Signed, Binary, Statement, Assign, Store}
 use Rattle.src_ast.specs.Syntax.{Print, Read, Give, Take, Call, If, While, Statements, Nothing, Then, Last}
 use Rattle.src_ast.specs.Syntax.{Procedure, Part, Array, Proc}
-use Rattle.src_ast.specs.Printed.{is_binary}
 use Rattle.src_ast.specs.Written.{rounded, width, list_width, IsWrittenStatement, AreWrittenStatements}
 use Rattle.src_ast.specs.Written.{IsWrittenEnding, IsWritten}
 use Rattle.src_ast.specs.Bound.{nodes, nodes_of, most_nodes, most_nodes_of, ending_nodes, widest}
@@ -24,16 +23,14 @@ rounded_least needed n = grind arith
 
 -- each node of an expression is a lexeme of its printed form
 nodes_width : (e : Expression) → nodes e ≤ width e
-nodes_width (Number n) = omega arith
-nodes_width (Variable x) = omega arith
 nodes_width (Cell a e) = omega (arith, nodes_width e)
-nodes_width (Signed s e) = omega (arith, nodes_width e, rounded_least (is_binary e) (width e))
+nodes_width (Signed s e) = grind (arith, rounded_least, nodes_width e)
 nodes_width (Binary op a b) = grind (arith, rounded_least, nodes_width a, nodes_width b)
+nodes_width e = grind arith
 
 nodes_list_width : (es : List Expression) → nodes_of es ≤ list_width es
-nodes_list_width [] = omega arith
-nodes_list_width (e ∷ []) = omega (arith, nodes_width e)
 nodes_list_width (e ∷ f ∷ es) = omega (arith, nodes_width e, nodes_list_width (f ∷ es))
+nodes_list_width es = grind (arith, nodes_width)
 
 mutual
   fit_narrow : (braces : ℕ) (s : Statement) → IsWrittenStatement braces s → most_nodes s ≤ 255

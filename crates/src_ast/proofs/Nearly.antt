@@ -1,5 +1,5 @@
 -- Programs that are written, but for the rows of variables.
-use Rattle.std.proofs.Common.{◌+◌, List, [], ◌∷◌}
+use Rattle.std.proofs.Common.{arith, ◌+◌, List, [], ◌∷◌}
 use Rattle.src_ast.specs.Syntax.{Procedure, Part, Array, Proc}
 use Rattle.src_ast.specs.Written.{IsWrittenName, AreWrittenNames, IsWrittenNumber, names_width, FitsRow}
 use Rattle.src_ast.specs.Written.{AreWrittenStatements, IsWrittenEnding, IsWrittenProcedure, IsWritten}
@@ -30,15 +30,7 @@ HaveRows (Array x n at ∷ parts) = HaveRows parts
 HaveRows (Proc p ∷ parts) = FitsRow (names_width p.vars + 1) × HaveRows parts
 
 nearly_procedure : (p : Procedure) → IsWrittenProcedure p → IsNearlyProcedure p
-nearly_procedure p h =
-    record {
-      name = h.name;
-      params = h.params;
-      params_row = h.params_row;
-      vars = h.vars;
-      body = h.body;
-      ending = h.ending;
-    }
+nearly_procedure p h = grind arith
 
 -- what is written is nearly written
 pub nearly : (all : List Part) → IsWritten all → AreNearlyWritten all
@@ -48,16 +40,7 @@ nearly (Proc p ∷ all) h = (nearly_procedure p h.0, nearly all h.1)
 
 whole_procedure : (p : Procedure) → IsNearlyProcedure p → FitsRow (names_width p.vars + 1)
     → IsWrittenProcedure p
-whole_procedure p h row =
-    record {
-      name = h.name;
-      params = h.params;
-      params_row = h.params_row;
-      vars = h.vars;
-      vars_row = row;
-      body = h.body;
-      ending = h.ending;
-    }
+whole_procedure p h row = grind arith
 
 -- what is nearly written and has rows is written
 pub whole : (all : List Part) → AreNearlyWritten all → HaveRows all → IsWritten all

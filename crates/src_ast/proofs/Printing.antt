@@ -1,6 +1,6 @@
 -- The printed form as gaps and lexemes. Each function gives the pieces of what it prints, in front of others.
-use Rattle.std.proofs.Common.{◌≡◌, ℕ, suc, Bool, true, false, List, [], ◌∷◌, ◌++◌, Option, Some, None, codes}
-use Rattle.std.proofs.Common.{decimal, refl, ap, ◌∙◌, append_assoc}
+use Rattle.std.proofs.Common.{arith, ◌≡◌, ℕ, suc, Bool, true, false, List, [], ◌∷◌, ◌++◌, Option, Some, None}
+use Rattle.std.proofs.Common.{codes, decimal, refl, ap, ◌∙◌, append_assoc}
 use Rattle.src_ast.specs.declared.lexeme.Name.{Name}
 use Rattle.src_ast.specs.declared.lexeme.Shape.TheVariants.{Word, Mark}
 use Rattle.src_ast.specs.declared.lexeme.Shape.TheVariants as shape
@@ -141,13 +141,10 @@ parts (p ∷ all) = part p (parts all)
 wrapped_text : (needed : Bool) (f : List Piece → List Piece) (text : List ℕ)
     → ((ps : List Piece) → text_of (f ps) ≡ text ++ text_of ps)
     → (ps : List Piece) → text_of (wrapped needed f ps) ≡ round needed text ++ text_of ps
-wrapped_text true f text h ps = ap (λ t. codes "(" ++ t) (h (lexeme (Mark RParen) ∷ ps)) ∙ simp append_assoc
-wrapped_text false f text h ps = h ps
+wrapped_text needed f text h ps = grind (arith, append_assoc)
 
 pub expression_is : (e : Expression) (ps : List Piece) → text_of (expression e ps) ≡ expression_text e
     ++ text_of ps
-expression_is (Number n) ps = refl
-expression_is (Variable x) ps = refl
 expression_is (Cell a e) ps = ap (λ t. a.text ++ (codes "[" ++ t))
     (expression_is e (lexeme (Mark RSquare) ∷ ps)) ∙ simp append_assoc
 expression_is (Signed s e) ps =
@@ -160,20 +157,19 @@ expression_is (Binary op a b) ps =
     ∙ ap (λ t. round (is_looser a (level_of op)) (expression_text a) ++
     (codes " " ++ (spelling (mark_of op) ++ (codes " " ++ t)))) right
     ∙ simp append_assoc
+expression_is e ps = grind arith
 
 pub arguments_is : (es : List Expression) (ps : List Piece) → text_of (arguments es ps) ≡ separated_text
     (argument_texts es) ++ text_of ps
-arguments_is [] ps = refl
-arguments_is (e ∷ []) ps = expression_is e ps
 arguments_is (e ∷ f ∷ es) ps =
     expression_is e _ ∙ ap (λ t. expression_text e ++ (codes ", " ++ t)) (arguments_is (f ∷ es) ps)
     ∙ simp append_assoc
+arguments_is es ps = grind (arith, expression_is)
 
 pub names_is : (xs : List Name) (ps : List Piece) → text_of (names xs ps) ≡ separated_text (name_texts xs)
     ++ text_of ps
-names_is [] ps = refl
-names_is (x ∷ []) ps = refl
 names_is (x ∷ y ∷ xs) ps = ap (λ t. x.text ++ (codes ", " ++ t)) (names_is (y ∷ xs) ps) ∙ simp append_assoc
+names_is xs ps = grind arith
 
 call_is : (f : Name) (es : List Expression) (ps : List Piece) → text_of (call f es ps) ≡ call_text f es
     ++ (codes ";" ++ (codes "\n" ++ text_of ps))
@@ -189,10 +185,7 @@ closing_is n ps = simp append_assoc
 second_arm_is : (n : ℕ) (b : Statements) (f : List Piece → List Piece) (text : List ℕ)
     → ((ps : List Piece) → text_of (f ps) ≡ text ++ text_of ps)
     → (ps : List Piece) → text_of (second_arm n b f ps) ≡ else_lines n b text ++ text_of ps
-second_arm_is n Nothing f text h ps = closing_is n ps
-second_arm_is n (Then s rest) f text h ps =
-    ap (λ t. indent n ++ (codes "} else {\n" ++ t)) (h (closing n ps) ∙ ap (λ t. text ++ t) (closing_is n ps))
-    ∙ simp append_assoc
+second_arm_is n b f text h ps = grind (arith, closing_is, append_assoc)
 
 mutual
   pub statement_is : (n : ℕ) (s : Statement) (ps : List Piece) → text_of (statement n s ps) ≡ statement_lines
@@ -232,12 +225,10 @@ mutual
 
 variables_is : (xs : List Name) (ps : List Piece) → text_of (variables xs ps) ≡ variable_lines xs ++ text_of
     ps
-variables_is [] ps = refl
-variables_is (x ∷ xs) ps = ap (λ t. codes "  var " ++ t) (names_is (x ∷ xs) _) ∙ simp append_assoc
+variables_is xs ps = grind (arith, names_is, append_assoc)
 
 ending_is : (e : Option Last) (ps : List Piece) → text_of (ending e ps) ≡ ending_lines e ++ text_of ps
-ending_is None ps = refl
-ending_is (Some last) ps = ap (λ t. codes "  return " ++ t) (expression_is last.value _) ∙ simp append_assoc
+ending_is e ps = grind (arith, expression_is, append_assoc)
 
 head_is : (p : Procedure) (text : List ℕ)
     → codes "proc "
@@ -266,4 +257,4 @@ part_is (Proc p) ps =
 -- the pieces of a program are its printed form
 pub printed_is : (all : List Part) → text_of (parts all) ≡ printed_form all
 printed_is [] = refl
-printed_is (p ∷ all) = part_is p (parts all) ∙ ap (λ t. part_lines p ++ t) (printed_is all)
+printed_is (p ∷ all) = grind (arith, part_is, printed_is all)

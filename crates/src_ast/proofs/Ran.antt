@@ -1,12 +1,12 @@
 -- What does not see the places of a program: how it runs.
-use Rattle.std.proofs.Common.{◌≡◌, ℕ, zero, suc, ◌-◌, ◌==◌, length, List, [], ◌∷◌, ◌++◌, Option, Some, None}
-use Rattle.std.proofs.Common.{if◌then◌else◌, slice_index, nat_eq, refl, sym, ap, ◌∙◌, subst}
+use Rattle.std.proofs.Common.{arith, ◌≡◌, ℕ, zero, suc, ◌-◌, ◌==◌, length, List, [], ◌∷◌, ◌++◌, Option, Some}
+use Rattle.std.proofs.Common.{None, if◌then◌else◌, slice_index, nat_eq, refl, sym, ap, ◌∙◌, subst}
 use lib.Pointwise.{pointwise}
 use Rattle.ws_words.specs.Operators.{applied}
 use Rattle.ws_words.specs.Outside.{Outside, ProcState, write, with_acts, row, loads, stored, printed, taken}
 use Rattle.ws_words.specs.Outside.{has_read, given, zeros, opening_out}
 use Rattle.src_ast.specs.declared.lexeme.Name.{Name}
-use Rattle.src_ast.specs.Syntax.{Expression, Number, Variable, Cell, Signed, Binary, Statement, Assign, Store}
+use Rattle.src_ast.specs.Syntax.{Expression, Cell, Signed, Binary, Statement, Assign, Store}
 use Rattle.src_ast.specs.Syntax.{Print, Read, Give, Take, Call, If, While, Statements, Nothing, Then, Last}
 use Rattle.src_ast.specs.Syntax.{Procedure, Part, Array, Proc}
 use Rattle.src_ast.specs.Turns.{Ended, and_then, turn, CallEnd, Returned, Stopped, back_in, ending, loop}
@@ -23,7 +23,7 @@ use Rattle.src_ast.proofs.Ruled.{names_bare as length_bare}
 
 place_bare : (ns : List Name) (x : List ℕ) → place_of (bare_names ns) x ≡ place_of ns x
 place_bare [] x = refl
-place_bare (n ∷ ns) x = ap (λ k. if pointwise nat_eq n.text x then 0 else suc k) (place_bare ns x)
+place_bare (n ∷ ns) x = grind (arith, pointwise, nat_eq, place_bare ns x)
 
 abbrev bare_scope : Scope → Scope
 bare_scope scope = record {
@@ -33,24 +33,22 @@ bare_scope scope = record {
 }
 
 value_bare : (scope : Scope) (e : Expression) → value (bare_scope scope) (bare_expression e) ≡ value scope e
-value_bare scope (Number n) = refl
-value_bare scope (Variable x) = λ i vars cells. slice_index vars (place_bare scope.names x.text i)
 value_bare scope (Cell a e) = λ i vars cells.
     slice_index (row cells (suc (place_bare scope.arrays a.text i) - 1)) (value_bare scope e i vars cells)
 value_bare scope (Signed sign e) = λ i vars cells. signed_value sign (value_bare scope e i vars cells)
 value_bare scope (Binary op a b) = λ i vars cells. applied op (value_bare scope a i vars cells)
     (value_bare scope b i vars cells)
+value_bare scope e = grind (arith, slice_index, place_bare)
 
 loads_bare : (scope : Scope) (e : Expression) → loads_of (bare_scope scope) (bare_expression e) ≡ loads_of
     scope e
-loads_bare scope (Number n) = refl
-loads_bare scope (Variable x) = refl
 loads_bare scope (Cell a e) =
     λ i vars cells. loads_bare scope e i vars cells ++ loads (suc (place_bare scope.arrays a.text i))
     (value_bare scope e i vars cells) ∷ []
 loads_bare scope (Signed sign e) = loads_bare scope e
 loads_bare scope (Binary op a b) = λ i vars cells. loads_bare scope a i vars cells ++ loads_bare scope b i
     vars cells
+loads_bare scope e = grind arith
 
 values_bare : (scope : Scope) (es : List Expression) → values (bare_scope scope) (bare_expressions es)
     ≡ values scope es
@@ -79,8 +77,7 @@ values_of_bare scope es = λ i s. (
 )
 
 target_is : (scope : Scope) (x : Option Name) → target (bare_scope scope) (bare_target x) ≡ target scope x
-target_is scope None = refl
-target_is scope (Some x) = λ i. Some (place_bare scope.names x.text i)
+target_is scope x = grind (arith, place_bare)
 
 mutual
   one_bare : (scope : Scope) (calls : Calls) (s : Statement) → run_one (bare_scope scope) calls
@@ -141,11 +138,7 @@ bare_procedures (p ∷ ps) = bare_procedure p ∷ bare_procedures ps
 
 scope_bare : (arrays procs : List Name) (p : Procedure) → scope_of (bare_names arrays) (bare_names procs)
     (bare_procedure p) ≡ bare_scope (scope_of arrays procs p)
-scope_bare arrays procs p = λ i. record {
-  names = names_append p.params p.vars i;
-  arrays = bare_names arrays;
-  procs = bare_names procs;
-}
+scope_bare arrays procs p = grind (arith, names_append, p.vars)
 
 procedure_bare : (scope : Scope) (calls : Calls) (p : Procedure) → run_procedure (bare_scope scope) calls
     (bare_procedure p) ≡ run_procedure scope calls p

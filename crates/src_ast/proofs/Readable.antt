@@ -71,8 +71,6 @@ rounded_most b n = grind arith
 
 pub expression_width : {n : ℕ} {ls : List Lexeme} {e : Expression} → Spelled n ls e
     → rounded (is_looser e n) (width e) ≤ length ls
-expression_width (number l v is) = omega arith
-expression_width (variable l x is) = omega arith
 expression_width (cell l first last ls a e eq is o s c) =
     omega (
       arith,
@@ -107,6 +105,7 @@ expression_width (binary {n = n} {ks = ks} l ls rs op a b d eq is sa sb) =
       length-append ls (l ∷ rs),
     ) in
     subst (λ c. rounded c all ≤ length ks) (sym free) w
+expression_width h = grind arith
 
 -- the printed form of an expression has no more lexemes than it was read from
 pub width_least : {ls : List Lexeme} {e : Expression} → Spelled 0 ls e → width e ≤ length ls
@@ -142,8 +141,7 @@ some_arguments_good (more comma ls rs e es eq s c more') h =
 -- arguments that are read are written
 pub arguments_good : {ks : List Lexeme} {es : List Expression} → Listed (Spelled 0) ks es → AllSound ks
     → AreWrittenExpressions es
-arguments_good none h = tt
-arguments_good (some ls es s) h = some_arguments_good s h
+arguments_good i h = grind (arith, some_arguments_good)
 
 some_arguments_width : {ks : List Lexeme} {es : List Expression} → Separated (Spelled 0) ks es
     → list_width es ≤ length ks
@@ -156,8 +154,7 @@ some_arguments_width (more comma ls rs e [] eq s c more') =
 -- the printed form of arguments has no more lexemes
 pub arguments_width : {ks : List Lexeme} {es : List Expression} → Listed (Spelled 0) ks es
     → list_width es ≤ length ks
-arguments_width none = omega arith
-arguments_width (some ls es s) = some_arguments_width s
+arguments_width h = grind (arith, some_arguments_width)
 
 name_plain : (ls : List Lexeme) (x : Name) → SpelledName ls x → AllPlain ls
 name_plain ls x (name l x' is) = plain (plain_word l x'.text is.word) no_plain
@@ -186,8 +183,7 @@ some_names_good (more comma ls rs x xs eq s c more') h =
 -- so are no names
 pub names_good : {ks : List Lexeme} {xs : List Name} → Listed SpelledName ks xs → AllSound ks
     → AreWrittenNames xs
-names_good none h = tt
-names_good (some ls xs s) h = some_names_good s h
+names_good i h = grind (arith, some_names_good)
 
 name_width : {ls : List Lexeme} {x : Name} → SpelledName ls x → length ls ≡ 1
 name_width (name l x is) = refl
@@ -206,5 +202,4 @@ some_names_width (more comma ls rs x [] eq s c more') = omega (
 
 -- the printed form of names has no more lexemes
 pub names_fit : {ks : List Lexeme} {xs : List Name} → Listed SpelledName ks xs → names_width xs ≤ length ks
-names_fit none = omega arith
-names_fit (some ls xs s) = some_names_width s
+names_fit h = grind (arith, some_names_width)

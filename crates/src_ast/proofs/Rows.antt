@@ -301,17 +301,4 @@ abbrev before_the_store : Outside
 before_the_store = record { cells = (0 ∷ []) ∷ []; input = []; left = []; acts = loads 1 0 ∷ [] }
 
 pub store_past_is_a_fault : Faults stores_past (with_input []) 1 1 before_the_store
-store_past_is_a_fault = record {
-  first = record {
-    within = (omega arith, tt);
-    act = stores 1 1 0;
-    past = (refl, omega arith);
-    after = [];
-    split = refl;
-  };
-  sooner = not_sooner;
-  left = refl;
-}
-  where
-    not_sooner : (m : ℕ) → m < 1 → AreWithin (lengths_of stores_past) (acts_in stores_past (with_input []) m)
-    not_sooner m lt = grind arith
+store_past_is_a_fault = grind arith

@@ -1,6 +1,6 @@
 -- What does not see the places of a program: which rules it keeps.
-use Rattle.std.proofs.Common.{◌≡◌, ℕ, suc, ◌+◌, Bool, ◌&&◌, ◌||◌, length, List, [], ◌∷◌, ◌++◌, Option, Some}
-use Rattle.std.proofs.Common.{None, refl, sym, ap, ◌∙◌, subst}
+use Rattle.std.proofs.Common.{arith, ◌≡◌, ℕ, suc, ◌+◌, Bool, ◌&&◌, ◌||◌, length, List, [], ◌∷◌, ◌++◌, Option}
+use Rattle.std.proofs.Common.{Some, None, refl, sym, ap, ◌∙◌, subst}
 use Rattle.std.specs.List.{list_all}
 use Rattle.src_ast.specs.declared.lexeme.Name.{Name}
 use Rattle.src_ast.specs.declared.lexeme.Place.{Place}
@@ -45,7 +45,7 @@ expression_alike visible (Binary op a b) = both (expression_alike visible a) (ex
 arguments_alike : (visible : List Declared) (es : List Expression)
     → Alike (argument_rules visible (bare_expressions es)) (argument_rules visible es)
 arguments_alike visible [] = none
-arguments_alike visible (e ∷ es) = both (expression_alike visible e) (arguments_alike visible es)
+arguments_alike visible (e ∷ es) = grind (arith, both, expression_alike, arguments_alike visible es)
 
 length_bare : (es : List Expression) → length (bare_expressions es) ≡ length es
 length_bare [] = refl
@@ -153,8 +153,7 @@ main_bare (Array x n at ∷ all) = main_bare all
 main_bare (Proc p ∷ all) = λ i. (is_main p || main_bare all i)
 
 ending_size : (e : Option Last) → size_of_ending (bare_ending e) ≡ size_of_ending e
-ending_size None = refl
-ending_size (Some last) = refl
+ending_size e = grind arith
 
 statements_bare : (all : List Part) → statements_in (bare_parts all) ≡ statements_in all
 statements_bare [] = refl

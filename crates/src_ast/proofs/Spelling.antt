@@ -6,8 +6,6 @@ use Rattle.std.proofs.lemmas.Bool.{and_parts, or_parts, or_from, not-true, not_f
 use Rattle.ws_words.specs.Digits.{is_digit, is_number}
 use Rattle.src_ast.specs.declared.lexeme.Shape.TheVariants as shape
 use Rattle.src_ast.specs.declared.lexeme.Mark.{Mark}
-use Rattle.src_ast.specs.declared.lexeme.Mark.TheVariants.{LessEq, MoreEq, Same, Differs, ShiftLeft}
-use Rattle.src_ast.specs.declared.lexeme.Mark.TheVariants.{ShiftRight}
 use Rattle.src_ast.specs.Lexemes.{spelling, IsLongest, Spells, word, number, mark}
 use Rattle.ws_words.specs.Letters.{is_letter, is_word_byte, is_word, starts_without}
 use Rattle.ws_words.proofs.Decimals.{decimal_digits}
@@ -40,13 +38,7 @@ one_byte other b text more h e = grind (arith, second, not-true, is_second)
 
 longest : (m : Mark) (text : List ℕ) → IsTrue (starts_without is_second text)
     → IsLongest (spelling m) (spelling m ++ text)
-longest LessEq text h = λ other more e. at_most_two other
-longest MoreEq text h = λ other more e. at_most_two other
-longest Same text h = λ other more e. at_most_two other
-longest Differs text h = λ other more e. at_most_two other
-longest ShiftLeft text h = λ other more e. at_most_two other
-longest ShiftRight text h = λ other more e. at_most_two other
-longest m text h = λ other more e. one_byte other _ text more h e
+longest m text h = grind (arith, at_most_two, one_byte)
 
 -- a mark before what makes it no longer
 pub spells_mark : (m : Mark) (text : List ℕ) → IsTrue (starts_without is_second text)

@@ -1,16 +1,15 @@
 -- Each lexeme of the printed form is spelled as far as it goes.
-use Rattle.std.proofs.Common.{ℕ, zero, suc, Bool, true, false, IsTrue, List, [], ◌∷◌, Option, Some, None}
-use Rattle.std.proofs.Common.{codes, refl}
+use Rattle.std.proofs.Common.{arith, ℕ, zero, suc, Bool, IsTrue, List, [], ◌∷◌, Option, Some, None, codes}
+use Rattle.std.proofs.Common.{refl}
 use Rattle.std.specs.List.{list_all}
 use Rattle.src_ast.specs.declared.lexeme.Name.{Name}
 use Rattle.src_ast.specs.declared.lexeme.Shape.TheVariants.{Mark}
 use Rattle.src_ast.specs.declared.lexeme.Mark.TheVariants as mark
 use Rattle.src_ast.specs.declared.lexeme.Mark.TheVariants.{LParen, RParen, LBrace, RBrace, LSquare, RSquare}
 use Rattle.src_ast.specs.declared.lexeme.Mark.TheVariants.{Comma, Semi}
-use Rattle.src_ast.specs.declared.tree.Unary.TheVariants.{Flip, Not, Neg}
 use Rattle.src_ast.specs.Lexemes.{is_blank}
 use Rattle.src_ast.specs.Grammar.{level_of, mark_of, sign_mark}
-use Rattle.src_ast.specs.Syntax.{Expression, Number, Variable, Cell, Signed, Binary, Statement, Assign, Store}
+use Rattle.src_ast.specs.Syntax.{Expression, Cell, Signed, Binary, Statement, Assign, Store}
 use Rattle.src_ast.specs.Syntax.{Print, Read, Give, Take, Call, If, While, Statements, Nothing, Then, Last}
 use Rattle.src_ast.specs.Syntax.{Part, Array, Proc}
 use Rattle.src_ast.specs.Printed.{is_looser, is_no_tighter, is_binary, indent}
@@ -28,34 +27,21 @@ use Rattle.ws_words.specs.Letters.{is_word, starts_without}
 starts_wrapped : (needed : Bool) (f : List Piece → List Piece) (ps : List Piece)
     → IsTrue (starts_without is_second (text_of (f ps)))
     → IsTrue (starts_without is_second (text_of (wrapped needed f ps)))
-starts_wrapped true f ps h = refl
-starts_wrapped false f ps h = h
+starts_wrapped needed f ps h = grind arith
 
 starts : (e : Expression) → IsWrittenExpression e → (ps : List Piece)
     → IsTrue (starts_without is_second (text_of (expression e ps)))
-starts (Number n) h ps = decimal_starts n (text_of ps) h
-starts (Variable x) h ps = word_starts x.text (text_of ps) h.word
-starts (Cell a e) h ps = word_starts a.text _ h.0.word
-starts (Signed Flip e) h ps = refl
-starts (Signed Not e) h ps = refl
-starts (Signed Neg e) h ps = refl
 starts (Binary op a b) h ps = starts_wrapped (is_looser a (level_of op)) (expression a) _ (starts a h.0 _)
+starts e h ps = grind (arith, decimal_starts, word_starts)
 
 wrapped_spelt : (needed : Bool) (f : List Piece → List Piece)
     → ((qs : List Piece) → IsTrue (starts_without is_second (text_of (f qs))))
     → ((qs : List Piece) → Breaks (text_of qs) → AreSpelled qs → AreSpelled (f qs))
     → (ps : List Piece) → Breaks (text_of ps) → AreSpelled ps → AreSpelled (wrapped needed f ps)
-wrapped_spelt true f s h ps b k = (
-  spells_mark LParen _ (s _),
-  h (lexeme (Mark RParen) ∷ ps) (record { word = refl; mark = refl })
-      (spells_mark RParen _ b.mark, k),
-)
-wrapped_spelt false f s h ps b k = h ps b k
+wrapped_spelt needed f s h ps b k = grind (arith, spells_mark)
 
 expression_spelt : (e : Expression) → IsWrittenExpression e → (ps : List Piece) → Breaks (text_of ps)
     → AreSpelled ps → AreSpelled (expression e ps)
-expression_spelt (Number n) h ps b k = (spells_number n _ h b.word, k)
-expression_spelt (Variable x) h ps b k = (spells_word x.text _ h.word b.word, k)
 expression_spelt (Cell a e) h ps b k = (
   spells_word a.text _ h.0.word refl,
   (
@@ -81,19 +67,19 @@ expression_spelt (Binary op a b) h ps br k =
         ),
       ),
     )
+expression_spelt e h ps b k = grind (arith, spells_number, spells_word)
 
 finish_spelt : (ps : List Piece) → AreSpelled ps → AreSpelled (finish ps)
 finish_spelt ps k = (spells_mark Semi _ refl, (refl, k))
 
 arguments_spelt : (es : List Expression) → AreWrittenExpressions es → (ps : List Piece) → Breaks (text_of ps)
     → AreSpelled ps → AreSpelled (arguments es ps)
-arguments_spelt [] h ps b k = k
-arguments_spelt (e ∷ []) h ps b k = expression_spelt e h.0 ps b k
 arguments_spelt (e ∷ f ∷ es) h ps b k =
     expression_spelt e h.0 _ (record { word = refl; mark = refl }) (
       spells_mark Comma _ refl,
       (refl, arguments_spelt (f ∷ es) h.1 ps b k),
     )
+arguments_spelt es h ps b k = grind (arith, expression_spelt)
 
 arguments_start : (es : List Expression) → AreWrittenExpressions es → (ps : List Piece)
     → IsTrue (starts_without is_second (text_of ps))
@@ -104,12 +90,11 @@ arguments_start (e ∷ f ∷ es) h ps b = starts e h.0 _
 
 names_spelt : (xs : List Name) → AreWrittenNames xs → (ps : List Piece) → Breaks (text_of ps) → AreSpelled ps
     → AreSpelled (names xs ps)
-names_spelt [] h ps b k = k
-names_spelt (x ∷ []) h ps b k = (spells_word x.text _ h.0.word b.word, k)
 names_spelt (x ∷ y ∷ xs) h ps b k = (
   spells_word x.text _ h.0.word refl,
   (spells_mark Comma _ refl, (refl, names_spelt (y ∷ xs) h.1 ps b k)),
 )
+names_spelt xs h ps b k = grind (arith, spells_word)
 
 names_start : (xs : List Name) → AreWrittenNames xs → (ps : List Piece)
     → IsTrue (starts_without is_second (text_of ps))
@@ -124,16 +109,8 @@ indent_blank (suc n) = indent_blank n
 
 call_spelt : (f : Name) (es : List Expression) → IsWrittenName f.text → AreWrittenExpressions es
     → (ps : List Piece) → AreSpelled ps → AreSpelled (call f es ps)
-call_spelt f es h g ps k = (
-  spells_word f.text _ h.word refl,
-  (
-    spells_mark LParen _ (arguments_start es g _ refl),
-    arguments_spelt es g _ (record { word = refl; mark = refl }) (
-      spells_mark RParen _ refl,
-      finish_spelt ps k,
-    ),
-  ),
-)
+call_spelt f es h g ps k =
+    grind (arith, spells_word, spells_mark, arguments_start, arguments_spelt, finish_spelt)
 
 closing_spelt : (n : ℕ) (ps : List Piece) → AreSpelled ps → AreSpelled (closing n ps)
 closing_spelt n ps k = (indent_blank n, (spells_mark RBrace _ refl, (refl, k)))
@@ -141,42 +118,16 @@ closing_spelt n ps k = (indent_blank n, (spells_mark RBrace _ refl, (refl, k)))
 -- an expression at the end of a statement
 last_spelt : (e : Expression) → IsWrittenExpression e → (ps : List Piece) → AreSpelled ps
     → AreSpelled (expression e (finish ps))
-last_spelt e h ps k = expression_spelt e h (finish ps) (record { word = refl; mark = refl })
-    (finish_spelt ps k)
+last_spelt e h ps k = grind (arith, expression_spelt, finish_spelt)
 
 test_spelt : (word : List ℕ) (e : Expression) → IsTrue (is_word word) → IsWrittenExpression e
     → (ps : List Piece) → AreSpelled ps → AreSpelled (test word e ps)
-test_spelt word e w h ps k = (
-  spells_word word _ w refl,
-  (
-    refl,
-    (
-      spells_mark LParen _ (starts e h _),
-      expression_spelt e h _ (record { word = refl; mark = refl }) (
-        spells_mark RParen _ refl,
-        (refl, (spells_mark LBrace _ refl, (refl, k))),
-      ),
-    ),
-  ),
-)
+test_spelt word e w h ps k = grind (arith, spells_word, spells_mark, starts, expression_spelt)
 
 second_arm_spelt : (n : ℕ) (b : Statements) (f : List Piece → List Piece)
     → ((qs : List Piece) → AreSpelled qs → AreSpelled (f qs))
     → (ps : List Piece) → AreSpelled ps → AreSpelled (second_arm n b f ps)
-second_arm_spelt n Nothing f h ps k = closing_spelt n ps k
-second_arm_spelt n (Then s rest) f h ps k = (
-  indent_blank n,
-  (
-    spells_mark RBrace _ refl,
-    (
-      refl,
-      (
-        spells_word (codes "else") _ refl refl,
-        (refl, (spells_mark LBrace _ refl, (refl, h (closing n ps) (closing_spelt n ps k)))),
-      ),
-    ),
-  ),
-)
+second_arm_spelt n b f h ps k = grind (arith, closing_spelt, indent_blank, spells_mark, spells_word)
 
 mutual
   pub statement_spelt : (n braces : ℕ) (s : Statement) → IsWrittenStatement braces s → (ps : List Piece)
@@ -274,9 +225,7 @@ variables_spelt (x ∷ xs) h ps k = (
 
 ending_spelt : (e : Option Last) → IsWrittenEnding e → (ps : List Piece) → AreSpelled ps
     → AreSpelled (ending e ps)
-ending_spelt None h ps k = k
-ending_spelt (Some last) h ps k =
-    (refl, (spells_word (codes "return") _ refl refl, (refl, last_spelt last.value h.0 ps k)))
+ending_spelt e h ps k = grind (arith, spells_word, last_spelt)
 
 part_spelt : (p : Part) → IsNearlyPart p → (ps : List Piece) → AreSpelled ps → AreSpelled (part p ps)
 part_spelt (Array x n at) h ps k = (

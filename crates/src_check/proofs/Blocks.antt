@@ -1,5 +1,5 @@
 -- The rules of statements with blocks in them, and how many statements those are.
-use Rattle.std.proofs.Common.{◌≡◌, ℕ, ◌+◌, List, [], ◌∷◌, ◌++◌, rules, refl, ap, sym, ◌∙◌, add-one, arith}
+use Rattle.std.proofs.Common.{◌≡◌, ℕ, ◌+◌, List, [], ◌∷◌, ◌++◌, rules, ap, sym, ◌∙◌, add-one, arith}
 use Rattle.std.specs.Global.{Global}
 use Rattle.std.specs.declared.vec.Vec.{Vec}
 use Rattle.src_ast.specs.Syntax as syntax
@@ -35,16 +35,14 @@ module _ (s : Stmt) (test : Expr) where
       → statement_rules visible k (statement s) ≡ (statement_rule k s.place ∷ [])
       ++ (expression_rules visible (expression test)
       ++ (body_rules visible n (statements xs) ++ body_rules visible m (statements ys)))
-  if_rules visible k n m first second xs ys is a b at_n at_m =
-      ap (statement_rules visible k) (if_is first second xs ys is a b) ∙ rw (at_m, at_n, add-one) refl
+  if_rules visible k n m first second xs ys is a b at_n at_m = grind (arith, if_is, add-one)
 
   -- how many statements an `if` is
   pub if_size : (k n m j : ℕ) (first second : Vec Stmt Global) (xs ys : List Stmt)
       → s.form ≡ If test first second → xs ≡ first.items → ys ≡ second.items
       → n ≡ k + 1 → m ≡ n + size_of_all (statements xs) → j ≡ m + size_of_all (statements ys)
       → j ≡ k + size_of (statement s)
-  if_size k n m j first second xs ys is a b at_n at_m at_j = rw (if_is first second xs ys is a b)
-      (omega arith)
+  if_size k n m j first second xs ys is a b at_n at_m at_j = grind (arith, if_is)
 
   while_is : (body : Vec Stmt Global) (xs : List Stmt) → s.form ≡ While test body → xs ≡ body.items
       → statement s ≡ syntax.While s.place (expression test) (statements xs)
@@ -56,8 +54,7 @@ module _ (s : Stmt) (test : Expr) where
       → s.form ≡ While test body → xs ≡ body.items → n ≡ k + 1
       → statement_rules visible k (statement s) ≡ (statement_rule k s.place ∷ [])
       ++ (expression_rules visible (expression test) ++ body_rules visible n (statements xs))
-  while_rules visible k n body xs is a at_n = ap (statement_rules visible k) (while_is body xs is a)
-      ∙ rw (at_n, add-one) refl
+  while_rules visible k n body xs is a at_n = grind (arith, while_is, add-one)
 
   -- how many statements a `while` is
   pub while_size : (k n j : ℕ) (body : Vec Stmt Global) (xs : List Stmt) → s.form ≡ While test body

@@ -1,6 +1,6 @@
 -- The first broken rule of rules in a row, and at the use of a name.
-use Rattle.std.proofs.Common.{◌≡◌, List, [], ◌∷◌, ◌++◌, Option, Some, None, Bool, true, false, ◌&&◌, nat_eq}
-use Rattle.std.proofs.Common.{if◌then◌else◌, Result, Ok, Err, refl, sym, ap, subst, ◌∙◌}
+use Rattle.std.proofs.Common.{arith, ◌≡◌, List, [], ◌∷◌, ◌++◌, Option, Some, None, Bool, true, false, ◌&&◌}
+use Rattle.std.proofs.Common.{nat_eq, if◌then◌else◌, Result, refl, sym, ap, subst, ◌∙◌}
 use Rattle.std.specs.List.{list_any}
 use Rattle.std.specs.Result.{IsErrAnd}
 use Rattle.std.proofs.lemmas.Result.{err_from_is_err_and}
@@ -12,7 +12,7 @@ use Rattle.src_ast.specs.declared.fault.Refusal.{Refusal}
 use Rattle.src_ast.specs.declared.fault.RefusalKind.TheVariants.{Unknown, Kind, Count}
 use Rattle.src_ast.specs.Rules.{Rule, rule, Sort, Declared, same_kind, same_sort, is_visible, use_rules}
 use Rattle.src_check.specs.declared.stop.Stop.{Stop}
-use Rattle.src_check.specs.declared.stop.Stop.TheVariants.{Memory, Broken}
+use Rattle.src_check.specs.declared.stop.Stop.TheVariants.{Broken}
 use Rattle.src_check.specs.Names.{StandsFor, passes}
 use Rattle.src_check.specs.Rule.{first_broken}
 use Rattle.src_check.specs.Keeps.{Keeps, StopsAt, KeepsInMemory}
@@ -47,8 +47,7 @@ before_broken (r ∷ xs) ys f h =
 -- what the checker answers on the rest is the answer for all
 pub answers_after : {X : Type 0} (xs ys : List Rule) (r : Result X Refusal) → first_broken xs ≡ None
     → Keeps ys r → Keeps (xs ++ ys) r
-answers_after xs ys (Ok x) h k = after_kept xs ys h ∙ k
-answers_after xs ys (Err f) h k = after_kept xs ys h ∙ k
+answers_after xs ys r h k = grind (arith, after_kept)
 
 -- a rule that is kept is not broken
 pub rule_kept : (place : Place) (any : RefusalKind) → first_broken (rule place any true ∷ []) ≡ None
@@ -56,8 +55,7 @@ unfolding first_broken
 rule_kept place any = refl
 
 and_true : (b : Bool) → (b && true) ≡ b
-and_true true = refl
-and_true false = refl
+and_true b = grind arith
 
 any_and_true : (text : List _) (visible : List Declared)
     → list_any (λ d. pointwise nat_eq d.text text && true) visible ≡ is_visible visible text
@@ -113,15 +111,12 @@ passes_on rules r s is h = let p = err_from_is_err_and r is in rw (p.1, p.2) h
 
 -- a stop after rules that are kept
 pub stop_after : (xs ys : List Rule) (s : Stop) → first_broken xs ≡ None → StopsAt ys s → StopsAt (xs ++ ys) s
-stop_after xs ys Memory h k = tt
-stop_after xs ys (Broken f) h k = after_kept xs ys h ∙ k
+stop_after xs ys s h k = grind (arith, after_kept)
 
 -- a stop before others
 pub stop_before : (xs ys : List Rule) (s : Stop) → StopsAt xs s → StopsAt (xs ++ ys) s
-stop_before xs ys Memory h = tt
-stop_before xs ys (Broken f) h = before_broken xs ys f h
+stop_before xs ys s h = grind (arith, before_broken)
 
 -- a stop at rules with the same first broken one
 pub stop_as : (xs ys : List Rule) (s : Stop) → first_broken xs ≡ first_broken ys → StopsAt ys s → StopsAt xs s
-stop_as xs ys Memory e h = tt
-stop_as xs ys (Broken f) e h = e ∙ h
+stop_as xs ys s e h = grind arith

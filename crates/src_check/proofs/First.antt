@@ -1,6 +1,6 @@
 -- What the first broken rule says of all the rules.
-use Rattle.std.proofs.Common.{◌≡◌, List, [], ◌∷◌, ◌++◌, Option, Some, None, true, false, ◌&&◌, if◌then◌else◌}
-use Rattle.std.proofs.Common.{IsTrue, refl, sym, ap, ◌∙◌}
+use Rattle.std.proofs.Common.{arith, ◌≡◌, List, [], ◌∷◌, ◌++◌, Option, Some, None, true, false, ◌&&◌}
+use Rattle.std.proofs.Common.{if◌then◌else◌, IsTrue, refl, sym, ap}
 use Rattle.std.specs.List.{list_all}
 use Rattle.std.proofs.lemmas.Bool.{and_parts}
 use Rattle.src_ast.specs.declared.lexeme.Place.{Place}
@@ -72,19 +72,16 @@ past_kept (s ∷ before) following r h k =
     rw parts.0 (past_kept before following r parts.1 k)
 
 some_where_first : (rs : List Rule) (f : Refusal) → IsFirstBroken rs f → first_broken rs ≡ Some f
-some_where_first rs f b = ap first_broken b.is ∙ past_kept b.before b.following
-    (record { place = f.place; kind = f.kind; kept = false }) b.kept refl
+some_where_first rs f b = grind (arith, past_kept, b.before, b.kept)
 
 -- the answer to the rules of a program, by the first that isn't kept
 answer_is : (parts : List Part) (finish : Place) (answer : Option Refusal) → IsRuleAnswer parts finish answer
     → first_broken (rules_of parts finish) ≡ answer
-answer_is parts finish None h = none_where_kept (rules_of parts finish) h
-answer_is parts finish (Some f) h = some_where_first (rules_of parts finish) f h
+answer_is parts finish answer h = grind (arith, none_where_kept, some_where_first)
 
 is_answer : (parts : List Part) (finish : Place) (answer : Option Refusal)
     → first_broken (rules_of parts finish) ≡ answer → IsRuleAnswer parts finish answer
-is_answer parts finish None h = kept_where_none (rules_of parts finish) h
-is_answer parts finish (Some f) h = first_where_some (rules_of parts finish) f h
+is_answer parts finish answer h = grind (arith, kept_where_none, first_where_some)
 
 -- a program is accepted or has a first broken rule, and one of them alone
 pub checked_once : (parts : List Part) (finish : Place) → ExactlyOne (IsRuleAnswer parts finish)

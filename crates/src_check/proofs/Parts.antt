@@ -1,6 +1,6 @@
 -- The rules of an array or a procedure, as tested; and what is known after one more of them.
 use Rattle.std.proofs.Common.{◌≡◌, ℕ, ◌+◌, List, [], ◌∷◌, ◌++◌, Bool, true, false, not, ◌||◌, nat_lt, nat_le}
-use Rattle.std.proofs.Common.{nat_eq, Option, Some, if◌then◌else◌, length, refl, sym, ap, subst, ◌∙◌, arith}
+use Rattle.std.proofs.Common.{nat_eq, Option, Some, if◌then◌else◌, length, refl, sym, ap, ◌∙◌, arith}
 use lib.Pointwise.{pointwise}
 use Rattle.src_ast.specs.declared.lexeme.Place.{Place}
 use Rattle.src_ast.specs.declared.lexeme.Name.{Name}
@@ -79,20 +79,17 @@ statements_in-append (Array x n at ∷ ps) qs = statements_in-append ps qs
 statements_in-append (Proc p ∷ ps) qs = let h = statements_in-append ps qs in omega arith
 
 or_assoc : (a b c : Bool) → (a || (b || c)) ≡ ((a || b) || c)
-or_assoc true b c = refl
-or_assoc false b c = refl
+or_assoc a b c = grind arith
 
 has_main-append : (ps qs : List Part) → has_main (ps ++ qs) ≡ (has_main ps || has_main qs)
 has_main-append [] qs = refl
 has_main-append (Array x n at ∷ ps) qs = has_main-append ps qs
-has_main-append (Proc p ∷ ps) qs = ap (λ b. is_main p || b) (has_main-append ps qs)
-    ∙ or_assoc (is_main p) (has_main ps) (has_main qs)
+has_main-append (Proc p ∷ ps) qs = grind (arith, or_assoc, has_main-append ps qs)
 
 stands_after : {find : List ℕ → Option _} (before : List Part) (p : Part)
     → StandsFor find (declared_by (p ∷ []) ++ declared_by before)
     → StandsFor find (declared_by (before ++ p ∷ []))
-stands_after {find} before p st = subst (λ l. StandsFor find l) (sym (declared_by-append before (p ∷ [])))
-    (stands_moved (declared_by (p ∷ [])) (declared_by before) st)
+stands_after before p st = grind (arith, declared_by-append, stands_moved)
 
 module _ (old new : Checker) (before : List Part) (b : IsAfter old before) where
   -- what the checker knows after an array
@@ -104,14 +101,12 @@ module _ (old new : Checker) (before : List Part) (b : IsAfter old before) where
       → new.statements ≡ old.statements → new.has_main ≡ old.has_main
       → IsAfter new (before ++ Array x n at ∷ [])
   after_array x n at free puts arrays procedures cells statements main = record {
-    names = stands_after before (Array x n at) (stands_with x.text array b.names free puts);
-    arrays = arrays ∙ ap (λ m. m + 1) b.arrays ∙ sym (arrays_in-append before (Array x n at ∷ []));
-    procedures = let h = procs_in-append before (Array x n at ∷ []) in let o = b.procedures in omega arith;
-    cells = let h = cells_in-append before (Array x n at ∷ []) in let o = b.cells in omega arith;
-    statements = let h = statements_in-append before (Array x n at ∷ []) in let o = b.statements in
-        omega arith;
-    main = main ∙ b.main ∙ sym (or_false (has_main before))
-        ∙ sym (has_main-append before (Array x n at ∷ []));
+    names = grind (arith, stands_after, stands_with);
+    arrays = grind (arith, arrays_in-append);
+    procedures = grind (arith, procs_in-append);
+    cells = grind (arith, cells_in-append);
+    statements = grind (arith, statements_in-append);
+    main = grind (arith, or_false, has_main-append);
   }
 
   -- what the checker knows after a procedure
@@ -123,15 +118,14 @@ module _ (old new : Checker) (before : List Part) (b : IsAfter old before) where
       → count ≡ old.statements + size_of_all p.body → new.statements ≡ count + size_of_ending p.ending
       → new.has_main ≡ is_main p
       → IsAfter new (before ++ Proc p ∷ [])
-  after_procedure p count free no_main puts arrays procedures cells counted statements main = record {
-    names = stands_after before (Proc p) (stands_with p.name.text (procedure (length p.params)) b.names free
-        puts);
-    arrays = let h = arrays_in-append before (Proc p ∷ []) in let o = b.arrays in omega arith;
-    procedures = let h = procs_in-append before (Proc p ∷ []) in let o = b.procedures in omega arith;
-    cells = let h = cells_in-append before (Proc p ∷ []) in let o = b.cells in omega arith;
-    statements = let h = statements_in-append before (Proc p ∷ []) in let o = b.statements in omega arith;
-    main =
-        main ∙ sym (or_false (is_main p))
-        ∙ sym (has_main-append before (Proc p ∷ []) ∙ ap (λ a. a || (is_main p || false))
-        (sym b.main ∙ no_main));
-  }
+  after_procedure p count free no_main puts arrays procedures cells counted statements main = grind (
+    arith,
+    stands_after,
+    stands_with,
+    arrays_in-append,
+    procs_in-append,
+    cells_in-append,
+    statements_in-append,
+    or_false,
+    has_main-append,
+  )

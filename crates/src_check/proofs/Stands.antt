@@ -1,6 +1,6 @@
 -- Which declared names stand for what is found, as names are put in.
-use Rattle.std.proofs.Common.{◌≡◌, ℕ, ◌+◌, ◌<◌, List, [], ◌∷◌, ◌++◌, Bool, true, false, ◌&&◌, ◌||◌, nat_eq}
-use Rattle.std.proofs.Common.{Option, Some, None, if◌then◌else◌, length, get_or, take, refl, sym, ap, subst}
+use Rattle.std.proofs.Common.{arith, ◌≡◌, ℕ, ◌+◌, ◌<◌, List, [], ◌∷◌, ◌++◌, Bool, true, false, ◌&&◌, ◌||◌}
+use Rattle.std.proofs.Common.{nat_eq, Option, Some, if◌then◌else◌, length, get_or, take, refl, sym, ap, subst}
 use Rattle.std.proofs.Common.{◌∙◌, add-one}
 use Rattle.std.proofs.Math.Seq.{take-suc}
 use Rattle.std.proofs.lemmas.List.Folds.{list_any-append}
@@ -17,29 +17,20 @@ finds declared text test = list_any (λ d. pointwise nat_eq d.text text && test 
 -- the same is found
 pub stands_same : {f g : List ℕ → Option Sort} {visible : List Declared} → ((text : List ℕ) → g text ≡ f text)
     → StandsFor f visible → StandsFor g visible
-stands_same e st = record { agrees = λ text test. st.agrees text test ∙ ap (passes test) (sym (e text)) }
+stands_same e st = record { agrees = grind (arith, st.agrees) }
 
 -- lists that change places
 pub stands_moved : {f : List ℕ → Option Sort} (xs ys : List Declared) → StandsFor f (xs ++ ys)
     → StandsFor f (ys ++ xs)
-stands_moved xs ys st = record {
-  agrees = λ text test.
-      list_any-append (λ d. pointwise nat_eq d.text text && test d.sort) ys xs
-      ∙ or_comm (finds ys text test) (finds xs text test)
-      ∙ sym (list_any-append (λ d. pointwise nat_eq d.text text && test d.sort) xs ys)
-      ∙ st.agrees text test;
-}
+stands_moved xs ys st = grind (arith, list_any-append, nat_eq, or_comm, st.agrees)
 
 none_passes : (test : Sort → Bool) (o : Option Sort) → passes (λ _. true) o ≡ false → passes test o ≡ false
-none_passes test None e = refl
-none_passes test (Some s) e = cc
+none_passes test o e = grind arith
 
 put_by : (x text : List ℕ) (b : Bool) (s : Sort) (test : Sort → Bool) (rest : Bool) (o : Option Sort)
     → b ≡ pointwise nat_eq x text → rest ≡ passes test o → (b ≡ true → passes (λ _. true) o ≡ false)
     → ((b && test s) || rest) ≡ passes test (if b then Some s else o)
-put_by x text true s test rest o is agrees apart =
-    ap (λ r. test s || r) (agrees ∙ none_passes test o (apart refl)) ∙ or_comm (test s) false
-put_by x text false s test rest o is agrees apart = agrees
+put_by x text b s test rest o is agrees apart = grind (arith, none_passes, or_comm)
 
 -- a name that nothing was found for is put in
 pub stands_with : {f g : List ℕ → Option Sort} {visible : List Declared} (x : List ℕ) (s : Sort)
@@ -62,7 +53,8 @@ pushed (x ∷ xs) visible = pushed xs (record { text = x.text; sort = variable }
 pushed-append : (xs : List Name) (x : Name) (visible : List Declared) → pushed (xs ++ x ∷ []) visible
     ≡ variables (x ∷ []) ++ pushed xs visible
 pushed-append [] x visible = refl
-pushed-append (y ∷ xs) x visible = pushed-append xs x (record { text = y.text; sort = variable } ∷ visible)
+pushed-append (y ∷ xs) x visible =
+    grind (arith, pushed-append xs x (record { text = y.text; sort = variable } ∷ visible))
 
 -- one more name put in
 pub pushed_next : (xs : List Name) (i : ℕ) (x : Name) (visible : List Declared) → i < length xs
@@ -73,10 +65,7 @@ pushed_next xs i x visible h is =
     ∙ pushed-append (take i xs) x visible
 
 or_moved : (a b c : Bool) → (a || (b || c)) ≡ ((b || a) || c)
-or_moved true true c = refl
-or_moved true false c = refl
-or_moved false true c = refl
-or_moved false false c = refl
+or_moved a b c = grind arith
 
 finds-pushed : (xs : List Name) (visible : List Declared) (text : List ℕ) (test : Sort → Bool)
     → finds (pushed xs visible) text test ≡ (finds (variables xs) text test || finds visible text test)
@@ -89,12 +78,7 @@ finds-pushed (x ∷ xs) visible text test =
 -- names put in one after another are the variables
 pub stands_for_pushed : {f : List ℕ → Option Sort} (xs : List Name) (visible : List Declared)
     → StandsFor f (pushed xs visible) → StandsFor f (variables xs ++ visible)
-stands_for_pushed xs visible st = record {
-  agrees = λ text test.
-      list_any-append (λ d. pointwise nat_eq d.text text && test d.sort) (variables xs) visible
-      ∙ sym (finds-pushed xs visible text test)
-      ∙ st.agrees text test;
-}
+stands_for_pushed xs visible st = grind (arith, list_any-append, nat_eq, finds-pushed, st.agrees)
 
 variables-append : (xs ys : List Name) → variables (xs ++ ys) ≡ variables xs ++ variables ys
 variables-append [] ys = refl
@@ -109,15 +93,4 @@ finds-append xs ys text test = list_any-append (λ d. pointwise nat_eq d.text te
 pub stands_for_locals : {f : List ℕ → Option Sort} (params vars : List Name) (visible : List Declared)
     → StandsFor f (variables vars ++ (variables params ++ visible))
     → StandsFor f (variables (params ++ vars) ++ visible)
-stands_for_locals params vars visible st = record {
-  agrees = λ text test.
-      ap (λ l. finds (l ++ visible) text test) (variables-append params vars)
-      ∙ finds-append (variables params ++ variables vars) visible text test
-      ∙ ap (λ b. b || finds visible text test) (finds-append (variables params) (variables vars) text test)
-      ∙ sym (or_moved (finds (variables vars) text test) (finds (variables params) text test)
-      (finds visible text test))
-      ∙ sym (finds-append (variables vars) (variables params ++ visible) text test
-      ∙ ap (λ b. finds (variables vars) text test || b)
-      (finds-append (variables params) visible text test))
-      ∙ st.agrees text test;
-}
+stands_for_locals params vars visible st = grind (arith, variables-append, finds-append, or_moved, st.agrees)

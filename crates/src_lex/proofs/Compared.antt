@@ -1,33 +1,22 @@
 -- Two readings of one text: they are one, or one goes on where the other stops.
-use Rattle.std.specs.Prelude.{◌≡◌, ℕ, suc, not, cond, true, false, List, [], ◌∷◌, ◌++◌, refl}
+use Rattle.std.specs.Prelude.{◌≡◌, ℕ, suc, true, List, ◌∷◌, ◌++◌, refl}
 use Rattle.std.proofs.Common.{arith, sym, ap, ◌∙◌}
 use Rattle.std.proofs.lemmas.Bool.{or_right}
 use Rattle.src_ast.specs.declared.lexeme.Place.{Place}
 use Rattle.src_ast.specs.declared.lexeme.Lexeme.{Lexeme}
 use Rattle.src_ast.specs.declared.lexeme.Shape.{Shape}
 use Rattle.src_ast.specs.declared.lexeme.Shape.TheVariants as shape
-use Rattle.ws_words.specs.Digits.{is_digit}
-use Rattle.src_ast.specs.Lexemes.{after, is_end, Spells, LexesTo}
-use Rattle.src_lex.specs.Reads.{begins_gap, ends_gap}
+use Rattle.src_ast.specs.Lexemes.{after, Spells, LexesTo}
+use Rattle.src_lex.specs.Reads.{ends_gap}
 use Rattle.src_lex.proofs.Unique.{gap_same, spelled_same, head_kind, spelled_kind}
-use Rattle.ws_words.specs.Letters.{is_letter}
 
 -- where a word, a number or a mark may begin, no gap is left
 pub kind_ends_gap : (xs : List ℕ) (k : ℕ) → head_kind xs ≡ suc k → ends_gap xs ≡ true
-kind_ends_gap [] k h = refl
-kind_ends_gap (b ∷ xs) k h =
-    or_right (is_end (b ∷ xs)) (not (begins_gap b))
-    ((elim (begins_gap b) as (λ t. cond t 0 (cond (is_letter b) 1 (cond (is_digit b) 2 3)) ≡ suc k
-    → not t ≡ true) [
-      | true ↦ λ h. absurd (omega arith)
-      | false ↦ λ h. refl
-    ]) h)
+kind_ends_gap xs k h = grind (arith, or_right)
 
 -- no gap is left before a lexeme
 pub spelled_ends_gap : (s : Shape) (a b : List ℕ) → Spells s a b → ends_gap (a ++ b) ≡ true
-spelled_ends_gap (shape.Word w) a b p = kind_ends_gap (a ++ b) 0 (spelled_kind (shape.Word w) a b p)
-spelled_ends_gap (shape.Number n) a b p = kind_ends_gap (a ++ b) 1 (spelled_kind (shape.Number n) a b p)
-spelled_ends_gap (shape.Mark m) a b p = kind_ends_gap (a ++ b) 2 (spelled_kind (shape.Mark m) a b p)
+spelled_ends_gap s a b p = grind (arith, kind_ends_gap, spelled_kind)
 
 -- two readings of one text are one, or one goes on with a lexeme where the other stops
 pub data Compared (ls : List Lexeme) (p : Place) (r : List ℕ) (ms : List Lexeme) (q : Place)

@@ -1,13 +1,11 @@
 -- What is wrong at a place is one thing, and nothing is wrong where a lexeme stands within the limits, or at
 -- the end of the text.
-use Rattle.std.specs.Prelude.{◌≡◌, ℕ, zero, suc, ◌^◌, ◌≤◌, ◌<◌, ◌==◌, not, length, true, List, [], ◌∷◌, ◌++◌}
-use Rattle.std.specs.Prelude.{refl}
-use Rattle.std.specs.List.{list_all}
-use Rattle.std.proofs.Common.{arith, sym, ap, subst, ◌∙◌}
+use Rattle.std.specs.Prelude.{◌≡◌, ℕ, ◌^◌, ◌≤◌, ◌<◌, ◌==◌, length, true, List, [], ◌∷◌, ◌++◌, refl}
+use Rattle.std.proofs.Common.{arith, sym, ap, ◌∙◌}
 use Rattle.std.proofs.lemmas.Bool.{or_from, or_left, and_parts, eqb-true}
 use Rattle.ws_words.specs.Digits.{is_digit, is_number, value_of}
 use Rattle.src_ast.specs.declared.lexeme.Mark.{Mark}
-use Rattle.src_ast.specs.declared.lexeme.Mark.TheVariants.{LBrace, RBrace, LessEq, MoreEq, Same, Differs}
+use Rattle.src_ast.specs.declared.lexeme.Mark.TheVariants.{LessEq, MoreEq, Same, Differs}
 use Rattle.src_ast.specs.declared.lexeme.Mark.TheVariants.{ShiftLeft, ShiftRight, Less, More, Assign, Bang}
 use Rattle.src_ast.specs.declared.lexeme.Shape.{Shape}
 use Rattle.src_ast.specs.declared.lexeme.Shape.TheVariants as shape
@@ -23,8 +21,7 @@ use Rattle.src_lex.proofs.Compared.{kind_ends_gap, spelled_ends_gap}
 use Rattle.ws_words.specs.Letters.{is_word_byte, is_word, starts_without}
 
 pub end_kind : (xs : List ℕ) → is_end xs ≡ true → head_kind xs ≡ 0
-end_kind [] h = refl
-end_kind (b ∷ xs) h = rw (eqb-true b 35 ((and_parts (b == 35) (list_all (λ c. not (c == 10)) xs) h).0)) refl
+end_kind xs h = grind (arith, eqb-true, and_parts)
 
 -- no gap is left at the end of the text
 pub end_ends_gap : (xs : List ℕ) → is_end xs ≡ true → ends_gap xs ≡ true
@@ -33,36 +30,19 @@ end_ends_gap xs h = or_left (is_end xs) (starts_without begins_gap xs) h
 -- at the end of the text no lexeme stands
 pub end_denies : (s : Shape) (r bytes following : List ℕ) → is_end r ≡ true → r ≡ bytes ++ following
     → Spells s bytes following → ⊥
-end_denies (shape.Word w) r bytes following h e p = let k = spelled_kind (shape.Word w) bytes following p in
-    let l = end_kind r h in let q = ap head_kind e in omega arith
-end_denies (shape.Number n) r bytes following h e p = let k = spelled_kind (shape.Number n) bytes following
-    p in let l = end_kind r h in let q = ap head_kind e in omega arith
-end_denies (shape.Mark m) r bytes following h e p = let k = spelled_kind (shape.Mark m) bytes following p in
-    let l = end_kind r h in let q = ap head_kind e in omega arith
+end_denies s r bytes following h e p = grind (arith, spelled_kind, end_kind)
 
 nothing_kind : (b : ℕ) (bytes : List ℕ) → BeginsNothing b → head_kind (b ∷ bytes) ≡ 3
 nothing_kind b bytes n = rw (or_from (is_blank b) (b == 35) n.blank n.comment, n.letter, n.digit) refl
 
 -- no gap is left before what is wrong
 pub wrong_ends_gap : (o w : ℕ) (r : List ℕ) (k : RefusalKind) → Wrong o w r k → ends_gap r ≡ true
-wrong_ends_gap o w r k (Wrong.byte b bytes e n) = rw e (kind_ends_gap (b ∷ bytes) 2 (nothing_kind b bytes n))
-wrong_ends_gap o w r k (Wrong.wide digits far e n s l) =
-    rw e (kind_ends_gap (digits ++ far) 1 (number_kind digits far n))
-wrong_ends_gap o w r k (Wrong.long bytes far e n s l) =
-    rw e (kind_ends_gap (bytes ++ far) 0 (word_kind bytes far n))
-wrong_ends_gap o w r k (Wrong.deep s bytes far e p l) = rw e (spelled_ends_gap s bytes far p)
-wrong_ends_gap o w r k (Wrong.crowded s bytes far e p q l) = rw e (spelled_ends_gap s bytes far p)
+wrong_ends_gap o w r k h =
+    grind (arith, kind_ends_gap, nothing_kind, number_kind, word_kind, spelled_ends_gap)
 
 -- at the end of the text nothing is wrong
 pub end_right : (o w : ℕ) (r : List ℕ) (k : RefusalKind) → is_end r ≡ true → Wrong o w r k → ⊥
-end_right o w r k h (Wrong.byte b bytes e n) = let x = nothing_kind b bytes n in let y = end_kind r h in
-    let z = ap head_kind e in omega arith
-end_right o w r k h (Wrong.wide digits far e n s l) = let x = number_kind digits far n in
-    let y = end_kind r h in let z = ap head_kind e in omega arith
-end_right o w r k h (Wrong.long bytes far e n s l) = let x = word_kind bytes far n in let y = end_kind r h in
-    let z = ap head_kind e in omega arith
-end_right o w r k h (Wrong.deep s bytes far e p l) = end_denies s r bytes far h e p
-end_right o w r k h (Wrong.crowded s bytes far e p q l) = end_denies s r bytes far h e p
+end_right o w r k h i = grind (arith, nothing_kind, end_kind, number_kind, word_kind, end_denies)
 
 -- the mark of the first byte
 abbrev first_mark : Mark → Mark
@@ -79,32 +59,25 @@ first_byte [] = []
 first_byte (b ∷ bytes) = b ∷ []
 
 first_spelled : (m : Mark) (more : List ℕ) → first_byte (spelling m ++ more) ≡ spelling (first_mark m) ++ []
-first_spelled LessEq more = refl
-first_spelled _ more = refl
+first_spelled m more = grind arith
 
 -- a byte that begins nothing begins no lexeme
 byte_denies : (b : ℕ) (rest : List ℕ) (s : Shape) (bytes following : List ℕ) → BeginsNothing b
     → b ∷ rest ≡ bytes ++ following → Spells s bytes following → ⊥
-byte_denies b rest (shape.Word v) bytes following n e p = let k = spelled_kind (shape.Word v) bytes following
-    p in let x = nothing_kind b rest n in let z = ap head_kind e in omega arith
-byte_denies b rest (shape.Number v) bytes following n e p = let k = spelled_kind (shape.Number v) bytes
-    following p in let x = nothing_kind b rest n in let z = ap head_kind e in omega arith
+byte_denies b rest (shape.Word v) bytes following n e p = grind (arith, spelled_kind, nothing_kind)
+byte_denies b rest (shape.Number v) bytes following n e p = grind (arith, spelled_kind, nothing_kind)
 byte_denies b rest (shape.Mark m) bytes following n e (Spells.mark k is longest) =
     n.mark (first_mark k) [] (ap first_byte (e ∙ ap (λ x. x ++ following) is) ∙ first_spelled k following)
 
 wide_denies : (digits far : List ℕ) (s : Shape) (bytes following : List ℕ) → is_number digits ≡ true
     → starts_without is_digit far ≡ true → 2 ^ 64 ≤ value_of digits
     → digits ++ far ≡ bytes ++ following → Spells s bytes following → ⊥
-wide_denies digits far (shape.Word v) bytes following n t l e p = let k =
-    spelled_kind (shape.Word v) bytes following p in let x = number_kind digits far n in
-    let z = ap head_kind e in omega arith
+wide_denies digits far (shape.Word v) bytes following n t l e p = grind (arith, spelled_kind, number_kind)
 wide_denies digits far (shape.Number v) bytes following n t l e (Spells.number m w stops is less) =
     let r = run_same is_digit digits bytes far following (number_all digits n) (number_all bytes w) t stops
     e in
     let same = ap value_of r.front in omega arith
-wide_denies digits far (shape.Mark m) bytes following n t l e p = let k =
-    spelled_kind (shape.Mark m) bytes following p in let x = number_kind digits far n in
-    let z = ap head_kind e in omega arith
+wide_denies digits far (shape.Mark m) bytes following n t l e p = grind (arith, spelled_kind, number_kind)
 
 -- where a long word stands, each lexeme is that word
 long_is : (word far : List ℕ) (s : Shape) (bytes following : List ℕ) → is_word word ≡ true
@@ -117,68 +90,39 @@ long_is word far s bytes following n t e p =
 pub wrong_denies : (o w : ℕ) (r : List ℕ) (k : RefusalKind) (s : Shape) (bytes following : List ℕ)
     → Wrong o w r k → r ≡ bytes ++ following → Spells s bytes following
     → IsShort s → open_past o s ≤ 32 → row_past w s ≤ 256 → ⊥
-wrong_denies o w r k s bytes following (Wrong.byte b rest x n) e p q f g =
-    byte_denies b rest s bytes following n (sym x ∙ e) p
-wrong_denies o w r k s bytes following (Wrong.wide digits far x n t l) e p q f g =
-    wide_denies digits far s bytes following n t l (sym x ∙ e) p
-wrong_denies o w r k s bytes following (Wrong.long word far x n t l) e p q f g =
-    let h : length word ≤ 64 = subst IsShort (long_is word far s bytes following n t (sym x ∙ e) p) q in
-    omega arith
-wrong_denies o w r k s bytes following (Wrong.deep u word far x v l) e p q f g =
-    let same = (spelled_same u s word far bytes following v p (sym x ∙ e)).0 in
-    let h = ap (open_past o) same in omega arith
+wrong_denies o w r k s bytes following (Wrong.byte b rest x n) e p q f g = grind (arith, byte_denies)
+wrong_denies o w r k s bytes following (Wrong.wide digits far x n t l) e p q f g = grind (arith, wide_denies)
+wrong_denies o w r k s bytes following (Wrong.long word far x n t l) e p q f g = grind (arith, long_is)
+wrong_denies o w r k s bytes following (Wrong.deep u word far x v l) e p q f g = grind (arith, spelled_same)
 wrong_denies o w r k s bytes following (Wrong.crowded u word far x v t l) e p q f g =
-    let same = (spelled_same u s word far bytes following v p (sym x ∙ e)).0 in
-    let h = ap (row_past w) same in omega arith
+    grind (arith, spelled_same)
 
 depth_in_row : (o w : ℕ) (s : Shape) → o ≤ 32 → 32 < open_past o s → row_past w s ≤ 256
-depth_in_row o w (shape.Word v) h k = absurd (omega arith)
-depth_in_row o w (shape.Number v) h k = absurd (omega arith)
-depth_in_row o w (shape.Mark LBrace) h k = omega arith
-depth_in_row zero w (shape.Mark RBrace) h k = omega arith
-depth_in_row (suc o) w (shape.Mark RBrace) h k = omega arith
-depth_in_row o w (shape.Mark m) h k = absurd (omega arith)
+depth_in_row o w s h k = grind arith
 
 -- What each wrong thing leaves no room for.
 byte_only : (o w : ℕ) (r : List ℕ) (k : RefusalKind) (b : ℕ) (rest : List ℕ) → r ≡ b ∷ rest → BeginsNothing b
     → Wrong o w r k → Byte ≡ k
 byte_only o w r k b rest e n (Wrong.byte c bytes x m) = refl
-byte_only o w r k b rest e n (Wrong.wide digits far x m t l) = let p = number_kind digits far m in
-    let q = nothing_kind b rest n in let z = ap head_kind (sym e ∙ x) in absurd (omega arith)
-byte_only o w r k b rest e n (Wrong.long word far x m t l) = let p = word_kind word far m in
-    let q = nothing_kind b rest n in let z = ap head_kind (sym e ∙ x) in absurd (omega arith)
-byte_only o w r k b rest e n (Wrong.deep s bytes far x p l) =
-    absurd (byte_denies b rest s bytes far n (sym e ∙ x) p)
-byte_only o w r k b rest e n (Wrong.crowded s bytes far x p q l) =
-    absurd (byte_denies b rest s bytes far n (sym e ∙ x) p)
+byte_only o w r k b rest e n (Wrong.wide digits far x m t l) = grind (arith, number_kind, nothing_kind)
+byte_only o w r k b rest e n (Wrong.long word far x m t l) = grind (arith, word_kind, nothing_kind)
+byte_only o w r k b rest e n (Wrong.deep s bytes far x p l) = grind (arith, byte_denies)
+byte_only o w r k b rest e n (Wrong.crowded s bytes far x p q l) = grind (arith, byte_denies)
 
 wide_only : (o w : ℕ) (r : List ℕ) (k : RefusalKind) (digits following : List ℕ) → r ≡ digits ++ following
     → is_number digits ≡ true → starts_without is_digit following ≡ true → 2 ^ 64 ≤ value_of digits
     → Wrong o w r k → Wide ≡ k
-wide_only o w r k digits following e n t l (Wrong.byte b rest x m) =
-    sym (byte_only o w r Wide b rest x m (Wrong.wide digits following e n t l))
-wide_only o w r k digits following e n t l (Wrong.wide digits' far x m t' l') = refl
-wide_only o w r k digits following e n t l (Wrong.long word far x m t' l') = let p = word_kind word far m in
-    let q = number_kind digits following n in let z = ap head_kind (sym e ∙ x) in absurd (omega arith)
-wide_only o w r k digits following e n t l (Wrong.deep s bytes far x p l') =
-    absurd (wide_denies digits following s bytes far n t l (sym e ∙ x) p)
-wide_only o w r k digits following e n t l (Wrong.crowded s bytes far x p q l') =
-    absurd (wide_denies digits following s bytes far n t l (sym e ∙ x) p)
+wide_only o w r k digits following e n t l h = grind (arith, byte_only, word_kind, number_kind, wide_denies)
 
 long_only : (o w : ℕ) (r : List ℕ) (k : RefusalKind) (word following : List ℕ) → o ≤ 32
     → r ≡ word ++ following → is_word word ≡ true → starts_without is_word_byte following ≡ true
     → 64 < length word
     → Wrong o w r k → Limit NameBytes ≡ k
-long_only o w r k word following h e n t l (Wrong.byte b rest x m) =
-    sym (byte_only o w r (Limit NameBytes) b rest x m (Wrong.long word following e n t l))
-long_only o w r k word following h e n t l (Wrong.wide digits far x m t' l') =
-    sym (wide_only o w r (Limit NameBytes) digits far x m t' l' (Wrong.long word following e n t l))
+long_only o w r k word following h e n t l (Wrong.byte b rest x m) = grind (arith, byte_only)
+long_only o w r k word following h e n t l (Wrong.wide digits far x m t' l') = grind (arith, wide_only)
 long_only o w r k word following h e n t l (Wrong.long word' far x m t' l') = refl
-long_only o w r k word following h e n t l (Wrong.deep s bytes far x p l') =
-    let same = ap (open_past o) (long_is word following s bytes far n t (sym e ∙ x) p) in absurd (omega arith)
-long_only o w r k word following h e n t l (Wrong.crowded s bytes far x p q l') =
-    let short : length word ≤ 64 = subst IsShort (long_is word following s bytes far n t (sym e ∙ x) p) q in
-    absurd (omega arith)
+long_only o w r k word following h e n t l (Wrong.deep s bytes far x p l') = grind (arith, long_is)
+long_only o w r k word following h e n t l (Wrong.crowded s bytes far x p q l') = grind (arith, long_is)
 
 deep_only : (o w : ℕ) (r : List ℕ) (k : RefusalKind) (s : Shape) (bytes following : List ℕ) → o ≤ 32
     → r ≡ bytes ++ following → Spells s bytes following → 32 < open_past o s → Wrong o w r k → Limit Depth ≡ k
@@ -190,18 +134,14 @@ deep_only o w r k s bytes following h e p l (Wrong.long word far x m t' l') =
     sym (long_only o w r (Limit Depth) word far h x m t' l' (Wrong.deep s bytes following e p l))
 deep_only o w r k s bytes following h e p l (Wrong.deep t bytes' far x q l') = refl
 deep_only o w r k s bytes following h e p l (Wrong.crowded t bytes' far x q short l') =
-    let same = ap (row_past w) (spelled_same s t bytes following bytes' far p q (sym e ∙ x)).0 in let few =
-    depth_in_row o w s h l in absurd (omega arith)
+    grind (arith, spelled_same, depth_in_row)
 
 crowded_only : (o w : ℕ) (r : List ℕ) (k : RefusalKind) → o ≤ 32 → Wrong o w r (Limit Lexemes) → Wrong o w r k
     → Limit Lexemes ≡ k
 crowded_only o w r k h c (Wrong.byte b rest x n) = sym (byte_only o w r (Limit Lexemes) b rest x n c)
-crowded_only o w r k h c (Wrong.wide digits far x n t l) =
-    sym (wide_only o w r (Limit Lexemes) digits far x n t l c)
-crowded_only o w r k h c (Wrong.long word far x n t l) =
-    sym (long_only o w r (Limit Lexemes) word far h x n t l c)
-crowded_only o w r k h c (Wrong.deep s bytes far x p l) =
-    sym (deep_only o w r (Limit Lexemes) s bytes far h x p l c)
+crowded_only o w r k h c (Wrong.wide digits far x n t l) = grind (arith, wide_only)
+crowded_only o w r k h c (Wrong.long word far x n t l) = grind (arith, long_only)
+crowded_only o w r k h c (Wrong.deep s bytes far x p l) = grind (arith, deep_only)
 crowded_only o w r k h c (Wrong.crowded s bytes far x p short l) = refl
 
 -- one thing alone is wrong at a place

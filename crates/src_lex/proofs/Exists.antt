@@ -1,6 +1,6 @@
 -- Every text has lexemes within the limits, or a first fault.
-use Rattle.std.specs.Prelude.{◌≡◌, ℕ, zero, suc, ◌^◌, ◌≤◌, ◌<◌, ◌==◌, not, nat_le, length, Bool, true, false}
-use Rattle.std.specs.Prelude.{◌||◌, List, [], ◌∷◌, ◌++◌, Some, None, Result, Ok, Err, ◌⊎◌, refl}
+use Rattle.std.specs.Prelude.{◌≡◌, ℕ, zero, suc, ◌^◌, ◌≤◌, ◌<◌, ◌==◌, nat_le, length, Bool, true, false}
+use Rattle.std.specs.Prelude.{List, [], ◌∷◌, ◌++◌, Some, None, Result, Ok, Err, ◌⊎◌, refl}
 use Rattle.std.specs.List.{list_all, prefix_len}
 use Rattle.std.proofs.Common.{arith, sym, ap, inl, inr, take, drop, get_or, length-append}
 use Rattle.std.proofs.lemmas.Bool.{both_ways, or_from, leb-true, leb-false}
@@ -141,12 +141,7 @@ refused_here text items at rest open' row kind r w =
 
 no_gap_begins : (b : ℕ) (rest : List ℕ) → is_end (b ∷ rest) ≡ false → ends_gap (b ∷ rest) ≡ true
     → begins_gap b ≡ false
-no_gap_begins b rest over whole =
-    (elim (begins_gap b) as (λ t. (is_end (b ∷ rest) || not t) ≡ true → t ≡ false) [
-      | true ↦ λ h.
-          absurd (both_ways (is_end (b ∷ rest) || false) (or_from (is_end (b ∷ rest)) false over refl) h)
-      | false ↦ λ h. refl
-    ]) whole
+no_gap_begins b rest over whole = grind (arith, both_ways, or_from)
 
 -- an answer for whatever is read so far, where fewer bytes than this are left
 abbrev FromHere : List ℕ → ℕ → Type 0
@@ -213,6 +208,4 @@ same_answer text (Err r) (Err s) x y = ap (λ t. Err t) (one_fault_of text r s x
 
 -- and one of them alone
 pub lexed_once : (text : List ℕ) → ExactlyOne (IsLexAnswer text)
-lexed_once text =
-    let a = answered text in
-    record { answer = a.0; holds = a.1; only = λ other h. same_answer text other a.0 h a.1 }
+lexed_once text = let a = answered text in grind (arith, same_answer)

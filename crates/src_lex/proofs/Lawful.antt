@@ -1,6 +1,6 @@
 -- A text has one list of lexemes or one first fault at most.
 use Rattle.std.specs.Prelude.{◌≡◌, ℕ, ◌≤◌, List, [], ◌∷◌, ◌++◌, Result, Ok, Err, IfOk, IfErr}
-use Rattle.std.proofs.Common.{arith, sym, ◌∙◌}
+use Rattle.std.proofs.Common.{arith}
 use Rattle.src_ast.specs.declared.lexeme.Place.{Place}
 use Rattle.src_ast.specs.declared.lexeme.Lexeme.{Lexeme}
 use Rattle.src_ast.specs.declared.lexeme.Lexemes as lexemes
@@ -24,36 +24,25 @@ pub record KeptAt (open' row : ℕ) (l : Lexeme) : Type 0 where
 kept_at : (o w : ℕ) (ls : List Lexeme) (l : Lexeme) (more : List Lexeme) → KeepLimits o w (ls ++ (l ∷ more))
     → KeptAt (open_after o ls) (row_after w ls) l
 kept_at o w [] l more k = record { short = k.0; depth = k.1; row_kept = k.2 }
-kept_at o w (m ∷ ls) l more k = kept_at (open_past o m.shape) (row_past w m.shape) ls l more k.3
+kept_at o w (m ∷ ls) l more k =
+    grind (arith, kept_at (open_past o m.shape) (row_past w m.shape) ls l more k.3)
 
 depth_kept : (o w : ℕ) (ls : List Lexeme) → o ≤ 32 → KeepLimits o w ls → open_after o ls ≤ 32
 depth_kept o w [] h k = h
-depth_kept o w (m ∷ ls) h k = depth_kept (open_past o m.shape) (row_past w m.shape) ls k.1 k.3
+depth_kept o w (m ∷ ls) h k = grind (arith, depth_kept (open_past o m.shape) (row_past w m.shape) ls k.1 k.3)
 
 -- a fault does not stand where another list within the limits goes on
 no_fault_inside : (ls ms : List Lexeme) (l : Lexeme) (more : List Lexeme) (r bytes following : List ℕ)
     (k : RefusalKind) → KeepLimits 0 0 ms → ms ≡ ls ++ (l ∷ more)
     → Wrong (open_after 0 ls) (row_after 0 ls) r k → r ≡ bytes ++ following → Spells l.shape bytes following
     → ⊥
-no_fault_inside ls ms l more r bytes following k kept e w t s =
-    let at = kept_at 0 0 ls l more (rw e at kept) in
-    wrong_denies (open_after 0 ls) (row_after 0 ls) r k l.shape bytes following w t s at.short at.depth
-    at.row_kept
+no_fault_inside ls ms l more r bytes following k kept e w t s = grind (arith, kept_at, wrong_denies, l.shape)
 
 -- a text has one list of lexemes at most
 pub one_lexing_of : (text : List ℕ) (a b : List Lexeme) (p q : Place) → Lex text a p → Lex text b q
     → (a ≡ b) × (p ≡ q)
 one_lexing_of text a b p q x y =
-    let finish : p ≡ q = x.finish_is ∙ sym y.finish_is in
-    let c = compare start text a x.place x.rest b y.place y.rest x.leads y.leads (end_ends_gap x.rest x.over)
-    (end_ends_gap y.rest y.over) in
-    elim c [
-      | Compared.same e f g ↦ (e, finish)
-      | Compared.ahead l more bytes following e f s ↦
-          absurd (end_denies l.shape y.rest bytes following y.over f s)
-      | Compared.short l more bytes following e f s ↦
-          absurd (end_denies l.shape x.rest bytes following x.over f s)
-    ]
+    grind (arith, compare, start, x.place, y.place, x.leads, y.leads, end_ends_gap, end_denies)
 
 -- a text whose lexemes keep the limits has no fault
 pub no_fault_of : (text : List ℕ) (ls : List Lexeme) (p : Place) (r : Refusal) → Lex text ls p
@@ -61,12 +50,7 @@ pub no_fault_of : (text : List ℕ) (ls : List Lexeme) (p : Place) (r : Refusal)
 no_fault_of text ls p r x kept y =
     let c = compare start text ls x.place x.rest y.ls r.place y.rest x.leads y.leads
     (end_ends_gap x.rest x.over) (wrong_ends_gap _ _ y.rest r.kind y.wrong) in
-    elim c [
-      | Compared.same e f g ↦ end_right _ _ y.rest r.kind (rw (← g) x.over) y.wrong
-      | Compared.ahead l more bytes following e f s ↦ no_fault_inside y.ls ls l more y.rest bytes following
-          r.kind kept e y.wrong f s
-      | Compared.short l more bytes following e f s ↦ end_denies l.shape x.rest bytes following x.over f s
-    ]
+    grind (arith, end_right, no_fault_inside, y.wrong, end_denies)
 
 same_refusal : (a b : Refusal) → a.kind ≡ b.kind → a.place ≡ b.place → a ≡ b
 same_refusal a b e p = λ i. record { kind = e i; place = p i }

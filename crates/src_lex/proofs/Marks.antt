@@ -1,10 +1,9 @@
 -- A mark and its bytes.
-use Rattle.std.specs.Prelude.{◌≡◌, ℕ, ◌≤◌, ◌==◌, cond, nat_le, length, true, false, IsTrue, ◌&&◌, List, []}
+use Rattle.std.specs.Prelude.{◌≡◌, ℕ, ◌≤◌, ◌==◌, cond, nat_le, length, false, IsTrue, ◌&&◌, List, []}
 use Rattle.std.specs.Prelude.{◌∷◌, ◌++◌, Option, Some, None, refl}
 use Rattle.std.proofs.Common.{arith, sym, ap, ◌∙◌}
 use Rattle.std.proofs.lemmas.Bool.{eqb-true, both_ways, and_parts, leb-true}
 use Rattle.src_ast.specs.declared.lexeme.Mark.{Mark}
-use Rattle.src_ast.specs.declared.lexeme.Mark.TheVariants.{LParen}
 use Rattle.src_ast.specs.declared.lexeme.Shape.TheVariants as shape
 use Rattle.src_ast.specs.Lexemes.{spelling, Spells}
 use Rattle.src_lex.specs.Marks.{mark_of_one, mark_of_two, mark_of_front}
@@ -18,13 +17,11 @@ mark_of (b ∷ c ∷ []) = mark_of_two b c
 mark_of (b ∷ c ∷ d ∷ more) = None
 
 pub mark_of_spelling : (m : Mark) → mark_of (spelling m) ≡ Some m
-mark_of_spelling LParen = refl
-mark_of_spelling _ = refl
+mark_of_spelling m = grind arith
 
 -- a mark is known by its bytes
 pub one_mark : (m n : Mark) → spelling m ≡ spelling n → m ≡ n
-one_mark m n e =
-    let same : Option.Some m ≡ Some n = sym (mark_of_spelling m) ∙ (ap mark_of e ∙ mark_of_spelling n) in cc
+one_mark m n e = grind (arith, mark_of_spelling)
 
 -- one byte or two
 pub data OneOrTwo : List ℕ → Type 0 where
@@ -35,13 +32,10 @@ one_or_two : (xs : List ℕ) → IsTrue (nat_le 1 (length xs) && nat_le (length 
 one_or_two [] h = absurd (both_ways false refl h)
 one_or_two (x ∷ []) h = one x
 one_or_two (x ∷ y ∷ []) h = two x y
-one_or_two (x ∷ y ∷ z ∷ xs) h = let few = leb-true (length (x ∷ y ∷ z ∷ xs)) 2
-    ((and_parts (nat_le 1 (length (x ∷ y ∷ z ∷ xs))) (nat_le (length (x ∷ y ∷ z ∷ xs)) 2) h).1) in
-    absurd (omega arith)
+one_or_two (x ∷ y ∷ z ∷ xs) h = grind (arith, leb-true, and_parts)
 
 is_short : (m : Mark) → IsTrue (nat_le 1 (length (spelling m)) && nat_le (length (spelling m)) 2)
-is_short LParen = refl
-is_short _ = refl
+is_short m = grind arith
 
 pub one_or_two_bytes : (m : Mark) → OneOrTwo (spelling m)
 one_or_two_bytes m = one_or_two (spelling m) (is_short m)
@@ -58,11 +52,7 @@ some_sound bytes m h n e = let same : m ≡ n = cc in rw (← same) h
 
 choice : (f : ℕ → List ℕ) (b k : ℕ) (yes_mark no_mark : Option Mark) → Sound (f k) yes_mark
     → Sound (f b) no_mark → Sound (f b) (cond (b == k) yes_mark no_mark)
-choice f b k m o h g =
-    (elim (b == k) as (λ t. (b == k) ≡ t → Sound (f b) (cond t m o)) [
-      | true ↦ λ e. rw (eqb-true b k e) h
-      | false ↦ λ e. g
-    ]) refl
+choice f b k m o h g = grind (arith, eqb-true)
 
 one_choice : (b k : ℕ) (m : Mark) (o : Option Mark) → spelling m ≡ k ∷ [] → Sound (b ∷ []) o
     → Sound (b ∷ []) (cond (b == k) (Some m) o)
@@ -82,8 +72,7 @@ first_choice : (b c k : ℕ) (m : Mark) (o : Option Mark) → spelling m ≡ k �
 first_choice b c k m o h g = choice (λ x. x ∷ c ∷ []) b k (Some m) o (some_sound (k ∷ c ∷ []) m h) g
 
 twice : (c k : ℕ) (m : Mark) → spelling m ≡ k ∷ k ∷ [] → Sound (k ∷ c ∷ []) (cond (c == k) (Some m) None)
-twice c k m h = choice (λ x. k ∷ x ∷ []) c k (Some m) None (some_sound (k ∷ k ∷ []) m h)
-    (none_sound (k ∷ c ∷ []))
+twice c k m h = grind (arith, choice, some_sound, none_sound)
 
 pub two_sound : (b c : ℕ) → Sound (b ∷ c ∷ []) (mark_of_two b c)
 two_sound b c =
@@ -99,15 +88,12 @@ pub front_is : (m : Mark) (x y : ℕ) (more : List ℕ) → spelling m ≡ x ∷
 front_is m x y more e = ap mark_of (sym e) ∙ mark_of_spelling m
 
 most_two : (xs : List ℕ) → OneOrTwo xs → length xs ≤ 2
-most_two xs (one x) = omega arith
-most_two xs (two x y) = omega arith
+most_two xs h = grind arith
 
 -- where no mark of two bytes begins the text, one byte is the longest mark
 longest_one : (m : Mark) (xs : List ℕ) → OneOrTwo xs → spelling m ≡ xs → (text more : List ℕ)
     → mark_of_front text ≡ None → text ≡ xs ++ more → length xs ≤ 1
-longest_one m xs (one x) e text more h k = omega arith
-longest_one m xs (two x y) e text more h k =
-    let bad : Option.Some m ≡ None = sym (front_is m x y more e) ∙ (ap mark_of_front (sym k) ∙ h) in cc
+longest_one m xs i e text more h k = grind (arith, front_is)
 
 -- the mark of the first two bytes is the longest there
 pub reads_two : (text : List ℕ) (m : Mark) → mark_of_front text ≡ Some m → Reads (shape.Mark m) 2 text
@@ -135,17 +121,11 @@ reads_one text b rest m t h e =
 no_mark_of : (m : Mark) (xs : List ℕ) → OneOrTwo xs → spelling m ≡ xs
     → (text : List ℕ) (b : ℕ) (rest more : List ℕ) → text ≡ b ∷ rest → mark_of_front text ≡ None
     → mark_of_one b ≡ None → text ≡ xs ++ more → ⊥
-no_mark_of m xs (one x) e text b rest more t h k q =
-    let first : b ≡ x = cc in
-    let bad : Option.Some m ≡ None = sym (ap mark_of (sym e) ∙ mark_of_spelling m)
-    ∙ (ap mark_of_one (sym first) ∙ k) in cc
-no_mark_of m xs (two x y) e text b rest more t h k q =
-    let bad : Option.Some m ≡ None = sym (front_is m x y more e) ∙ (ap mark_of_front (sym q) ∙ h) in cc
+no_mark_of m xs i e text b rest more t h k q = grind (arith, mark_of_spelling, front_is)
 
 -- where neither is one, no mark begins the text
 pub no_mark : (text : List ℕ) (b : ℕ) (rest : List ℕ) → text ≡ b ∷ rest → mark_of_front text ≡ None
     → mark_of_one b ≡ None → (m : Mark) (more : List ℕ) → text ≡ spelling m ++ more → ⊥
-no_mark text b rest t h k m more q = no_mark_of m (spelling m) (one_or_two_bytes m) refl text b rest more t h
-    k q
+no_mark text b rest t h k m more q = grind (arith, no_mark_of, one_or_two_bytes)
 
 pub ruleset marks = (reads_two, reads_one, no_mark)

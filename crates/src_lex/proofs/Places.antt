@@ -1,5 +1,5 @@
 -- Places after bytes.
-use Rattle.std.specs.Prelude.{◌≡◌, ℕ, ◌+◌, ◌≤◌, ◌<◌, ◌==◌, length, cond, true, false, List, [], ◌∷◌}
+use Rattle.std.specs.Prelude.{◌≡◌, ℕ, ◌+◌, ◌≤◌, ◌<◌, length, List, [], ◌∷◌}
 use Rattle.std.proofs.Common.{take, arith, get_or}
 use Rattle.std.proofs.lemmas.List.{take_more}
 use Rattle.src_ast.specs.declared.lexeme.Place.{Place}
@@ -17,20 +17,12 @@ pub record Kept (at : Place) (count : ℕ) (place : Place) : Type 0 where
   pub room : place.line + place.column ≤ at.line + at.column + count
 
 pub past_kept : (at : Place) (b : ℕ) → 0 < at.line → 0 < at.column → Kept at 1 (past at b)
-past_kept at b h k =
-    elim (b == 10) as
-    (λ t. Kept at 1 (cond t (record { line = at.line + 1; column = 1 })
-    (record { line = at.line; column = at.column + 1 }))) [
-      | true ↦ record { line = omega arith; column = omega arith; room = omega arith }
-      | false ↦ record { line = omega arith; column = omega arith; room = omega arith }
-    ]
+past_kept at b h k = grind arith
 
 -- places stay in range
 pub after_kept : (at : Place) (xs : List ℕ) → 0 < at.line → 0 < at.column → Kept at (length xs) (after at xs)
 after_kept at [] h k = record { line = h; column = k; room = omega arith }
 after_kept at (x ∷ xs) h k =
-    let one = past_kept at x h k in
-    let more = after_kept (past at x) xs one.line one.column in
-    record { line = more.line; column = more.column; room = omega arith }
+    let one = past_kept at x h k in grind (arith, past, after_kept (past at x) xs one.line one.column)
 
 pub ruleset places = (after_append, after_more, past_kept)

@@ -33,18 +33,7 @@ pub record Reached (text : List ℕ) (items : List Lexeme) (at : Place) (rest : 
 
 -- nothing is read
 pub at_start : (text : List ℕ) → Reached text [] start text 0 0
-at_start text = record {
-  leads = λ ls place following l. l;
-  kept = tt;
-  depth_is = refl;
-  row_is = refl;
-  depth_kept = omega arith;
-  row_kept = omega arith;
-  finish = refl;
-  line = omega arith;
-  column = omega arith;
-  room = omega arith;
-}
+at_start text = grind arith
 
 leads_gap : (at : Place) (gap front : List ℕ) → IsTrue (is_gap gap) → (ls : List Lexeme) (place : Place)
     (following : List ℕ)
@@ -61,27 +50,14 @@ pub past_gap : (text : List ℕ) (items : List Lexeme) (at : Place) (rest gap fr
     → Reached text items at rest open' row → rest ≡ gap ++ front → IsTrue (is_gap gap)
     → Reached text items (after at gap) front open' row
 past_gap text items at rest gap front open' row r t g =
-    let kept = after_kept at gap r.line r.column in
-    record {
-      leads = λ ls place following l. r.leads ls place following
-          (rw t (leads_gap at gap front g ls place following l));
-      kept = r.kept;
-      depth_is = r.depth_is;
-      row_is = r.row_is;
-      depth_kept = r.depth_kept;
-      row_kept = r.row_kept;
-      finish = sym (after_append at gap front) ∙ (ap (after at) (sym t) ∙ r.finish);
-      line = kept.line;
-      column = kept.column;
-      room = let h = r.room in let k = kept.room in omega (arith, ap length t, length-append gap front);
-    }
+    grind (arith, after_kept, r.leads, leads_gap, after_append, after, length-append)
 
 kept_append : (open' row : ℕ) (ls : List Lexeme) (l : Lexeme) → KeepLimits open' row ls → IsShort l.shape
     → open_past (open_after open' ls) l.shape ≤ 32 → row_past (row_after row ls) l.shape ≤ 256
     → KeepLimits open' row (ls ++ l ∷ [])
 kept_append open' row [] l k s h g = (s, h, g, tt)
 kept_append open' row (m ∷ ls) l k s h g =
-    (k.0, k.1, k.2, kept_append (open_past open' m.shape) (row_past row m.shape) ls l k.3 s h g)
+    grind (arith, kept_append (open_past open' m.shape) (row_past row m.shape) ls l k.3 s h g)
 
 open_append : (open' : ℕ) (ls : List Lexeme) (l : Lexeme) → open_after open' (ls ++ l ∷ []) ≡ open_past
     (open_after open' ls) l.shape
@@ -141,13 +117,7 @@ all_read {text} {items} {at} {rest} {open'} {row} r e f = record {
 pub fault_here : (text : List ℕ) (items : List Lexeme) (at : Place) (rest : List ℕ) (open' row : ℕ)
     (r : Refusal) → Reached text items at rest open' row → r.place ≡ at
     → Wrong open' row rest r.kind → LexFault text r
-fault_here text items at rest open' row refusal r p w = record {
-  ls = items;
-  rest = rest;
-  leads = rw p (here text items at rest open' row r);
-  kept = r.kept;
-  wrong = rw (← r.depth_is, ← r.row_is) w;
-}
+fault_here text items at rest open' row refusal r p w = grind (arith, here)
 
 -- The same as the code has it: by counts of bytes.
 
@@ -192,8 +162,4 @@ pub beyond_here : {text : List ℕ} {items : List Lexeme} {s : Shape} {n : ℕ} 
     {open' row : ℕ} (e : TextFault)
     → Reached text items at rest open' row → Reads s n rest → IsShort s → Exceeds open' row s at e
     → IsLexFault text e
-beyond_here NoMemory r reads short w = tt
-beyond_here {text} {items} {s} {n} {at} {rest} {open'} {row} (Refused refusal) r reads short w =
-    fault_here text items at rest open' row refusal r w.0
-    (let made = w.1 (take n rest) (drop n rest) reads.spells short in
-    rw (take-append-drop n rest) at made)
+beyond_here e r reads short w = grind (arith, fault_here, take-append-drop)

@@ -2,11 +2,10 @@
 use Rattle.std.specs.Prelude.{◌≡◌, ℕ, ◌==◌, not, cond, length, Bool, true, false, ◌||◌, ◌&&◌, List, [], ◌∷◌}
 use Rattle.std.specs.Prelude.{◌++◌, refl}
 use Rattle.std.specs.List.{list_all}
-use Rattle.std.proofs.Common.{arith, sym, ap, ◌∙◌, inl, inr}
-use Rattle.std.proofs.lemmas.Bool.{both_ways, and_parts, not-true, eqb-true, or_cases, or_left, and_from}
+use Rattle.std.proofs.Common.{arith, sym, ap, ◌∙◌}
+use Rattle.std.proofs.lemmas.Bool.{both_ways, and_parts, not-true, eqb-true, or_left, and_from}
 use Rattle.ws_words.specs.Digits.{is_digit, is_number, value_of}
 use Rattle.src_ast.specs.declared.lexeme.Mark.{Mark}
-use Rattle.src_ast.specs.declared.lexeme.Mark.TheVariants.{LParen}
 use Rattle.src_ast.specs.declared.lexeme.Shape.{Shape}
 use Rattle.src_ast.specs.declared.lexeme.Shape.TheVariants as shape
 use Rattle.src_ast.specs.Lexemes.{is_blank, is_gap, is_comment, spelling, Spells}
@@ -37,20 +36,14 @@ comment_ends (b ∷ g) r h k =
 both_kinds : (blank hash gap comment open' : Bool) → (hash ≡ true → blank ≡ false)
     → (comment ≡ true → open' ≡ true → ⊥)
     → cond blank gap (hash && comment) ≡ true → ((hash && open') || not (blank || hash)) ≡ true → ⊥
-both_kinds true true gap comment open' n f h k = both_ways true (n refl) refl
-both_kinds true false gap comment open' n f h k = both_ways false refl k
-both_kinds false true gap comment true n f h k = f h refl
-both_kinds false true gap comment false n f h k = both_ways false refl k
-both_kinds false false gap comment open' n f h k = both_ways false refl h
+both_kinds blank hash gap comment open' n f h k = grind (arith, both_ways)
 
 hash_no_blank : (b : ℕ) → (b == 35) ≡ true → is_blank b ≡ false
 hash_no_blank b h = rw (eqb-true b 35 h) refl
 
 -- after a whole gap no gap begins
 no_gap_more : (b : ℕ) (g r : List ℕ) → is_gap (b ∷ g) ≡ true → ends_gap (b ∷ (g ++ r)) ≡ true → ⊥
-no_gap_more b g r h k =
-    both_kinds (is_blank b) (b == 35) (is_gap g) (is_comment g) (list_all (λ c. not (c == 10)) (g ++ r))
-    (hash_no_blank b) (comment_ends g r) h k
+no_gap_more b g r h k = grind (arith, both_kinds, hash_no_blank, comment_ends)
 
 tails : (b d : ℕ) (x y : List ℕ) → b ∷ x ≡ d ∷ y → (b ≡ d) × (x ≡ y)
 tails b d x y e = (cc, cc)
@@ -101,14 +94,6 @@ run_same test (x ∷ a) (y ∷ c) b d h k p q e =
     same_more x y a b c d t.0 (run_same test a c b d ((and_parts (test x) (list_all test a) h).1)
     ((and_parts (test y) (list_all test c) k).1) p q t.1)
 
-pub length_same : (a c b d : List ℕ) → length a ≡ length c → a ++ b ≡ c ++ d → Same a b c d
-length_same [] [] b d h e = record { front = refl; back = e }
-length_same [] (y ∷ c) b d h e = absurd (omega arith)
-length_same (x ∷ a) [] b d h e = absurd (omega arith)
-length_same (x ∷ a) (y ∷ c) b d h e =
-    let t = tails x y (a ++ b) (c ++ d) e in
-    same_more x y a b c d t.0 (length_same a c b d (omega arith) t.1)
-
 -- what a byte begins: a gap, a word, a number, or a mark if anything
 abbrev pub kind : ℕ → ℕ
 kind b = cond (begins_gap b) 0 (cond (is_letter b) 1 (cond (is_digit b) 2 3))
@@ -118,29 +103,9 @@ abbrev pub head_kind : List ℕ → ℕ
 head_kind [] = 0
 head_kind (b ∷ bytes) = kind b
 
-gap_cases : (P : ℕ → Type 0) (b : ℕ) → begins_gap b ≡ true → P 32 → P 9 → P 13 → P 10 → P 35 → P b
-gap_cases P b h p q r s t =
-    elim (or_cases (is_blank b) (b == 35) h) [
-      | inl e ↦ elim (or_cases ((b == 32) || (b == 9) || (b == 13)) (b == 10) e) [
-        | inl e ↦ elim (or_cases ((b == 32) || (b == 9)) (b == 13) e) [
-          | inl e ↦ elim (or_cases (b == 32) (b == 9) e) [
-            | inl e ↦ rw (eqb-true b 32 e) p
-            | inr e ↦ rw (eqb-true b 9 e) q
-          ]
-          | inr e ↦ rw (eqb-true b 13 e) r
-        ]
-        | inr e ↦ rw (eqb-true b 10 e) s
-      ]
-      | inr e ↦ rw (eqb-true b 35 e) t
-    ]
-
 not_gap : (test : ℕ → Bool) → test 32 ≡ false → test 9 ≡ false → test 13 ≡ false → test 10 ≡ false
     → test 35 ≡ false → (b : ℕ) → test b ≡ true → begins_gap b ≡ false
-not_gap test p q r s t b h =
-    (elim (begins_gap b) as (λ x. begins_gap b ≡ x → x ≡ false) [
-      | true ↦ λ e. absurd (both_ways (test b) (gap_cases (λ x. test x ≡ false) b e p q r s t) h)
-      | false ↦ λ e. refl
-    ]) refl
+not_gap test p q r s t b h = grind (arith, both_ways)
 
 pub letter_kind : (b : ℕ) → is_letter b ≡ true → kind b ≡ 1
 letter_kind b h = rw (not_gap is_letter refl refl refl refl refl b h, h) refl
@@ -149,8 +114,7 @@ pub digit_kind : (b : ℕ) → is_digit b ≡ true → kind b ≡ 2
 digit_kind b h = rw (not_gap is_digit refl refl refl refl refl b h, no_letter b h, h) refl
 
 pub mark_kind : (m : Mark) (more : List ℕ) → head_kind (spelling m ++ more) ≡ 3
-mark_kind LParen more = refl
-mark_kind _ more = refl
+mark_kind m more = grind arith
 
 abbrev pub shape_kind : Shape → ℕ
 shape_kind (shape.Word w) = 1
@@ -159,13 +123,11 @@ shape_kind (shape.Mark m) = 3
 
 -- a word begins with a letter
 pub word_kind : (bytes rest : List ℕ) → is_word bytes ≡ true → head_kind (bytes ++ rest) ≡ 1
-word_kind [] rest h = absurd (both_ways false refl h)
-word_kind (b ∷ bytes) rest h = letter_kind b ((and_parts (is_letter b) (list_all is_word_byte bytes) h).0)
+word_kind bytes rest h = grind (arith, both_ways, letter_kind, and_parts)
 
 -- a number begins with a digit
 pub number_kind : (bytes rest : List ℕ) → is_number bytes ≡ true → head_kind (bytes ++ rest) ≡ 2
-number_kind [] rest h = absurd (both_ways false refl h)
-number_kind (b ∷ bytes) rest h = digit_kind b ((and_parts (is_digit b) (list_all is_digit bytes) h).0)
+number_kind bytes rest h = grind (arith, both_ways, digit_kind, and_parts)
 
 -- a lexeme begins as its shape does
 pub spelled_kind : (s : Shape) (bytes rest : List ℕ) → Spells s bytes rest
@@ -175,11 +137,7 @@ spelled_kind s bytes rest (Spells.number n d stops e l) = number_kind bytes rest
 spelled_kind s bytes rest (Spells.mark m e l) = rw e (mark_kind m rest)
 
 pub word_all : (bytes : List ℕ) → is_word bytes ≡ true → list_all is_word_byte bytes ≡ true
-word_all [] h = refl
-word_all (b ∷ bytes) h =
-    let parts = and_parts (is_letter b) (list_all is_word_byte bytes) h in
-    and_from (is_word_byte b) (list_all is_word_byte bytes) (or_left (is_letter b) (is_digit b) parts.0)
-    parts.1
+word_all bytes h = grind (arith, and_parts, and_from, or_left)
 
 same_kind : (s t : Shape) (a b c d : List ℕ) → Spells s a b → Spells t c d → a ++ b ≡ c ++ d
     → shape_kind s ≡ shape_kind t
@@ -195,13 +153,5 @@ spelled_same s t a b c d (Spells.number n w stops is l) (Spells.number m v ends 
     let r = run_same is_digit a c b d (number_all a w) (number_all c v) stops ends e in
     (ap shape.Number (is ∙ (ap value_of r.front ∙ sym is_too)), r)
 spelled_same s t a b c d (Spells.mark m is longest) (Spells.mark n is_too longest_too) e =
-    let r = length_same a c b d
-    (omega (
-      arith,
-      longest n d (rw (← is_too) e),
-      longest_too m b (rw (← is) (sym e)),
-      ap length is,
-      ap length is_too,
-    )) e in
-    (ap shape.Mark (one_mark m n (sym is ∙ (r.front ∙ is_too))), r)
+    grind (arith, one_mark)
 spelled_same s t a b c d p q e = let k = same_kind s t a b c d p q e in absurd (omega arith)

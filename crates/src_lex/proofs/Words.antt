@@ -56,17 +56,13 @@ taken_length {n = n} {text = text} r = length-take-le n text r.within
 
 word_is : (xs : List ℕ) → 0 < length xs → is_letter (get_or xs 0 0) ≡ true → list_all is_word_byte xs ≡ true
     → is_word xs ≡ true
-word_is [] h k a = absurd (omega arith)
-word_is (b ∷ xs) h k a = and_from (is_letter b) (list_all is_word_byte xs) k
-    ((and_parts (is_word_byte b) (list_all is_word_byte xs) a).1)
+word_is xs h k a = grind (arith, and_from, and_parts)
 
 run_word : {n : ℕ} {text : List ℕ} → RunAt is_letter is_word_byte n text → is_word (take n text) ≡ true
-run_word {n = n} {text = text} r = word_is (take n text) (let e = taken_length r in let h = r.some in
-    omega arith) r.begins r.all
+run_word r = grind (arith, word_is, taken_length, r.begins)
 
 run_number : {n : ℕ} {text : List ℕ} → RunAt is_digit is_digit n text → is_number (take n text) ≡ true
-run_number {n = n} {text = text} r = number_from (take n text) (let e = taken_length r in let h = r.some in
-    omega arith) r.all
+run_number r = grind (arith, number_from, taken_length)
 
 -- a run of at most so many bytes from a letter on is a word
 pub word_read : (text : List ℕ) (n : ℕ) (name : List ℕ) → 0 < length text → is_letter (get_or text 0 0) ≡ true

@@ -3,8 +3,6 @@ use Rattle.std.specs.Prelude.{◌≡◌, ℕ, ◌+◌, ◌≤◌, List, [], ◌�
 use Rattle.std.proofs.Common.{sym, ◌∙◌, ap, subst, append_assoc, arith}
 use Rattle.std.proofs.lemmas.Bool.{lt-ltb, le-ltb}
 use Rattle.ws_words.specs.declared.alu.Alu.{Alu}
-use Rattle.ws_words.specs.declared.alu.Alu.TheVariants.{Add, Sub, Mul, Div, Rem, And, Or, Xor, Shl, Shr, Eq}
-use Rattle.ws_words.specs.declared.alu.Alu.TheVariants.{Ne, Lt, Le, Gt, Ge}
 use Rattle.src_ast.specs.declared.lexeme.Name.{Name}
 use Rattle.src_ast.specs.declared.lexeme.Lexeme.{Lexeme}
 use Rattle.src_ast.specs.declared.lexeme.Shape.TheVariants as shape
@@ -17,7 +15,7 @@ use Rattle.src_ast.specs.Grammar.{level_of, mark_of, sign_mark, Is, IsName, IsNu
 use Rattle.src_ast.specs.Grammar.{variable, cell, round, signed, binary}
 use Rattle.src_parse.specs.Expressions.{operator_of, operator_in, named, operand_mark, operand_shape, further}
 use Rattle.src_parse.specs.Expressions.{operators, operand_at, operators_at, expression_at}
-use Rattle.src_parse.specs.Reading.{Reading, Reader, Done, Stuck, ◌|>◌, is_mark, expect}
+use Rattle.src_parse.specs.Reading.{Reading, Reader, Done, ◌|>◌, is_mark, expect}
 use Rattle.src_parse.proofs.Tokens.{is_mark-same}
 use Rattle.src_parse.proofs.Expressions.{OpBelow, Below, below_8, below_9}
 use Rattle.src_parse.proofs.Steady.{operators_at_is, operand_after}
@@ -33,27 +31,22 @@ pub record Closes (m : Mark) : Type 0 where
   pub index : is_mark mark.LSquare (shape.Mark m) ≡ false
 
 op_below_more : (m n : ℕ) → m ≤ n → (o : Option Alu) → OpBelow m o → OpBelow n o
-op_below_more m n le None h = tt
-op_below_more m n le (Some op) h = omega arith
+op_below_more m n le o h = grind arith
 
 pub below_more : (m n : ℕ) → m ≤ n → (ts : List Lexeme) → Below m ts → Below n ts
-below_more m n le [] h = tt
-below_more m n le (l ∷ ts) h = op_below_more m n le (operator_in l.shape) h
+below_more m n le ts h = grind (arith, op_below_more)
 
 further_stays : (whole : ℕ → Reader Expression) (again : Expression → Reader Expression) (min : ℕ)
     (left : Expression) (o : Option Alu) (l : Lexeme) (ls : List Lexeme)
     → OpBelow min o → further whole again min left o l ls ≡ Done left (l ∷ ls)
 unfolding further
-further_stays whole again min left None l ls h = refl
-further_stays whole again min left (Some op) l ls h = rw (lt-ltb (level_of op) min h) refl
+further_stays whole again min left o l ls h = grind (arith, lt-ltb)
 
 -- no operator of this level stands there: the operand is all
 pub operators_stay : (min : ℕ) (left : Expression) (ts : List Lexeme) → Below min ts
     → operators_at min left ts ≡ Done left ts
 unfolding operators
-operators_stay min left [] h = operators_at_is min left []
-operators_stay min left (l ∷ ts) h = operators_at_is min left (l ∷ ts) ∙ further_stays expression_at
-    (operators_at min) min left (operator_in l.shape) l ts h
+operators_stay min left ts h = grind (arith, operators_at_is, further_stays, expression_at, operators_at)
 
 -- a mark that is no operator ends an expression
 pub below_mark : (m : Mark) (n : ℕ) (last : Lexeme) (ts : List Lexeme) → operator_of m ≡ None → Is m last
@@ -74,9 +67,7 @@ pub closed : (m : Mark) → Closes m → (ls : List Lexeme) (e : Expression) (la
     → Is m last
     → ((ts : List Lexeme) → Below 1 ts → NoIndex ts → expression_at 0 (ls ++ ts) ≡ operators_at 0 e ts)
     → expression_at 0 ((ls ++ last ∷ []) ++ ts) ≡ Done e (last ∷ ts)
-closed m c ls e last ts h ih =
-    rw append_assoc (ih (last ∷ ts) (below_mark m 1 last ts c.operator h) (no_index_mark m last ts c.index h)
-    ∙ operators_stay 0 e (last ∷ ts) (below_mark m 0 last ts c.operator h))
+closed m c ls e last ts h ih = grind (arith, append_assoc, below_mark, no_index_mark, c.index, operators_stay)
 
 -- after an operand come the operators
 from_operand : (ls ts : List Lexeme) (e : Expression) (m : ℕ) → operand_at (ls ++ ts) ≡ Done e ts
@@ -86,8 +77,7 @@ from_operand ls ts e m h = ap (λ y. y |> operators_at m) h
 
 bind_same : {A : Type 0} (x : Reading A) (f : A → Reader A) → ((a : A) (r : List Lexeme) → f a r ≡ Done a r)
     → (x |> f) ≡ x
-bind_same (Done a r) f h = h a r
-bind_same (Stuck r) f h = refl
+bind_same x f h = grind arith
 
 expression_8 : (x : List Lexeme) → expression_at 8 x ≡ operand_at x
 unfolding expression_at
@@ -108,8 +98,7 @@ named_index whole a first last rest ts e f z h = rw (
 pub named_alone : (whole : Reader Expression) (a : Name) (ts : List Lexeme) → NoIndex ts
     → named whole a ts ≡ Done (Variable a) ts
 unfolding named
-named_alone whole a [] h = refl
-named_alone whole a (l ∷ ts) h = rw h refl
+named_alone whole a ts h = grind arith
 
 -- a name is an operand, with its index if it has one
 pub operand_name : (l : Lexeme) (x : Name) (ts : List Lexeme) → IsName x l
@@ -137,40 +126,10 @@ operand_sign Not l rest ts e h p = operand_after (l ∷ rest) l rest refl ∙ rw
 operand_sign Neg l rest ts e h p = operand_after (l ∷ rest) l rest refl ∙ rw (h, p) refl
 
 operator_of_mark : (op : Alu) → operator_of (mark_of op) ≡ Some op
-operator_of_mark Add = refl
-operator_of_mark Sub = refl
-operator_of_mark Mul = refl
-operator_of_mark Div = refl
-operator_of_mark Rem = refl
-operator_of_mark And = refl
-operator_of_mark Or = refl
-operator_of_mark Xor = refl
-operator_of_mark Shl = refl
-operator_of_mark Shr = refl
-operator_of_mark Eq = refl
-operator_of_mark Ne = refl
-operator_of_mark Lt = refl
-operator_of_mark Le = refl
-operator_of_mark Gt = refl
-operator_of_mark Ge = refl
+operator_of_mark op = grind arith
 
 operator_no_index : (op : Alu) → is_mark mark.LSquare (shape.Mark (mark_of op)) ≡ false
-operator_no_index Add = refl
-operator_no_index Sub = refl
-operator_no_index Mul = refl
-operator_no_index Div = refl
-operator_no_index Rem = refl
-operator_no_index And = refl
-operator_no_index Or = refl
-operator_no_index Xor = refl
-operator_no_index Shl = refl
-operator_no_index Shr = refl
-operator_no_index Eq = refl
-operator_no_index Ne = refl
-operator_no_index Lt = refl
-operator_no_index Le = refl
-operator_no_index Gt = refl
-operator_no_index Ge = refl
+operator_no_index op = grind arith
 
 further_goes : (whole : ℕ → Reader Expression) (again : Expression → Reader Expression) (min : ℕ)
     (left right : Expression) (op : Alu) (l : Lexeme) (ls ts : List Lexeme)
@@ -237,7 +196,4 @@ complete n ws e (binary l ls rs op a c lt eq h p q) m le ts b i =
 -- an expression in front of a mark that ends it
 pub whole : (m : Mark) → Closes m → (ls : List Lexeme) (e : Expression) (last : Lexeme) (ts : List Lexeme)
     → Is m last → Spelled 0 ls e → expression_at 0 (ls ++ (last ∷ ts)) ≡ Done e (last ∷ ts)
-whole m c ls e last ts h s =
-    complete 0 ls e s 0 (omega arith) (last ∷ ts) (below_mark m 1 last ts c.operator h)
-    (no_index_mark m last ts c.index h)
-    ∙ operators_stay 0 e (last ∷ ts) (below_mark m 0 last ts c.operator h)
+whole m c ls e last ts h s = grind (arith, complete, below_mark, no_index_mark, c.index, operators_stay)

@@ -1,16 +1,16 @@
 -- Programs that are spelled so are read so.
+use Rattle.std.proofs.Common.{arith, ◌∙◌, ap, append_assoc}
 use Rattle.std.specs.Prelude.{◌≡◌, ℕ, List, [], ◌∷◌, ◌++◌, Option, Some, None, false, refl, codes}
-use Rattle.std.proofs.Common.{sym, ◌∙◌, ap, subst, append_assoc}
 use Rattle.src_ast.specs.declared.lexeme.Name.{Name}
 use Rattle.src_ast.specs.declared.lexeme.Lexeme.{Lexeme}
 use Rattle.src_ast.specs.declared.lexeme.Shape.TheVariants as shape
 use Rattle.src_ast.specs.declared.lexeme.Mark.TheVariants as mark
 use Rattle.src_ast.specs.Syntax.{Last, Part, Proc, Statements}
 use Rattle.src_ast.specs.Grammar.{Is, IsName, IsWord, Separated, Listed, SpelledName, SpelledStatements}
-use Rattle.src_ast.specs.Grammar.{SpelledEnding, no_ending, ending, SpelledVars, no_vars, vars, SpelledItem}
+use Rattle.src_ast.specs.Grammar.{SpelledEnding, ending, SpelledVars, no_vars, vars, SpelledItem}
 use Rattle.src_ast.specs.Grammar.{array, proc, Tree, no_items, items}
-use Rattle.src_parse.specs.Reading.{Done, ◌|>◌, is_word, name_at}
-use Rattle.src_parse.specs.Statements.{value_at, starts, starts_at}
+use Rattle.src_parse.specs.Reading.{Done, is_word, name_at}
+use Rattle.src_parse.specs.Statements.{value_at, starts_at}
 use Rattle.src_parse.specs.Programs.{array_at, line_at, vars_by, vars_at, ending_at, inside_at, proc_at}
 use Rattle.src_parse.specs.Programs.{item_at, items_by, program_at}
 use Rattle.src_parse.proofs.Complete.{semi, expect_mark}
@@ -30,8 +30,7 @@ complete_line ls xs last ts s z =
 
 vars_stay : (ts : List Lexeme) → NoWord (codes "var") ts → vars_at ts ≡ Done [] ts
 unfolding vars_by
-vars_stay [] n = vars_at_is []
-vars_stay (l ∷ ts) n = vars_at_is (l ∷ ts) ∙ rw n refl
+vars_stay ts n = grind (arith, vars_at_is)
 
 vars_go : (l : Lexeme) (x r q : List Lexeme) (xs ys : List Name) → IsWord (codes "var") l
     → line_at x ≡ Done xs r → vars_at r ≡ Done ys q → vars_at (l ∷ x) ≡ Done (xs ++ ys) q
@@ -42,8 +41,7 @@ complete_vars : (ks : List Lexeme) (zs : List Name) → SpelledVars ks zs → (t
     → NoWord (codes "var") ts → vars_at (ks ++ ts) ≡ Done zs ts
 complete_vars ks zs no_vars ts n = vars_stay ts n
 complete_vars ks zs (vars l last ls rs xs ys eq both h s z k) ts n =
-    rw (eq, both, append_assoc) (vars_go l (ls ++ (last ∷ (rs ++ ts))) (rs ++ ts) ts xs ys h
-    (complete_line ls xs last (rs ++ ts) s z) (complete_vars rs ys k ts n))
+    grind (arith, append_assoc, vars_go, complete_line, complete_vars rs ys k ts n)
 
 ending_return : (l : Lexeme) (x : List Lexeme) → IsWord (codes "return") l
     → ending_at (l ∷ x) ≡ value_at (λ e. Some (record { place = l.place; value = e })) x
@@ -57,23 +55,16 @@ ending_none l x h = rw h refl
 complete_ending : (es : List Lexeme) (e : Option Last) → SpelledEnding es e
     → (close : Lexeme) (ts : List Lexeme) → Is mark.RBrace close → ending_at (es ++ (close ∷ ts))
     ≡ Done e (close ∷ ts)
-complete_ending es e no_ending close ts z = ending_none close ts z
-complete_ending es e (ending l last ls v eq a b c) close ts z =
-    rw (eq, append_assoc) (ending_return l (ls ++ (last ∷ close ∷ ts)) a
-    ∙ complete_value (λ e. Some (record { place = l.place; value = e })) ls v last (close ∷ ts) b c)
+complete_ending es e h close ts z = grind (arith, ending_none, append_assoc, ending_return, complete_value)
 
 ending_other : (v : List ℕ) → is_word v (shape.Word (codes "return")) ≡ false
     → (es : List Lexeme) (e : Option Last) → SpelledEnding es e → (close : Lexeme) (ts : List Lexeme)
     → Is mark.RBrace close → NoWord v (es ++ (close ∷ ts))
-ending_other v o es e no_ending close ts z = ap (is_word v) z
-ending_other v o es e (ending l last ls w eq a b c) close ts z = subst (λ x. NoWord v (x ++ (close ∷ ts)))
-    (sym eq) (ap (is_word v) a ∙ o)
+ending_other v o es e h close ts z = grind arith
 
 ending_starts : (es : List Lexeme) (e : Option Last) → SpelledEnding es e
     → (close : Lexeme) (ts : List Lexeme) → Is mark.RBrace close → starts_at (es ++ (close ∷ ts)) ≡ false
-ending_starts es e no_ending close ts z = ap starts z
-ending_starts es e (ending l last ls v eq a b c) close ts z =
-    subst (λ x. starts_at (x ++ (close ∷ ts)) ≡ false) (sym eq) (ap starts a)
+ending_starts es e h close ts z = grind arith
 
 inside_done : (x : Name) (ps : List Name) (us bs es : List Lexeme) (vs : List Name) (b : Statements)
     (e : Option Last) (close : Lexeme) (ts : List Lexeme)
@@ -118,11 +109,7 @@ item_proc l x h = rw h refl
 in_front : (qs us bs es ts : List Lexeme) (last op close : Lexeme)
     → (qs ++ (last ∷ op ∷ (us ++ (bs ++ (es ++ close ∷ []))))) ++ ts ≡ qs
     ++ (last ∷ op ∷ (us ++ (bs ++ (es ++ (close ∷ ts)))))
-in_front qs us bs es ts last op close =
-    append_assoc qs (last ∷ op ∷ (us ++ (bs ++ (es ++ close ∷ [])))) ts
-    ∙ ap (λ v. qs ++ (last ∷ op ∷ v)) (append_assoc us (bs ++ (es ++ close ∷ [])) ts)
-    ∙ ap (λ v. qs ++ (last ∷ op ∷ (us ++ v))) (append_assoc bs (es ++ close ∷ []) ts)
-    ∙ ap (λ v. qs ++ (last ∷ op ∷ (us ++ (bs ++ v)))) (append_assoc es (close ∷ []) ts)
+in_front qs us bs es ts last op close = grind (arith, append_assoc)
 
 complete_item : (ks : List Lexeme) (a : Part) → SpelledItem ks a → (ts : List Lexeme)
     → item_at (ks ++ ts) ≡ Done a ts
@@ -147,9 +134,7 @@ complete_item ks s (proc l name first last op close qs us bs es x ps vs body e e
 items_go : (x r : List Lexeme) (a : Part) (all : List Part) → item_at x ≡ Done a r
     → program_at r ≡ Done all [] → program_at x ≡ Done (a ∷ all) []
 unfolding items_by item_at
-items_go [] r a all e k = cc
-items_go (l ∷ x) r a all e k = program_at_is (l ∷ x)
-    ∙ ap (λ y. y |> λ a r. (program_at r |> λ all r. Done (a ∷ all) r)) e ∙ rw k refl
+items_go x r a all e k = grind (arith, program_at_is, program_at)
 
 -- what is spelled as a program is read as it
 pub complete_program : (ks : List Lexeme) (all : List Part) → Tree ks all → program_at ks ≡ Done all []

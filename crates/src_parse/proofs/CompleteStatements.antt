@@ -1,18 +1,18 @@
 -- Statements that are spelled so are read so.
-use Rattle.std.specs.Prelude.{◌≡◌, ℕ, List, [], ◌∷◌, ◌++◌, Option, Some, None, Bool, true, false, refl, codes}
-use Rattle.std.proofs.Common.{sym, ◌∙◌, ap, subst, append_assoc}
+use Rattle.std.proofs.Common.{arith, sym, ◌∙◌, ap, append_assoc}
+use Rattle.std.specs.Prelude.{◌≡◌, ℕ, List, ◌∷◌, ◌++◌, Some, None, true, false, refl, codes}
 use Rattle.src_ast.specs.declared.lexeme.Name.{Name}
 use Rattle.src_ast.specs.declared.lexeme.Place.{Place}
 use Rattle.src_ast.specs.declared.lexeme.Lexeme.{Lexeme}
 use Rattle.src_ast.specs.declared.lexeme.Shape.TheVariants as shape
 use Rattle.src_ast.specs.declared.lexeme.Mark.TheVariants as mark
-use Rattle.src_ast.specs.Syntax.{Expression, Variable, Statement, Assign, Store, Print, Read, Give, Take}
+use Rattle.src_ast.specs.Syntax.{Expression, Statement, Assign, Store, Print, Read, Give, Take}
 use Rattle.src_ast.specs.Syntax.{Call, If, While, Statements, Nothing, Then}
 use Rattle.src_ast.specs.Grammar.{Is, IsName, IsNumber, IsWord, Spelled, Listed, SpelledStatement, assign}
 use Rattle.src_ast.specs.Grammar.{store, print, read, give, take, call, called, choice, while, SpelledBlock}
 use Rattle.src_ast.specs.Grammar.{block, SpelledElse, no_else, with_else, SpelledStatements, nothing}
 use Rattle.src_ast.specs.Grammar.{first_then}
-use Rattle.src_parse.specs.Reading.{Reading, Reader, Done, ◌|>◌, is_mark, is_word, name_in}
+use Rattle.src_parse.specs.Reading.{Reader, Done, ◌|>◌, is_mark, is_word}
 use Rattle.src_parse.specs.Expressions.{named, operators_at, expression_at}
 use Rattle.src_parse.specs.Fronts.{has_word}
 use Rattle.src_parse.specs.Statements.{ended_at, value_at, call_at, named_value, assigned_by, assigned_at}
@@ -31,8 +31,7 @@ use Rattle.src_parse.proofs.Statements.{statements_at_is}
 complete_ended : (ls : List Lexeme) (e : Expression) (last : Lexeme) (ts : List Lexeme) → Spelled 0 ls e
     → Is mark.Semi last → ended_at (ls ++ (last ∷ ts)) ≡ Done e ts
 unfolding ended_at
-complete_ended ls e last ts s z = rw (whole mark.Semi semi ls e last ts z s, expect_mark mark.Semi last ts z)
-    refl
+complete_ended ls e last ts s z = grind (arith, whole, semi, expect_mark)
 
 -- an expression and its semicolon are read
 pub complete_value : {A : Type 0} (f : Expression → A) (ls : List Lexeme) (e : Expression) (last : Lexeme)
@@ -64,41 +63,29 @@ value_named : (f : Expression → Statement) (g : List Expression → Statement)
     (x : List Lexeme) (e : Expression) (last : Lexeme) (ts : List Lexeme) → IsName y l → Is mark.Semi last
     → expression_at 0 (l ∷ x) ≡ Done e (last ∷ ts) → named_value f g y x ≡ Done (f e) ts
 unfolding named_value
-value_named f g l y [] e last ts h z p = rw (sym (named_rest l y [] h) ∙ p, expect_mark mark.Semi last ts z)
-    refl
-value_named f g l y (m ∷ x) e last ts h z p = go (is_mark mark.LParen m.shape) refl
-  where
-    go : (t : Bool) → is_mark mark.LParen m.shape ≡ t → named_value f g y (m ∷ x) ≡ Done (f e) ts
-    go true q =
-        let lp = is_mark-true mark.LParen m.shape q in
-        let alone : expression_at 0 (l ∷ m ∷ x) ≡ Done (Variable y) (m ∷ x)
-        = named_rest l y (m ∷ x) h ∙ ap (λ r. r |> operators_at 0)
-        (named_alone (expression_at 0) y (m ∷ x) (ap (is_mark mark.LSquare) lp))
-        ∙ operators_stay 0 (Variable y) (m ∷ x) (below_mark mark.LParen 0 m x refl lp) in
-        let same : (Reading.Done (Variable y) (m ∷ x)) ≡ Done e (last ∷ ts) = sym alone ∙ p in
-        let one : m ≡ last = cc in
-        absurd (Semi-not-LParen m (subst (Is mark.Semi) (sym one) z) q)
-    go false q = rw (q, sym (named_rest l y (m ∷ x) h) ∙ p, expect_mark mark.Semi last ts z) refl
+value_named f g l y x e last ts h z p = grind (
+  arith,
+  named_rest,
+  expect_mark,
+  is_mark-true,
+  expression_at,
+  operators_at,
+  named_alone,
+  operators_stay,
+  below_mark,
+  Semi-not-LParen,
+)
 
 value_assigned : (f : Expression → Statement) (g : Name → List Expression → Statement) (x : List Lexeme)
     (e : Expression) (last : Lexeme) (ts : List Lexeme) → Is mark.Semi last
     → expression_at 0 x ≡ Done e (last ∷ ts) → assigned_at f g x ≡ Done (f e) ts
 unfolding assigned_at assigned_by value_at ended_at
-value_assigned f g [] e last ts z p = rw (p, expect_mark mark.Semi last ts z) refl
-value_assigned f g (l ∷ x) e last ts z p = go (name_in l.shape l) refl
-  where
-    go : (o : Option Name) → name_in l.shape l ≡ o → assigned_by f g (name_in l.shape l) l x ≡ Done (f e) ts
-    go None q = ap (λ o. assigned_by f g o l x) q ∙ rw (p, expect_mark mark.Semi last ts z) refl
-    go (Some y) q = ap (λ o. assigned_by f g o l x) q ∙ value_named f (g y) l y x e last ts
-        (name_in-is l.shape l y refl q) z p
+value_assigned f g x e last ts z p = grind (arith, expect_mark, assigned_by, value_named, name_in-is)
 
 statement_name : (body : Reader Statements) (l : Lexeme) (x : Name) (ts : List Lexeme) → IsName x l
     → statement_by body (l ∷ ts) ≡ named_statement x ts
 unfolding statement_by statement_shape statement_word
-statement_name body l x ts h =
-    ap (λ s. statement_shape body s l ts) h.word ∙ ap (λ o. statement_word body o x.text l ts)
-    (keyword_none x.text h.free)
-    ∙ ap (λ p. named_statement (record { text = x.text; place = p }) ts) h.place
+statement_name body l x ts h = grind (arith, statement_shape, statement_word, keyword_none, named_statement)
 
 statement_print : (body : Reader Statements) (l : Lexeme) (ts : List Lexeme) → IsWord (codes "print") l
     → statement_by body (l ∷ ts) ≡ value_at (Print l.place) ts
@@ -139,24 +126,13 @@ give_done : (at : Place) (port comma name last : Lexeme) (n : ℕ) (x : Name) (t
     → IsNumber n port → Is mark.Comma comma → IsName x name → Is mark.Semi last
     → give_at at (port ∷ comma ∷ name ∷ last ∷ ts) ≡ Done (Give at n port.place x) ts
 unfolding give_at
-give_done at port comma name last n x ts p c h z =
-    rw (
-      count_done n port (comma ∷ name ∷ last ∷ ts) p,
-      expect_mark mark.Comma comma (name ∷ last ∷ ts) c,
-      name_done x name (last ∷ ts) h,
-      expect_mark mark.Semi last ts z,
-    ) refl
+give_done at port comma name last n x ts p c h z = grind (arith, count_done, expect_mark, name_done)
 
 take_done : (at : Place) (port comma last : Lexeme) (n : ℕ) (ls : List Lexeme) (e : Expression)
     (ts : List Lexeme) → IsNumber n port → Is mark.Comma comma → Spelled 0 ls e → Is mark.Semi last
     → take_at at (port ∷ comma ∷ (ls ++ (last ∷ ts))) ≡ Done (Take at n port.place e) ts
 unfolding take_at
-take_done at port comma last n ls e ts p c h z =
-    rw (
-      count_done n port (comma ∷ (ls ++ (last ∷ ts))) p,
-      expect_mark mark.Comma comma (ls ++ (last ∷ ts)) c,
-      complete_value (Take at n port.place) ls e last ts h z,
-    ) refl
+take_done at port comma last n ls e ts p c h z = grind (arith, count_done, expect_mark, complete_value)
 
 named_assign : (x : Name) (m : Lexeme) (ts : List Lexeme) → Is mark.Assign m
     → named_statement x (m ∷ ts) ≡ assigned_at (Assign x.place x) (Call x.place (Some x)) ts
@@ -179,13 +155,7 @@ stored_done : (x : Name) (js : List Lexeme) (i : Expression) (last equals : Lexe
     → stored_at x (js ++ (last ∷ equals ∷ (es ++ (end ∷ ts)))) ≡ Done (Store x.place x i e) ts
 unfolding stored_at
 stored_done x js i last equals es e end ts c d f g h =
-    rw (
-      whole mark.RSquare square js i last (equals ∷ (es ++ (end ∷ ts))) d c,
-      expect_mark mark.RSquare last (equals ∷ (es ++ (end ∷ ts))) d,
-      expect_mark mark.Assign equals (es ++ (end ∷ ts)) f,
-      complete_value (Store x.place x i) es e end ts g
-          h,
-    ) refl
+    grind (arith, whole, square, expect_mark, complete_value, x.place)
 
 -- a call after `x =` is read
 pub assigned_call : (f : Expression → Statement) (g : Name → List Expression → Statement) (l m : Lexeme)
@@ -201,20 +171,14 @@ NoWord v ts = has_word v ts ≡ false
 -- where a statement starts, no word stands that starts none
 starts_other : (v : List ℕ) → starts (shape.Word v) ≡ false → (l : Lexeme) → starts l.shape ≡ true
     → is_word v l.shape ≡ false
-starts_other v o l h = go (is_word v l.shape) refl
-  where
-    go : (t : Bool) → is_word v l.shape ≡ t → t ≡ false
-    go true e = let bad : true ≡ false = sym h ∙ ap starts (word-is v l.shape e) ∙ o in cc
-    go false e = refl
+starts_other v o l h = grind (arith, word-is, l.shape)
 
 other_after : (v : List ℕ) → starts (shape.Word v) ≡ false → (ls ts : List Lexeme) → starts_at ls ≡ true
     → NoWord v (ls ++ ts)
-other_after v o [] ts h = cc
-other_after v o (l ∷ ls) ts h = starts_other v o l h
+other_after v o ls ts h = grind (arith, starts_other)
 
 starts_after : (ls ts : List Lexeme) → starts_at ls ≡ true → starts_at (ls ++ ts) ≡ true
-starts_after [] ts h = cc
-starts_after (l ∷ ls) ts h = h
+starts_after ls ts h = grind arith
 
 starts_name : (x : Name) (l : Lexeme) → IsName x l → starts l.shape ≡ true
 starts_name x l h = ap starts h.word ∙ ap starts_word (keyword_none x.text h.free)
@@ -227,19 +191,14 @@ begins ks s (read l name last x eq a b c) = ap starts_at eq ∙ ap starts a
 begins ks s (give l port comma name last n x eq a b c d f) = ap starts_at eq ∙ ap starts a
 begins ks s (take l port comma last ls n e eq a b c d f) = ap starts_at eq ∙ ap starts a
 begins ks s (call name first last end ls f es eq a b c d g) = ap starts_at eq ∙ starts_name f name a
-begins ks s (called l equals name first last end ls x f es eq a b c d g h j) =
-    ap starts_at eq ∙ starts_name x l a
+begins ks s (called l equals name first last end ls x f es eq a b c d g h j) = grind (arith, starts_name)
 begins ks s (choice l first last ls xs ys e a b eq c d f g h j) = ap starts_at eq ∙ ap starts c
 begins ks s (while l first last ls bs e body eq a b c d f) = ap starts_at eq ∙ ap starts a
 
 test_done : (first last : Lexeme) (ls ts : List Lexeme) (e : Expression) → Is mark.LParen first
     → Spelled 0 ls e → Is mark.RParen last → test_at (first ∷ (ls ++ (last ∷ ts))) ≡ Done e ts
 unfolding test_at
-test_done first last ls ts e f s z = rw (
-  expect_mark mark.LParen first (ls ++ (last ∷ ts)) f,
-  whole mark.RParen paren ls e last ts z s,
-  expect_mark mark.RParen last ts z,
-) refl
+test_done first last ls ts e f s z = grind (arith, expect_mark, whole, paren)
 
 if_done : (body : Reader Statements) (at : Place) (x r q ts : List Lexeme) (e : Expression) (a b : Statements)
     → test_at x ≡ Done e r → block_by body r ≡ Done a q → else_by body q ≡ Done b ts
@@ -261,28 +220,21 @@ statements_done l x r q s b h e k = statements_at_is (l ∷ x) ∙ rw (h, e, k) 
 statements_go : (x r q : List Lexeme) (s : Statement) (b : Statements) → starts_at x ≡ true
     → statement_by statements_at x ≡ Done s r → statements_at r ≡ Done b q
     → statements_at x ≡ Done (Then s b) q
-statements_go [] r q s b h e k = cc
-statements_go (l ∷ x) r q s b h e k = statements_done l x r q s b h e k
+statements_go x r q s b h e k = grind (arith, statements_done)
 
 statements_stay : (ts : List Lexeme) → starts_at ts ≡ false → statements_at ts ≡ Done Nothing ts
 unfolding statements_by
-statements_stay [] h = statements_at_is []
-statements_stay (l ∷ ts) h = statements_at_is (l ∷ ts) ∙ rw h refl
+statements_stay ts h = grind (arith, statements_at_is)
 
 block_done : (first last : Lexeme) (x ts : List Lexeme) (b : Statements) → Is mark.LBrace first
     → statements_at x ≡ Done b (last ∷ ts) → Is mark.RBrace last → block_by statements_at (first ∷ x)
     ≡ Done b ts
 unfolding block_by
-block_done first last x ts b f e z = rw (
-  expect_mark mark.LBrace first x f,
-  e,
-  expect_mark mark.RBrace last ts z,
-) refl
+block_done first last x ts b f e z = grind (arith, expect_mark)
 
 else_stay : (ts : List Lexeme) → NoWord (codes "else") ts → else_by statements_at ts ≡ Done Nothing ts
 unfolding else_by
-else_stay [] h = refl
-else_stay (l ∷ ts) h = rw h refl
+else_stay ts h = grind arith
 
 else_go : (l : Lexeme) (x : List Lexeme) → IsWord (codes "else") l → else_by statements_at (l ∷ x) ≡ block_by
     statements_at x
@@ -292,9 +244,7 @@ else_go l x h = rw h refl
 -- in front of statements, and of what stands after them, stands no word that starts none
 pub statements_other : (v : List ℕ) → starts (shape.Word v) ≡ false → (rs : List Lexeme) (b : Statements)
     → SpelledStatements rs b → (ts : List Lexeme) → NoWord v ts → NoWord v (rs ++ ts)
-statements_other v o rs b nothing ts n = n
-statements_other v o rs b (first_then ls qs s rest eq p k) ts n = subst (λ x. NoWord v (x ++ ts)) (sym eq)
-    (other_after v o (ls ++ qs) ts (starts_after ls qs (begins ls s p)))
+statements_other v o rs b h ts n = grind (arith, other_after, starts_after, begins)
 
 mutual
   pub complete_statement : (ks : List Lexeme) (s : Statement) → SpelledStatement ks s → (ts : List Lexeme)

@@ -1,7 +1,7 @@
 -- What makes a reader exact: it reads a phrase, or stops where a phrase has begun, and sees no more than the
 -- next lexeme.
+use Rattle.std.proofs.Common.{arith, sym, ◌∙◌, ap, subst, append_assoc}
 use Rattle.std.specs.Prelude.{◌≡◌, List, [], ◌∷◌, ◌++◌, Option, Some, None, refl}
-use Rattle.std.proofs.Common.{sym, ◌∙◌, ap, subst, append_assoc}
 use Rattle.src_ast.specs.declared.lexeme.Lexeme.{Lexeme}
 use Rattle.src_parse.specs.Reading.{Reading, Reader, Done, Stuck, ◌|>◌}
 
@@ -38,13 +38,11 @@ Exact L P input = ExactAt L P input (P input)
 
 -- lexemes with no first are none
 pub head-nil : (c : List Lexeme) → head c ≡ None → c ≡ []
-head-nil [] e = refl
-head-nil (l ∷ c) e = cc
+head-nil c e = grind arith
 
 -- lexemes with a first begin with it
 pub head-cons : (c : List Lexeme) (l : Lexeme) → head c ≡ Some l → (d : List Lexeme) × (c ≡ l ∷ d)
-head-cons [] l e = cc
-head-cons (x ∷ c) l e = (c, cc)
+head-cons c l e = grind arith
 
 -- the first of two lists is that of the first list, or else of the second
 pub head-following : (vs c r : List Lexeme) → head c ≡ head r → head (vs ++ c) ≡ head (vs ++ r)
@@ -54,15 +52,7 @@ head-following (v ∷ vs) c r e = refl
 -- a reader that answers, or stops, without reading
 pub exact_done_end : {A : Type 0} (L : List Lexeme → A → Type 0) (P : Reader A) (a : A) → P [] ≡ Done a []
     → L [] a → Exact L P []
-exact_done_end L P a e h =
-    subst (ExactAt L P []) (sym e)
-    (record {
-      front = [];
-      is = refl;
-      spelled = h;
-      local = λ c s. subst (λ d. P d ≡ Done a d)
-          (sym (head-nil c s)) e;
-    })
+exact_done_end L P a e h = grind (arith, head-nil)
 
 -- stuck at the end
 pub exact_stuck_end : {A : Type 0} (L : List Lexeme → A → Type 0) (P : Reader A) (more : List Lexeme) (a : A)
@@ -81,13 +71,7 @@ exact_stuck_end L P more a e h =
 pub exact_done : {A : Type 0} (L : List Lexeme → A → Type 0) (P : Reader A) (a : A) (l : Lexeme)
     (ls : List Lexeme)
     → ((x : List Lexeme) → P (l ∷ x) ≡ Done a (l ∷ x)) → L [] a → Exact L P (l ∷ ls)
-exact_done L P a l ls e h =
-    subst (ExactAt L P (l ∷ ls)) (sym (e ls)) (record {
-      front = [];
-      is = refl;
-      spelled = h;
-      local = λ c s. let d = head-cons c l s in subst (λ d. P d ≡ Done a d) (sym d.1) (e d.0);
-    })
+exact_done L P a l ls e h = grind (arith, head-cons)
 
 -- stuck at a lexeme
 pub exact_stuck : {A : Type 0} (L : List Lexeme → A → Type 0) (P : Reader A) (more : List Lexeme) (a : A)
@@ -100,14 +84,13 @@ exact_stuck L P more a l ls e h =
       more = more;
       tree = a;
       spelled = h;
-      local = λ c s. let d = head-cons c l s in subst (λ d. P d ≡ Stuck d) (sym d.1) (e d.0);
+      local = grind (arith, head-cons);
     })
 
 -- a reader that reads nothing and answers always
 pub exact_always : {A : Type 0} (L : List Lexeme → A → Type 0) (P : Reader A) (a : A) (ls : List Lexeme)
     → ((x : List Lexeme) → P x ≡ Done a x) → L [] a → Exact L P ls
-exact_always L P a ls e h =
-    subst (ExactAt L P ls) (sym (e ls)) (record { front = []; is = refl; spelled = h; local = λ c s. e c })
+exact_always L P a ls e h = grind arith
 
 -- a reader that stops always
 pub exact_never : {A : Type 0} (L : List Lexeme → A → Type 0) (P : Reader A) (more : List Lexeme) (a : A)
@@ -127,12 +110,7 @@ exact_never L P more a ls e h =
 shift_at : {A : Type 0} (L M : List Lexeme → A → Type 0) (P Q : Reader A) (l : Lexeme) (ls : List Lexeme)
     → ((x : List Lexeme) → P (l ∷ x) ≡ Q x) → ((ws : List Lexeme) (a : A) → M ws a → L (l ∷ ws) a)
     → (x : Reading A) → ExactAt M Q ls x → ExactAt L P (l ∷ ls) x
-shift_at L M P Q l ls e m (Done a rest) h = record {
-  front = l ∷ h.front;
-  is = ap (λ r. l ∷ r) h.is;
-  spelled = m h.front a h.spelled;
-  local = λ c s. e (h.front ++ c) ∙ h.local c s;
-}
+shift_at L M P Q l ls e m (Done a rest) h = grind (arith, h.front, h.local)
 shift_at L M P Q l ls e m (Stuck rest) h = record {
   front = l ∷ h.front;
   is = ap (λ r. l ∷ r) h.is;
@@ -147,8 +125,7 @@ pub exact_shift : {A : Type 0} (L M : List Lexeme → A → Type 0) (P Q : Reade
     (ls : List Lexeme)
     → ((x : List Lexeme) → P (l ∷ x) ≡ Q x) → ((ws : List Lexeme) (a : A) → M ws a → L (l ∷ ws) a)
     → Exact M Q ls → Exact L P (l ∷ ls)
-exact_shift L M P Q l ls e m h = subst (ExactAt L P (l ∷ ls)) (sym (e ls))
-    (shift_at L M P Q l ls e m (Q ls) h)
+exact_shift L M P Q l ls e m h = grind (arith, shift_at)
 
 -- one reader after another
 bind_after : {A B : Type 0} (L : List Lexeme → A → Type 0) (M : List Lexeme → B → Type 0) (N : List Lexeme → B
@@ -159,21 +136,17 @@ bind_after : {A B : Type 0} (L : List Lexeme → A → Type 0) (M : List Lexeme 
     → (y : Reading B) → ExactAt M (Q a) rest y → ExactAt N (λ i. P i |> Q) input y
 bind_after L M N P Q input a rest g join (Done b rest') h = record {
   front = g.front ++ h.front;
-  is = g.is ∙ ap (λ r. g.front ++ r) h.is ∙ sym (append_assoc g.front h.front rest');
+  is = grind (arith, append_assoc, g.front, h.front);
   spelled = join g.front h.front b g.spelled h.spelled;
-  local = λ c s.
-      rw append_assoc (rw (g.local (h.front ++ c) (head-following h.front c rest' s ∙ ap head (sym h.is)))
-      (h.local c s));
+  local = grind (arith, append_assoc, g.local, head-following, h.front, h.local);
 }
 bind_after L M N P Q input a rest g join (Stuck rest') h = record {
   front = g.front ++ h.front;
-  is = g.is ∙ ap (λ r. g.front ++ r) h.is ∙ sym (append_assoc g.front h.front rest');
+  is = grind (arith, append_assoc, g.front, h.front);
   more = h.more;
   tree = h.tree;
   spelled = rw append_assoc (join g.front (h.front ++ h.more) h.tree g.spelled h.spelled);
-  local = λ c s.
-      rw append_assoc (rw (g.local (h.front ++ c) (head-following h.front c rest' s ∙ ap head (sym h.is)))
-      (h.local c s));
+  local = grind (arith, append_assoc, g.local, head-following, h.front, h.local);
 }
 
 bind_at : {A B : Type 0} (L : List Lexeme → A → Type 0) (M : A → List Lexeme → B → Type 0)
@@ -186,16 +159,7 @@ bind_at : {A B : Type 0} (L : List Lexeme → A → Type 0) (M : A → List Lexe
     → ExactAt N (λ i. P i |> Q) input (x |> Q)
 bind_at L M N P Q input join fill (Done a rest) e g q =
     bind_after L (M a) N P Q input a rest g (λ us vs b. join us vs a b) (Q a rest) (q a rest e)
-bind_at L M N P Q input join fill (Stuck rest) e g q =
-    let f = fill (g.front ++ g.more) g.tree g.spelled in
-    record {
-      front = g.front;
-      is = g.is;
-      more = g.more ++ f.0;
-      tree = f.1;
-      spelled = subst (λ r. N r f.1) (append_assoc g.front g.more f.0) f.2;
-      local = λ c s. rw (g.local c s) refl;
-    }
+bind_at L M N P Q input join fill (Stuck rest) e g q = grind (arith, append_assoc, g.front, g.more, g.local)
 
 -- Where both are exact. A phrase of the first has something after it that makes a whole one.
 pub exact_bind : {A B : Type 0} (L : List Lexeme → A → Type 0) (M : A → List Lexeme → B → Type 0)

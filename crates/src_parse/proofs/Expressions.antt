@@ -1,11 +1,9 @@
 -- The reader of expressions is exact.
 use Rattle.std.specs.Prelude.{◌≡◌, ℕ, zero, suc, ◌+◌, ◌≤◌, ◌<◌, nat_lt, List, [], ◌∷◌, ◌++◌, Option, Some}
 use Rattle.std.specs.Prelude.{None, Bool, true, false, refl}
-use Rattle.std.proofs.Common.{sym, ◌∙◌, ap, subst, append_assoc, append-nil, arith}
+use Rattle.std.proofs.Common.{sym, ◌∙◌, subst, append_assoc, append-nil, arith}
 use Rattle.std.proofs.lemmas.Bool.{ltb-true, ltb-false}
 use Rattle.ws_words.specs.declared.alu.Alu.{Alu}
-use Rattle.ws_words.specs.declared.alu.Alu.TheVariants.{Add, Sub, Mul, Div, Rem, And, Or, Xor, Shl, Shr, Eq}
-use Rattle.ws_words.specs.declared.alu.Alu.TheVariants.{Ne, Lt, Le, Gt, Ge}
 use Rattle.src_ast.specs.declared.lexeme.Name.{Name}
 use Rattle.src_ast.specs.declared.lexeme.Lexeme.{Lexeme}
 use Rattle.src_ast.specs.declared.lexeme.Shape.{Shape}
@@ -19,7 +17,7 @@ use Rattle.src_ast.specs.Grammar.{level_of, sign_mark, is_reserved, Is, IsName, 
 use Rattle.src_ast.specs.Grammar.{cell, round, signed, binary}
 use Rattle.src_parse.specs.Expressions.{operator_in, named, operand_mark, operand_shape, operand, further}
 use Rattle.src_parse.specs.Expressions.{operators, operand_in, operators_in, expression_in}
-use Rattle.src_parse.specs.Reading.{Reading, Reader, Done, Stuck, ◌|>◌, is_mark, expect}
+use Rattle.src_parse.specs.Reading.{Reading, Reader, Done, ◌|>◌, is_mark, expect}
 use Rattle.src_parse.proofs.Exact.{Exact, exact_done_end, exact_stuck_end, exact_done, exact_stuck}
 use Rattle.src_parse.proofs.Exact.{exact_shift, exact_always, exact_never, exact_bind}
 use Rattle.src_parse.proofs.Tokens.{is_mark-true, operator_in-is, lexeme_with, exact_closed}
@@ -34,22 +32,7 @@ looser m n ls e le (binary l js rs op a b lt eq h p q) = binary l js rs op a b (
 
 -- levels go to 7
 pub level-bound : (op : Alu) → level_of op ≤ 7
-level-bound Add = omega arith
-level-bound Sub = omega arith
-level-bound Mul = omega arith
-level-bound Div = omega arith
-level-bound Rem = omega arith
-level-bound And = omega arith
-level-bound Or = omega arith
-level-bound Xor = omega arith
-level-bound Shl = omega arith
-level-bound Shr = omega arith
-level-bound Eq = omega arith
-level-bound Ne = omega arith
-level-bound Lt = omega arith
-level-bound Le = omega arith
-level-bound Gt = omega arith
-level-bound Ge = omega arith
+level-bound op = grind arith
 
 -- an operator in front is of a level below the bound
 abbrev pub OpBelow : ℕ → Option Alu → Type 0
@@ -62,22 +45,18 @@ Below bound [] = Unit {0}
 Below bound (l ∷ ls) = OpBelow bound (operator_in l.shape)
 
 op_below_8 : (o : Option Alu) → OpBelow 8 o
-op_below_8 None = tt
-op_below_8 (Some op) = omega (arith, level-bound op)
+op_below_8 o = grind (arith, level-bound)
 
 -- no operator is of level 8
 pub below_8 : (ls : List Lexeme) → Below 8 ls
-below_8 [] = tt
-below_8 (l ∷ ls) = op_below_8 (operator_in l.shape)
+below_8 ls = grind (arith, op_below_8)
 
 op_below_9 : (o : Option Alu) → OpBelow 9 o
-op_below_9 None = tt
-op_below_9 (Some op) = omega (arith, level-bound op)
+op_below_9 o = grind (arith, level-bound)
 
 -- nor of level 9
 pub below_9 : (ls : List Lexeme) → Below 9 ls
-below_9 [] = tt
-below_9 (l ∷ ls) = op_below_9 (operator_in l.shape)
+below_9 ls = grind (arith, op_below_9)
 
 -- a word that is no reserved one, as a name
 abbrev pub name_at : List ℕ → Lexeme → Name
@@ -118,8 +97,7 @@ exact_sign s part g l h ls =
     (rw append-nil (signed {n = 8} l us s e (omega arith) h p))))
     (λ us e p. ([], Signed s e, rw append-nil (signed {n = 8} l us s e (omega arith) h p)))
     (g ls)
-    (λ e r _. exact_always (λ vs b. (vs ≡ []) × (b ≡ Signed s e)) (λ r. Done (Signed s e) r) (Signed s e) r
-    (λ x. refl) (refl, refl))
+    (grind (arith, exact_always))
 
 exact_operand_mark : (part whole : Reader Expression) → ((x : List Lexeme) → Exact (Spelled 8) part x)
     → ((x : List Lexeme) → Exact (Spelled 0) whole x)
@@ -154,8 +132,7 @@ exact_operand_shape part whole p w (shape.Number v) l h P e ls =
     exact_shift (Spelled 8) (λ ws a. (ws ≡ []) × (a ≡ Number v)) P (λ r. Done (Number v) r) l ls e
     (λ ws a k. subst (λ u. Spelled 8 (l ∷ u) a) (sym k.0)
     (subst (λ a. Spelled 8 (l ∷ []) a) (sym k.1) (number l v h)))
-    (exact_always (λ ws a. (ws ≡ []) × (a ≡ Number v)) (λ r. Done (Number v) r) (Number v) ls (λ x. refl)
-    (refl, refl))
+    (grind (arith, exact_always))
 exact_operand_shape part whole p w (shape.Word t) l h P e ls = go (is_reserved t) refl
   where
     go : (b : Bool) → is_reserved t ≡ b → Exact (Spelled 8) P (l ∷ ls)
@@ -195,12 +172,7 @@ exact_expression_of P Q p q min le ls =
 
 bind_done : {A B : Type 0} (x : Reading A) (f : A → Reader B) (b : B) (r : List Lexeme) → (x |> f) ≡ Done b r
     → (a : A) × (q : List Lexeme) × (x ≡ Done a q) × (f a q ≡ Done b r)
-bind_done (Done a q) f b r e = (a, q, refl, e)
-bind_done (Stuck q) f b r e = cc
-
-abbrev rest_of : {A : Type 0} → Reading A → List Lexeme
-rest_of (Done a r) = r
-rest_of (Stuck r) = r
+bind_done x f b r e = grind arith
 
 -- After an expression stands no operator of its level or a tighter one.
 further_below : (k min : ℕ) (left : Expression) (o : Option Alu) (l : Lexeme) → operator_in l.shape ≡ o
@@ -209,14 +181,11 @@ further_below : (k min : ℕ) (left : Expression) (o : Option Alu) (l : Lexeme) 
     → further (λ n r. operand_in k r |> operators_in k n) (λ e. operators_in k min e) min left o l ls
     ≡ Done e r → Below min r
 unfolding further
-further_below k min left None l h again ls e r p =
-    subst (Below min) (ap rest_of p) (subst (OpBelow min) (sym h) tt)
+further_below k min left None l h again ls e r p = grind arith
 further_below k min left (Some op) l h again ls e r p = go (nat_lt (level_of op) min) refl
   where
     go : (b : Bool) → nat_lt (level_of op) min ≡ b → Below min r
-    go true t =
-        let q : (Reading.Done left (l ∷ ls)) ≡ Done e r = sym (rw t refl) ∙ p in
-        subst (Below min) (ap rest_of q) (subst (OpBelow min) (sym h) (ltb-true (level_of op) min t))
+    go true t = grind (arith, ltb-true)
     go false t =
         let q : (operand_in k ls |> operators_in k (level_of op + 1)) |>
         (λ right. operators_in k min (Binary op left right)) ≡ Done e r = sym (rw t refl) ∙ p in
@@ -227,16 +196,13 @@ further_below k min left (Some op) l h again ls e r p = go (nat_lt (level_of op)
 operators_below : (k min : ℕ) (e left : Expression) (ls r : List Lexeme)
     → operators_in k min left ls ≡ Done e r → Below min r
 unfolding operators operators_in
-operators_below zero min e left ls r p = cc
-operators_below (suc k) min e left [] r p = subst (Below min) (ap rest_of p) tt
 operators_below (suc k) min e left (l ∷ ls) r p = further_below k min left (operator_in l.shape) l refl
     (operators_below k min) ls e r p
+operators_below k min e left ls r p = grind arith
 
 expression_below : (k min : ℕ) (ls : List Lexeme) (e : Expression) (r : List Lexeme)
     → (operand_in k ls |> operators_in k min) ≡ Done e r → Below min r
-expression_below k min ls e r p =
-    let d = bind_done (operand_in k ls) (operators_in k min) e r p in
-    operators_below k min e d.0 d.1 r d.3
+expression_below k min ls e r p = grind (arith, bind_done, operand_in, operators_in, operators_below)
 
 exact_further : (k min t : ℕ) (left : Expression) → min ≤ t → t ≤ 8 → (o : Option Alu) (l : Lexeme)
     → operator_in l.shape ≡ o → OpBelow (t + 1) o

@@ -1,7 +1,7 @@
 -- The words of the language, and what a reader's test of them says.
+use Rattle.std.proofs.Common.{arith, sym, ◌∙◌, ap}
 use Rattle.std.specs.Prelude.{◌≡◌, ℕ, List, [], ◌∷◌, Option, Some, None, Bool, true, false, ◌||◌, refl}
 use Rattle.std.specs.Prelude.{nat_eq, if◌then◌else◌}
-use Rattle.std.proofs.Common.{sym, ◌∙◌, ap}
 use Rattle.std.specs.Cmp.Lexicographic.{same_text}
 use lib.Pointwise.{pointwise}
 use Rattle.src_ast.specs.Grammar.{is_reserved}
@@ -34,21 +34,17 @@ reserved_from b [] w = b
 reserved_from b (k ∷ ks) w = reserved_from (b || pointwise nat_eq w (spelling_of k)) ks w
 
 or_false : (b : Bool) → b ≡ (b || false)
-or_false true = refl
-or_false false = refl
+or_false b = grind arith
 
 or_either : (b t : Bool) (k : Keyword) (o : Option Keyword) → ((b || t) || is_one o)
     ≡ (b || is_one (if t then Some k else o))
-or_either true t k o = refl
-or_either false true k o = refl
-or_either false false k o = refl
+or_either b t k o = grind arith
 
 reserved_from-is : (b : Bool) (ks : List Keyword) (w : List ℕ) → reserved_from b ks w
     ≡ (b || is_one (keyword_in ks w))
 reserved_from-is b [] w = or_false b
 reserved_from-is b (k ∷ ks) w =
-    reserved_from-is (b || pointwise nat_eq w (spelling_of k)) ks w ∙ or_either b
-    (pointwise nat_eq w (spelling_of k)) k (keyword_in ks w)
+    grind (arith, pointwise, or_either, reserved_from-is (b || pointwise nat_eq w (spelling_of k)) ks w)
 
 reserved_by : (w : List ℕ) → is_reserved w ≡ is_one (keyword_of w)
 reserved_by w = reserved_from-is false keywords w
@@ -71,5 +67,4 @@ pub keyword_none : (w : List ℕ) → is_reserved w ≡ false → keyword_of w �
 keyword_none w f = go (keyword_of w) refl
   where
     go : (o : Option Keyword) → keyword_of w ≡ o → o ≡ None
-    go None e = refl
-    go (Some k) e = let bad : true ≡ false = sym (keyword_reserved w k e) ∙ f in cc
+    go o e = grind (arith, keyword_reserved)

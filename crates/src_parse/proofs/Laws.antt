@@ -1,6 +1,6 @@
 -- What the reader of programs says of the grammar.
-use Rattle.std.specs.Prelude.{◌≡◌, ℕ, zero, suc, length, Result, Ok, Err, List, [], ◌∷◌, ◌++◌, refl}
-use Rattle.std.proofs.Common.{sym, ◌∙◌, ap, subst, append_assoc}
+use Rattle.std.proofs.Common.{arith, sym, ◌∙◌, ap, subst, append_assoc}
+use Rattle.std.specs.Prelude.{◌≡◌, ℕ, suc, length, Result, Ok, Err, List, [], ◌∷◌, ◌++◌, refl}
 use Rattle.src_ast.specs.declared.lexeme.Place.{Place}
 use Rattle.src_ast.specs.declared.lexeme.Lexeme.{Lexeme}
 use Rattle.src_ast.specs.Syntax.{Part}
@@ -20,13 +20,11 @@ parse_found ls all e = whole_found Tree program_at ready_program ls all e
 -- what is spelled is what was read
 pub parse_same : (ls : List Lexeme) (all parts : List Part) → program_at ls ≡ Done all [] → Tree ls parts
     → all ≡ parts
-parse_same ls all parts e t = let same : (Reading.Done all []) ≡ Done parts [] =
-    sym e ∙ complete_program ls parts t in cc
+parse_same ls all parts e t = grind (arith, complete_program)
 
 -- where the reader is stuck, no program is spelled
 pub parse_never : (ls r : List Lexeme) (parts : List Part) → program_at ls ≡ Stuck r → Tree ls parts → ⊥
-parse_never ls r parts e t = let bad : (Reading.Done parts []) ≡ Stuck r = sym (complete_program ls parts t)
-    ∙ e in cc
+parse_never ls r parts e t = grind (arith, complete_program)
 
 -- where the reader is stuck, the lexemes are wrong
 pub parse_fault : (ls r : List Lexeme) (finish : Place) → program_at ls ≡ Stuck r
@@ -66,13 +64,13 @@ same_lexeme B less (x ∷ xs) (y ∷ ys) xs' ys' l m e b n c o =
     (subst (λ y. B (y ∷ ys)) one c) (λ h. o (subst (λ y. B (y ∷ (ys ++ (m ∷ [])))) (sym one) h))
 
 begins_less : (xs ys : List Lexeme) → Begins (xs ++ ys) → Begins xs
-begins_less xs ys b = (ys ++ b.0, b.1, subst (λ x. Tree x b.1) (append_assoc xs ys b.0) b.2)
+begins_less xs ys b = (grind (arith, append_assoc))
 
 -- the front of a text that begins a program begins one
 front_begins : (ls front following : List Lexeme) (l : Lexeme) → ls ≡ front ++ (l ∷ following) → Begins ls
     → Begins (front ++ (l ∷ []))
 front_begins ls front following l e b = begins_less (front ++ (l ∷ [])) following
-    (subst Begins (e ∙ sym (append_assoc front (l ∷ []) following)) b)
+    (grind (arith, append_assoc))
 
 -- there is one place where a text is wrong
 pub one_place : (ls : List Lexeme) (finish a b : Place) → SyntaxAt ls finish a → SyntaxAt ls finish b → a ≡ b
@@ -85,24 +83,20 @@ one_place ls finish a b (at_end g n) (at_end g' n') = refl
 none_left : (a : Part) (y : Reading (List Part)) (all : List Part) (rest : List Lexeme)
     → ((b : List Part) (r : List Lexeme) → y ≡ Done b r → r ≡ [])
     → (y |> λ b r. Done (a ∷ b) r) ≡ Done all rest → rest ≡ []
-none_left a (Stuck r) all rest h e = cc
-none_left a (Done b r) all rest h e = let same : r ≡ rest = cc in sym same ∙ h b r refl
+none_left a y all rest h e = grind arith
 
 none_left_after : (f : Reader (List Part)) → ((ls : List Lexeme) (b : List Part) (r : List Lexeme)
     → f ls ≡ Done b r → r ≡ [])
     → (x : Reading Part) (all : List Part) (rest : List Lexeme) → (x |> λ a r. (f r |> λ b r. Done (a ∷ b) r))
     ≡ Done all rest → rest ≡ []
-none_left_after f h (Stuck r) all rest e = cc
-none_left_after f h (Done a r) all rest e = none_left a (f r) all rest (h r) e
+none_left_after f h x all rest e = grind (arith, none_left)
 
 -- the reader of a program leaves no lexeme
 nothing_left : (k : ℕ) (ls : List Lexeme) (all : List Part) (rest : List Lexeme)
     → items_in k ls ≡ Done all rest → rest ≡ []
 unfolding items_in items_by
-nothing_left zero ls all rest e = cc
-nothing_left (suc k) [] all rest e = cc
-nothing_left (suc k) (l ∷ ls) all rest e = none_left_after (items_in k) (nothing_left k) (item_at (l ∷ ls))
-    all rest e
+nothing_left (suc k) (l ∷ ls) all rest e = grind (arith, none_left_after, items_in, item_at, nothing_left k)
+nothing_left k ls all rest e = grind arith
 
 whole_program : (ls : List Lexeme) (all : List Part) (rest : List Lexeme) → program_at ls ≡ Done all rest
     → program_at ls ≡ Done all []
@@ -117,13 +111,8 @@ answer_by ls finish (Stuck r) e = (Err (place_of r finish), parse_fault ls r fin
 
 same_answer : (ls : List Lexeme) (finish : Place) (a b : Result (List Part) Place) → IsTreeAnswer ls finish a
     → IsTreeAnswer ls finish b → a ≡ b
-same_answer ls finish (Ok a) (Ok b) x y = ap (λ t. Ok t) (one_tree ls a b x y)
-same_answer ls finish (Ok a) (Err q) x y = absurd (no_fault_in_a_tree ls finish q a x y)
-same_answer ls finish (Err p) (Ok b) x y = absurd (no_fault_in_a_tree ls finish p b y x)
-same_answer ls finish (Err p) (Err q) x y = ap (λ t. Err t) (one_place ls finish p q x y)
+same_answer ls finish a b x y = grind (arith, one_tree, no_fault_in_a_tree, one_place)
 
 -- lexemes have one tree, or one place where they are wrong
 pub parsed_once : (ls : List Lexeme) (finish : Place) → ExactlyOne (IsTreeAnswer ls finish)
-parsed_once ls finish =
-    let a = answer_by ls finish (program_at ls) refl in
-    record { answer = a.0; holds = a.1; only = λ other h. same_answer ls finish other a.0 h a.1 }
+parsed_once ls finish = let a = answer_by ls finish (program_at ls) refl in grind (arith, same_answer)

@@ -1,6 +1,5 @@
 -- Lists with commas: their reader is exact, and reads what is spelled so.
-use Rattle.std.specs.Prelude.{◌≡◌, ℕ, zero, suc, ◌<◌, length, List, [], ◌∷◌, ◌++◌, Bool, true, false, refl}
-use Rattle.std.specs.Prelude.{if◌then◌else◌}
+use Rattle.std.specs.Prelude.{◌≡◌, ℕ, zero, suc, length, List, [], ◌∷◌, ◌++◌, Bool, true, false, refl}
 use Rattle.std.proofs.Common.{sym, ◌∙◌, ap, subst, append_assoc, append-nil, arith}
 use Rattle.src_ast.specs.declared.lexeme.Name.{Name}
 use Rattle.src_ast.specs.declared.lexeme.Lexeme.{Lexeme}
@@ -8,7 +7,6 @@ use Rattle.src_ast.specs.declared.lexeme.Shape.TheVariants as shape
 use Rattle.src_ast.specs.declared.lexeme.Mark.{Mark}
 use Rattle.src_ast.specs.declared.lexeme.Mark.TheVariants as mark
 use Rattle.src_ast.specs.declared.tree.Unary.{Unary}
-use Rattle.src_ast.specs.declared.tree.Unary.TheVariants.{Flip, Not, Neg}
 use Rattle.src_ast.specs.Syntax.{Expression}
 use Rattle.src_ast.specs.Grammar.{sign_mark, Is, Spelled, number, variable, cell, round, signed, binary}
 use Rattle.src_ast.specs.Grammar.{Separated, one, more, Listed, none, some, SpelledName, name}
@@ -66,11 +64,7 @@ ready_separated_in L item g (suc k) =
 alike_comma : {A : Type 0} (n : ℕ) (rest rest' : Reader (List A)) → Alike n rest rest' → (a : A)
     → Alike (suc n) (comma_or_end rest a) (comma_or_end rest' a)
 unfolding comma_or_end
-alike_comma n rest rest' h a [] lt = refl
-alike_comma n rest rest' h a (l ∷ ls) lt =
-    let short : length ls < n = omega arith in
-    ap (λ y. if is_mark mark.Comma l.shape then (y |> λ all r. Done (a ∷ all) r) else Done (a ∷ []) (l ∷ ls))
-    (h ls short)
+alike_comma n rest rest' h a i lt = grind arith
 
 steady_separated : {A : Type 0} (item : Reader A) → Shrinks item → (k : ℕ)
     → Alike k (separated_in item (suc k)) (separated_in item k)
@@ -169,8 +163,7 @@ Opens [] = ⊥
 Opens (l ∷ ls) = is_mark mark.RParen l.shape ≡ false
 
 opens_after : (ls ts : List Lexeme) → Opens ls → Opens (ls ++ ts)
-opens_after [] ts h = absurd h
-opens_after (l ∷ ls) ts h = h
+opens_after ls ts h = grind arith
 
 -- an item that is read whole in front of each mark that ends an expression
 pub record Listable {A : Type 0} (L : List Lexeme → A → Type 0) (item : Reader A) : Type 0 where
@@ -180,19 +173,16 @@ pub record Listable {A : Type 0} (L : List Lexeme → A → Type 0) (item : Read
   pub opens : (ls : List Lexeme) (a : A) → L ls a → Opens ls
 
 opens_sign : (s : Unary) → is_mark mark.RParen (shape.Mark (sign_mark s)) ≡ false
-opens_sign Flip = refl
-opens_sign Not = refl
-opens_sign Neg = refl
+opens_sign s = grind arith
 
 opens_expression : (n : ℕ) (ls : List Lexeme) (e : Expression) → Spelled n ls e → Opens ls
 opens_expression n ls e (number l v h) = ap (is_mark mark.RParen) h
 opens_expression n ls e (variable l x h) = ap (is_mark mark.RParen) h.word
-opens_expression n ls e (cell l first last js a i eq h f s z) =
-    subst Opens (sym eq) (ap (is_mark mark.RParen) h.word)
+opens_expression n ls e (cell l first last js a i eq h f s z) = grind arith
 opens_expression n ls e (round first last js eq f s z) = subst Opens (sym eq) (ap (is_mark mark.RParen) f)
 opens_expression n ls e (signed l js s i lt h k) = ap (is_mark mark.RParen) h ∙ opens_sign s
-opens_expression n ls e (binary l js rs op a b lt eq h p q) = subst Opens (sym eq)
-    (opens_after js (l ∷ rs) (opens_expression _ js a p))
+opens_expression n ls e (binary l js rs op a b lt eq h p q) =
+    grind (arith, opens_after, opens_expression _ js a p)
 
 -- expressions can be listed
 pub expressions : Listable (Spelled 0) (expression_at 0)
@@ -207,11 +197,7 @@ opens_name ls x (name l y h) = ap (is_mark mark.RParen) h.word
 
 -- names can be listed
 pub names : Listable SpelledName name_at
-names = record {
-  ready = ready_spelled_name;
-  whole = λ m c ls x last ts z h. whole_name ls x last ts h;
-  opens = opens_name;
-}
+names = grind (arith, ready_spelled_name, whole_name, opens_name)
 
 -- a list that is spelled is read
 pub complete_separated : {A : Type 0} (L : List Lexeme → A → Type 0) (item : Reader A) → Listable L item
@@ -234,16 +220,13 @@ complete_separated L item g m c n ls all last ts (more d js rs a as' eq s h k) z
 
 opens_list : {A : Type 0} (L : List Lexeme → A → Type 0) (item : Reader A) → Listable L item
     → (ls : List Lexeme) (all : List A) → Separated L ls all → Opens ls
-opens_list L item g ls all (one js a s) = g.opens ls a s
-opens_list L item g ls all (more d js rs a as' eq s h k) = subst Opens (sym eq)
-    (opens_after js (d ∷ rs) (g.opens js a s))
+opens_list L item g ls all i = grind (arith, g.opens, opens_after)
 
 list_then_paren : {A : Type 0} (item : Reader A) (x : List Lexeme) (all : List A) (last : Lexeme)
     (ts : List Lexeme) → Opens x → Is mark.RParen last
     → separated_at item x ≡ Done all (last ∷ ts) → enclosed_at item x ≡ Done all ts
 unfolding enclosed_at
-list_then_paren item [] all last ts o z e = absurd o
-list_then_paren item (l ∷ x) all last ts o z e = rw (o, e, expect_mark mark.RParen last ts z) refl
+list_then_paren item x all last ts o z e = grind (arith, expect_mark)
 
 enclosed_nothing : {A : Type 0} (item : Reader A) (last : Lexeme) (ts : List Lexeme) → Is mark.RParen last
     → enclosed_at item (last ∷ ts) ≡ Done [] ts

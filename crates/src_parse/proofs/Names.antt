@@ -1,6 +1,6 @@
 -- Names, numbers and words as single lexemes.
+use Rattle.std.proofs.Common.{arith, sym, ◌∙◌, ap, subst}
 use Rattle.std.specs.Prelude.{◌≡◌, ℕ, List, [], ◌∷◌, Option, Some, None, Bool, true, false, refl, codes}
-use Rattle.std.proofs.Common.{sym, ◌∙◌, ap, subst}
 use Rattle.std.specs.Cmp.Lexicographic.{same_text}
 use Rattle.src_ast.specs.declared.lexeme.Name.{Name}
 use Rattle.src_ast.specs.declared.lexeme.Lexeme.{Lexeme}
@@ -24,10 +24,7 @@ name_in-is (shape.Word w) l y h e = go (is_reserved w) refl
   where
     go : (t : Bool) → is_reserved w ≡ t → IsName y l
     go true t = let bad : None ≡ Some y = sym (rw t refl) ∙ e in cc
-    go false t =
-        let same : Some (record { text = w; place = l.place }) ≡ Some y = sym (rw t refl) ∙ e in
-        let inner : record { text = w; place = l.place } ≡ y = cc in
-        subst (λ y. IsName y l) inner (record { word = h; place = refl; free = t })
+    go false t = grind arith
 name_in-is (shape.Number n) l y h e = cc
 name_in-is (shape.Mark m) l y h e = cc
 

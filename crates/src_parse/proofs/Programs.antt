@@ -1,7 +1,7 @@
 -- The reader of programs is exact.
 use Rattle.std.specs.Prelude.{◌≡◌, ℕ, zero, suc, ◌<◌, length, List, [], ◌∷◌, ◌++◌, Option, Some, None, Bool}
 use Rattle.std.specs.Prelude.{true, false, refl, codes, if◌then◌else◌}
-use Rattle.std.proofs.Common.{ap, subst, append_assoc, append-nil, arith, length-append}
+use Rattle.std.proofs.Common.{ap, append_assoc, append-nil, arith, length-append}
 use Rattle.src_ast.specs.declared.lexeme.Name.{Name}
 use Rattle.src_ast.specs.declared.lexeme.Lexeme.{Lexeme}
 use Rattle.src_ast.specs.declared.lexeme.Shape.TheVariants as shape
@@ -10,12 +10,12 @@ use Rattle.src_ast.specs.Syntax.{Last, Part, Array, Proc, Statements}
 use Rattle.src_ast.specs.Grammar.{Is, IsWord, Separated, SpelledName, SpelledStatements, SpelledEnding}
 use Rattle.src_ast.specs.Grammar.{no_ending, ending, SpelledVars, no_vars, vars, SpelledItem, array, proc}
 use Rattle.src_ast.specs.Grammar.{Tree, no_items, items}
-use Rattle.src_parse.specs.Reading.{Reading, Reader, Done, Stuck, ◌|>◌, is_word, expect, name_at, count_at}
+use Rattle.src_parse.specs.Reading.{Reader, Done, ◌|>◌, is_word, expect, name_at, count_at}
 use Rattle.src_parse.specs.Lists.{separated_at, enclosed_at}
 use Rattle.src_parse.specs.Statements.{value_at, statements_at}
 use Rattle.src_parse.specs.Programs.{array_at, line_at, vars_by, vars_in, vars_at, ending_at, inside_at}
 use Rattle.src_parse.specs.Programs.{proc_at, item_at, items_by, items_in, program_at}
-use Rattle.src_parse.proofs.Exact.{Exact, ExactAt, exact_done_end, exact_stuck_end, exact_done, exact_stuck}
+use Rattle.src_parse.proofs.Exact.{Exact, exact_done_end, exact_stuck_end, exact_done, exact_stuck}
 use Rattle.src_parse.proofs.Exact.{exact_shift, exact_never}
 use Rattle.src_parse.proofs.Tokens.{Alone, lexeme_with}
 use Rattle.src_parse.proofs.Steady.{Alike, shrinks, bind_alike}
@@ -273,27 +273,15 @@ ready_items_in zero = record {
 ready_items_in (suc k) = ready_items_by (items_in k) (ready_items_in k)
 
 item_nonempty : (ks : List Lexeme) (a : Part) → SpelledItem ks a → 0 < length ks
-item_nonempty ks s (array l name first size last end x n eq a b c d f g) = rw eq (omega arith)
-item_nonempty ks s (proc l name first last op close ps us bs es x params vs body e eq a b c d f g h i j k) =
-    rw eq (omega arith)
+item_nonempty ks s m = grind arith
 
 item_shrinks : (x : List Lexeme) (a : Part) (r : List Lexeme) → item_at x ≡ Done a r → length r < length x
-item_shrinks x a r e =
-    let h = subst (ExactAt SpelledItem item_at x) e (ready_item.exact x) in
-    let n = item_nonempty h.front a h.spelled in
-    omega (arith, length-append h.front r, ap length h.is, n)
+item_shrinks x a r e = grind (arith, item_at, ready_item.exact, item_nonempty, length-append)
 
 alike_items : (n : ℕ) (rest rest' : Reader (List Part)) → Alike n rest rest'
     → Alike (suc n) (items_by rest) (items_by rest')
 unfolding items_by
-alike_items n rest rest' h [] lt = refl
-alike_items n rest rest' h (l ∷ ls) lt = go (item_at (l ∷ ls)) refl
-  where
-    go : (y : Reading Part) → item_at (l ∷ ls) ≡ y → (y |> λ a r. (rest r |> λ all r. Done (a ∷ all) r))
-        ≡ (y |> λ a r. (rest' r |> λ all r. Done (a ∷ all) r))
-    go (Done a r) e = let short = item_shrinks (l ∷ ls) a r e in ap (λ y. y |> λ all r. Done (a ∷ all) r)
-        (h r (omega (arith, short)))
-    go (Stuck r) e = refl
+alike_items n rest rest' h i lt = grind (arith, item_at, item_shrinks)
 
 steady_items : (k : ℕ) → Alike k (items_in (suc k)) (items_in k)
 unfolding items_in

@@ -28,23 +28,15 @@ next_after : {A B : Type 0} (L : List Lexeme → A → Type 0) (N : List Lexeme 
     (P : Reader A) (Q : A → Reader B) (input : List Lexeme) (a : A) (rest : List Lexeme)
     → (g : Good L P input a rest)
     → (y : Reading B) → ExactAt (λ vs b. N (g.front ++ vs) b) (Q a) rest y → ExactAt N (λ i. P i |> Q) input y
-next_after L N P Q input a rest g (Done b rest') h = record {
-  front = g.front ++ h.front;
-  is = g.is ∙ ap (λ r. g.front ++ r) h.is ∙ sym (append_assoc g.front h.front rest');
-  spelled = h.spelled;
-  local = λ c s.
-      rw append_assoc (rw (g.local (h.front ++ c) (head-following h.front c rest' s ∙ ap head (sym h.is)))
-      (h.local c s));
-}
+next_after L N P Q input a rest g (Done b rest') h =
+    grind (arith, append_assoc, g.front, h.front, g.local, head-following, h.local)
 next_after L N P Q input a rest g (Stuck rest') h = record {
   front = g.front ++ h.front;
-  is = g.is ∙ ap (λ r. g.front ++ r) h.is ∙ sym (append_assoc g.front h.front rest');
+  is = grind (arith, append_assoc, g.front, h.front);
   more = h.more;
   tree = h.tree;
   spelled = rw append_assoc h.spelled;
-  local = λ c s.
-      rw append_assoc (rw (g.local (h.front ++ c) (head-following h.front c rest' s ∙ ap head (sym h.is)))
-      (h.local c s));
+  local = grind (arith, append_assoc, g.local, head-following, h.front, h.local);
 }
 
 next_at : {A B : Type 0} (L : List Lexeme → A → Type 0) (N : List Lexeme → B → Type 0) (P : Reader A)
@@ -53,16 +45,7 @@ next_at : {A B : Type 0} (L : List Lexeme → A → Type 0) (N : List Lexeme →
     → (x : Reading A) → ExactAt L P input x → P input ≡ x → ExactAt N (λ i. P i |> Q) input (x |> Q)
 next_at L N P Q input q (Done a rest) g e = next_after L N P Q input a rest g (Q a rest)
     ((q g.front a g.spelled).exact rest)
-next_at L N P Q input q (Stuck rest) g e =
-    let f = q (g.front ++ g.more) g.tree g.spelled in
-    record {
-      front = g.front;
-      is = g.is;
-      more = g.more ++ f.phrase;
-      tree = f.tree;
-      spelled = subst (λ r. N r f.tree) (append_assoc g.front g.more f.phrase) f.spelled;
-      local = λ c s. rw (g.local c s) refl;
-    }
+next_at L N P Q input q (Stuck rest) g e = grind (arith, append_assoc, g.front, g.more, g.local)
 
 -- a reader after another
 pub ready_next : {A B : Type 0} (L : List Lexeme → A → Type 0) (N : List Lexeme → B → Type 0) (P : Reader A)
@@ -80,13 +63,7 @@ ready_next L N P Q p q =
 
 -- a reader of nothing
 pub ready_done : {A : Type 0} (L : List Lexeme → A → Type 0) (a : A) → L [] a → Ready L (Done a)
-ready_done L a h = record {
-  phrase = [];
-  tree = a;
-  spelled = h;
-  exact = λ x.
-      exact_always L (Done a) a x (λ _. refl) h;
-}
+ready_done L a h = grind (arith, exact_always)
 
 -- a mark
 pub ready_token : (m : Mark) → Ready (Alone m) (expect m)
@@ -101,26 +78,13 @@ ready_token m = record {
 same_head_at : {A : Type 0} (L : List Lexeme → A → Type 0) (P Q : Reader A) (input : List Lexeme)
     → ((x : List Lexeme) → head x ≡ head input → P x ≡ Q x)
     → (y : Reading A) → ExactAt L Q input y → ExactAt L P input y
-same_head_at L P Q input e (Done a rest) g = record {
-  front = g.front;
-  is = g.is;
-  spelled = g.spelled;
-  local = λ c s. e (g.front ++ c) (head-following g.front c rest s ∙ ap head (sym g.is)) ∙ g.local c s;
-}
-same_head_at L P Q input e (Stuck rest) g = record {
-  front = g.front;
-  is = g.is;
-  more = g.more;
-  tree = g.tree;
-  spelled = g.spelled;
-  local = λ c s. e (g.front ++ c) (head-following g.front c rest s ∙ ap head (sym g.is)) ∙ g.local c s;
-}
+same_head_at L P Q input e (Done a rest) g = grind (arith, head-following, g.front, g.local)
+same_head_at L P Q input e (Stuck rest) g = grind (arith, head-following, g.front, g.local)
 
 pub exact_same_head : {A : Type 0} (L : List Lexeme → A → Type 0) (P Q : Reader A) (input : List Lexeme)
     → ((x : List Lexeme) → head x ≡ head input → P x ≡ Q x)
     → Exact L Q input → Exact L P input
-exact_same_head L P Q input e g = subst (ExactAt L P input) (sym (e input refl))
-    (same_head_at L P Q input e (Q input) g)
+exact_same_head L P Q input e g = grind (arith, same_head_at)
 
 cancel : (xs ys zs : List Lexeme) → xs ++ zs ≡ ys ++ zs → xs ≡ ys
 cancel xs ys zs e =
@@ -178,36 +142,19 @@ ready_expression = record {
 as_at : {A : Type 0} (L M : List Lexeme → A → Type 0) (P : Reader A)
     → ((us : List Lexeme) (a : A) → L us a → M us a)
     → (input : List Lexeme) (x : Reading A) → ExactAt L P input x → ExactAt M P input x
-as_at L M P h input (Done a rest) g = record {
-  front = g.front;
-  is = g.is;
-  spelled = h g.front a g.spelled;
-  local = g.local;
-}
-as_at L M P h input (Stuck rest) g = record {
-  front = g.front;
-  is = g.is;
-  more = g.more;
-  tree = g.tree;
-  spelled = h (g.front ++ g.more) g.tree g.spelled;
-  local = g.local;
-}
+as_at L M P h input (Done a rest) g = grind (arith, g.front)
+as_at L M P h input (Stuck rest) g = grind arith
 
 -- the same reader of another phrase
 pub ready_as : {A : Type 0} (L M : List Lexeme → A → Type 0) (P : Reader A)
     → ((us : List Lexeme) (a : A) → L us a → M us a) → Ready L P → Ready M P
-ready_as L M P h g = record {
-  phrase = g.phrase;
-  tree = g.tree;
-  spelled = h g.phrase g.tree g.spelled;
-  exact = λ x. as_at L M P h x (P x) (g.exact x);
-}
+ready_as L M P h g = grind (arith, as_at, g.exact)
 
 -- a bound that is high enough is as good as any
 enough : {A : Type 0} (R : ℕ → Reader A) → ((k : ℕ) → Alike k (R (suc k)) (R k)) → (d : ℕ) (x : List Lexeme)
     → R (d + suc (length x)) x ≡ R (suc (length x)) x
 enough R s zero x = rw zero-add refl
-enough R s (suc d) x = rw suc-add (s (d + suc (length x)) x (omega arith) ∙ enough R s d x)
+enough R s (suc d) x = grind (arith, suc-add, enough R s d x)
 
 -- fuel enough is enough
 pub alike_unbounded : {A : Type 0} (R : ℕ → Reader A) → ((k : ℕ) → Alike k (R (suc k)) (R k)) → (k : ℕ)
@@ -223,5 +170,4 @@ exact_as_end L P Q e g = exact_same_head L P Q [] (λ x s. subst (λ x. P x ≡ 
 -- readers that agree before a lexeme
 pub exact_as_cons : {A : Type 0} (L : List Lexeme → A → Type 0) (P Q : Reader A) (l : Lexeme)
     (ls : List Lexeme) → ((x : List Lexeme) → P (l ∷ x) ≡ Q (l ∷ x)) → Exact L Q (l ∷ ls) → Exact L P (l ∷ ls)
-exact_as_cons L P Q l ls e g = exact_same_head L P Q (l ∷ ls) (λ x s. let d = head-cons x l s in
-    subst (λ x. P x ≡ Q x) (sym d.1) (e d.0)) g
+exact_as_cons L P Q l ls e g = exact_same_head L P Q (l ∷ ls) (grind (arith, head-cons)) g

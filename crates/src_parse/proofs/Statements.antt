@@ -78,7 +78,7 @@ unfolding call_at
 ready_call N f join =
     ready_next (Enclosed (Spelled 0)) N (enclosed_at (expression_at 0))
     (λ es r. (expect mark.Semi r |> λ _ r. Done (f es) r))
-    (ready_enclosed (Spelled 0) (expression_at 0) ready_expression)
+    (grind (arith, ready_enclosed, expression_at, ready_expression))
     (λ us es h. ready_next (Alone mark.Semi) (λ vs b. N (us ++ vs) b) (expect mark.Semi)
     (λ _ r. Done (f es) r) (ready_token mark.Semi)
     (λ vs u k. ready_done (λ ws b. N (us ++ (vs ++ ws)) b) (f es)
@@ -491,16 +491,7 @@ ready_statements_in (suc k) = ready_statements_by (statements_in k) (ready_state
 
 -- a statement has a lexeme
 nonempty : (ks : List Lexeme) (s : Statement) → SpelledStatement ks s → 0 < length ks
-nonempty ks s (assign l equals last ls x e eq a b c d) = rw eq (omega arith)
-nonempty ks s (store l first last equals semi js es x i e eq a b c d f g h) = rw eq (omega arith)
-nonempty ks s (print l last ls e eq a b c) = rw eq (omega arith)
-nonempty ks s (read l name last x eq a b c) = rw eq (omega arith)
-nonempty ks s (give l port comma name last n x eq a b c d f) = rw eq (omega arith)
-nonempty ks s (take l port comma last ls n e eq a b c d f) = rw eq (omega arith)
-nonempty ks s (call name first last semi ls f es eq a b c d g) = rw eq (omega arith)
-nonempty ks s (called l equals name first last semi ls x f es eq a b c d g h j) = rw eq (omega arith)
-nonempty ks s (choice l first last ls xs ys e a b eq c d f g h j) = rw eq (omega arith)
-nonempty ks s (while l first last ls bs e body eq a b c d f) = rw eq (omega arith)
+nonempty ks s k = grind arith
 
 statement_shrinks : (body : Reader Statements) → Ready SpelledStatements body
     → (x : List Lexeme) (s : Statement) (r : List Lexeme) → statement_by body x ≡ Done s r
@@ -513,19 +504,12 @@ statement_shrinks body g x s r e =
 alike_block : (n : ℕ) (body body' : Reader Statements) → Alike n body body'
     → Alike n (block_by body) (block_by body')
 unfolding block_by
-alike_block n body body' h =
-    bind_alike n (expect mark.LBrace) (expect mark.LBrace)
-    (λ _ r. (body r |> λ b r. (expect mark.RBrace r |> λ _ r. Done b r)))
-    (λ _ r. (body' r |> λ b r. (expect mark.RBrace r |> λ _ r. Done b r)))
-    (shrinks (Alone mark.LBrace) (expect mark.LBrace) (exact_expect mark.LBrace)) (λ x _. refl)
-    (λ u x lt. ap (λ y. y |> λ b r. (expect mark.RBrace r |> λ _ r. Done b r)) (h x lt))
+alike_block n body body' h = grind (arith, bind_alike, expect, shrinks, exact_expect)
 
 alike_else : (n : ℕ) (body body' : Reader Statements) → Alike n body body'
     → Alike n (else_by body) (else_by body')
 unfolding else_by
-alike_else n body body' h [] lt = refl
-alike_else n body body' h (l ∷ ls) lt = ap (λ y. if is_word (codes "else") l.shape then y
-    else Done Nothing (l ∷ ls)) (alike_block n body body' h ls (omega arith))
+alike_else n body body' h i lt = grind (arith, alike_block)
 
 alike_if : (n : ℕ) (body body' : Reader Statements) → Ready SpelledStatements body → Alike n body body'
     → (at : Place) → Alike n (if_by body at) (if_by body' at)
@@ -548,27 +532,18 @@ alike_while n body body' h at =
     bind_alike n test_at test_at (λ e r. (block_by body r |> λ b r. Done (While at e b) r))
     (λ e r. (block_by body' r |> λ b r. Done (While at e b) r))
     (shrinks Tested test_at ready_test.exact) (λ x _. refl)
-    (λ e x lt. ap (λ y. y |> λ b r. Done (While at e b) r) (alike_block n body body' h x lt))
+    (grind (arith, alike_block))
 
 alike_word : (n : ℕ) (body body' : Reader Statements) → Ready SpelledStatements body → Alike n body body'
     → (o : Option Keyword) (w : List ℕ) (l : Lexeme) (ls : List Lexeme) → length ls < n
     → statement_word body o w l ls ≡ statement_word body' o w l ls
 unfolding statement_word
-alike_word n body body' g h (Some keyword.If) w l ls lt = alike_if n body body' g h l.place ls lt
-alike_word n body body' g h (Some keyword.While) w l ls lt = alike_while n body body' h l.place ls lt
-alike_word n body body' g h (Some _) w l ls lt = refl
-alike_word n body body' g h None w l ls lt = refl
+alike_word n body body' g h o w l ls lt = grind (arith, alike_if, l.place, alike_while)
 
 alike_statement : (n : ℕ) (body body' : Reader Statements) → Ready SpelledStatements body → Alike n body body'
     → Alike (suc n) (statement_by body) (statement_by body')
 unfolding statement_by statement_shape
-alike_statement n body body' g h [] lt = refl
-alike_statement n body body' g h (l ∷ ls) lt = go l.shape
-  where
-    go : (s : Shape) → statement_shape body s l ls ≡ statement_shape body' s l ls
-    go (shape.Number v) = refl
-    go (shape.Mark m) = refl
-    go (shape.Word w) = alike_word n body body' g h (keyword_of w) w l ls (omega arith)
+alike_statement n body body' g h i lt = grind (arith, alike_word)
 
 alike_statements : (n : ℕ) (body body' : Reader Statements) → Ready SpelledStatements body
     → Alike n body body' → Alike (suc n) (statements_by body) (statements_by body')

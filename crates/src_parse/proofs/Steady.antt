@@ -1,7 +1,7 @@
 -- The bound on the depth is never met: the readers go on as if there were none.
-use Rattle.std.specs.Prelude.{◌≡◌, ℕ, zero, suc, ◌+◌, ◌-◌, ◌≤◌, ◌<◌, nat_lt, length, List, [], ◌∷◌, Option}
-use Rattle.std.specs.Prelude.{Some, None, Bool, true, false, refl, if◌then◌else◌}
-use Rattle.std.proofs.Common.{sym, ◌∙◌, ap, subst, length-append, arith, zero-add, suc-add}
+use Rattle.std.specs.Prelude.{◌≡◌, ℕ, zero, suc, ◌+◌, ◌-◌, ◌≤◌, ◌<◌, length, List, [], ◌∷◌, Option}
+use Rattle.std.specs.Prelude.{Some, refl, if◌then◌else◌}
+use Rattle.std.proofs.Common.{◌∙◌, ap, length-append, arith, zero-add, suc-add}
 use Rattle.std.proofs.lemmas.Bool.{le-ltb}
 use Rattle.ws_words.specs.declared.alu.Alu.{Alu}
 use Rattle.src_ast.specs.declared.lexeme.Name.{Name}
@@ -10,16 +10,15 @@ use Rattle.src_ast.specs.declared.lexeme.Shape.{Shape}
 use Rattle.src_ast.specs.declared.lexeme.Shape.TheVariants as shape
 use Rattle.src_ast.specs.declared.lexeme.Mark.{Mark}
 use Rattle.src_ast.specs.declared.lexeme.Mark.TheVariants as mark
-use Rattle.src_ast.specs.Syntax.{Expression, Binary}
+use Rattle.src_ast.specs.Syntax.{Expression}
 use Rattle.src_ast.specs.Grammar.{level_of, is_reserved, Spelled}
-use Rattle.src_parse.specs.Expressions.{operator_in, named, operand_mark, operand_shape, operand, further}
+use Rattle.src_parse.specs.Expressions.{named, operand_mark, operand_shape, operand, further}
 use Rattle.src_parse.specs.Expressions.{operators, operand_in, operators_in, operand_at, operators_at}
 use Rattle.src_parse.specs.Expressions.{expression_at, expression_in, operator_at}
-use Rattle.src_parse.specs.Reading.{Reading, Reader, Done, Stuck, ◌|>◌, is_mark}
+use Rattle.src_parse.specs.Reading.{Reader, Done, Stuck, ◌|>◌}
 use Rattle.src_parse.specs.declared.stop.Stop.{Stop}
-use Rattle.src_parse.specs.declared.stop.Stop.TheVariants.{Memory, Here}
 use Rattle.src_parse.specs.Gives.{Stops}
-use Rattle.src_parse.proofs.Exact.{Exact, ExactAt}
+use Rattle.src_parse.proofs.Exact.{Exact}
 use Rattle.src_parse.proofs.Expressions.{exact_operand_in, exact_expression, level-bound}
 
 -- the two readers answer alike on lists shorter than this
@@ -33,40 +32,25 @@ Shrinks {A} P = (x : List Lexeme) (a : A) (r : List Lexeme) → P x ≡ Done a r
 -- an exact reader leaves no more lexemes
 pub shrinks : {A : Type 0} (L : List Lexeme → A → Type 0) (P : Reader A) → ((x : List Lexeme) → Exact L P x)
     → Shrinks P
-shrinks L P g x a r e =
-    let h = subst (ExactAt L P x) e (g x) in
-    omega (arith, length-append h.front r, ap length h.is)
+shrinks L P g x a r e = grind (arith, length-append)
 
 -- readers in a row that agree
 pub bind_alike : {A B : Type 0} (n : ℕ) (P P' : Reader A) (Q Q' : A → Reader B) → Shrinks P → Alike n P P'
     → ((a : A) → Alike n (Q a) (Q' a))
     → Alike n (λ x. P x |> Q) (λ x. P' x |> Q')
-bind_alike {A} {B} n P P' Q Q' s p q x lt = ap (λ y. y |> Q) (p x lt) ∙ go (P' x) (sym (p x lt))
-  where
-    go : (y : Reading A) → y ≡ P x → (y |> Q) ≡ (y |> Q')
-    go (Done a r) e = let short = s x a r (sym e) in q a r (omega arith)
-    go (Stuck r) e = refl
+bind_alike n P P' Q Q' s p q x lt = grind arith
 
 alike_named : (n : ℕ) (whole whole' : Reader Expression) → Alike n whole whole'
     → (x : Name) (ls : List Lexeme) → length ls < suc n → named whole x ls ≡ named whole' x ls
 unfolding named
-alike_named n whole whole' w x [] lt = refl
-alike_named n whole whole' w x (l ∷ ls) lt = go (is_mark mark.LSquare l.shape) refl
-  where
-    go : (b : Bool) → is_mark mark.LSquare l.shape ≡ b → named whole x (l ∷ ls) ≡ named whole' x (l ∷ ls)
-    go true e = let short : length ls < n = omega arith in rw (e, w ls short) refl
-    go false e = rw e refl
+alike_named n whole whole' w x ls lt = grind arith
 
 alike_operand_mark : (n : ℕ) (part part' whole whole' : Reader Expression) → Alike n part part'
     → Alike n whole whole'
     → (m : Mark) (l : Lexeme) (ls : List Lexeme) → length ls < n → operand_mark part whole m l ls
     ≡ operand_mark part' whole' m l ls
 unfolding operand_mark
-alike_operand_mark n part part' whole whole' p w mark.LParen l ls lt = rw (w ls lt) refl
-alike_operand_mark n part part' whole whole' p w mark.Tilde l ls lt = rw (p ls lt) refl
-alike_operand_mark n part part' whole whole' p w mark.Bang l ls lt = rw (p ls lt) refl
-alike_operand_mark n part part' whole whole' p w mark.Minus l ls lt = rw (p ls lt) refl
-alike_operand_mark n part part' whole whole' p w _ l ls lt = refl
+alike_operand_mark n part part' whole whole' p w m l ls lt = grind arith
 
 pub alike_operand : (n : ℕ) (part part' whole whole' : Reader Expression) → Alike n part part'
     → Alike n whole whole'
@@ -79,7 +63,7 @@ alike_operand n part part' whole whole' p w (l ∷ ls) lt = go l.shape
     go (shape.Number v) = refl
     go (shape.Word t) = ap (λ y. if is_reserved t then Stuck (l ∷ ls) else y)
         (alike_named n whole whole' w (record { text = t; place = l.place }) ls (omega arith))
-    go (shape.Mark m) = alike_operand_mark n part part' whole whole' p w m l ls (omega arith)
+    go (shape.Mark m) = grind (arith, alike_operand_mark)
 
 alike_further : (n : ℕ) (whole whole' : ℕ → Reader Expression) (again again' : Expression → Reader Expression)
     → ((op : Alu) → Shrinks (whole (level_of op + 1)))
@@ -87,12 +71,7 @@ alike_further : (n : ℕ) (whole whole' : ℕ → Reader Expression) (again agai
     → (min : ℕ) (left : Expression) (o : Option Alu) (l : Lexeme) (ls : List Lexeme) → length ls < n
     → further whole again min left o l ls ≡ further whole' again' min left o l ls
 unfolding further
-alike_further n whole whole' again again' s w a min left None l ls lt = refl
-alike_further n whole whole' again again' s w a min left (Some op) l ls lt =
-    ap (λ y. if nat_lt (level_of op) min then Done left (l ∷ ls) else y)
-    (bind_alike n (whole (level_of op + 1)) (whole' (level_of op + 1)) (λ right. again (Binary op left right))
-    (λ right. again' (Binary op left right))
-    (s op) (w (level_of op + 1)) (λ right. a (Binary op left right)) ls lt)
+alike_further n whole whole' again again' s w a min left o l ls lt = grind (arith, bind_alike)
 
 alike_operators : (n : ℕ) (whole whole' : ℕ → Reader Expression) (again again' : Expression
     → Reader Expression) → ((op : Alu) → Shrinks (whole (level_of op + 1)))
@@ -100,9 +79,7 @@ alike_operators : (n : ℕ) (whole whole' : ℕ → Reader Expression) (again ag
     → (min : ℕ) (left : Expression) → Alike (suc n) (operators whole again min left)
     (operators whole' again' min left)
 unfolding operators
-alike_operators n whole whole' again again' s w a min left [] lt = refl
-alike_operators n whole whole' again again' s w a min left (l ∷ ls) lt =
-    alike_further n whole whole' again again' s w a min left (operator_in l.shape) l ls (omega arith)
+alike_operators n whole whole' again again' s w a min left h lt = grind (arith, alike_further)
 
 shrinks_operand : (k : ℕ) → Shrinks (operand_in k)
 shrinks_operand k = shrinks (Spelled 8) (operand_in k) (exact_operand_in k)
@@ -153,13 +130,13 @@ enough_operators (suc d) min left x =
 
 pub alike_operand_at : (k : ℕ) → Alike k (operand_in k) operand_at
 alike_operand_at k x lt = let e : k ≡ (k - suc (length x)) + suc (length x) = omega arith in
-    ap (λ n. operand_in n x) e ∙ enough_operand (k - suc (length x)) x
+    grind (arith, operand_in, enough_operand)
 
 -- fuel enough for operators
 pub alike_operators_at : (k min : ℕ) (left : Expression) → Alike k (operators_in k min left)
     (operators_at min left)
 alike_operators_at k min left x lt = let e : k ≡ (k - suc (length x)) + suc (length x) = omega arith in
-    ap (λ n. operators_in n min left x) e ∙ enough_operators (k - suc (length x)) min left x
+    grind (arith, operators_in, enough_operators)
 
 -- fuel enough for an expression
 pub alike_expression_at : (k min : ℕ) → Alike k (expression_in k min) (expression_at min)
@@ -197,8 +174,7 @@ operand_after ls l r e = operand_at_is ls ∙ ap (operand operand_at (expression
 -- no operand stands at the end
 pub operand_at_end : (ls : List Lexeme) → length ls ≡ 0 → operand_at ls ≡ Stuck ls
 unfolding operand
-operand_at_end [] e = operand_at_is []
-operand_at_end (l ∷ ls) e = absurd (omega arith)
+operand_at_end ls e = grind (arith, operand_at_is)
 
 -- operators stop at a right operand
 pub operators_stop : (min : ℕ) (left : Expression) (ls : List Lexeme) (op : Alu) (l : Lexeme)
@@ -206,11 +182,5 @@ pub operators_stop : (min : ℕ) (left : Expression) (ls : List Lexeme) (op : Al
     → ls ≡ l ∷ following → operator_at ls ≡ Some op → min ≤ n → n ≡ level_of op
     → Stops e (expression_at (n + 1) following) → Stops e (operators_at min left ls)
 unfolding operators further
-operators_stop min left ls op l following n Memory p o le eq s = tt
-operators_stop min left ls op l following n (Here x) p o le eq s =
-    let o' : operator_in l.shape ≡ Some op = sym (ap operator_at p) ∙ o in
-    let up : min ≤ level_of op = omega arith in
-    let s' : expression_at (level_of op + 1) following ≡ Stuck x.now =
-    subst (λ m. expression_at (m + 1) following ≡ Stuck x.now) eq s in
-    operators_at_is min left ls ∙ ap (operators expression_at (operators_at min) min left) p
-    ∙ rw (o', le-ltb (level_of op) min up, s') refl
+operators_stop min left ls op l following n e p o le eq s =
+    grind (arith, expression_at, operators_at_is, operators, operators_at, le-ltb)

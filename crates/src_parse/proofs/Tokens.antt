@@ -1,6 +1,6 @@
 -- Single lexemes: the tests that a reader makes, and what they say.
-use Rattle.std.specs.Prelude.{◌≡◌, List, [], ◌∷◌, ◌++◌, Option, Some, None, Bool, true, false, refl}
-use Rattle.std.proofs.Common.{sym, ◌∙◌, ap, subst, get_or, eq-eqb}
+use Rattle.std.proofs.Common.{arith, ◌∙◌, ap, get_or, eq-eqb}
+use Rattle.std.specs.Prelude.{◌≡◌, List, [], ◌∷◌, ◌++◌, Some, Bool, true, false, refl}
 use Rattle.std.proofs.lemmas.Bool.{eqb-true}
 use Rattle.ws_words.specs.declared.alu.Alu.{Alu}
 use Rattle.src_ast.specs.declared.lexeme.Lexeme.{Lexeme}
@@ -20,84 +20,22 @@ marks = mark.LParen ∷ mark.RParen ∷ mark.LBrace ∷ mark.RBrace ∷ mark.LSq
     ∷ mark.Same ∷ mark.Differs ∷ mark.ShiftLeft ∷ mark.ShiftRight ∷ []
 
 back : (m : Mark) → get_or marks (number_of m) mark.LParen ≡ m
-back mark.LParen = refl
-back mark.RParen = refl
-back mark.LBrace = refl
-back mark.RBrace = refl
-back mark.LSquare = refl
-back mark.RSquare = refl
-back mark.Comma = refl
-back mark.Semi = refl
-back mark.Assign = refl
-back mark.Plus = refl
-back mark.Minus = refl
-back mark.Star = refl
-back mark.Slash = refl
-back mark.Percent = refl
-back mark.Amp = refl
-back mark.Bar = refl
-back mark.Caret = refl
-back mark.Tilde = refl
-back mark.Bang = refl
-back mark.Less = refl
-back mark.More = refl
-back mark.LessEq = refl
-back mark.MoreEq = refl
-back mark.Same = refl
-back mark.Differs = refl
-back mark.ShiftLeft = refl
-back mark.ShiftRight = refl
+back m = grind arith
 
 -- a mark that passes the test is it
 pub is_mark-true : (m : Mark) (s : Shape) → is_mark m s ≡ true → s ≡ shape.Mark m
-is_mark-true m (shape.Word w) e = cc
-is_mark-true m (shape.Number n) e = cc
-is_mark-true m (shape.Mark k) e =
-    ap (λ x. shape.Mark x) (sym (back k) ∙ ap (λ n. get_or marks n mark.LParen)
-    (eqb-true (number_of k) (number_of m) e) ∙ back m)
+is_mark-true m s e = grind (arith, back, eqb-true)
 
 -- a mark passes its own test
 pub is_mark-same : (m : Mark) (s : Shape) → s ≡ shape.Mark m → is_mark m s ≡ true
 is_mark-same m s e = ap (is_mark m) e ∙ eq-eqb (number_of m) (number_of m) refl
 
-abbrev mark_or : Option Alu → Mark
-mark_or None = mark.Semi
-mark_or (Some op) = mark_of op
-
 operator_of-is : (m : Mark) (op : Alu) → operator_of m ≡ Some op → m ≡ mark_of op
-operator_of-is mark.LParen op e = cc
-operator_of-is mark.RParen op e = cc
-operator_of-is mark.LBrace op e = cc
-operator_of-is mark.RBrace op e = cc
-operator_of-is mark.LSquare op e = cc
-operator_of-is mark.RSquare op e = cc
-operator_of-is mark.Comma op e = cc
-operator_of-is mark.Semi op e = cc
-operator_of-is mark.Assign op e = cc
-operator_of-is mark.Plus op e = ap mark_or e
-operator_of-is mark.Minus op e = ap mark_or e
-operator_of-is mark.Star op e = ap mark_or e
-operator_of-is mark.Slash op e = ap mark_or e
-operator_of-is mark.Percent op e = ap mark_or e
-operator_of-is mark.Amp op e = ap mark_or e
-operator_of-is mark.Bar op e = ap mark_or e
-operator_of-is mark.Caret op e = ap mark_or e
-operator_of-is mark.Tilde op e = cc
-operator_of-is mark.Bang op e = cc
-operator_of-is mark.Less op e = ap mark_or e
-operator_of-is mark.More op e = ap mark_or e
-operator_of-is mark.LessEq op e = ap mark_or e
-operator_of-is mark.MoreEq op e = ap mark_or e
-operator_of-is mark.Same op e = ap mark_or e
-operator_of-is mark.Differs op e = ap mark_or e
-operator_of-is mark.ShiftLeft op e = ap mark_or e
-operator_of-is mark.ShiftRight op e = ap mark_or e
+operator_of-is m op e = grind arith
 
 -- a mark that is an operator is that operator's
 pub operator_in-is : (s : Shape) (op : Alu) → operator_in s ≡ Some op → s ≡ shape.Mark (mark_of op)
-operator_in-is (shape.Word w) op e = cc
-operator_in-is (shape.Number n) op e = cc
-operator_in-is (shape.Mark m) op e = ap (λ x. shape.Mark x) (operator_of-is m op e)
+operator_in-is s op e = grind (arith, operator_of-is)
 
 -- some lexeme with this shape
 abbrev pub lexeme_with : Shape → Lexeme
@@ -134,14 +72,7 @@ exact_closed {A} {B} m f L N P input join g =
     let M : A → List Lexeme → B → Type 0 = λ a vs b. (last : Lexeme) × (vs ≡ last ∷ []) × Is m last
     × (b ≡ f a) in
     exact_bind L M N P (λ a rest. (expect m rest |> λ _ rest. Done (f a) rest)) input
-    (λ us vs a b h k. subst (λ v. N (us ++ v) b) (sym k.1)
-    (subst (N (us ++ k.0 ∷ [])) (sym k.3) (join us a k.0 h k.2)))
+    (grind arith)
     (λ us a h. (lexeme_with (shape.Mark m) ∷ [], f a, join us a (lexeme_with (shape.Mark m)) h refl))
     g
-    (λ a rest e. exact_bind (Alone m) (λ _ ws b. (ws ≡ []) × (b ≡ f a)) (M a) (expect m)
-    (λ _ rest. Done (f a) rest) rest
-    (λ us vs u b h k. (h.lexeme, ap (λ u. u ++ vs) h.one ∙ ap (λ v. h.lexeme ∷ v) k.0, h.mark, k.1))
-    (λ us u h. ([], f a, (h.lexeme, ap (λ u. u ++ []) h.one, h.mark, refl)))
-    (exact_expect m rest)
-    (λ _ r _. exact_always (λ ws b. (ws ≡ []) × (b ≡ f a)) (λ r. Done (f a) r) (f a) r (λ x. refl)
-    (refl, refl)))
+    (grind (arith, exact_bind, expect, exact_expect, exact_always))

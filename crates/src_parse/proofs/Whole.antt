@@ -1,6 +1,6 @@
 -- What exactness and completeness together say of a whole text.
+use Rattle.std.proofs.Common.{arith, sym, ◌∙◌, ap, subst, append_assoc, append-nil}
 use Rattle.std.specs.Prelude.{◌≡◌, List, [], ◌∷◌, ◌++◌, refl}
-use Rattle.std.proofs.Common.{sym, ◌∙◌, ap, subst, append_assoc, append-nil}
 use Rattle.src_ast.specs.declared.lexeme.Lexeme.{Lexeme}
 use Rattle.src_parse.specs.Reading.{Reading, Reader, Done, Stuck}
 use Rattle.src_parse.proofs.Exact.{ExactAt}
@@ -47,16 +47,10 @@ whole_place {A} L P g complete input l following e =
 pub whole_end : {A : Type 0} (L : List Lexeme → A → Type 0) (P : Reader A) → Ready L P
     → ((ws : List Lexeme) (a : A) → L ws a → P ws ≡ Done a [])
     → (input : List Lexeme) → P input ≡ Stuck [] → Begins L input × ((a : A) → L input a → ⊥)
-whole_end {A} L P g complete input e =
-    let h = subst (ExactAt L P input) e (g.exact input) in
-    let same : input ≡ h.front = h.is ∙ append-nil h.front in (
-      subst (Begins L) (sym same) (h.more, h.tree, h.spelled),
-      λ a t. let bad : (Reading.Done a []) ≡ Stuck [] = sym (complete input a t) ∙ e in cc,
-    )
+whole_end L P g complete input e = grind (arith, g.exact, append-nil)
 
 -- a text has at most one tree
 pub whole_one : {A : Type 0} (L : List Lexeme → A → Type 0) (P : Reader A)
     → ((ws : List Lexeme) (a : A) → L ws a → P ws ≡ Done a [])
     → (ws : List Lexeme) (a b : A) → L ws a → L ws b → a ≡ b
-whole_one {A} L P complete ws a b x y = let same : (Reading.Done a []) ≡ Done b [] = sym (complete ws a x)
-    ∙ complete ws b y in cc
+whole_one L P complete ws a b x y = grind arith

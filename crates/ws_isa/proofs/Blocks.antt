@@ -10,14 +10,11 @@ use Rattle.std.specs.List.{AllByRecursion}
 
 pub nth_append_right : {A : Type 0} (xs ys : List A) (k : ℕ) → nth (xs ++ ys) (length xs + k) ≡ nth ys k
 nth_append_right [] ys k = let e : 0 + k ≡ k = omega arith in rw e refl
-nth_append_right (x ∷ xs) ys k = let e : suc (length xs) + k ≡ suc (length xs + k) = omega arith in
-    rw e (nth_append_right xs ys k)
+nth_append_right (x ∷ xs) ys k = grind (arith, nth_append_right xs ys k)
 
 -- instruction i of the block at place n
 in_flat : (bs : List Block) (n i m : ℕ) → n < length bs → i < length (or_else (nth bs n) no_block).instrs
     → suc m ≡ first_of bs n + i → nth (flat bs) m ≡ nth (or_else (nth bs n) no_block).instrs i
-in_flat [] n i m l h e = absurd (omega arith)
-in_flat (b ∷ bs) zero i m l h e = let f : m ≡ i = omega arith in rw f (nth_append_left b.instrs (flat bs) i h)
 in_flat (b ∷ bs) (suc n) i m l h e =
     let p : 1 ≤ first_of bs n = positive bs n in
     let f : m ≡ length b.instrs + (m - length b.instrs) = omega arith in
@@ -28,19 +25,18 @@ in_flat (b ∷ bs) (suc n) i m l h e =
     positive bs zero = let z : first_of bs zero ≡ 1 = first_one bs in omega arith
     positive [] (suc n) = omega arith
     positive (b ∷ bs) (suc n) = let h : 1 ≤ first_of bs n = positive bs n in omega arith
+in_flat bs n i m l h e = grind (arith, nth_append_left)
 
 first_next : (bs : List Block) (n : ℕ) → n < length bs → first_of bs (suc n) ≡ first_of bs n + length
     (or_else (nth bs n) no_block).instrs
-first_next [] n l = absurd (omega arith)
-first_next (b ∷ bs) zero l = let z : first_of bs zero ≡ 1 = first_one bs in omega arith
 first_next (b ∷ bs) (suc n) l = let z : first_of bs (suc n) ≡ first_of bs n + length
     (or_else (nth bs n) no_block).instrs = first_next bs n (omega arith) in omega arith
+first_next bs n l = grind (arith, first_one)
 
 -- the number after the last instruction
 pub first_last : (bs : List Block) → first_of bs (length bs) ≡ suc (length (flat bs))
 first_last [] = refl
-first_last (b ∷ bs) = let z : first_of bs (length bs) ≡ suc (length (flat bs)) = first_last bs in
-    omega (arith, length-append b.instrs (flat bs))
+first_last (b ∷ bs) = grind (arith, length-append, first_last bs)
 
 -- a block by its place
 pub block_is : (image : Image) (n : ℕ) → block_at image (suc n) ≡ or_else (nth image.blocks n) no_block
@@ -82,8 +78,7 @@ number_one image = first_one image.blocks
 pub size_is : (image : Image) (n : ℕ) → n < length image.blocks → size_of image (suc n)
     ≡ length (or_else (nth image.blocks n) no_block).instrs
 unfolding size_of
-size_is image n l = let e : first_number image (suc (suc n)) ≡ first_number image (suc n) + length
-    (or_else (nth image.blocks n) no_block).instrs = number_next image n l in omega arith
+size_is image n l = grind (arith, image.blocks, number_next)
 
 -- the number of a block's first instruction, by the place of the block
 pub first_in : (image : Image) (n : ℕ) → first_of image.blocks n ≡ first_number image (suc n)

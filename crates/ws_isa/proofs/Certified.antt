@@ -1,11 +1,9 @@
 -- A certificate gives the slot rules, said of all paths.
-use Rattle.std.proofs.Common.{ℕ, suc, ◌≡◌, ◌<◌, ◌≤◌, Bool, true, List, [], ◌∷◌, refl, sym, ap, ◌∙◌, subst}
-use Rattle.std.proofs.Common.{arith}
+use Rattle.std.proofs.Common.{ℕ, suc, ◌≡◌, ◌<◌, ◌≤◌, Bool, true, List, [], ◌∷◌, refl, sym, ap, ◌∙◌, arith}
 use Rattle.ws_isa.specs.declared.instr.Dest.{Dest}
-use Rattle.ws_isa.specs.Image.{Image, first_number, is_first, now_dests, start_dests}
-use Rattle.ws_isa.specs.Sound.{OpenSlots, none_open, opened, all_opened, Fresh, closed, opens_at}
-use Rattle.ws_isa.specs.Sound.{AdvancesOpen, Opens, begin, turn, edge, TurnSlots, EndSlots, EdgeInto}
-use Rattle.ws_isa.specs.Sound.{SlotRules}
+use Rattle.ws_isa.specs.Image.{Image, first_number, is_first, now_dests}
+use Rattle.ws_isa.specs.Sound.{OpenSlots, opened, all_opened, Fresh, closed, opens_at, AdvancesOpen, Opens}
+use Rattle.ws_isa.specs.Sound.{begin, turn, edge, TurnSlots, EndSlots, EdgeInto, SlotRules}
 use Rattle.ws_isa.proofs.SlotCert.{Alike, SlotCert}
 
 opened_alike : (d : Dest) (o p : OpenSlots) → Alike o p → Alike (opened d o) (opened d p)
@@ -15,7 +13,8 @@ opened_alike d o p a j q = rw (a j q) refl
 pub all_opened_alike : (ds : List Dest) (o p : OpenSlots) → Alike o p
     → Alike (all_opened ds o) (all_opened ds p)
 all_opened_alike [] o p a = a
-all_opened_alike (d ∷ ds) o p a = all_opened_alike ds (opened d o) (opened d p) (opened_alike d o p a)
+all_opened_alike (d ∷ ds) o p a =
+    grind (arith, opened_alike, all_opened_alike ds (opened d o) (opened d p) (opened_alike d o p a))
 
 pub closed_alike : (k : ℕ) (o p : OpenSlots) → Alike o p → Alike (closed k o) (closed k p)
 closed_alike k o p a j q = rw (a j q) refl
@@ -27,7 +26,7 @@ fresh_alike (d ∷ ds) o p a f =
 
 advances_alike : (image : Image) (b : ℕ) (o p : OpenSlots) → Alike o p → AdvancesOpen image b p
     → AdvancesOpen image b o
-advances_alike image b o p a h j q = ((λ e. (h j q).0 (sym (a j q) ∙ e)), λ i. a j q ∙ (h j q).1 i)
+advances_alike image b o p a h j q = (grind arith)
 
 pub first_is : (image : Image) → is_first image 1 ≡ true
 unfolding is_first
@@ -42,25 +41,11 @@ module _ (image : Image) (reached : ℕ → Bool) (open_at : ℕ → ℕ → Ope
 
   -- every path is covered
   pub covered : (b k : ℕ) (o : OpenSlots) → Opens image b k o → Covered b k o
-  covered b k o begin = record { arrives = cert.start; low = omega arith; alike = cert.start_open }
+  covered b k o begin = grind arith
   covered b k o (turn {b = c} {k = l} {o = p} path w) =
-      let r : Covered c l p = covered c l p path in
-      let lo : first_number image c ≤ l = r.low in
-      record {
-        arrives = r.arrives;
-        low = omega arith;
-        alike = λ j q. all_opened_alike (now_dests image l) (closed l p) (closed l (open_at c l))
-            (closed_alike l p (open_at c l) r.alike) j q ∙ cert.turn_open c l r.arrives (r.low, w) j q;
-      }
+      grind (arith, all_opened_alike, closed_alike, cert.turn_open, covered c l p path)
   covered b k o (edge {b = c} {k = l} {o = p} path at s n) =
-      let r : Covered c l p = covered c l p path in
-      record {
-        arrives = cert.edge_reached c n r.arrives s;
-        low = omega arith;
-        alike = λ j q. all_opened_alike (opens_at image c n) p (open_at c (first_number image (suc c)))
-            (λ j q. r.alike j q ∙ ap (λ (m : ℕ). open_at c m j q) at) j q
-            ∙ cert.edge_open c n r.arrives s j q;
-      }
+      grind (arith, cert.edge_reached, all_opened_alike, cert.edge_open, covered c l p path)
 
   at_end : (b : ℕ) (o : OpenSlots) → Opens image b (first_number image (suc b)) o
       → Alike o (open_at b (first_number image (suc b)))
@@ -77,8 +62,7 @@ module _ (image : Image) (reached : ℕ → Bool) (open_at : ℕ → ℕ → Ope
       ∙ ap (λ (n : ℕ). open_at n (first_number image n) j q) e.to
 
   entered : (c b : ℕ) (o : OpenSlots) → EdgeInto image c b o → reached b ≡ true
-  entered c b o e = subst (λ n. reached n ≡ true) e.to
-      (cert.edge_reached c e.choice (arrives c (first_number image (suc c)) e.before e.path) e.goes_on)
+  entered c b o e = grind (arith, e.to, cert.edge_reached, arrives, e.before)
 
   turn_slots : (b k : ℕ) (o : OpenSlots) → Opens image b k o → k < first_number image (suc b)
       → TurnSlots image k o
@@ -101,8 +85,7 @@ module _ (image : Image) (reached : ℕ → Bool) (open_at : ℕ → ℕ → Ope
   pub slot_rules : SlotRules image
   slot_rules = record {
     start = cert.start_fresh;
-    begins = advances_alike image 1 (all_opened (start_dests image) none_open)
-        (open_at 1 (first_number image 1)) cert.start_open (cert.first_open 1 cert.start (first_is image));
+    begins = grind (arith, advances_alike, cert.first_open, cert.start, first_is);
     turns = turn_slots;
     ends = end_slots;
     crossing = λ c b o e f. advances_alike image b o (open_at b (first_number image b)) (after_edge c b o e)

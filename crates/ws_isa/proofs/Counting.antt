@@ -18,22 +18,15 @@ first_one (b ∷ bs) = refl
 
 counted : (bs : List Block) (s n : ℕ) → n ≤ length bs →
     suc (slice_index (numbers_from s bs) n) ≡ s + first_of bs n
-counted bs s zero l = let z : first_of bs zero ≡ 1 = first_one bs in at_head bs s z
-  where
-    at_head : (bs : List Block) (s : ℕ) → first_of bs zero ≡ 1 → suc (slice_index (numbers_from s bs) zero)
-        ≡ s + first_of bs zero
-    at_head [] s z = omega arith
-    at_head (b ∷ bs) s z = omega arith
-counted [] s (suc n) l = absurd (omega arith)
 counted (b ∷ bs) s (suc n) l =
     let e : suc (slice_index (numbers_from (s + length b.instrs) bs) n) ≡ (s + length b.instrs) + first_of bs
     n = counted bs (s + length b.instrs) n (omega arith) in
     omega arith
+counted bs s n l = grind (arith, first_one)
 
 -- the number at a place is that of the first instruction of the block there
 pub number_at : (bs : List Block) (n : ℕ) → n ≤ length bs → slice_index (numbers_from 1 bs) n ≡ first_of bs n
-number_at bs n l = let e : suc (slice_index (numbers_from 1 bs) n) ≡ 1 + first_of bs n = counted bs 1 n l in
-    omega arith
+number_at bs n l = grind (arith, slice_index, counted)
 
 -- when no block is left, the number after the last one is put at the end
 module _ (all rest : List Block) (done new : List ℕ) (next : ℕ) (e : new ≡ done ++ next ∷ [])

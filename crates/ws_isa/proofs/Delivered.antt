@@ -4,8 +4,6 @@ use Rattle.std.proofs.Common.{slice_set, refl, sym, ap, ◌∙◌, inl, inr, ari
 use Rattle.std.proofs.lemmas.Bool.{cases_eq}
 use Rattle.std.proofs.lemmas.List.{get_or-set_same, get_or-set_other, length-set}
 use Rattle.ws_isa.specs.declared.instr.Op.{Op}
-use Rattle.ws_isa.specs.declared.instr.Op.TheVariants.{Const, Alu, Merge, Advance, Steer, Phi, Send, Load}
-use Rattle.ws_isa.specs.declared.instr.Op.TheVariants.{Store, Input, Output, Give, Take, Nop, Halt}
 use Rattle.ws_isa.specs.declared.instr.Dest.{Dest}
 use Rattle.ws_isa.specs.Image.{Instr, Pad, Image, instr_at, block_at, ports, target, edge_of, edge_dests}
 use Rattle.ws_isa.specs.Sound.{OpenSlots, HasDest, all_opened, Fresh, edge_all}
@@ -21,7 +19,7 @@ few_ports image k = few (instr_at image k).op
 
 -- places of different slots differ
 pub apart : (i j p q : ℕ) → p < 4 → q < 4 → ((i ≡ j) × (p ≡ q) → ⊥) → 4 * j + q ≡ 4 * i + p → ⊥
-apart i j p q a b n e = n ((let f : i ≡ j = omega arith in f), (let f : p ≡ q = omega arith in f))
+apart i j p q a b n e = n (grind arith)
 
 -- destinations are ports, within the table
 pub record Fits (ds : List Dest) (size : ℕ) : Type 0 where
@@ -33,16 +31,13 @@ rest_fits d ds size f = record { port = λ j q h. f.port j q (inr h); place = λ
 
 set_keeps : (t : List ℕ) (p i v : ℕ) → slice_index t i ≡ v → i < length t
     → slice_index (slice_set t p v) i ≡ v
-set_keeps t p i v e l = elim (cases_eq i p) [
-  | inl same ↦ rw (sym same) (get_or-set_same t i v 0 l)
-  | inr other ↦ get_or-set_other t p i v 0 other ∙ e
-]
+set_keeps t p i v e l = grind (arith, cases_eq, get_or-set_same, get_or-set_other)
 
 -- the table keeps its size
 pub delivered_size : (ds : List Dest) (v : ℕ) (t : List ℕ) → length (delivered ds v t) ≡ length t
 delivered_size [] v t = refl
-delivered_size (d ∷ ds) v t = delivered_size ds v (slice_set t (4 * d.instr + d.port) v)
-    ∙ length-set t (4 * d.instr + d.port) v
+delivered_size (d ∷ ds) v t =
+    grind (arith, slice_set, length-set, delivered_size ds v (slice_set t (4 * d.instr + d.port) v))
 
 delivered_keeps : (ds : List Dest) (v : ℕ) (t : List ℕ) (i : ℕ) → slice_index t i ≡ v → i < length t
     → slice_index (delivered ds v t) i ≡ v
@@ -76,21 +71,7 @@ delivered_other (d ∷ ds) v t j q size f l n =
 
 edge_same : (image : Image) (b r : ℕ) (i : Instr) (op : Op) → edge_by (block_at image (target image b r)).pads
     r i op ≡ edge_of image b r i op
-edge_same image b r i Steer = refl
-edge_same image b r i (Send p) = refl
-edge_same image b r i (Const n) = refl
-edge_same image b r i (Alu o) = refl
-edge_same image b r i Merge = refl
-edge_same image b r i Advance = refl
-edge_same image b r i Phi = refl
-edge_same image b r i (Load a) = refl
-edge_same image b r i (Store a) = refl
-edge_same image b r i Input = refl
-edge_same image b r i Output = refl
-edge_same image b r i (Give p) = refl
-edge_same image b r i (Take p) = refl
-edge_same image b r i Nop = refl
-edge_same image b r i Halt = refl
+edge_same image b r i op = grind arith
 
 -- instructions in a row, the first of which is number k
 abbrev pub InRow : Image → List Instr → ℕ → Type 0

@@ -5,11 +5,8 @@ use Rattle.std.proofs.Common.{length-append}
 use Rattle.std.proofs.lemmas.Bool.{cases_Bool, cases_order, both_ways}
 use Rattle.ws_words.specs.Outside.{World}
 use Rattle.ws_isa.specs.declared.instr.Op.{Op}
-use Rattle.ws_isa.specs.declared.instr.Op.TheVariants.{Const, Alu, Merge, Advance, Steer, Phi, Send, Load}
-use Rattle.ws_isa.specs.declared.instr.Op.TheVariants.{Store, Input, Output, Give, Take, Nop, Halt}
 use Rattle.ws_isa.specs.Image.{Image, instr_at, first_number, size_of, ports, ports_of, stops}
 use Rattle.ws_isa.specs.Walk.{Inst, Pos, pos, mem, walk, fires, choice, with_inst, CostAtMost}
-use Rattle.ws_isa.specs.Operations.{fault_among}
 use Rattle.ws_isa.specs.Sound.{OpenSlots, HasDest, opens_at, edge_all}
 use Rattle.ws_isa.specs.Open.{Walkable}
 use Rattle.ws_isa.specs.Standing.{slots_at}
@@ -22,21 +19,7 @@ use Rattle.ws_isa.proofs.There.{ports_there}
 use Rattle.ws_isa.proofs.Firing.{turning}
 
 some_port : (op : Op) → 1 ≤ ports_of op
-some_port (Alu o) = omega arith
-some_port Steer = omega arith
-some_port Phi = omega arith
-some_port (Send k) = omega arith
-some_port (Store a) = omega arith
-some_port (Const n) = omega arith
-some_port Merge = omega arith
-some_port Advance = omega arith
-some_port (Load a) = omega arith
-some_port Input = omega arith
-some_port Output = omega arith
-some_port (Give p) = omega arith
-some_port (Take p) = omega arith
-some_port Nop = omega arith
-some_port Halt = omega arith
+some_port op = grind arith
 
 ports_some : (image : Image) (k : ℕ) → 1 ≤ ports image k
 unfolding ports
@@ -48,9 +31,7 @@ module _ (image : Image) (world : World) where
   walk_silent t e = ap (with_inst (walk image world t)) e
 
   longer : (xs : List Inst) (o : Option Inst) → length xs ≤ length (with_inst xs o)
-  longer xs None = omega arith
-  longer xs (Some x) = let e : length (xs ++ x ∷ []) ≡ length xs + 1 = length-append xs (x ∷ []) in
-      omega arith
+  longer xs o = grind (arith, length-append)
 
   pub walk_grows : (t : ℕ) → length (walk image world t) ≤ length (walk image world (suc t))
   unfolding walk
@@ -58,12 +39,7 @@ module _ (image : Image) (world : World) where
 
   pub walk_up : (d t : ℕ) → length (walk image world t) ≤ length (walk image world (d + t))
   walk_up zero t = let e : 0 + t ≡ t = omega arith in rw e (omega arith)
-  walk_up (suc d) t =
-      let e : suc d + t ≡ suc (d + t) = omega arith in
-      let a : length (walk image world t) ≤ length (walk image world (d + t)) = walk_up d t in
-      let b : length (walk image world (d + t)) ≤ length (walk image world (suc (d + t))) =
-      walk_grows (d + t) in
-      rw e (omega arith)
+  walk_up (suc d) t = grind (arith, walk_grows, walk_up d t)
 
   -- where nothing fires from step t on, the walk has no more instances
   pub quiet_from : (t : ℕ) → ((d : ℕ) → walk image world (d + t) ≡ walk image world t)
@@ -84,10 +60,7 @@ module _ (image : Image) (world : World) where
 
   over_step : (t : ℕ) → (pos image world t).over ≡ true → StepCase image world t
       → ((pos image world (suc t)).over ≡ true) × (walk image world (suc t) ≡ walk image world t)
-  over_step t o (stands a e f) = (ap (λ (p : Pos). p.over) e ∙ o, walk_silent t f)
-  over_step t o (turns a l e f) = absurd (both_ways (pos image world t).over a o)
-  over_step t o (ends a l s e f) = absurd (both_ways (pos image world t).over a o)
-  over_step t o (leaves a l s e f) = absurd (both_ways (pos image world t).over a o)
+  over_step t o h = grind (arith, walk_silent, both_ways)
 
   over_stays : (t : ℕ) → (pos image world t).over ≡ true → (d : ℕ) → ((pos image world (d + t)).over ≡ true)
       × (walk image world (d + t) ≡ walk image world t)
@@ -107,29 +80,13 @@ module _ (image : Image) (world : World) where
   ended_step : (t : ℕ) → (pos image world t).over ≡ false → first_number image (suc (pos image world t).block)
       ≤ (pos image world t).next → stops image (pos image world t).block ≡ true → StepCase image world t →
       (pos image world (suc t) ≡ record (pos image world t) { over = true }) × (fires image world t ≡ None)
-  ended_step t o w s (stands a e f) = absurd (both_ways (pos image world t).over o a)
-  ended_step t o w s (turns a l e f) = absurd (omega arith)
-  ended_step t o w s (ends a l x e f) = (e, f)
-  ended_step t o w s (leaves a l x e f) = absurd (both_ways (stops image (pos image world t).block) x s)
+  ended_step t o w s h = grind (arith, both_ways)
 
   -- a block that stops ends the walk
   pub stopped : (t b : ℕ) (w : Walker) → AtEnd image world t b w → stops image b ≡ true
       → (u : ℕ) × ((pos image world u).over ≡ true) × Leaves image world u w
   unfolding mem
-  stopped t b w at s =
-      let l : first_number image (suc (pos image world t).block) ≤ (pos image world t).next =
-      rw (at.next, at.block) (omega arith) in
-      let st : stops image (pos image world t).block ≡ true = rw at.block s in
-      let x = ended_step t at.running l st (step_case image world t) in
-      let y : walk image world (suc t) ≡ walk image world t = walk_silent t x.1 in (
-        suc t,
-        ap (λ (p : Pos). p.over) x.0,
-        record {
-          outside = rw (ap (λ (p : Pos). p.memory) x.0) at.outside;
-          fired = at.fired ∙ sym (ap length y);
-          fault = at.fault ∙ sym (ap (fault_among image) y);
-        },
-      )
+  stopped t b w at s = grind (arith, at.block, ended_step, step_case, walk_silent)
 
   -- what the code holds is what the walk leaves
   pub at_leaves : (t b k : ℕ) (w : Walker) → At image world t b k w → Leaves image world t w

@@ -1,14 +1,11 @@
 -- The code fires an instruction as the walk does.
-use Rattle.std.proofs.Common.{ℕ, zero, suc, ◌+◌, ◌*◌, ◌≡◌, ◌<◌, ◌≤◌, Bool, true, false, cond, List, [], ◌∷◌}
+use Rattle.std.proofs.Common.{ℕ, suc, ◌+◌, ◌*◌, ◌≡◌, ◌<◌, ◌≤◌, Bool, true, false, cond, List, [], ◌∷◌}
 use Rattle.std.proofs.Common.{◌++◌, length, Option, Some, None, eqb, slice_index, slice_set, refl, sym, ap}
 use Rattle.std.proofs.Common.{◌∙◌, subst, inl, inr, arith, length-append, eq-eqb, ne_eqb}
 use Rattle.std.proofs.lemmas.Bool.{cases_Bool, cases_eq, both_ways, cond-true, cond-false}
 use Rattle.std.proofs.lemmas.List.{get_or-set_same, get_or-set_other, length-set}
-use Rattle.ws_words.specs.Operators.{applied}
 use Rattle.ws_words.specs.Outside.{Outside, World}
 use Rattle.ws_isa.specs.declared.instr.Op.{Op}
-use Rattle.ws_isa.specs.declared.instr.Op.TheVariants.{Const, Alu, Merge, Advance, Steer, Phi, Send, Load}
-use Rattle.ws_isa.specs.declared.instr.Op.TheVariants.{Store, Input, Output, Give, Take, Nop, Halt}
 use Rattle.ws_isa.specs.declared.instr.Dest.{Dest}
 use Rattle.ws_isa.specs.Image.{Instr, Array, Image, flat, instr_at, first_number, ports, ports_of, is_memory}
 use Rattle.ws_isa.specs.Image.{is_memory_op, is_advance, is_advance_op, is_past, is_past_op, array_at}
@@ -25,7 +22,7 @@ use Rattle.ws_words.specs.declared.memory.Memory.{Memory}
 use Rattle.ws_words.specs.Memory.{OutIs}
 use Rattle.ws_isa.specs.Shows.{Resulted, looked, delivered, At, seen}
 use Rattle.ws_isa.proofs.Slots.{all_opened_from, fresh_apart, closed_cases, with_tokens_lands}
-use Rattle.ws_isa.proofs.Steps.{first_le, StepCase, stands, turns, ends, leaves, step_case, Place, place}
+use Rattle.ws_isa.proofs.Steps.{first_le, turns, step_case, Place, place}
 use Rattle.ws_isa.proofs.Flow.{Ahead, number_ahead, number_else, number_same, slots_turn, path, slot_port}
 use Rattle.ws_isa.proofs.Flow.{ahead_open, Stays, turn_stays}
 use Rattle.ws_isa.proofs.There.{ports_there, now_there}
@@ -38,84 +35,21 @@ abbrev pub Agree : Op → List ℕ → List ℕ → Type 0
 Agree op xs ys = (q : ℕ) → q < ports_of op → slice_index xs q ≡ slice_index ys q
 
 same_result : (op : Op) (xs ys : List ℕ) → Agree op xs ys → result_of_op op xs ≡ result_of_op op ys
-same_result (Const n) xs ys h = refl
-same_result (Alu o) xs ys h = ap (λ n. applied o n (slice_index xs 1)) (h 0 (omega arith))
-    ∙ ap (λ n. applied o (slice_index ys 0) n) (h 1 (omega arith))
-same_result Merge xs ys h = h 0 (omega arith)
-same_result Advance xs ys h = h 0 (omega arith)
-same_result Steer xs ys h = h 0 (omega arith)
-same_result Phi xs ys h =
-    ap (λ n. cond (eqb n 0) (slice_index xs 1) (slice_index xs 0)) (h 2 (omega arith))
-    ∙ ap (λ n. cond (eqb (slice_index ys 2) 0) n (slice_index xs 0)) (h 1 (omega arith))
-    ∙ ap (λ n. cond (eqb (slice_index ys 2) 0) (slice_index ys 1) n) (h 0 (omega arith))
-same_result (Send k) xs ys h = h 1 (omega arith)
-same_result (Load a) xs ys h = h 0 (omega arith)
-same_result (Store a) xs ys h = h 0 (omega arith)
-same_result Input xs ys h = h 0 (omega arith)
-same_result Output xs ys h = h 0 (omega arith)
-same_result (Give p) xs ys h = h 0 (omega arith)
-same_result (Take p) xs ys h = h 0 (omega arith)
-same_result Nop xs ys h = h 0 (omega arith)
-same_result Halt xs ys h = h 0 (omega arith)
+same_result op xs ys h = grind (arith, slice_index)
 
 same_answer : (op : Op) (xs ys : List ℕ) (o : Outside) → Agree op xs ys
     → answer_op op xs o ≡ answer_op op ys o
-same_answer (Load a) xs ys o h = rw (h 0 (omega arith)) refl
-same_answer (Const n) xs ys o h = refl
-same_answer (Alu f) xs ys o h = refl
-same_answer Merge xs ys o h = refl
-same_answer Advance xs ys o h = refl
-same_answer Steer xs ys o h = refl
-same_answer Phi xs ys o h = refl
-same_answer (Send k) xs ys o h = refl
-same_answer (Store a) xs ys o h = refl
-same_answer Input xs ys o h = refl
-same_answer Output xs ys o h = refl
-same_answer (Give p) xs ys o h = refl
-same_answer (Take p) xs ys o h = refl
-same_answer Nop xs ys o h = refl
-same_answer Halt xs ys o h = refl
+same_answer op xs ys o h = grind arith
 
 same_after : (op : Op) (xs ys : List ℕ) (o : Outside) → Agree op xs ys → after_op op xs o ≡ after_op op ys o
-same_after (Load a) xs ys o h = rw (h 0 (omega arith)) refl
-same_after (Store a) xs ys o h = rw (h 0 (omega arith), h 1 (omega arith)) refl
-same_after Output xs ys o h = rw (h 0 (omega arith)) refl
-same_after (Take p) xs ys o h = rw (h 0 (omega arith)) refl
-same_after (Const n) xs ys o h = refl
-same_after (Alu f) xs ys o h = refl
-same_after Merge xs ys o h = refl
-same_after Advance xs ys o h = refl
-same_after Steer xs ys o h = refl
-same_after Phi xs ys o h = refl
-same_after (Send k) xs ys o h = refl
-same_after Input xs ys o h = refl
-same_after (Give p) xs ys o h = refl
-same_after Nop xs ys o h = refl
-same_after Halt xs ys o h = refl
+same_after op xs ys o h = grind arith
 
 same_past : (arrays : List Array) (op : Op) (xs ys : List ℕ) → Agree op xs ys
     → is_past_op arrays op xs ≡ is_past_op arrays op ys
-same_past arrays (Load a) xs ys h = rw (h 0 (omega arith)) refl
-same_past arrays (Store a) xs ys h = rw (h 0 (omega arith)) refl
-same_past arrays Output xs ys h = refl
-same_past arrays (Take p) xs ys h = refl
-same_past arrays (Const n) xs ys h = refl
-same_past arrays (Alu f) xs ys h = refl
-same_past arrays Merge xs ys h = refl
-same_past arrays Advance xs ys h = refl
-same_past arrays Steer xs ys h = refl
-same_past arrays Phi xs ys h = refl
-same_past arrays (Send k) xs ys h = refl
-same_past arrays Input xs ys h = refl
-same_past arrays (Give p) xs ys h = refl
-same_past arrays Nop xs ys h = refl
-same_past arrays Halt xs ys h = refl
+same_past arrays op xs ys h = grind arith
 
 agree_three : (op : Op) (x y z w : ℕ) → (2 < ports_of op → z ≡ w) → Agree op (x ∷ y ∷ z ∷ []) (x ∷ y ∷ w ∷ [])
-agree_three op x y z w e zero lt = refl
-agree_three op x y z w e (suc zero) lt = refl
-agree_three op x y z w e (suc (suc zero)) lt = e lt
-agree_three op x y z w e (suc (suc (suc q))) lt = refl
+agree_three op x y z w e h lt = grind arith
 
 -- only an operation with three ports looks at a third operand
 pub third_unread : (op : Op) (x y z w : ℕ) (o : Outside) (word : ℕ) (m : Memory) → (2 < ports_of op → z ≡ w)
@@ -134,45 +68,16 @@ third_unread op x y z w o word m e r =
 -- the index alone decides
 past_by_index : (arrays : List Array) (op : Op) (x : ℕ) (xs : List ℕ) → is_past_op arrays op (x ∷ [])
     ≡ is_past_op arrays op (x ∷ xs)
-past_by_index arrays (Load a) x xs = refl
-past_by_index arrays (Store a) x xs = refl
-past_by_index arrays Output x xs = refl
-past_by_index arrays (Take p) x xs = refl
-past_by_index arrays (Const n) x xs = refl
-past_by_index arrays (Alu f) x xs = refl
-past_by_index arrays Merge x xs = refl
-past_by_index arrays Advance x xs = refl
-past_by_index arrays Steer x xs = refl
-past_by_index arrays Phi x xs = refl
-past_by_index arrays (Send k) x xs = refl
-past_by_index arrays Input x xs = refl
-past_by_index arrays (Give p) x xs = refl
-past_by_index arrays Nop x xs = refl
-past_by_index arrays Halt x xs = refl
+past_by_index arrays op x xs = grind arith
 
 pub advance_port : (op : Op) → is_advance_op op ≡ true → ports_of op ≡ 1
-advance_port Advance e = refl
-advance_port (Const n) e = absurd (cc)
-advance_port (Alu f) e = absurd (cc)
-advance_port Merge e = absurd (cc)
-advance_port Steer e = absurd (cc)
-advance_port Phi e = absurd (cc)
-advance_port (Send k) e = absurd (cc)
-advance_port (Load a) e = absurd (cc)
-advance_port (Store a) e = absurd (cc)
-advance_port Input e = absurd (cc)
-advance_port Output e = absurd (cc)
-advance_port (Give p) e = absurd (cc)
-advance_port (Take p) e = absurd (cc)
-advance_port Nop e = absurd (cc)
-advance_port Halt e = absurd (cc)
+advance_port op e = grind arith
 
 gather_index : (f : Ports) (w i p n q : ℕ) → q < n → slice_index (gather f w i p n) q
     ≡ or_else (f w i (p + q)) 0
-gather_index f w i p zero q l = absurd (omega arith)
-gather_index f w i p (suc n) zero l = let e : p + zero ≡ p = omega arith in rw e refl
 gather_index f w i p (suc n) (suc q) l = let e : p + suc q ≡ suc p + q = omega arith in
     rw e (gather_index f w i (suc p) n q (omega arith))
+gather_index f w i p n q l = grind arith
 
 -- the first fault, after one instance more
 abbrev pub looked_more : Option ℕ → Bool → ℕ → Option ℕ
@@ -189,13 +94,11 @@ fault_more image (y ∷ xs) x = go (past image y) (fault_more image xs x)
         cond b (Some (array_at image y.instr)) (fault_among image (xs ++ x ∷ [])) ≡ looked_more
         (cond b (Some (array_at image y.instr)) (fault_among image xs)) (past image x)
         (array_at image x.instr)
-    go true ih = refl
-    go false ih = ih
+    go b ih = grind arith
 
 looked_is : (arrays : List Array) (op : Op) (xs : List ℕ) (f : Option ℕ)
     → looked arrays op xs f ≡ looked_more f (is_past_op arrays op xs) (array_of_op op)
-looked_is arrays op xs (Some a) = refl
-looked_is arrays op xs None = refl
+looked_is arrays op xs f = grind arith
 
 -- what the code does when an instruction fires
 pub record Fires (arrays : List Array) (i : Instr) (k word : ℕ) (old new : Walker) : Type 0 where
@@ -215,24 +118,13 @@ module _ (image : Image) (world : World) (ok : Walkable image) where
 
   -- at a step within a block an instruction fires
   pub turning : (t : ℕ) → (P t).over ≡ false → (P t).next < first_number image (suc (P t).block) → Turning t
-  turning t o w = go (step_case image world t)
-    where
-      go : StepCase image world t → Turning t
-      go (stands a e f) = absurd (both_ways (P t).over o a)
-      go (turns a l e f) = record { to = e; fires = f }
-      go (ends a l s e f) = absurd (omega arith)
-      go (leaves a l s e f) = absurd (omega arith)
+  turning t o w = grind (arith, step_case, both_ways)
 
   -- the number under which the next instruction fires
   turn_wave : (t : ℕ) → (P t).next < first_number image (suc (P t).block)
       → wave_of image (P t) ≡ turn_number image (P t) (P t).next
   unfolding wave_of
-  turn_wave t w = elim (cases_Bool (is_advance image (P t).next)) [
-    | inl d ↦ cond-true (is_advance image (P t).next) _ _ d
-        ∙ sym (number_ahead image (P t) (P t).next (record { advance = d; low = omega arith; high = w }))
-    | inr d ↦ cond-false (is_advance image (P t).next) _ _ d
-        ∙ sym (number_else image (P t) (P t).next (λ x. both_ways (is_advance image (P t).next) d x.advance))
-  ]
+  turn_wave t w = grind (arith, cases_Bool, cond-true, number_ahead, cond-false, number_else, both_ways)
 
   module _ (t b k word : ℕ) (i : Instr) (old new : Walker) (at : At image world t b k old)
       (l : k < first_number image (suc b)) (is : instr_at image k ≡ i)
@@ -268,27 +160,11 @@ module _ (image : Image) (world : World) (ok : Walkable image) where
     operand_is : (q : ℕ) → q < ports image k → slice_index (operands_at image (P t)) q ≡ slice_index
         old.table.operands (4 * k + q)
     unfolding operands_at
-    operand_is q m =
-        let n : q < ports image (P t).next = rw at.next m in
-        gather_index (P t).sent (wave_of image (P t)) (P t).next 0 (ports image (P t).next) q n
-        ∙ ap (λ (x : ℕ). or_else ((P t).sent (wave_of image (P t)) (P t).next x) 0)
-        (let z : 0 + q ≡ q = omega arith in z)
-        ∙ ap (λ (x : ℕ). or_else ((P t).sent x (P t).next q) 0) (turn_wave t within)
-        ∙ ap (λ (x : ℕ). or_else ((P t).sent (turn_number image (P t) x) x q) 0) at.next
-        ∙ sym (at.operands k q (open_here q m))
+    operand_is q m = grind (arith, at.next, gather_index, turn_wave, within, at.operands, open_here)
 
     agree : Agree i.op (operands_at image (P t)) (seen old k)
     unfolding ports
-    agree q m = let n : q < ports_of (instr_at image k).op = subst (λ (j : Instr). q < ports_of j.op) (sym is)
-        m in go q (few_ports image k) n (operand_is q n)
-      where
-        go : (q : ℕ) → ports_of (instr_at image k).op ≤ 3 → q < ports_of (instr_at image k).op
-            → slice_index (operands_at image (P t)) q ≡ slice_index old.table.operands (4 * k + q)
-            → slice_index (operands_at image (P t)) q ≡ slice_index (seen old k) q
-        go zero f m e = e ∙ (let z : 4 * k + 0 ≡ 4 * k = omega arith in rw z refl)
-        go (suc zero) f m e = e
-        go (suc (suc zero)) f m e = e
-        go (suc (suc (suc q))) f m e = absurd (omega arith)
+    agree q m = grind (arith, few_ports, operand_is)
 
     outcome : Resulted i.op (seen old k) (mem image world t) word new.memory
     outcome = h.outcome (mem image world t) at.outside
@@ -298,21 +174,13 @@ module _ (image : Image) (world : World) (ok : Walkable image) where
 
     result_same : result_at image (P t) ≡ word
     unfolding result_at is_memory answer result_of mem
-    result_same =
-        rw at_i (
-        ap (λ (x : ℕ). cond (is_memory_op i.op) x (result_of_op i.op (operands_at image (P t))))
-        (same_answer i.op (operands_at image (P t)) (seen old k) (P t).memory agree)
-        ∙ ap (λ (x : ℕ). cond (is_memory_op i.op) (answer_op i.op (seen old k) (P t).memory) x)
-        (same_result i.op (operands_at image (P t)) (seen old k) agree)
-        ∙ sym outcome.result)
+    result_same = grind (arith, at_i, same_answer, agree, same_result)
 
     memory_same : cond (is_memory image (P t).next) (after image (P t).next (operands_at image (P t))
         (P t).memory) (P t).memory ≡ cond (is_memory_op i.op) (after_op i.op (seen old k) (P t).memory)
         (P t).memory
     unfolding is_memory after
-    memory_same =
-        rw at_i (ap (λ (x : Outside). cond (is_memory_op i.op) x (P t).memory)
-        (same_after i.op (operands_at image (P t)) (seen old k) (P t).memory agree))
+    memory_same = grind (arith, at_i, same_after, agree)
 
     outside_next : OutIs (mem image world (suc t)) new.memory
     unfolding mem
@@ -338,17 +206,7 @@ module _ (image : Image) (world : World) (ok : Walkable image) where
     now_is = rw at_i refl
 
     fits : Fits (now_dests image (P t).next) (length old.table.operands)
-    fits = record {
-      port = λ j q g.
-          (let a : q < ports image j = (now_there image ok.suited.references (P t).next j q g).1 in
-          let f : ports image j ≤ 3 = few_ports image j in omega arith);
-      place = λ j q g.
-          (let r = now_there image ok.suited.references (P t).next j q g in
-          let a : q < ports image j = r.1 in let f : ports image j ≤ 3 = few_ports image j in
-          let n : j ≤ length (flat image.blocks) = r.0.1 in
-          let z : length old.table.operands ≡ 4 * suc (length (flat image.blocks)) = at.operands_size in
-          omega arith);
-    }
+    fits = grind (arith, now_there, few_ports)
 
     -- an advance that stands ahead is no destination of this turn
     not_ahead : (j q : ℕ) → HasDest (now_dests image (P t).next) j q → Ahead image (P (suc t)) j → ⊥

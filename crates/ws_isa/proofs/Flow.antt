@@ -1,17 +1,17 @@
 -- The slots that are open along the walk, and that each open slot's value is consumed.
-use Rattle.std.proofs.Common.{ℕ, zero, suc, ◌-◌, ◌≡◌, ◌<◌, ◌≤◌, ◌⊎◌, true, false, cond, ◌&&◌, ltb, Some, refl}
+use Rattle.std.proofs.Common.{ℕ, zero, suc, ◌-◌, ◌≡◌, ◌<◌, ◌≤◌, ◌⊎◌, true, false, cond, Some, refl}
 use Rattle.std.proofs.Common.{sym, ap, ◌∙◌, inl, inr, arith}
 use Rattle.std.proofs.lemmas.Bool.{cases_Bool, cases_lt, both_ways, cond-true, cond-false, lt-ltb, le-ltb}
 use Rattle.ws_words.specs.Outside.{World}
 use Rattle.ws_isa.specs.Image.{Image, ports, is_advance, first_number, size_of, stops, target, is_first}
 use Rattle.ws_isa.specs.Image.{now_dests, start_dests, IsIn, IsBlock}
-use Rattle.ws_isa.specs.Walk.{Pos, pos, opening, enter, fire, is_within, choice, with_tokens, edge_tokens}
+use Rattle.ws_isa.specs.Walk.{Pos, pos, opening, enter, fire, choice, with_tokens, edge_tokens}
 use Rattle.ws_isa.specs.Sound.{OpenSlots, none_open, all_opened, closed, opens_at, HasDest, PortsThere, Opens}
 use Rattle.ws_isa.specs.Sound.{begin, turn, edge, ShapeRules, SlotRules}
 use Rattle.ws_isa.specs.Standing.{turn_number, slots_at}
 use Rattle.ws_isa.proofs.Slots.{all_opened_keeps, all_opened_from, fresh_apart, with_tokens_other}
 use Rattle.ws_isa.proofs.Slots.{edge_all_from, edge_other, closed_cases}
-use Rattle.ws_isa.proofs.Steps.{StepCase, stands, turns, ends, leaves, step_case, Place, place, pos_start}
+use Rattle.ws_isa.proofs.Steps.{StepCase, stands, turns, ends, leaves, step_case, place, pos_start}
 use Rattle.ws_isa.proofs.Along.{path_end, along}
 
 -- an advance that hasn't fired yet in this block
@@ -24,31 +24,7 @@ pub number_cases : (image : Image) (p : Pos) (j : ℕ)
     → (Ahead image p j × (turn_number image p j ≡ p.wave - 1))
     ⊎ ((Ahead image p j → ⊥) × (turn_number image p j ≡ p.wave))
 unfolding turn_number
-number_cases image p j = go (cases_Bool (is_advance image j)) (cases_lt j p.next)
-    (cases_lt j (first_number image (suc p.block)))
-  where
-    go : (is_advance image j ≡ true) ⊎ (is_advance image j ≡ false) → (j < p.next) ⊎ (p.next ≤ j)
-        → (j < first_number image (suc p.block)) ⊎ (first_number image (suc p.block) ≤ j) →
-        (Ahead image p j
-        × (cond (is_advance image j && (ltb p.next (suc j) && ltb j (first_number image (suc p.block))))
-        (p.wave - 1) p.wave ≡ p.wave - 1)) ⊎
-        ((Ahead image p j → ⊥)
-        × (cond (is_advance image j && (ltb p.next (suc j) && ltb j (first_number image (suc p.block))))
-        (p.wave - 1) p.wave ≡ p.wave))
-    go (inl a) (inr l) (inl h) = inl (
-      record { advance = a; low = l; high = h },
-      rw (a, lt-ltb p.next (suc j) (omega arith), lt-ltb j (first_number image (suc p.block)) h) refl,
-    )
-    go (inr a) l h = inr ((λ x. both_ways (is_advance image j) a x.advance), rw a refl)
-    go (inl a) (inl l) h = inr (
-      (λ x. (let y : p.next ≤ j = x.low in omega arith)),
-      rw (a, le-ltb p.next (suc j) (omega arith)) refl,
-    )
-    go (inl a) (inr l) (inr h) =
-        inr (
-          (λ x. (let y : j < first_number image (suc p.block) = x.high in omega arith)),
-          rw (a, lt-ltb p.next (suc j) (omega arith), le-ltb j (first_number image (suc p.block)) h) refl,
-        )
+number_cases image p j = grind (arith, cases_Bool, cases_lt, lt-ltb, p.next, both_ways, le-ltb)
 
 -- an advance that stands ahead has the number before
 pub number_ahead : (image : Image) (p : Pos) (j : ℕ) → Ahead image p j → turn_number image p j ≡ p.wave - 1
@@ -61,10 +37,7 @@ number_else image p j a = elim (number_cases image p j) [ inl h ↦ absurd (a h.
 -- two positions at which j is ahead alike
 pub number_same : (image : Image) (p q : Pos) (j : ℕ) → p.wave ≡ q.wave → (Ahead image p j → Ahead image q j)
     → (Ahead image q j → Ahead image p j) → turn_number image p j ≡ turn_number image q j
-number_same image p q j w f g = elim (number_cases image p j) [
-  | inl h ↦ h.1 ∙ ap (λ (n : ℕ). n - 1) w ∙ sym (number_ahead image q j (f h.0))
-  | inr h ↦ h.1 ∙ w ∙ sym (number_else image q j (λ a. h.0 (g a)))
-]
+number_same image p q j w f g = grind (arith, number_cases, number_ahead, number_else)
 
 module _ (image : Image) (world : World) where
   abbrev P : ℕ → Pos
@@ -75,16 +48,14 @@ module _ (image : Image) (world : World) where
       → slots_at image world (suc t) ≡ all_opened (now_dests image (P t).next)
       (closed (P t).next (slots_at image world t))
   unfolding slots_at
-  slots_turn t a w = cond-false (P t).over _ _ a ∙ cond-true (is_within image (P t)) _ _
-      (lt-ltb (P t).next (first_number image (suc (P t).block)) w)
+  slots_turn t a w = grind (arith, cond-false, cond-true, lt-ltb)
 
   -- the slots after an edge
   pub slots_leave : (t : ℕ) → (P t).over ≡ false → first_number image (suc (P t).block) ≤ (P t).next
       → slots_at image world (suc t) ≡ all_opened (opens_at image (P t).block (choice image (P t)))
       (slots_at image world t)
   unfolding slots_at
-  slots_leave t a w = cond-false (P t).over _ _ a ∙ cond-false (is_within image (P t)) _ _
-      (le-ltb (P t).next (first_number image (suc (P t).block)) w)
+  slots_leave t a w = grind (arith, cond-false, le-ltb)
 
   -- the slots at the start
   pub slots_start : slots_at image world zero ≡ all_opened (start_dests image) none_open
@@ -95,8 +66,7 @@ module _ (image : Image) (world : World) where
     -- a block that is left has fired whole
     pub at_end : (t : ℕ) → (P t).over ≡ false → first_number image (suc (P t).block) ≤ (P t).next
         → (P t).next ≡ first_number image (suc (P t).block)
-    at_end t a w = let pl : Place image (P t) = place image world shape t a in
-        let h : (P t).next ≤ first_number image (suc (P t).block) = pl.high in omega arith
+    at_end t a w = grind (arith, place)
 
     -- the walk's path
     path_step : (t : ℕ) → (P (suc t)).over ≡ false → StepCase image world t
@@ -121,8 +91,7 @@ module _ (image : Image) (world : World) where
     -- an open slot is a port that is there
     edge_port : (b r j q : ℕ) → HasDest (opens_at image b r) j q → q < ports image j
     unfolding opens_at
-    edge_port b r j q g = let f = edge_all_from image b r (first_number image b) (size_of image b) j q g in
-        there.edge b r f.source j q f.has
+    edge_port b r j q g = grind (arith, edge_all_from, there.edge)
 
     port_step : (t j q : ℕ) → (P (suc t)).over ≡ false → StepCase image world t
         → ((P t).over ≡ false → slots_at image world t j q ≡ true → q < ports image j)
@@ -284,10 +253,7 @@ module _ (image : Image) (world : World) where
     -- at a block's end no advance is ahead
     pub end_number : (t j : ℕ) → first_number image (suc (P t).block) ≤ (P t).next
         → turn_number image (P t) j ≡ (P t).wave
-    end_number t j w =
-        number_else image (P t) j
-        (λ y. (let l : (P t).next ≤ j = y.low in let h : j < first_number image (suc (P t).block) = y.high in
-        omega arith))
+    end_number t j w = grind (arith, number_else)
 
     -- at the first block of a wave
     pub cross_number : (t j q : ℕ) → (P t).over ≡ false → first_number image (suc (P t).block) ≤ (P t).next

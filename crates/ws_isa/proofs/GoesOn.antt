@@ -1,15 +1,15 @@
 -- Laws of a walk: it goes on, its acts grow, its wave numbers never fall, and loads have no effect.
 use Rattle.std.proofs.Common.{ℕ, zero, suc, ◌+◌, ◌≡◌, ◌≤◌, Bool, true, false, List, [], ◌∷◌, ◌++◌, Option}
-use Rattle.std.proofs.Common.{Some, None, refl, sym, ap, ◌∙◌, inl, inr, arith, append_assoc}
+use Rattle.std.proofs.Common.{Some, None, refl, sym, ap, ◌∙◌, arith, append_assoc}
 use Rattle.std.proofs.lemmas.Bool.{cond-true, cond-false}
 use Rattle.std.proofs.lemmas.List.{append-nil}
 use Rattle.ws_words.specs.Outside.{Act, loads, stores, reads, prints, gives, takes, Outside, World}
 use Rattle.ws_isa.specs.declared.instr.Op.{Op}
 use Rattle.ws_isa.specs.declared.instr.Op.TheVariants.{Const, Alu, Merge, Advance, Steer, Phi, Send, Load}
 use Rattle.ws_isa.specs.declared.instr.Op.TheVariants.{Store, Input, Output, Give, Take, Nop, Halt}
-use Rattle.ws_isa.specs.Image.{Image, instr_at, is_memory, is_load_op, answer_op, after, after_op}
+use Rattle.ws_isa.specs.Image.{Image, is_memory, is_load_op, answer_op, after, after_op}
 use Rattle.ws_isa.specs.Formed.{Formed}
-use Rattle.ws_isa.specs.Walk.{Inst, Pos, pos, mem, walk, fires, fire, operands_at, with_inst}
+use Rattle.ws_isa.specs.Walk.{Inst, Pos, pos, mem, walk, fires, fire, with_inst}
 use Rattle.ws_isa.specs.Operations.{without_loads, effect_of}
 use Rattle.ws_isa.specs.Sound.{PortsThere, ShapeRules, Sound}
 use Rattle.ws_isa.specs.Open.{Walkable}
@@ -46,21 +46,7 @@ keep_others (takes p w ∷ acts) more = ap (λ (x : List Act). takes p w ∷ x) 
 -- an answer depends on the effect alone
 pub answer_by_effect : (op : Op) (xs : List ℕ) (o : Outside) → answer_op op xs (effect_of o) ≡ answer_op op xs
     o
-answer_by_effect (Load a) xs o = refl
-answer_by_effect (Store a) xs o = refl
-answer_by_effect Input xs o = refl
-answer_by_effect Output xs o = refl
-answer_by_effect (Give p) xs o = refl
-answer_by_effect (Take p) xs o = refl
-answer_by_effect Nop xs o = refl
-answer_by_effect Halt xs o = refl
-answer_by_effect (Const n) xs o = refl
-answer_by_effect (Alu f) xs o = refl
-answer_by_effect Merge xs o = refl
-answer_by_effect Advance xs o = refl
-answer_by_effect Steer xs o = refl
-answer_by_effect Phi xs o = refl
-answer_by_effect (Send k) xs o = refl
+answer_by_effect op xs o = grind arith
 
 -- what is outside, with these acts
 abbrev pub with_acts_of : Outside → List Act → Outside
@@ -69,44 +55,12 @@ with_acts_of o acts = record { cells = o.cells; input = o.input; left = o.left; 
 -- a load has no effect
 pub load_has_no_effect : (op : Op) (xs : List ℕ) (o : Outside) → is_load_op op ≡ true
     → effect_of (after_op op xs o) ≡ effect_of o
-load_has_no_effect (Load a) xs o e = ap (with_acts_of o) (drop_load o.acts a _)
-load_has_no_effect (Store a) xs o e = absurd (cc)
-load_has_no_effect Input xs o e = absurd (cc)
-load_has_no_effect Output xs o e = absurd (cc)
-load_has_no_effect (Give p) xs o e = absurd (cc)
-load_has_no_effect (Take p) xs o e = absurd (cc)
-load_has_no_effect Nop xs o e = absurd (cc)
-load_has_no_effect Halt xs o e = absurd (cc)
-load_has_no_effect (Const n) xs o e = absurd (cc)
-load_has_no_effect (Alu f) xs o e = absurd (cc)
-load_has_no_effect Merge xs o e = absurd (cc)
-load_has_no_effect Advance xs o e = absurd (cc)
-load_has_no_effect Steer xs o e = absurd (cc)
-load_has_no_effect Phi xs o e = absurd (cc)
-load_has_no_effect (Send k) xs o e = absurd (cc)
+load_has_no_effect op xs o e = grind (arith, drop_load, o.acts)
 
 -- all others take the same effect whenever loads were answered
 pub others_take_effect : (op : Op) (xs : List ℕ) (o : Outside) → is_load_op op ≡ false
     → effect_of (after_op op xs o) ≡ after_op op xs (effect_of o)
-others_take_effect (Load a) xs o e = absurd (cc)
-others_take_effect (Store a) xs o e = ap (with_acts_of (after_op (Store a) xs o))
-    (keep_others o.acts (stores a _ _ ∷ []))
-others_take_effect Input xs o e = ap (with_acts_of (after_op Input xs o)) (keep_others o.acts (reads ∷ []))
-others_take_effect Output xs o e = ap (with_acts_of (after_op Output xs o))
-    (keep_others o.acts (prints _ ∷ []))
-others_take_effect (Give p) xs o e = ap (with_acts_of (after_op (Give p) xs o))
-    (keep_others o.acts (gives p ∷ []))
-others_take_effect (Take p) xs o e = ap (with_acts_of (after_op (Take p) xs o))
-    (keep_others o.acts (takes p _ ∷ []))
-others_take_effect Nop xs o e = refl
-others_take_effect Halt xs o e = refl
-others_take_effect (Const n) xs o e = refl
-others_take_effect (Alu f) xs o e = refl
-others_take_effect Merge xs o e = refl
-others_take_effect Advance xs o e = refl
-others_take_effect Steer xs o e = refl
-others_take_effect Phi xs o e = refl
-others_take_effect (Send k) xs o e = refl
+others_take_effect op xs o e = grind (arith, keep_others, o.acts)
 
 -- the acts of an operation come after those before
 more_acts : (op : Op) (xs : List ℕ) (o : Outside) → (acts : List Act)
@@ -133,20 +87,12 @@ module _ (image : Image) (world : World) where
 
   still : (t : ℕ) → (pos image world (suc t)).memory ≡ (pos image world t).memory → Grows t (suc t)
   unfolding mem
-  still t e = ([], ap (λ (o : Outside). o.acts) e ∙ sym (append-nil (pos image world t).memory.acts))
+  still t e = (grind (arith, append-nil))
 
   fired_acts : (t : ℕ) (b : Bool) → is_memory image (pos image world t).next ≡ b
       → pos image world (suc t) ≡ fire image (pos image world t) → Grows t (suc t)
   unfolding mem after
-  fired_acts t true m e =
-      let a = more_acts (instr_at image (pos image world t).next).op (operands_at image (pos image world t))
-      (pos image world t).memory in (
-        a.0,
-        ap (λ (o : Outside). o.acts) (ap (λ (p : Pos). p.memory) e ∙ cond-true
-            (is_memory image (pos image world t).next) _ _ m) ∙ a.1,
-      )
-  fired_acts t false m e =
-      still t (ap (λ (p : Pos). p.memory) e ∙ cond-false (is_memory image (pos image world t).next) _ _ m)
+  fired_acts t b m e = grind (arith, more_acts, cond-true, still, cond-false)
 
   acts_step : (t : ℕ) → StepCase image world t → Grows t (suc t)
   acts_step t (stands a e f) = still t (ap (λ (p : Pos). p.memory) e)
@@ -156,7 +102,7 @@ module _ (image : Image) (world : World) where
 
   -- acts of fewer steps stand before those of more
   pub acts_grow : (d t : ℕ) → Grows t (d + t)
-  acts_grow zero t = let e : 0 + t ≡ t = omega arith in rw e ([], sym (append-nil (mem image world t).acts))
+  acts_grow zero t = grind (arith, append-nil)
   acts_grow (suc d) t =
       let e : suc d + t ≡ suc (d + t) = omega arith in
       let a = acts_grow d t in
@@ -174,7 +120,7 @@ module _ (image : Image) (world : World) where
   -- so do instances
   pub walk_goes_on : (d t : ℕ) → (more : List Inst) × (walk image world (d + t) ≡ walk image world t ++ more)
   unfolding walk
-  walk_goes_on zero t = let e : 0 + t ≡ t = omega arith in rw e ([], sym (append-nil (walk image world t)))
+  walk_goes_on zero t = grind (arith, append-nil)
   walk_goes_on (suc d) t =
       let e : suc d + t ≡ suc (d + t) = omega arith in
       let a = walk_goes_on d t in
@@ -187,10 +133,7 @@ module _ (image : Image) (world : World) where
 
   wave_step : (shape : ShapeRules image) (t : ℕ) → (pos image world (suc t)).over ≡ false
       → (pos image world t).wave ≤ (pos image world (suc t)).wave
-  wave_step shape t o = elim (later_step image world shape t o (step_case image world t)) [
-    | inl l ↦ omega arith
-    | inr l ↦ (let e : (pos image world t).wave ≡ (pos image world (suc t)).wave = l.0 in omega arith)
-  ]
+  wave_step shape t o = grind (arith, later_step, step_case)
 
   -- wave numbers never fall
   pub waves_rise : (shape : ShapeRules image) (d t : ℕ) → (pos image world (d + t)).over ≡ false

@@ -3,7 +3,7 @@ use Rattle.std.proofs.Common.{ℕ, zero, suc, ◌+◌, ◌*◌, ◌≡◌, ◌<�
 use Rattle.std.proofs.Common.{Option, Some, None, slice_index, refl, sym, ap, ◌∙◌, subst, inl, inr, arith}
 use Rattle.std.proofs.lemmas.Bool.{cases_Bool, both_ways}
 use Rattle.ws_words.specs.Outside.{World}
-use Rattle.ws_isa.specs.Image.{Instr, Exit, Goto, Branch, Landings, Stop, Image, no_block, no_instr, flat}
+use Rattle.ws_isa.specs.Image.{Instr, Exit, Image, no_block, no_instr}
 use Rattle.ws_isa.specs.Image.{block_at, first_number, size_of, ports, stops, target, is_first, IsBlock}
 use Rattle.ws_isa.specs.Walk.{Pos, pos, mem, walk, fires, enter, choice, choice_of, with_tokens, edge_tokens}
 use Rattle.ws_isa.specs.Walk.{with_inst}
@@ -14,7 +14,7 @@ use Rattle.ws_isa.specs.Standing.{turn_number, slots_at}
 use Rattle.ws_isa.specs.declared.walker.Walker.{Walker}
 use Rattle.ws_isa.specs.Shows.{crossed, At}
 use Rattle.ws_isa.proofs.Slots.{FromEdge, edge_all_from, all_opened_from, edge_lands}
-use Rattle.ws_isa.proofs.Steps.{StepCase, stands, turns, ends, leaves, step_case, Place, place}
+use Rattle.ws_isa.proofs.Steps.{ends, step_case, Place, place}
 use Rattle.ws_isa.proofs.Flow.{slots_leave, path, at_end, slot_port, Stays, leave_stays, apart_edge}
 use Rattle.ws_isa.proofs.Flow.{end_number, cross_number, same_wave_number}
 use Rattle.ws_isa.proofs.There.{ports_there, edges_there}
@@ -24,10 +24,7 @@ use Rattle.ws_isa.proofs.Along.{path_end}
 use Rattle.ws_words.specs.Items.{nth, or_else}
 
 same_choice : (exit : Exit) (f g : ℕ → ℕ) → ((j : ℕ) → f j ≡ g j) → choice_of exit f ≡ choice_of exit g
-same_choice (Goto b) f g h = refl
-same_choice (Branch s b c) f g h = h s
-same_choice (Landings s ls) f g h = h s
-same_choice Stop f g h = refl
+same_choice exit f g h = grind arith
 
 -- what the code does when a block is left
 pub record Leaving (image : Image) (b r : ℕ) (old new : Walker) : Type 0 where
@@ -73,13 +70,7 @@ module _ (image : Image) (world : World) (ok : Walkable image) where
   -- a block that does not stop is left along an edge
   pub crossing : (t : ℕ) → (P t).over ≡ false → first_number image (suc (P t).block) ≤ (P t).next
       → stops image (P t).block ≡ false → Crossing t
-  crossing t o w st = go (step_case image world t)
-    where
-      go : StepCase image world t → Crossing t
-      go (stands a e f) = absurd (both_ways (P t).over o a)
-      go (turns a l e f) = absurd (omega arith)
-      go (ends a l s e f) = absurd (both_ways (stops image (P t).block) st s)
-      go (leaves a l s e f) = record { to = e; silent = f }
+  crossing t o w st = grind (arith, step_case, both_ways)
 
   module _ (t b r : ℕ) (old new : Walker) (at : At image world t b (first_number image (suc b)) old)
       (st : stops image b ≡ false) (ch : r ≡ choice_of (block_at image b).exit
@@ -101,8 +92,7 @@ module _ (image : Image) (world : World) (ok : Walkable image) where
 
     choice_is : choice image (P t) ≡ r
     unfolding choice
-    choice_is = sym (ch ∙ same_choice (block_at image b).exit _ (P t).results at.results
-        ∙ ap (λ (x : ℕ). choice_of (block_at image x).exit (P t).results) (sym at.block))
+    choice_is = grind (arith, same_choice)
 
     target_is : target image (P t).block (choice image (P t)) ≡ target image b r
     target_is = ap (λ (x : ℕ). target image x (choice image (P t))) at.block ∙ ap (target image b) choice_is
@@ -119,11 +109,8 @@ module _ (image : Image) (world : World) (ok : Walkable image) where
 
     number_is : (j q : ℕ) → slots_at image world (suc t) j q ≡ true → turn_number image (P (suc t)) j
         ≡ (P t).wave
-    number_is j q s = elim (cases_Bool (is_first image (target image (P t).block (choice image (P t))))) [
-      | inl fst ↦ (cross_number image world there ok.shape ok.slots t j q at.running over_end stay bl nx wv
-          fst s).1
-      | inr fst ↦ same_wave_number image world there ok.shape ok.slots t j at.running stay bl nx wv fst
-    ]
+    number_is j q s =
+        grind (arith, cases_Bool, cross_number, there, ok.shape, over_end, stay, bl, nx, wv, same_wave_number)
 
     size : size_of image (P t).block ≡ length (block_at image (P t).block).instrs
     size = size_of_block image (P t).block here.block
@@ -134,36 +121,17 @@ module _ (image : Image) (world : World) (ok : Walkable image) where
     edges_are : edge_all image (P t).block (choice image (P t)) (first_number image (P t).block)
         (length (block_at image (P t).block).instrs) ≡ opens_at image (P t).block (choice image (P t))
     unfolding opens_at
-    edges_are = ap (edge_all image (P t).block (choice image (P t)) (first_number image (P t).block))
-        (sym size)
+    edges_are = grind (arith, size)
 
     fits : Fits (edge_all image (P t).block (choice image (P t)) (first_number image (P t).block)
         (length (block_at image (P t).block).instrs)) (length old.table.operands)
-    fits = record {
-      port = λ j q g.
-          (let a : q < ports image j =
-          (edges_there image ok.suited.references (P t).block (choice image (P t))
-          (first_number image (P t).block) (length (block_at image (P t).block).instrs) j q g).1 in
-          let f : ports image j ≤ 3 = few_ports image j in omega arith);
-      place = λ j q g.
-          (let x = edges_there image ok.suited.references (P t).block (choice image (P t))
-          (first_number image (P t).block) (length (block_at image (P t).block).instrs) j q g in
-          let a : q < ports image j = x.1 in let f : ports image j ≤ 3 = few_ports image j in
-          let n : j ≤ length (flat image.blocks) = x.0.1 in
-          let z : length old.table.operands ≡ 4 * suc (length (flat image.blocks)) = at.operands_size in
-          omega arith);
-    }
+    fits = grind (arith, edges_there, few_ports)
 
     operands_are : new.table.operands ≡ crossed
         (block_at image (target image (P t).block (choice image (P t)))).pads (choice image (P t))
         (block_at image (P t).block).instrs (first_number image (P t).block) old.table.results
         old.table.operands
-    operands_are = h.operands ∙ sym (
-        ap (λ (x : ℕ). crossed (block_at image (target image x (choice image (P t)))).pads
-        (choice image (P t)) (block_at image x).instrs (first_number image x) old.table.results
-        old.table.operands) at.block
-        ∙ ap (λ (y : ℕ). crossed (block_at image (target image b y)).pads y (block_at image b).instrs
-        (first_number image b) old.table.results old.table.operands) choice_is)
+    operands_are = grind (arith, old.table.results, choice_is)
 
     fresh : Fresh (opens_at image (P t).block (choice image (P t))) (slots_at image world t)
     fresh = (ok.slots.ends (P t).block _ (path_end (path image world there ok.shape ok.slots t at.running)

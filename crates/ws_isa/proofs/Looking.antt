@@ -11,9 +11,8 @@ use Rattle.ws_words.specs.Items.{nth, or_else}
 -- a block by its place, whatever is read past the end
 pub block_read : (xs : List Block) (n : ℕ) (d : Block) → n < length xs → or_else (nth (map view.block xs) n)
     no_block ≡ view.block (slice_index_or xs n d)
-block_read [] n d l = absurd (omega arith)
-block_read (y ∷ xs) zero d l = refl
 block_read (y ∷ xs) (suc n) d l = block_read xs n d (omega arith)
+block_read xs n d l = grind arith
 
 -- the length of an array that is there
 pub array_found : (xs : List ArrayDecl) (a n : ℕ) (x : ArrayDecl) → a ≡ suc n → n < length xs
@@ -50,8 +49,6 @@ starts_other image place m x y s ex ey = rw (sym ex, sym ey, s) refl
 
 -- the landing that the code looks up
 pub landing_found : (ls : List ℕ) (a : ℕ) → slice_index ls (min a (length ls - 1)) ≡ landing_of ls a
-landing_found [] a = refl
-landing_found (l ∷ []) a = let e : min a (length (l ∷ []) - 1) ≡ 0 = omega arith in rw e refl
-landing_found (l ∷ m ∷ ls) zero = let e : min 0 (length (l ∷ m ∷ ls) - 1) ≡ 0 = omega arith in rw e refl
 landing_found (l ∷ m ∷ ls) (suc a) = let e : min (suc a) (length (l ∷ m ∷ ls) - 1)
     ≡ suc (min a (length (m ∷ ls) - 1)) = omega arith in rw e (landing_found (m ∷ ls) a)
+landing_found ls a = grind arith

@@ -22,12 +22,10 @@ abbrev pub Alive : BlockTable → ℕ → Type 0
 Alive p place = ((length (block_in p place).instrs == 0) && is_first (image_of p) (suc place)) ≡ false
 
 idle_low : (is : List Instr) (n m : ℕ) → n ≤ m → idle is n ≤ suc m
-idle_low [] n m l = omega arith
-idle_low (i ∷ is) n m l = omega arith
+idle_low is n m l = grind arith
 
 first_false : (is : List Instr) (f : Bool) → is ≡ [] → ((length is == 0) && f) ≡ false → f ≡ false
-first_false [] f e h = h
-first_false (i ∷ is) f e h = absurd (cc)
+first_false is f e h = grind arith
 
 -- each block that is passed leaves less
 pub lighter : (p : BlockTable) (place next a b : ℕ) → next < length p.blocks.now → Alive p next
@@ -35,9 +33,6 @@ pub lighter : (p : BlockTable) (place next a b : ℕ) → next < length p.blocks
     heft p next b < heft p place a
 lighter p place next a b l alive ahead e = go (block_in p place).instrs refl
   where
-    size : ℕ
-    size = length p.blocks.now
-
     go : (is : List Instr) → (block_in p place).instrs ≡ is → heft p next b < heft p place a
     go (i ∷ is) h =
         let n : b + suc (length is) ≡ a = ap (λ (x : List Instr). b + length x) (sym h) ∙ e in

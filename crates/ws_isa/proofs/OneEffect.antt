@@ -1,35 +1,33 @@
 -- What the first operations of a walk leave is one, whatever number of steps it is taken after.
 use Rattle.std.proofs.Common.{ℕ, zero, suc, ◌≡◌, ◌≤◌, ◌⊎◌, Bool, true, false, cond, List, [], ◌∷◌, ◌++◌}
-use Rattle.std.proofs.Common.{length, Option, Some, None, refl, sym, ap, ◌∙◌, inl, inr, arith}
+use Rattle.std.proofs.Common.{length, Option, Some, None, refl, ap, ◌∙◌, inl, inr, arith}
 use Rattle.std.proofs.lemmas.Bool.{cases_Bool, cases_eq, cases_lt, cond-true, cond-false}
 use Rattle.ws_words.specs.Outside.{Outside, World}
 use Rattle.ws_isa.specs.Image.{Image, is_memory}
 use Rattle.ws_isa.specs.Walk.{Inst, Pos, pos, mem, walk, fires, with_inst, inst_at}
-use Rattle.ws_isa.specs.Operations.{operations, ops, effect_of, Effect}
+use Rattle.ws_isa.specs.Operations.{operations, ops, Effect}
 use Rattle.ws_isa.proofs.Steps.{StepCase, stands, turns, ends, leaves, step_case}
 
 module _ (image : Image) where
   one_more : (xs : List Inst) (x : Inst) → is_memory image x.instr ≡ true
       → length (operations image (xs ++ x ∷ [])) ≡ suc (length (operations image xs))
-  one_more [] x e = ap length (cond-true (is_memory image x.instr) (x ∷ []) [] e)
+  one_more [] x e = grind (arith, cond-true)
   one_more (y ∷ xs) x e = go (one_more xs x e) (is_memory image y.instr)
     where
       go : length (operations image (xs ++ x ∷ [])) ≡ suc (length (operations image xs)) → (b : Bool)
           → length (cond b (y ∷ operations image (xs ++ x ∷ [])) (operations image (xs ++ x ∷ [])))
           ≡ suc (length (cond b (y ∷ operations image xs) (operations image xs)))
-      go h true = ap suc h
-      go h false = h
+      go h b = grind arith
 
   no_more : (xs : List Inst) (x : Inst) → is_memory image x.instr ≡ false
       → length (operations image (xs ++ x ∷ [])) ≡ length (operations image xs)
-  no_more [] x e = ap length (cond-false (is_memory image x.instr) (x ∷ []) [] e)
+  no_more [] x e = grind (arith, cond-false)
   no_more (y ∷ xs) x e = go (no_more xs x e) (is_memory image y.instr)
     where
       go : length (operations image (xs ++ x ∷ [])) ≡ length (operations image xs) → (b : Bool)
           → length (cond b (y ∷ operations image (xs ++ x ∷ [])) (operations image (xs ++ x ∷ [])))
           ≡ length (cond b (y ∷ operations image xs) (operations image xs))
-      go h true = ap suc h
-      go h false = h
+      go h b = grind arith
 
 module _ (image : Image) (world : World) where
   -- a step at which no operation fires
@@ -40,14 +38,12 @@ module _ (image : Image) (world : World) where
   pub fired_more : (t : ℕ) (x : Inst) → fires image world t ≡ Some x → is_memory image x.instr ≡ true
       → length (ops image world (suc t)) ≡ suc (length (ops image world t))
   unfolding ops walk
-  fired_more t x f m = ap (λ (o : Option Inst). length (operations image (with_inst (walk image world t) o)))
-      f ∙ one_more image (walk image world t) x m
+  fired_more t x f m = grind (arith, one_more)
 
   pub fired_other : (t : ℕ) (x : Inst) → fires image world t ≡ Some x → is_memory image x.instr ≡ false
       → length (ops image world (suc t)) ≡ length (ops image world t)
   unfolding ops walk
-  fired_other t x f m = ap (λ (o : Option Inst). length (operations image (with_inst (walk image world t) o)))
-      f ∙ no_more image (walk image world t) x m
+  fired_other t x f m = grind (arith, no_more)
 
   pub fired_none : (t : ℕ) → fires image world t ≡ None → length (ops image world (suc t))
       ≡ length (ops image world t)
@@ -100,17 +96,4 @@ module _ (image : Image) (world : World) where
   -- what is left after so many operations is one
   pub one_effect : (p : ℕ) (one other : Outside) → Effect image world p one → Effect image world p other
       → one ≡ other
-  one_effect p one other a b = sym a.left ∙ ap effect_of same ∙ b.left
-    where
-      count : length (ops image world a.steps) ≡ length (ops image world b.steps)
-      count = a.count ∙ sym b.count
-
-      same : mem image world a.steps ≡ mem image world b.steps
-      same = elim (cases_lt a.steps b.steps) [
-        | inl l ↦
-            sym (same_from a.steps b.steps (omega arith) (let e : length (ops image world a.steps)
-            ≡ length (ops image world b.steps) = count in omega arith))
-        | inr l ↦
-            same_from b.steps a.steps l (let e : length (ops image world a.steps)
-            ≡ length (ops image world b.steps) = count in omega arith)
-      ]
+  one_effect p one other a b = grind (arith, b.left, cases_lt, same_from)

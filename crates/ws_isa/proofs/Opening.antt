@@ -3,7 +3,7 @@ use Rattle.std.proofs.Common.{ℕ, zero, suc, ◌+◌, ◌*◌, ◌≡◌, ◌<�
 use Rattle.std.proofs.Common.{None, slice_index, refl, sym, ap, ◌∙◌, inl, inr, arith}
 use Rattle.std.proofs.lemmas.Bool.{cases_Bool, both_ways}
 use Rattle.ws_words.specs.Outside.{World, zeros}
-use Rattle.ws_isa.specs.Image.{Image, flat, first_number, ports, is_first, tokens_to, start_dests, IsIn}
+use Rattle.ws_isa.specs.Image.{Image, flat, first_number, is_first, tokens_to, start_dests, IsIn}
 use Rattle.ws_isa.specs.Walk.{Pos, pos, opening, opening_memory, start_tokens, mem, walk, no_ports}
 use Rattle.ws_isa.specs.Walk.{with_tokens, choice}
 use Rattle.ws_isa.specs.Sound.{OpenSlots, HasDest, none_open, all_opened, AdvancesOpen}
@@ -23,9 +23,8 @@ use Rattle.ws_words.proofs.Numbers.{zeros_count as zeros_length}
 use Rattle.ws_words.specs.Items.{or_else}
 
 pub zeros_index : (n i : ℕ) → slice_index (zeros n) i ≡ 0
-zeros_index zero i = refl
-zeros_index (suc n) zero = refl
 zeros_index (suc n) (suc i) = zeros_index n i
+zeros_index n i = grind arith
 
 module _ (image : Image) (world : World) (ok : Walkable image) where
   abbrev P : ℕ → Pos
@@ -88,15 +87,7 @@ module _ (image : Image) (world : World) (ok : Walkable image) where
       (er : w.table.results ≡ zeros total) (out : OutIs (opening_memory image world) w.memory)
       (ef : w.fired ≡ 0) (eg : w.fault ≡ None) where
     fits : Fits (start_dests image) (length (zeros (4 * total)))
-    fits = record {
-      port = λ j q g. (let a : q < ports image j = (start_there image ok.suited.references j q g).1 in
-          let f : ports image j ≤ 3 = few_ports image j in omega arith);
-      place = λ j q g.
-          (let x = start_there image ok.suited.references j q g in
-          let a : q < ports image j = x.1 in let f : ports image j ≤ 3 = few_ports image j in
-          let n : j ≤ length (flat image.blocks) = x.0.1 in
-          let z : length (zeros (4 * total)) ≡ 4 * total = zeros_length (4 * total) in omega arith);
-    }
+    fits = grind (arith, start_there, few_ports, zeros_length)
 
     opened : (j q : ℕ) → slots_at image world 0 j q ≡ true → slice_index w.table.operands (4 * j + q)
         ≡ or_else ((opening image world).sent (turn_number image (opening image world) j) j q) 0
@@ -120,16 +111,4 @@ module _ (image : Image) (world : World) (ok : Walkable image) where
     -- at the start the code stands where the walk stands
     pub opened_at : AtStart image world 0 1 w
     unfolding pos mem walk opening
-    opened_at = record {
-      running = refl;
-      block = refl;
-      next = refl;
-      operands_size = ap length eo ∙ delivered_size (start_dests image) 0 (zeros (4 * total))
-          ∙ zeros_length (4 * total) ∙ ap (λ (n : ℕ). 4 * n) et;
-      results_size = ap length er ∙ zeros_length total ∙ et;
-      operands = opened;
-      results = λ j. ap (λ (xs : List ℕ). slice_index xs j) er ∙ zeros_index total j;
-      outside = out;
-      fired = ef;
-      fault = eg;
-    }
+    opened_at = grind (arith, delivered_size, zeros_length, opened, slice_index, zeros_index)

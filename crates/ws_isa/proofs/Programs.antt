@@ -1,5 +1,5 @@
 -- The code's table of an image's blocks.
-use Rattle.std.proofs.Common.{ℕ, zero, suc, ◌+◌, ◌-◌, ◌≡◌, ◌<◌, ◌≤◌, ◌&&◌, ◌==◌, Bool, true, false, List, []}
+use Rattle.std.proofs.Common.{ℕ, suc, ◌+◌, ◌-◌, ◌≡◌, ◌<◌, ◌≤◌, ◌&&◌, ◌==◌, Bool, true, false, List}
 use Rattle.std.proofs.Common.{◌∷◌, length, map, slice_index, slice_index_or, refl, sym, ap, ◌∙◌, subst, arith}
 use Rattle.std.proofs.lemmas.Bool.{and_parts}
 use Rattle.std.proofs.lemmas.Bool.Decides.{nat_tests}
@@ -124,16 +124,14 @@ module _ (p : BlockTable) where
   -- the instructions of a block, one after the other
   instr_found : (xs : List Instr) (i : ℕ) (x : Instr) (d : plain.Instr) → i < length xs
       → x ≡ slice_index_or xs i x → or_else (nth (map view.instr xs) i) d ≡ view.instr x
-  instr_found [] i x d l e = absurd (omega arith)
-  instr_found (y ∷ xs) zero x d l e = ap view.instr (sym e)
   instr_found (y ∷ xs) (suc i) x d l e = instr_found xs i x d (omega arith) e
+  instr_found xs i x d l e = grind arith
 
   module _ (n : ℕ) (l : n < length p.blocks.now) (blk : Block) (eb : view.block blk ≡ block_in p n)
       (xs : List Instr) (ex : xs ≡ blk.instrs.items) (first : ℕ)
       (ef : first ≡ first_number (image_of p) (suc n)) where
     block_length : length (block_in p n).instrs ≡ length xs
-    block_length = ap (λ (b : plain.Block). length b.instrs) (sym eb) ∙ length-map blk.instrs.items view.instr
-        ∙ ap length (sym ex)
+    block_length = grind (arith, length-map, blk.instrs.items)
 
     next_number : first_number (image_of p) (suc (suc n)) ≡ first_number (image_of p) (suc n) + length xs
     next_number = number_next (image_of p) n (inside n l)
@@ -142,14 +140,12 @@ module _ (p : BlockTable) where
     -- an instruction of a block by its place is within the block
     pub number_below : (i : ℕ) → i < length xs → first_number (image_of p) (suc n) + i < first_number
         (image_of p) (suc (suc n))
-    number_below i h = let e : first_number (image_of p) (suc (suc n)) ≡ first_number (image_of p) (suc n)
-        + length xs = next_number in omega arith
+    number_below i h = grind (arith, next_number)
 
     -- after its last instruction a block is at its end
     pub number_end : (i : ℕ) → i ≡ length xs → first_number (image_of p) (suc n) + i ≡ first_number
         (image_of p) (suc (suc n))
-    number_end i h = let e : first_number (image_of p) (suc (suc n)) ≡ first_number (image_of p) (suc n)
-        + length xs = next_number in omega arith
+    number_end i h = grind (arith, next_number)
 
     instr_here : (i : ℕ) (x : Instr) → i < length xs → x ≡ slice_index_or xs i x
         → instr_at (image_of p) (first_number (image_of p) (suc n) + i) ≡ view.instr x
@@ -197,8 +193,7 @@ module _ (p : BlockTable) where
 
   -- there is a block
   pub some_block : Walkable (image_of p) → 0 < length p.blocks.now
-  some_block ok = let a : 1 ≤ length (image_of p).blocks = ok.shape.has_block.1 in
-      let b : length (image_of p).blocks ≡ length p.blocks.now = blocks_long in omega arith
+  some_block ok = grind (arith, blocks_long)
 
   -- pad 0 of block 1 is where the start pulse goes
   pub start_is : (b : Block) → view.block b ≡ block_in p 0 → pad_of (map view.pad b.pads.items) 0

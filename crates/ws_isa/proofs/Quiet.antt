@@ -2,8 +2,7 @@
 use Rattle.std.proofs.Common.{ℕ, zero, suc, ◌+◌, ◌≡◌, ◌<◌, List, [], ◌∷◌, length, Some, slice_index, refl}
 use Rattle.std.proofs.Common.{sym, ap, ◌∙◌, subst, arith}
 use Rattle.ws_isa.specs.declared.instr.Op.{Op}
-use Rattle.ws_isa.specs.declared.instr.Op.TheVariants.{Const, Alu, Merge, Advance, Steer, Phi, Send, Load}
-use Rattle.ws_isa.specs.declared.instr.Op.TheVariants.{Store, Input, Output, Give, Take, Nop, Halt}
+use Rattle.ws_isa.specs.declared.instr.Op.TheVariants.{Steer, Send}
 use Rattle.ws_isa.specs.declared.instr.Dest.{Dest}
 use Rattle.ws_isa.specs.Image.{Instr, Goto, Block, Pad, Image, no_block, instr_at, block_at, first_number}
 use Rattle.ws_isa.specs.Image.{IsBlock, IsIn}
@@ -21,21 +20,7 @@ Quiet is = (i : ℕ) (x : Instr) → nth is i ≡ Some x → (x.op ≡ Steer →
 
 none_sent : (pads : List Pad) (r : ℕ) (i : Instr) (op : Op) → (op ≡ Steer → ⊥) → ((n : ℕ) → op ≡ Send n → ⊥)
     → edge_by pads r i op ≡ []
-none_sent pads r i Steer no_steer no_send = absurd (no_steer refl)
-none_sent pads r i (Send n) no_steer no_send = absurd (no_send n refl)
-none_sent pads r i (Const n) no_steer no_send = refl
-none_sent pads r i (Alu o) no_steer no_send = refl
-none_sent pads r i Merge no_steer no_send = refl
-none_sent pads r i Advance no_steer no_send = refl
-none_sent pads r i Phi no_steer no_send = refl
-none_sent pads r i (Load a) no_steer no_send = refl
-none_sent pads r i (Store a) no_steer no_send = refl
-none_sent pads r i Input no_steer no_send = refl
-none_sent pads r i Output no_steer no_send = refl
-none_sent pads r i (Give p) no_steer no_send = refl
-none_sent pads r i (Take p) no_steer no_send = refl
-none_sent pads r i Nop no_steer no_send = refl
-none_sent pads r i Halt no_steer no_send = refl
+none_sent pads r i op no_steer no_send = grind arith
 
 crossed_quiet : (pads : List Pad) (r : ℕ) (is : List Instr) (k : ℕ) (results operands : List ℕ) → Quiet is
     → crossed pads r is k results operands ≡ operands
@@ -47,9 +32,8 @@ crossed_quiet pads r (x ∷ is) k results operands quiet =
     ∙ crossed_quiet pads r is (suc k) results operands (λ i y e. quiet (suc i) y e)
 
 there : (xs : List Instr) (i : ℕ) (x : Instr) → nth xs i ≡ Some x → i < length xs
-there [] i x e = absurd (cc)
-there (y ∷ xs) zero x e = omega arith
 there (y ∷ xs) (suc i) x e = let l : i < length xs = there xs i x e in omega arith
+there xs i x e = grind arith
 
 goto_quiet : (image : Image) → Walkable image → (n : ℕ) → n < length image.blocks → (c : ℕ)
     → (block_at image (suc n)).exit ≡ Goto c → Quiet (block_at image (suc n)).instrs

@@ -1,6 +1,6 @@
 -- Lemmas on lists of destinations: what they open, and what their tokens leave at ports.
 use Rattle.std.proofs.Common.{ℕ, zero, suc, ◌+◌, ◌≡◌, ◌<◌, ◌≤◌, ◌⊎◌, true, false, List, [], ◌∷◌, ◌++◌, length}
-use Rattle.std.proofs.Common.{Some, None, refl, sym, ap, ◌∙◌, inl, inr, arith, eq-eqb, ne_eqb}
+use Rattle.std.proofs.Common.{Some, refl, sym, ap, ◌∙◌, inl, inr, arith, eq-eqb, ne_eqb}
 use Rattle.std.proofs.lemmas.Bool.{cases_eq, both_ways}
 use Rattle.ws_isa.specs.declared.instr.Dest.{Dest}
 use Rattle.ws_isa.specs.Image.{Image, Token, tokens_to, edge_dests}
@@ -11,14 +11,7 @@ use Rattle.ws_words.specs.Items.{nth, or_else}
 pub opened_cases : (d : Dest) (o : OpenSlots) (j q : ℕ)
     → ((d.instr ≡ j) × (d.port ≡ q) × (opened d o j q ≡ true))
     ⊎ (((d.instr ≡ j) × (d.port ≡ q) → ⊥) × (opened d o j q ≡ o j q))
-opened_cases d o j q = go (cases_eq d.instr j) (cases_eq d.port q)
-  where
-    go : (d.instr ≡ j) ⊎ (d.instr ≡ j → ⊥) → (d.port ≡ q) ⊎ (d.port ≡ q → ⊥)
-        → ((d.instr ≡ j) × (d.port ≡ q) × (opened d o j q ≡ true))
-        ⊎ (((d.instr ≡ j) × (d.port ≡ q) → ⊥) × (opened d o j q ≡ o j q))
-    go (inl e) (inl f) = inl (e, f, rw (eq-eqb d.instr j e, eq-eqb d.port q f) refl)
-    go (inr n) f = inr ((λ h. n h.0), rw (ne_eqb d.instr j n) refl)
-    go (inl e) (inr n) = inr ((λ h. n h.1), rw (eq-eqb d.instr j e, ne_eqb d.port q n) refl)
+opened_cases d o j q = grind (arith, cases_eq, d.instr, d.port, eq-eqb, ne_eqb)
 
 pub opened_keeps : (d : Dest) (o : OpenSlots) (j q : ℕ) → o j q ≡ true → opened d o j q ≡ true
 opened_keeps d o j q e = elim (opened_cases d o j q) [ inl h ↦ h.2 | inr h ↦ h.1 ∙ e ]
@@ -26,16 +19,14 @@ opened_keeps d o j q e = elim (opened_cases d o j q) [ inl h ↦ h.2 | inr h ↦
 -- what is open stays open
 pub all_opened_keeps : (ds : List Dest) (o : OpenSlots) (j q : ℕ) → o j q ≡ true → all_opened ds o j q ≡ true
 all_opened_keeps [] o j q e = e
-all_opened_keeps (d ∷ ds) o j q e = all_opened_keeps ds (opened d o) j q (opened_keeps d o j q e)
+all_opened_keeps (d ∷ ds) o j q e =
+    grind (arith, opened_keeps, all_opened_keeps ds (opened d o) j q (opened_keeps d o j q e))
 
 -- what is open then was open, or is a destination
 pub all_opened_from : (ds : List Dest) (o : OpenSlots) (j q : ℕ) → all_opened ds o j q ≡ true
     → (o j q ≡ true) ⊎ HasDest ds j q
 all_opened_from [] o j q e = inl e
-all_opened_from (d ∷ ds) o j q e = elim (all_opened_from ds (opened d o) j q e) [
-  | inl h ↦ elim (opened_cases d o j q) [ inl g ↦ inr (inl (g.0, g.1)) | inr g ↦ inl (sym g.1 ∙ h) ]
-  | inr h ↦ inr (inr h)
-]
+all_opened_from (d ∷ ds) o j q e = grind (arith, opened_cases, all_opened_from ds (opened d o) j q e)
 
 -- destinations are open then
 pub all_opened_has : (ds : List Dest) (o : OpenSlots) (j q : ℕ) → HasDest ds j q → all_opened ds o j q ≡ true
@@ -87,13 +78,8 @@ has_append_cases (d ∷ ds) es j q (inr h) = elim (has_append_cases ds es j q h)
 ]
 
 pub has_at : (ds : List Dest) (n : ℕ) (d : Dest) → nth ds n ≡ Some d → HasDest ds d.instr d.port
-has_at [] n d e = absurd (none n e)
-  where
-    none : (n : ℕ) → None ≡ Some d → ⊥
-    none n h = cc
-has_at (x ∷ ds) zero d e =
-    inl (let f : x ≡ d = cc in (ap (λ (y : Dest). y.instr) f, ap (λ (y : Dest). y.port) f))
 has_at (x ∷ ds) (suc n) d e = inr (has_at ds n d e)
+has_at ds n d e = grind arith
 
 pub record SamePlace (w i p a b q : ℕ) : Type 0 where
   pub wave : w ≡ a
@@ -102,21 +88,7 @@ pub record SamePlace (w i p a b q : ℕ) : Type 0 where
 
 same_place_cases : (t : Token) (a j q : ℕ) → ((is_at t a j q ≡ true) × SamePlace t.wave t.instr t.port a j q)
     ⊎ ((is_at t a j q ≡ false) × (SamePlace t.wave t.instr t.port a j q → ⊥))
-same_place_cases t a j q = go (cases_eq t.wave a) (cases_eq t.instr j) (cases_eq t.port q)
-  where
-    go : (t.wave ≡ a) ⊎ (t.wave ≡ a → ⊥) → (t.instr ≡ j) ⊎ (t.instr ≡ j → ⊥) → (t.port ≡ q) ⊎ (t.port ≡ q → ⊥)
-        → ((is_at t a j q ≡ true) × SamePlace t.wave t.instr t.port a j q)
-        ⊎ ((is_at t a j q ≡ false) × (SamePlace t.wave t.instr t.port a j q → ⊥))
-    go (inl e) (inl f) (inl g) = inl (
-      rw (eq-eqb t.wave a e, eq-eqb t.instr j f, eq-eqb t.port q g) refl,
-      record { wave = e; instr = f; port = g },
-    )
-    go (inr n) f g = inr (rw (ne_eqb t.wave a n) refl, λ s. n s.wave)
-    go (inl e) (inr n) g = inr (rw (eq-eqb t.wave a e, ne_eqb t.instr j n) refl, λ s. n s.instr)
-    go (inl e) (inl f) (inr n) = inr (
-      rw (eq-eqb t.wave a e, eq-eqb t.instr j f, ne_eqb t.port q n) refl,
-      λ s. n s.port,
-    )
+same_place_cases t a j q = grind (arith, cases_eq, t.instr, t.port, eq-eqb, ne_eqb)
 
 -- what tokens leave at ports
 pub with_tokens_append : (ts us : List Token) (sent : Ports) → with_tokens (ts ++ us) sent ≡ with_tokens us
@@ -127,10 +99,7 @@ with_tokens_append (t ∷ ts) us sent = with_tokens_append ts us (with_token t s
 pub with_token_cases : (t : Token) (sent : Ports) (a j q : ℕ)
     → (SamePlace t.wave t.instr t.port a j q × (with_token t sent a j q ≡ Some t.value))
     ⊎ ((SamePlace t.wave t.instr t.port a j q → ⊥) × (with_token t sent a j q ≡ sent a j q))
-with_token_cases t sent a j q = elim (same_place_cases t a j q) [
-  | inl h ↦ inl (h.1, rw h.0 refl)
-  | inr h ↦ inr (h.1, rw h.0 refl)
-]
+with_token_cases t sent a j q = grind (arith, same_place_cases)
 
 -- where no token comes the value stays
 pub with_tokens_other : (w v : ℕ) (ds : List Dest) (sent : Ports) (a j q : ℕ) → (HasDest ds j q → ⊥)
@@ -243,7 +212,4 @@ gather_length f w i p (suc n) = ap suc (gather_length f w i (suc p) n)
 -- a slot is closed with its instruction, or stays
 pub closed_cases : (k : ℕ) (o : OpenSlots) (j q : ℕ) → ((k ≡ j) × (closed k o j q ≡ false))
     ⊎ ((k ≡ j → ⊥) × (closed k o j q ≡ o j q))
-closed_cases k o j q = elim (cases_eq k j) [
-  | inl e ↦ inl (e, rw (eq-eqb k j e) refl)
-  | inr n ↦ inr (n, rw (ne_eqb k j n) refl)
-]
+closed_cases k o j q = grind (arith, cases_eq, eq-eqb, ne_eqb)

@@ -1,25 +1,23 @@
 -- The walk's steps, the blocks it stands in, and that it fires each instance once.
-use Rattle.std.proofs.Common.{ℕ, zero, suc, ◌+◌, ◌-◌, ◌≡◌, ◌<◌, ◌≤◌, ◌⊎◌, Bool, true, false, cond, List, []}
+use Rattle.std.proofs.Common.{ℕ, zero, suc, ◌+◌, ◌-◌, ◌≡◌, ◌<◌, ◌≤◌, ◌⊎◌, Bool, true, false, cond, List}
 use Rattle.std.proofs.Common.{◌∷◌, length, Some, None, refl, sym, ap, ◌∙◌, inl, inr, arith}
 use Rattle.std.proofs.lemmas.Bool.{cases_Bool, cases_eq, cases_order, both_ways, cond-true, cond-false}
 use Rattle.std.proofs.lemmas.Bool.{ltb-true, ltb-false, lt-ltb, le-ltb}
 use Rattle.ws_words.specs.Outside.{World}
 use Rattle.ws_isa.specs.Image.{Image, Block, first_of, first_number, size_of, holder, block_of, stops, target}
 use Rattle.ws_isa.specs.Image.{is_first, is_advance, IsBlock, IsIn}
-use Rattle.ws_isa.specs.Walk.{Inst, Pos, pos, step, opening, enter, fire, fires, fires_from, is_within}
+use Rattle.ws_isa.specs.Walk.{Inst, Pos, pos, step, opening, enter, fire, fires, fires_from}
 use Rattle.ws_isa.specs.Walk.{inst_at, choice, wave_of, edge_tokens, with_tokens}
 use Rattle.ws_isa.specs.Sound.{ShapeRules}
 use Rattle.ws_isa.proofs.Counting.{first_one as first_of_zero}
 
 pub first_of_up : (xs : List Block) (n : ℕ) → first_of xs n ≤ first_of xs (suc n)
-first_of_up [] n = omega arith
-first_of_up (x ∷ xs) zero = let e : first_of xs zero ≡ 1 = first_of_zero xs in omega arith
 first_of_up (x ∷ xs) (suc n) = let e : first_of xs n ≤ first_of xs (suc n) = first_of_up xs n in omega arith
+first_of_up xs n = grind (arith, first_of_zero)
 
 pub first_of_pos : (xs : List Block) (n : ℕ) → 1 ≤ first_of xs n
-first_of_pos xs zero = let e : first_of xs zero ≡ 1 = first_of_zero xs in omega arith
-first_of_pos xs (suc n) = let e : first_of xs n ≤ first_of xs (suc n) = first_of_up xs n in
-    let f : 1 ≤ first_of xs n = first_of_pos xs n in omega arith
+first_of_pos xs zero = grind (arith, first_of_zero)
+first_of_pos xs (suc n) = grind (arith, first_of_up, first_of_pos xs n)
 
 pub first_of_le : (xs : List Block) (m n : ℕ) → m ≤ n → first_of xs m ≤ first_of xs n
 first_of_le xs m zero l = let e : m ≡ zero = omega arith in rw e (omega arith)
@@ -32,33 +30,23 @@ first_of_le xs m (suc n) l = elim (cases_eq m (suc n)) [
 -- numbers of blocks' first instructions never fall
 pub first_le : (image : Image) (b c : ℕ) → b ≤ c → first_number image b ≤ first_number image c
 unfolding first_number
-first_le image zero zero l = omega arith
-first_le image zero (suc c) l = first_of_pos image.blocks c
-first_le image (suc b) zero l = absurd (omega arith)
-first_le image (suc b) (suc c) l = first_of_le image.blocks b c (omega arith)
+first_le image b c l = grind (arith, first_of_pos, image.blocks, first_of_le)
 
 pub first_up : (image : Image) (b : ℕ) → first_number image b ≤ first_number image (suc b)
 first_up image b = first_le image b (suc b) (omega arith)
 
 pub holder_is : (xs : List Block) (s n k : ℕ) → n < length xs → first_of xs n ≤ suc k
     → suc k < first_of xs (suc n) → holder xs s k ≡ s + n
-holder_is [] s n k l a b = absurd (omega arith)
-holder_is (x ∷ xs) s zero k l a b =
-    let e : first_of xs zero ≡ 1 = first_of_zero xs in
-    rw (lt-ltb k (length x.instrs) (omega arith)) (omega arith)
 holder_is (x ∷ xs) s (suc n) k l a b =
     let e : 1 ≤ first_of xs n = first_of_pos xs n in
     let h : holder xs (suc s) (k - length x.instrs) ≡ suc s + n = holder_is xs (suc s) n (k - length x.instrs)
     (omega arith) (omega arith) (omega arith) in
     rw (le-ltb k (length x.instrs) (omega arith)) (omega (arith, h))
+holder_is xs s n k l a b = grind (arith, first_of_zero, lt-ltb)
 
 pub block_of_is : (image : Image) (b k : ℕ) → IsBlock image b → IsIn image b k → block_of image k ≡ b
 unfolding block_of first_number
-block_of_is image zero k h i = absurd (omega (arith, h.0))
-block_of_is image (suc b) zero h i =
-    absurd (let p : 1 ≤ first_of image.blocks b = first_of_pos image.blocks b in omega (arith, i.0))
-block_of_is image (suc b) (suc k) h i = holder_is image.blocks 1 b k (omega (arith, h.1)) i.0 i.1
-    ∙ (let e : 1 + b ≡ suc b = omega arith in e)
+block_of_is image b k h i = grind (arith, image.blocks, first_of_pos, holder_is)
 
 -- what one step does
 pub data StepCase (image : Image) (world : World) (t : ℕ) : Type 0 where
@@ -86,31 +74,7 @@ module _ (image : Image) (world : World) where
   -- what a step does
   pub step_case : (t : ℕ) → StepCase image world t
   unfolding pos step fires fires_from
-  step_case t = go (cases_Bool (pos image world t).over) (cases_Bool (is_within image (pos image world t)))
-      (cases_Bool (stops image (pos image world t).block))
-    where
-      go : ((pos image world t).over ≡ true) ⊎ ((pos image world t).over ≡ false)
-          → (is_within image (pos image world t) ≡ true) ⊎ (is_within image (pos image world t) ≡ false) →
-          (stops image (pos image world t).block ≡ true) ⊎ (stops image (pos image world t).block ≡ false)
-          → StepCase image world t
-      go (inl o) w s = stands o (cond-true (pos image world t).over (pos image world t) _ o) (rw o refl)
-      go (inr o) (inl w) s =
-          turns o (ltb-true (pos image world t).next (first_number image (suc (pos image world t).block)) w)
-          (cond-false (pos image world t).over (pos image world t) _ o ∙ cond-true
-          (is_within image (pos image world t)) _ _ w) (cond-false (pos image world t).over _ _ o
-          ∙ cond-true (is_within image (pos image world t)) _ _ w)
-      go (inr o) (inr w) (inl s) =
-          ends o (ltb-false (pos image world t).next (first_number image (suc (pos image world t).block)) w) s
-          (cond-false (pos image world t).over (pos image world t) _ o ∙ cond-false
-          (is_within image (pos image world t)) _ _ w ∙ cond-true (stops image (pos image world t).block) _ _
-          s) (cond-false (pos image world t).over _ _ o ∙ cond-false (is_within image (pos image world t)) _ _
-          w)
-      go (inr o) (inr w) (inr s) =
-          leaves o (ltb-false (pos image world t).next (first_number image (suc (pos image world t).block)) w)
-          s (cond-false (pos image world t).over (pos image world t) _ o
-          ∙ cond-false (is_within image (pos image world t)) _ _ w ∙ cond-false
-          (stops image (pos image world t).block) _ _ s) (cond-false (pos image world t).over _ _ o
-          ∙ cond-false (is_within image (pos image world t)) _ _ w)
+  step_case t = grind (arith, cases_Bool, cond-true, ltb-true, cond-false, ltb-false)
 
 -- the walk stands in a block, and the number of its wave is at least 1
 pub record Place (image : Image) (p : Pos) : Type 0 where
@@ -122,22 +86,11 @@ pub record Place (image : Image) (p : Pos) : Type 0 where
 module _ (image : Image) (world : World) (shape : ShapeRules image) where
   place_start : Place image (opening image world)
   unfolding opening is_first
-  place_start = record {
-    block = shape.has_block;
-    low = omega arith;
-    high = first_up image 1;
-    wave = omega arith;
-  }
+  place_start = grind (arith, first_up)
 
   place_fire : (p : Pos) → Place image p → p.next < first_number image (suc p.block)
       → Place image (fire image p)
-  place_fire p a l =
-      record {
-        block = a.block;
-        low = (let h : first_number image p.block ≤ p.next = a.low in omega arith);
-        high = l;
-        wave = a.wave;
-      }
+  place_fire p a l = grind arith
 
   place_leave : (p : Pos) (r : ℕ) → Place image p → stops image p.block ≡ false → (q : Pos)
       → q.block ≡ target image p.block r → q.next ≡ first_number image (target image p.block r) →
@@ -156,13 +109,7 @@ module _ (image : Image) (world : World) (shape : ShapeRules image) where
   place_step : (t : ℕ) → (pos image world (suc t)).over ≡ false → StepCase image world t
       → ((pos image world t).over ≡ false → Place image (pos image world t))
       → Place image (pos image world (suc t))
-  place_step t o (stands a e f) ih =
-      absurd (both_ways true (sym a ∙ ap (λ (p : Pos). p.over) (sym e) ∙ o) refl)
-  place_step t o (turns a w e f) ih = rw e (place_fire (pos image world t) (ih a) w)
-  place_step t o (ends a w s e f) ih = absurd (both_ways true (ap (λ (p : Pos). p.over) (sym e) ∙ o) refl)
-  place_step t o (leaves a w s e f) ih = place_leave (pos image world t) (choice image (pos image world t))
-      (ih a) s (pos image world (suc t))
-      (ap (λ (p : Pos). p.block) e) (ap (λ (p : Pos). p.next) e) (ap (λ (p : Pos). p.wave) e)
+  place_step t o h ih = grind (arith, both_ways, place_fire, place_leave)
 
   -- before the first step
   pub pos_start : pos image world zero ≡ opening image world
@@ -225,11 +172,7 @@ module _ (image : Image) (world : World) (shape : ShapeRules image) where
 
   pub running_step : (t : ℕ) → (pos image world (suc t)).over ≡ false → StepCase image world t
       → (pos image world t).over ≡ false
-  running_step t o (stands a e f) =
-      absurd (both_ways true (sym a ∙ ap (λ (p : Pos). p.over) (sym e) ∙ o) refl)
-  running_step t o (turns a w e f) = a
-  running_step t o (ends a w s e f) = a
-  running_step t o (leaves a w s e f) = a
+  running_step t o h = grind (arith, both_ways)
 
   -- a walk that is over stays so
   pub running : (t : ℕ) → (pos image world (suc t)).over ≡ false → (pos image world t).over ≡ false
@@ -243,24 +186,7 @@ module _ (image : Image) (world : World) (shape : ShapeRules image) where
     pub next : pos image world (suc t) ≡ fire image (pos image world t)
 
   turn_of : (t : ℕ) (x : Inst) → fires image world t ≡ Some x → StepCase image world t → Turn t x
-  turn_of t x fx (stands a e f) = absurd (none_some (sym f ∙ fx))
-    where
-      none_some : None ≡ Some x → ⊥
-      none_some h = cc
-  turn_of t x fx (turns a w e f) = record {
-    over = a;
-    within = w;
-    next = e;
-    inst = (let h : Some x ≡ Some (inst_at image (pos image world t)) = sym fx ∙ f in cc);
-  }
-  turn_of t x fx (ends a w s e f) = absurd (none_some (sym f ∙ fx))
-    where
-      none_some : None ≡ Some x → ⊥
-      none_some h = cc
-  turn_of t x fx (leaves a w s e f) = absurd (none_some (sym f ∙ fx))
-    where
-      none_some : None ≡ Some x → ⊥
-      none_some h = cc
+  turn_of t x fx h = grind arith
 
   pub turn_at : (t : ℕ) (x : Inst) → fires image world t ≡ Some x → Turn t x
   turn_at t x fx = turn_of t x fx (step_case image world t)
@@ -278,28 +204,7 @@ module _ (image : Image) (world : World) (shape : ShapeRules image) where
           ((pos image world t).wave < (pos image world (suc u)).wave)
           ⊎ (((pos image world t).wave ≡ (pos image world (suc u)).wave)
           × ((pos image world t).next < (pos image world (suc u)).next))
-      go (inl e) ih = let fu : fires image world u ≡ Some x = rw e at fx in
-          let g : pos image world (suc u) ≡ fire image (pos image world u) = (turn_at u x fu).next in
-          let n : (pos image world (suc u)).next ≡ suc (pos image world u).next =
-          ap (λ (p : Pos). p.next) g in
-          let w : (pos image world u).wave ≡ (pos image world (suc u)).wave =
-          ap (λ (p : Pos). p.wave) (sym g) in
-          rw e (inr (w, omega arith))
-      go (inr n) ih = join (ih (omega arith)) (later_step u o (step_case image world u))
-        where
-          join : ((pos image world t).wave < (pos image world u).wave)
-              ⊎ (((pos image world t).wave ≡ (pos image world u).wave)
-              × ((pos image world t).next < (pos image world u).next)) →
-              ((pos image world u).wave < (pos image world (suc u)).wave)
-              ⊎ (((pos image world u).wave ≡ (pos image world (suc u)).wave)
-              × ((pos image world u).next ≤ (pos image world (suc u)).next)) →
-              ((pos image world t).wave < (pos image world (suc u)).wave)
-              ⊎ (((pos image world t).wave ≡ (pos image world (suc u)).wave)
-              × ((pos image world t).next < (pos image world (suc u)).next))
-          join (inl a) (inl b) = inl (omega arith)
-          join (inl a) (inr b) = inl (omega arith)
-          join (inr a) (inl b) = inl (omega arith)
-          join (inr a) (inr b) = inr (a.0 ∙ b.0, omega arith)
+      go h ih = grind (arith, turn_at, later_step, step_case)
 
   -- the number of the wave at an instance
   pub inst_wave : (t : ℕ) (x : Inst) → fires image world t ≡ Some x → x.wave ≡ cond (is_advance image x.instr)

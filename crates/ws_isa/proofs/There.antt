@@ -1,15 +1,13 @@
 -- References of an image: what they name is there.
-use Rattle.std.proofs.Common.{ℕ, zero, suc, ◌<◌, Bool, true, false, cond, List, [], ◌∷◌, eqb, sym, inl, inr}
+use Rattle.std.proofs.Common.{arith, ℕ, zero, suc, ◌<◌, Bool, cond, List, [], ◌∷◌, sym, inl, inr}
 use Rattle.std.specs.List.{AllByRecursion}
 use Rattle.ws_isa.specs.declared.instr.Op.{Op}
-use Rattle.ws_isa.specs.declared.instr.Op.TheVariants.{Const, Alu, Merge, Advance, Steer, Phi, Send, Load}
-use Rattle.ws_isa.specs.declared.instr.Op.TheVariants.{Store, Input, Output, Give, Take, Nop, Halt}
 use Rattle.ws_isa.specs.declared.instr.Dest.{Dest}
 use Rattle.ws_isa.specs.Image.{Instr, Pad, Block, Image, no_instr, no_block, flat, instr_at, block_at, ports}
-use Rattle.ws_isa.specs.Image.{pad_of, target, now_of, now_dests, edge_of, edge_dests, start_dests, IsInstr}
+use Rattle.ws_isa.specs.Image.{pad_of, now_of, now_dests, edge_of, edge_dests, start_dests, IsInstr}
 use Rattle.ws_isa.specs.Formed.{DestIn, DestsIn, References}
 use Rattle.ws_isa.specs.Sound.{HasDest, PortsThere, edge_all}
-use Rattle.ws_isa.proofs.Slots.{FromEdge, edge_all_from}
+use Rattle.ws_isa.proofs.Slots.{edge_all_from}
 use Rattle.ws_words.specs.Items.{nth, or_else}
 
 pub all_nth : {A : Type 0} (P : A → Type 0) (xs : List A) (k : ℕ) (d : A) → P d → AllByRecursion P xs
@@ -45,14 +43,12 @@ module _ (image : Image) (refs : References image) where
       no_instr tt refs.others)
 
   cond_there : (b : Bool) (ds es : List Dest) → There image ds → There image es → There image (cond b ds es)
-  cond_there true ds es h g = h
-  cond_there false ds es h g = g
+  cond_there b ds es h g = grind arith
 
   pad_there : (pads : List Pad) (n : ℕ) → AllByRecursion (λ (p : Pad). DestsIn image p.dests) pads
       → There image (pad_of pads n)
   pad_there [] n all = none_there image
-  pad_there (p ∷ pads) n all = cond_there (eqb p.number n) p.dests (pad_of pads n) (there image p.dests all.0)
-      (pad_there pads n all.1)
+  pad_there (p ∷ pads) n all = grind (arith, cond_there, p.dests, there, pad_there pads n all.1)
 
   pub pads_there : (b n : ℕ) → There image (pad_of (block_at image b).pads n)
   unfolding block_at no_block
@@ -62,21 +58,7 @@ module _ (image : Image) (refs : References image) where
       image.blocks b no_block tt refs.pads)
 
   now_of_there : (op : Op) (ds : List Dest) → There image ds → There image (now_of op ds)
-  now_of_there Steer ds h = none_there image
-  now_of_there (Send p) ds h = none_there image
-  now_of_there (Const n) ds h = h
-  now_of_there (Alu o) ds h = h
-  now_of_there Merge ds h = h
-  now_of_there Advance ds h = h
-  now_of_there Phi ds h = h
-  now_of_there (Load a) ds h = h
-  now_of_there (Store a) ds h = h
-  now_of_there Input ds h = h
-  now_of_there Output ds h = h
-  now_of_there (Give p) ds h = h
-  now_of_there (Take p) ds h = h
-  now_of_there Nop ds h = h
-  now_of_there Halt ds h = h
+  now_of_there op ds h = grind (arith, none_there)
 
   -- so are those that an instruction opens at its turn
   pub now_there : (k : ℕ) → There image (now_dests image k)
@@ -84,21 +66,7 @@ module _ (image : Image) (refs : References image) where
   now_there k = now_of_there (instr_at image k).op (instr_at image k).dests (dests_there k)
 
   edge_of_there : (b r k : ℕ) (op : Op) → There image (edge_of image b r (instr_at image k) op)
-  edge_of_there b r k Steer = cond_there (eqb r 0) _ _ (others_there k) (dests_there k)
-  edge_of_there b r k (Send p) = pads_there (target image b r) p
-  edge_of_there b r k (Const n) = none_there image
-  edge_of_there b r k (Alu o) = none_there image
-  edge_of_there b r k Merge = none_there image
-  edge_of_there b r k Advance = none_there image
-  edge_of_there b r k Phi = none_there image
-  edge_of_there b r k (Load a) = none_there image
-  edge_of_there b r k (Store a) = none_there image
-  edge_of_there b r k Input = none_there image
-  edge_of_there b r k Output = none_there image
-  edge_of_there b r k (Give p) = none_there image
-  edge_of_there b r k (Take p) = none_there image
-  edge_of_there b r k Nop = none_there image
-  edge_of_there b r k Halt = none_there image
+  edge_of_there b r k op = grind (arith, cond_there, others_there, dests_there, pads_there, none_there)
 
   pub edge_there : (b r k : ℕ) → There image (edge_dests image b r k)
   unfolding edge_dests
@@ -111,13 +79,8 @@ module _ (image : Image) (refs : References image) where
 
   -- and those that an edge opens
   pub edges_there : (b r k n : ℕ) → There image (edge_all image b r k n)
-  edges_there b r k n j q h = let f : FromEdge image b r k n j q = edge_all_from image b r k n j q h in
-      edge_there b r f.source j q f.has
+  edges_there b r k n j q h = grind (arith, edge_all_from, edge_there)
 
   -- in an image whose references are there all destinations are ports
   pub ports_there : PortsThere image
-  ports_there = record {
-    start = λ j q h. (start_there j q h).1;
-    now = λ k j q h. (now_there k j q h).1;
-    edge = λ b r k j q h. (edge_there b r k j q h).1;
-  }
+  ports_there = grind (arith, start_there, now_there, edge_there)

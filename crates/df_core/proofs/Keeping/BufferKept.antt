@@ -35,8 +35,7 @@ module _ (image : Image) (world : World) (facts : WalkFacts image world) (issued
   quiet = elim may.turn [
     | inl n ↦ no_op_no_write image world cut u (facts.only_first cut u x at.fires mx wave_now
         (rw (at.instr, ← ord.chain) n))
-    | inr l ↦ facts.rippled cut u x from at.fires (ap (is_load image) at.instr ∙ l.0) wave_now
-        (rw (at.instr, ← ord.chain) l.2)
+    | inr l ↦ grind (arith, facts.rippled, from, at.fires, wave_now)
   ]
 
   memory_now : effect_at image world u ≡ memory
@@ -89,8 +88,7 @@ module _ (image : Image) (world : World) (facts : WalkFacts image world) (issued
       passed = still_passed;
       within = ord.within;
       chain = ord.chain;
-      memory = ap (effect_after image i xs) ord.memory ∙ effect_quiet image world i xs cut
-          (load_quiet image i l);
+      memory = grind (arith, effect_quiet, load_quiet);
       others = λ a b n e. elim (issued_from a b n e) [
         | inl h ↦ (record {
           time = u;

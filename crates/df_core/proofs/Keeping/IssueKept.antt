@@ -1,6 +1,6 @@
 -- An issue keeps Fit and Grounded.
-use Rattle.std.proofs.Common.{ℕ, ◌≡◌, ◌⊎◌, true, false, List, Option, Some, None, refl, sym, ap, ◌∙◌, inl}
-use Rattle.std.proofs.Common.{inr}
+use Rattle.std.proofs.Common.{arith, ℕ, ◌≡◌, ◌⊎◌, true, false, List, Option, Some, None, refl, sym, ap, ◌∙◌}
+use Rattle.std.proofs.Common.{inl, inr}
 use Rattle.std.proofs.lemmas.Bool.{cases_Bool, both_ways}
 use Rattle.ws_words.specs.Outside.{World}
 use Rattle.ws_isa.specs.Image.{Image, Token, is_memory, answer, sends, is_past}
@@ -53,10 +53,7 @@ module _ (image : Image) (world : World) (facts : WalkFacts image world) (s : St
 
   new_way_right : (a b q v : ℕ) → put_all s.held new_tokens s.way a b q ≡ Some v
       → RightToken image world a b q v
-  new_way_right a b q v e = elim (put_all_from s.held new_tokens s.way a b q v e) [
-    | inl h ↦ fit.way_right a b q v h
-    | inr h ↦ tokens_right a b q v h
-  ]
+  new_way_right a b q v e = grind (arith, put_all_from, s.held, s.way, fit.way_right, tokens_right)
 
   new_there : (a b q v : ℕ) → IsSent new_tokens a b q v → (s.held a b q ≡ Some v)
       ⊎ (put_all s.held new_tokens s.way a b q ≡ Some v)
@@ -73,15 +70,11 @@ module _ (image : Image) (world : World) (facts : WalkFacts image world) (s : St
 
   still_there : (a b q v : ℕ) → IsThere s a b q v → (s.held a b q ≡ Some v)
       ⊎ (put_all s.held new_tokens s.way a b q ≡ Some v)
-  still_there a b q v (inl k) = inl k
-  still_there a b q v (inr k) = inr (put_all_keeps s.held new_tokens s.way a b q v k)
+  still_there a b q v h = grind (arith, put_all_keeps, s.held, s.way)
 
   still_issued : (a b : ℕ) → (n : ℕ) × (s.issued a b ≡ Some n) → (n : ℕ)
       × (issued_with image s.issued s.memory w i xs a b ≡ Some n)
-  still_issued a b h = elim (with_key_cases w i (Some (answer image i xs s.memory)) s.issued a b) [
-    | inl k ↦ (answer image i xs s.memory, k.1)
-    | inr k ↦ (h.0, k.1 ∙ h.1)
-  ]
+  still_issued a b h = grind (arith, with_key_cases, s.issued)
 
   pub issue_fit' : is_past image i xs ≡ false → (c : Chain)
       → Passes image (issued_with image s.issued s.memory w i xs) s.chain c
@@ -90,10 +83,7 @@ module _ (image : Image) (world : World) (facts : WalkFacts image world) (s : St
   issue_fit' inside c p = record {
     held_right = fit.held_right;
     way_right = new_way_right;
-    request_right = λ a b ys e. elim (with_key_cases w i None s.waiting a b) [
-      | inl h ↦ (let f : None ≡ Some ys = sym h.1 ∙ e in cc)
-      | inr h ↦ fit.request_right a b ys (sym h.1 ∙ e)
-    ];
+    request_right = grind (arith, with_key_cases, s.waiting, fit.request_right);
     one = λ a b q v e. put_all_held s.held new_tokens s.way a b q v e ∙ fit.one a b q v e;
     fired_full = fit.fired_full;
     full_fired = fit.full_fired;
@@ -222,23 +212,4 @@ module _ (image : Image) (world : World) (facts : WalkFacts image world) (s : St
 
 module _ (image : Image) (world : World) (s : State) where
   pub stop_grounded : Grounded image world s → Grounded image world (record s { stopped = true })
-  stop_grounded g = record {
-    tokens = λ w i p v h. elim (g.tokens w i p v (there_before w i p v h)) [
-      | inl k ↦ inl k
-      | inr k ↦
-          inr (record {
-            time = k.time;
-            inst = k.inst;
-            fires = k.fires;
-            fired = k.fired;
-            sent = k.sent;
-            told = record { fired = k.told.fired; issued = k.told.issued };
-          })
-    ];
-    requests = g.requests;
-    issued = g.issued;
-  }
-    where
-      there_before : (w i p v : ℕ) → IsThere (record s { stopped = true }) w i p v → IsThere s w i p v
-      there_before w i p v (inl e) = inl e
-      there_before w i p v (inr e) = inr e
+  stop_grounded g = grind (arith, g.tokens)

@@ -34,14 +34,7 @@ ends_there l = grind arith
 
 next_or_not : (o : Option Note) (n : Note) → NextAfter o n ⊎ (NextAfter o n → ⊥)
 next_or_not None n = ends_there n.pred
-next_or_not (Some m) n = elim (names m.succ n.seq) [
-  | inl e ↦ inl (inl e)
-  | inr h ↦ elim (names n.pred m.seq) [
-    | inl e ↦ inl (inr e)
-    | inr g ↦
-        inr (λ k. elim k [ inl e ↦ h e | inr e ↦ g e ])
-  ]
-]
+next_or_not (Some m) n = grind (arith, names)
 
 -- an issued operation that is next, among these
 record NextOf (image : Image) (issued : ℕ → ℕ → Option ℕ) (c : Chain) (xs : List ℕ) : Type 0 where
@@ -54,7 +47,7 @@ record NextOf (image : Image) (issued : ℕ → ℕ → Option ℕ) (c : Chain) 
 one_next : (image : Image) (issued : ℕ → ℕ → Option ℕ) (c : Chain) (i : ℕ) (o : Option ℕ)
     → issued c.wave i ≡ o → ((a : ℕ) × (issued c.wave i ≡ Some a) × IsNext c (note_of image i))
     ⊎ ((a : ℕ) → issued c.wave i ≡ Some a → IsNext c (note_of image i) → ⊥)
-one_next image issued c i None e = inr (λ a f. absurd (let g : None ≡ Some a = sym e ∙ f in cc))
+one_next image issued c i None e = grind arith
 one_next image issued c i (Some a) e = elim (next_or_not c.last (note_of image i))
     [ inl n ↦ inl (a, e, n) | inr h ↦ inr (λ b f n. h n) ]
 
@@ -62,7 +55,7 @@ find_next : (image : Image) (issued : ℕ → ℕ → Option ℕ) (c : Chain) (x
     ⊎ ((i : ℕ) → In i xs → (a : ℕ) → issued c.wave i ≡ Some a → IsNext c (note_of image i) → ⊥)
 find_next image issued c [] = inr (λ i h. absurd h)
 find_next image issued c (x ∷ xs) = elim (one_next image issued c x (issued c.wave x) refl) [
-  | inl r ↦ inl (record { instr = x; answer = r.0; among = inl refl; is = r.1; next = r.2 })
+  | inl r ↦ grind arith
   | inr no' ↦ elim (find_next image issued c xs) [
     | inl r ↦
         inl (record { instr = r.instr; answer = r.answer; among = inr r.among; is = r.is; next = r.next })
@@ -95,15 +88,14 @@ without (x ∷ xs) i (inr h) = let r = without xs i h in
 
 -- numbers of instructions are bounded
 first_most : (bs : List Block) (n : ℕ) → first_of bs n ≤ first_of bs (length bs)
-first_most [] zero = omega arith
-first_most [] (suc n) = omega arith
 first_most (b ∷ bs) zero = let e : first_of bs zero ≤ first_of bs (length bs) = first_most bs zero in
     let f : first_of bs zero ≡ 1 = start bs in omega arith
   where
     start : (bs : List Block) → first_of bs zero ≡ 1
     start [] = refl
     start (b ∷ bs) = refl
-first_most (b ∷ bs) (suc n) = let e : first_of bs n ≤ first_of bs (length bs) = first_most bs n in omega arith
+first_most (b ∷ bs) (suc n) = grind (arith, first_most bs n)
+first_most bs n = grind arith
 
 most : Image → ℕ
 most image = first_number image (suc (length image.blocks))
@@ -129,9 +121,7 @@ module _ (image : Image) (world : World) (facts : WalkFacts image world) (shape 
 
   covers_all : (issued : ℕ → ℕ → Option ℕ) (c : Chain) (cut : ℕ) → Covers issued c cut (down (most image))
   unfolding Covers
-  covers_all issued c cut i a e op l =
-      in_down (most image) i (let b : op.inst.instr < most image = bounded op.time op.inst op.at.fires in
-      let n : op.inst.instr ≡ i = op.at.instr in omega arith)
+  covers_all issued c cut i a e op l = in_down (most image) i (grind (arith, bounded))
 
   same_time : (w i t u : ℕ) (x y : Inst) → FiresAt image world w i t x → FiresAt image world w i u y → t ≡ u
   same_time w i t u x y a b = facts.once t u x y a.fires b.fires (a.wave ∙ sym b.wave) (a.instr ∙ sym b.instr)
@@ -252,7 +242,7 @@ module _ (image : Image) (world : World) (facts : WalkFacts image world) (shape 
       right = fit.request_right w i xs ready.waits
 
       here : issued_with image s.issued s.memory w i xs s.chain.wave i ≡ Some (answer image i xs s.memory)
-      here = rw (← ready.issuable.current) (with_key_same w i (Some (answer image i xs s.memory)) s.issued)
+      here = rw (← ready.issuable.current) (grind (arith, with_key_same))
 
       at_next : IsNext s.chain (note_of image i) → Ordered image world (suc right.time)
           (issued_with image s.issued s.memory w i xs) (pass s.chain (note_of image i))

@@ -1,5 +1,5 @@
 -- A match keeps Fit and Grounded.
-use Rattle.std.proofs.Common.{ℕ, ◌+◌, ◌≡◌, ◌<◌, ◌⊎◌, true, false, cond, List, length, Some, None, refl, sym}
+use Rattle.std.proofs.Common.{ℕ, ◌+◌, ◌≡◌, ◌<◌, ◌⊎◌, true, false, List, length, Some, None, refl, sym}
 use Rattle.std.proofs.Common.{ap, ◌∙◌, subst, inl, inr, arith}
 use Rattle.std.proofs.lemmas.Bool.{cases_Bool, cases_eq, cond_both, both_ways}
 use Rattle.ws_words.specs.Outside.{World}
@@ -20,16 +20,10 @@ module _ (image : Image) (world : World) (facts : WalkFacts image world) where
   -- one instance, one value at each port
   pub same_inst : (w i t u : ℕ) (x y : Inst) → FiresAt image world w i t x → FiresAt image world w i u y
       → x ≡ y
-  same_inst w i t u x y a b =
-      let e : t ≡ u = facts.once t u x y a.fires b.fires (a.wave ∙ sym b.wave) (a.instr ∙ sym b.instr) in
-      let f : Some x ≡ Some y = sym a.fires ∙ ap (fires image world) e ∙ b.fires in
-      cc
+  same_inst w i t u x y a b = grind (arith, facts.once, a.fires, b.fires)
 
   pub same_value : (w i p v u : ℕ) → RightToken image world w i p v → RightToken image world w i p u → v ≡ u
-  same_value w i p v u a b =
-      let e : a.inst ≡ b.inst = same_inst w i a.time b.time a.inst b.inst a.at b.at in
-      let f : Some v ≡ Some u = sym a.operand ∙ ap (λ (x : Inst). nth x.operands p) e ∙ b.operand in
-      cc
+  same_value w i p v u a b = grind (arith, same_inst, a.at)
 
   -- the operands held at the ports of a full instance of the walk are the walk's
   pub right_operands : (held : Ports) (w i t : ℕ) (x : Inst) → FiresAt image world w i t x →
@@ -51,53 +45,25 @@ module _ (image : Image) (world : World) (facts : WalkFacts image world) where
   module _ (s : State) (fit : Fit image world s) (w i p v : ℕ) (way : s.way w i p ≡ Some v) where
     held_from : (a b q u : ℕ) → (arrived s w i p v).held a b q ≡ Some u → (s.held a b q ≡ Some u)
         ⊎ (SamePlace w i p a b q × (v ≡ u))
-    held_from a b q u e = elim (with_at_cases w i p (Some v) s.held a b q) [
-      | inl h ↦ inr (h.0, (let f : Some v ≡ Some u = sym h.1 ∙ e in cc))
-      | inr h ↦ inl (sym h.1 ∙ e)
-    ]
+    held_from a b q u e = grind (arith, with_at_cases, s.held)
 
     way_from : (a b q u : ℕ) → (arrived s w i p v).way a b q ≡ Some u → s.way a b q ≡ Some u
-    way_from a b q u e = elim (with_at_cases w i p None s.way a b q) [
-      | inl h ↦ (let f : None ≡ Some u = sym h.1 ∙ e in cc)
-      | inr h ↦ sym h.1 ∙ e
-    ]
+    way_from a b q u e = grind (arith, with_at_cases, s.way)
 
     held_keeps : (a b q u : ℕ) → s.held a b q ≡ Some u → (arrived s w i p v).held a b q ≡ Some u
-    held_keeps a b q u e = elim (with_at_cases w i p (Some v) s.held a b q) [
-      | inl h ↦ (let k : s.held w i p ≡ Some u = rw (h.0.wave, h.0.instr, h.0.port) e in
-          let f : Some v ≡ None = sym way ∙ fit.one w i p u k in cc)
-      | inr h ↦ h.1 ∙ e
-    ]
+    held_keeps a b q u e = grind (arith, with_at_cases, s.held, fit.one)
 
     there_keeps : (a b q u : ℕ) → IsThere s a b q u → IsThere (arrived s w i p v) a b q u
-    there_keeps a b q u (inl e) = inl (held_keeps a b q u e)
-    there_keeps a b q u (inr e) = elim (with_at_cases w i p (Some v) s.held a b q) [
-      | inl h ↦ (let k : s.way w i p ≡ Some u = rw (h.0.wave, h.0.instr, h.0.port) e in
-          let f : Some v ≡ Some u = sym way ∙ k in inl (h.1 ∙ f))
-      | inr h ↦ elim (with_at_cases w i p None s.way a b q) [
-        | inl g ↦ absurd (h.0 g.0)
-        | inr g ↦ inr (g.1 ∙ e)
-      ]
-    ]
+    there_keeps a b q u h = grind (arith, held_keeps, with_at_cases, s.held, s.way)
 
     held_right' : (a b q u : ℕ) → (arrived s w i p v).held a b q ≡ Some u → RightToken image world a b q u
-    held_right' a b q u e = elim (held_from a b q u e) [
-      | inl h ↦ fit.held_right a b q u h
-      | inr h ↦ (let k : RightToken image world w i p v = fit.way_right w i p v way in
-          rw (← h.0.wave, ← h.0.instr, ← h.0.port, ← h.1) k)
-    ]
+    held_right' a b q u e = grind (arith, held_from, fit.held_right, fit.way_right)
 
     way_right' : (a b q u : ℕ) → (arrived s w i p v).way a b q ≡ Some u → RightToken image world a b q u
     way_right' a b q u e = fit.way_right a b q u (way_from a b q u e)
 
     one' : (a b q u : ℕ) → (arrived s w i p v).held a b q ≡ Some u → (arrived s w i p v).way a b q ≡ None
-    one' a b q u e = elim (with_at_cases w i p None s.way a b q) [
-      | inl h ↦ h.1
-      | inr h ↦ elim (held_from a b q u e) [
-        | inl g ↦ h.1 ∙ fit.one a b q u g
-        | inr g ↦ absurd (h.0 g.0)
-      ]
-    ]
+    one' a b q u e = grind (arith, with_at_cases, s.way, held_from, fit.one)
 
     fired_full' : (a b : ℕ) → HasFired s.fired a b → (0 < ports image b)
         × IsFilled (arrived s w i p v) a b (ports image b)
@@ -108,10 +74,7 @@ module _ (image : Image) (world : World) (facts : WalkFacts image world) where
     full_before : (a b : ℕ) → (SameKey w i a b → ⊥) → IsFilled (arrived s w i p v) a b (ports image b)
         → IsFilled s a b (ports image b)
     full_before a b n f q l = let g : (u : ℕ) × ((arrived s w i p v).held a b q ≡ Some u) = f q l in
-        elim (held_from a b q g.0 g.1) [
-          | inl h ↦ (g.0, h)
-          | inr h ↦ absurd (n (record { wave = h.0.wave; instr = h.0.instr }))
-        ]
+        grind (arith, held_from)
 
     not_full : is_full (arrived s w i p v).held w i (ports image i) ≡ false
         → Fit image world (arrived s w i p v)
@@ -124,7 +87,7 @@ module _ (image : Image) (world : World) (facts : WalkFacts image world) where
       full_fired = λ a b pos full. fit.full_fired a b pos (full_before a b
           (λ k. both_ways (is_full (arrived s w i p v).held w i (ports image i)) less
           (all_full (arrived s w i p v).held w i (ports image i) (rw (← k.wave, ← k.instr) at full))) full);
-      start_there = λ a b q u h. there_keeps a b q u (fit.start_there a b q u h);
+      start_there = grind (arith, there_keeps, fit.start_there);
       sent_there = λ t x fx told a b q u h. there_keeps a b q u
           (fit.sent_there t x fx (record { fired = told.fired; issued = told.issued }) a b q u h);
       asked = fit.asked;
@@ -156,9 +119,7 @@ module _ (image : Image) (world : World) (facts : WalkFacts image world) where
       full_fired'' a b pos f = go (cases_eq w a) (cases_eq i b)
         where
           go : (w ≡ a) ⊎ (w ≡ a → ⊥) → (i ≡ b) ⊎ (i ≡ b → ⊥) → ((w ≡ a) × (i ≡ b)) ⊎ HasFired s.fired a b
-          go (inl e) (inl g) = inl (e, g)
-          go (inr n) g = inr (fit.full_fired a b pos (full_before a b (λ k. n k.wave) f))
-          go (inl e) (inr n) = inr (fit.full_fired a b pos (full_before a b (λ k. n k.instr) f))
+          go h g = grind (arith, fit.full_fired, full_before)
 
       -- the instance asks memory
       when_asks : is_memory image i ≡ true → Fit image world (asks image w i (arrived s w i p v))
@@ -237,9 +198,7 @@ module _ (image : Image) (world : World) (facts : WalkFacts image world) where
       module _ (plain : is_memory image i ≡ false) where
         the_result : result_of image i (operands_in image (arrived s w i p v).held w i)
             ≡ the_token.inst.result
-        the_result = ap (result_of image i) the_operands
-            ∙ sym (rw the_token.at.instr at (facts.plain the_token.time the_token.inst the_token.at.fires
-            (ap (is_memory image) the_token.at.instr ∙ plain)))
+        the_result = grind (arith, the_operands, the_token.at.instr, facts.plain, the_token.at.fires)
 
         new_tokens : List Token
         new_tokens = sends image w i (operands_in image (arrived s w i p v).held w i)
@@ -251,16 +210,11 @@ module _ (image : Image) (world : World) (facts : WalkFacts image world) where
         the_tokens = rw (the_result, the_operands, the_token.at.wave, the_token.at.instr) refl
 
         tokens_right : (a b q u : ℕ) → IsSent new_tokens a b q u → RightToken image world a b q u
-        tokens_right a b q u h = facts.sent the_token.time the_token.inst the_token.at.fires a b q u
-            (rw the_tokens at h)
+        tokens_right a b q u h = grind (arith, facts.sent, the_token.at.fires, the_tokens)
 
         new_way_right : (a b q u : ℕ) → put_all (arrived s w i p v).held new_tokens (arrived s w i p v).way a
             b q ≡ Some u → RightToken image world a b q u
-        new_way_right a b q u e =
-            elim (put_all_from (arrived s w i p v).held new_tokens (arrived s w i p v).way a b q u e) [
-              | inl h ↦ way_right' a b q u h
-              | inr h ↦ tokens_right a b q u h
-            ]
+        new_way_right a b q u e = grind (arith, put_all_from, way_right', tokens_right)
 
         -- each token of the list is held or on the way
         new_there : (a b q u : ℕ) → IsSent new_tokens a b q u → ((arrived s w i p v).held a b q ≡ Some u)
@@ -278,10 +232,7 @@ module _ (image : Image) (world : World) (facts : WalkFacts image world) where
 
         still_there : (a b q u : ℕ) → IsThere s a b q u → ((arrived s w i p v).held a b q ≡ Some u)
             ⊎ (put_all (arrived s w i p v).held new_tokens (arrived s w i p v).way a b q ≡ Some u)
-        still_there a b q u h = elim (there_keeps a b q u h) [
-          | inl k ↦ inl k
-          | inr k ↦ inr (put_all_keeps (arrived s w i p v).held new_tokens (arrived s w i p v).way a b q u k)
-        ]
+        still_there a b q u h = grind (arith, there_keeps, put_all_keeps)
 
         when_tells : Fit image world (tells image w i (arrived s w i p v))
         unfolding new_tokens
@@ -324,73 +275,40 @@ module _ (image : Image) (world : World) (facts : WalkFacts image world) where
 
     pub match_fit : Fit image world (matched image s w i p v)
     unfolding matched
-    match_fit = cond_both (is_full (arrived s w i p v).held w i (ports image i))
-        (cond (is_memory image i) (asks image w i (arrived s w i p v)) (tells image w i (arrived s w i p v)))
-        (arrived s w i p v)
-        (Fit image world)
-        (λ full. cond_both (is_memory image i) (asks image w i (arrived s w i p v))
-        (tells image w i (arrived s w i p v)) (Fit image world) (when_asks full) (when_tells full))
-        not_full
+    match_fit = grind (arith, cond_both, when_asks, when_tells, not_full)
 
     -- what stood in s comes from the same instance
     from_keeps : (new : State) → ((a b : ℕ) → HasFired s.fired a b → HasFired new.fired a b)
         → ((a b : ℕ) → new.issued a b ≡ s.issued a b) →
         (a b q u : ℕ) → IsSent (start_tokens image) a b q u ⊎ FromInst image world s a b q u
         → IsSent (start_tokens image) a b q u ⊎ FromInst image world new a b q u
-    from_keeps new more same a b q u (inl h) = inl h
-    from_keeps new more same a b q u (inr h) = inr (record {
-      time = h.time;
-      inst = h.inst;
-      fires = h.fires;
-      fired = more h.inst.wave h.inst.instr h.fired;
-      sent = h.sent;
-      told = record {
-        fired = λ m. more h.inst.wave h.inst.instr (h.told.fired m);
-        issued = λ m. (let r = h.told.issued m in (r.0, same h.inst.wave h.inst.instr ∙ r.1));
-      };
-    })
+    from_keeps new more same a b q u i = grind arith
 
     there_before : (a b q u : ℕ) → IsThere (arrived s w i p v) a b q u → IsThere s a b q u
-    there_before a b q u (inl e) = elim (held_from a b q u e) [
-      | inl h ↦ inl h
-      | inr h ↦ inr (rw (← h.0.wave, ← h.0.instr, ← h.0.port, ← h.1) way)
-    ]
-    there_before a b q u (inr e) = inr (way_from a b q u e)
+    there_before a b q u h = grind (arith, held_from, way_from)
 
     module _ (grounded : Grounded image world s) where
       not_full_grounded : Grounded image world (arrived s w i p v)
-      not_full_grounded = record {
-        tokens = λ a b q u h. from_keeps (arrived s w i p v) (λ c d k. k) (λ c d. refl) a b q u
-            (grounded.tokens a b q u (there_before a b q u h));
-        requests = grounded.requests;
-        issued = grounded.issued;
-      }
+      not_full_grounded = grind (arith, from_keeps, grounded.tokens, there_before)
 
       asks_grounded : Grounded image world (asks image w i (arrived s w i p v))
-      asks_grounded = record {
-        tokens = λ a b q u h. from_keeps (asks image w i (arrived s w i p v)) (λ c d k. inr k) (λ c d. refl) a
-            b q u (grounded.tokens a b q u (there_before a b q u h));
-        requests =
-            λ a b xs e. elim (with_key_cases w i (Some (operands_in image (arrived s w i p v).held w i))
-            s.waiting a b) [
-              | inl h ↦ inl (h.0.wave, h.0.instr)
-              | inr h ↦ inr (grounded.requests a b xs (sym h.1 ∙ e))
-            ];
-        issued = λ a b n e. inr (grounded.issued a b n e);
-      }
+      asks_grounded = grind (
+        arith,
+        from_keeps,
+        grounded.tokens,
+        there_before,
+        with_key_cases,
+        s.waiting,
+        grounded.requests,
+        grounded.issued,
+      )
 
       module _ (full : is_full (arrived s w i p v).held w i (ports image i) ≡ true)
           (plain : is_memory image i ≡ false) where
         tells_from : (a b q u : ℕ) → IsThere (tells image w i (arrived s w i p v)) a b q u
             → IsThere s a b q u ⊎ IsSent (new_tokens full plain) a b q u
         unfolding new_tokens
-        tells_from a b q u (inl e) = inl (there_before a b q u (inl e))
-        tells_from a b q u (inr e) =
-            elim (put_all_from (arrived s w i p v).held (new_tokens full plain) (arrived s w i p v).way a b q
-            u e) [
-              | inl h ↦ inl (there_before a b q u (inr h))
-              | inr h ↦ inr h
-            ]
+        tells_from a b q u h = grind (arith, there_before, put_all_from)
 
         tells_grounded : Grounded image world (tells image w i (arrived s w i p v))
         tells_grounded = record {
@@ -417,11 +335,4 @@ module _ (image : Image) (world : World) (facts : WalkFacts image world) where
 
       pub match_grounded : Grounded image world (matched image s w i p v)
       unfolding matched
-      match_grounded = cond_both (is_full (arrived s w i p v).held w i (ports image i))
-          (cond (is_memory image i) (asks image w i (arrived s w i p v))
-          (tells image w i (arrived s w i p v))) (arrived s w i p v)
-          (Grounded image world)
-          (λ full. cond_both (is_memory image i) (asks image w i (arrived s w i p v))
-          (tells image w i (arrived s w i p v)) (Grounded image world) (λ m. asks_grounded)
-          (tells_grounded full))
-          (λ less. not_full_grounded)
+      match_grounded = grind (arith, cond_both, asks_grounded, tells_grounded, not_full_grounded)

@@ -10,12 +10,7 @@ use Rattle.ws_words.specs.Items.{nth}
 
 pub same_place_cases : (w i p a b q : ℕ) → ((same_place w i p a b q ≡ true) × SamePlace w i p a b q)
     ⊎ ((same_place w i p a b q ≡ false) × (SamePlace w i p a b q → ⊥))
-same_place_cases w i p a b q = go (cases_eq w a) (cases_eq i b) (cases_eq p q)
-  where
-    go : (w ≡ a) ⊎ (w ≡ a → ⊥) → (i ≡ b) ⊎ (i ≡ b → ⊥) → (p ≡ q) ⊎ (p ≡ q → ⊥)
-        → ((same_place w i p a b q ≡ true) × SamePlace w i p a b q)
-        ⊎ ((same_place w i p a b q ≡ false) × (SamePlace w i p a b q → ⊥))
-    go h f g = grind arith
+same_place_cases w i p a b q = grind (arith, cases_eq)
 
 pub with_at_cases : (w i p : ℕ) (o : Option ℕ) (f : Ports) (a b q : ℕ)
     → (SamePlace w i p a b q × (with_at w i p o f a b q ≡ o))
@@ -32,11 +27,7 @@ pub record SameKey (w i a b : ℕ) : Type 0 where
 pub with_key_cases : {A : Type 0} (w i : ℕ) (o : Option A) (f : ℕ → ℕ → Option A) (a b : ℕ)
     → (SameKey w i a b × (with_key w i o f a b ≡ o))
     ⊎ ((SameKey w i a b → ⊥) × (with_key w i o f a b ≡ f a b))
-with_key_cases {A} w i o f a b = go (cases_eq w a) (cases_eq i b)
-  where
-    go : (w ≡ a) ⊎ (w ≡ a → ⊥) → (i ≡ b) ⊎ (i ≡ b → ⊥) → (SameKey w i a b × (with_key w i o f a b ≡ o))
-        ⊎ ((SameKey w i a b → ⊥) × (with_key w i o f a b ≡ f a b))
-    go h g = grind arith
+with_key_cases w i o f a b = grind (arith, cases_eq)
 
 pub with_key_same : {A : Type 0} (w i : ℕ) (o : Option A) (f : ℕ → ℕ → Option A) → with_key w i o f w i ≡ o
 with_key_same w i o f = rw (eq-eqb w w refl, eq-eqb i i refl) refl

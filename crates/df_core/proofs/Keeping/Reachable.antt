@@ -2,7 +2,7 @@
 use Rattle.std.proofs.Common.{ℕ, ◌≡◌, ◌⊎◌, true, Some, None, refl, ap, ◌∙◌, inl, inr, arith}
 use Rattle.std.proofs.lemmas.Bool.{cases_Bool}
 use Rattle.ws_words.specs.Outside.{World}
-use Rattle.ws_isa.specs.Image.{Image, is_memory}
+use Rattle.ws_isa.specs.Image.{Image}
 use Rattle.ws_isa.specs.Walk.{no_ports, start_tokens}
 use Rattle.df_core.specs.Core.{State, IsSent, Event, Match, Issue, Step, put_all, matched, issue}
 use Rattle.df_core.specs.Core.{core_opening}
@@ -44,21 +44,9 @@ module _ (image : Image) (world : World) (facts : WalkFacts image world) where
     fired_full = λ w i h. absurd h;
     full_fired = λ w i pos f. (let r = f 0 pos in cc);
     start_there = start_there';
-    sent_there = λ t x fx told w i p v h. elim (cases_Bool (is_memory image x.instr))
-        [ inl m ↦ (let r = told.issued m in cc) | inr m ↦ absurd (told.fired m) ];
+    sent_there = grind (arith, cases_Bool);
     asked = λ t x fx m h. absurd h;
-    legal = record {
-      cut = 0;
-      ordered = record {
-        passed = λ t x l. absurd (omega arith);
-        within = λ t x l. absurd (omega arith);
-        chain = chain_start image world;
-        memory = effect_start image world;
-        others = λ w i a e. cc;
-      };
-      settled = λ i a e. cc;
-      halted = λ e. cc;
-    };
+    legal = grind (arith, chain_start, effect_start);
   }
 
   pub opening_grounded : Grounded image world (core_opening image world)

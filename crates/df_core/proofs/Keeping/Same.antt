@@ -1,9 +1,9 @@
 -- What is true of a state is true of one that answers alike.
-use Rattle.std.proofs.Common.{ℕ, sym, ap, ◌∙◌, subst, inl, inr, refl}
+use Rattle.std.proofs.Common.{arith, ℕ, sym, ◌∙◌, refl}
 use Rattle.ws_words.specs.Outside.{World}
-use Rattle.ws_isa.specs.Image.{Image, ports, note_of}
+use Rattle.ws_isa.specs.Image.{Image, ports}
 use Rattle.ws_isa.specs.Walk.{Inst}
-use Rattle.df_core.specs.Core.{State, Chain, HasFired, IsNext, NoneNext, Same}
+use Rattle.df_core.specs.Core.{State, HasFired, Same}
 use Rattle.df_core.specs.Fit.{IsThere, IsFilled, HasTold, Fit, Grounded, StoppedAt, Legal}
 
 module _ (image : Image) (world : World) (s t : State) (same : Same s t) where
@@ -14,24 +14,16 @@ module _ (image : Image) (world : World) (s t : State) (same : Same s t) where
   fired_back w i h = rw same.fired h
 
   there_back : (w i p v : ℕ) → IsThere t w i p v → IsThere s w i p v
-  there_back w i p v (inl e) = inl (same.held w i p ∙ e)
-  there_back w i p v (inr e) = inr (same.way w i p ∙ e)
+  there_back w i p v h = grind (arith, same.held, same.way)
 
   there_to : (w i p v : ℕ) → IsThere s w i p v → IsThere t w i p v
-  there_to w i p v (inl e) = inl (sym (same.held w i p) ∙ e)
-  there_to w i p v (inr e) = inr (sym (same.way w i p) ∙ e)
+  there_to w i p v h = grind (arith, same.held, same.way)
 
   told_to : (x : Inst) → HasTold image s x → HasTold image t x
-  told_to x h = record {
-    fired = λ m. fired_to x.wave x.instr (h.fired m);
-    issued = λ m. (let r = h.issued m in (r.0, sym (same.issued x.wave x.instr) ∙ r.1));
-  }
+  told_to x h = grind (arith, fired_to, x.instr, h.fired, h.issued, same.issued)
 
   told_back : (x : Inst) → HasTold image t x → HasTold image s x
-  told_back x h = record {
-    fired = λ m. fired_back x.wave x.instr (h.fired m);
-    issued = λ m. (let r = h.issued m in (r.0, same.issued x.wave x.instr ∙ r.1));
-  }
+  told_back x h = grind (arith, fired_back, x.instr, h.fired, h.issued, same.issued)
 
   filled_to : (w i n : ℕ) → IsFilled s w i n → IsFilled t w i n
   filled_to w i n f p l = let r = f p l in (r.0, sym (same.held w i p) ∙ r.1)
@@ -41,68 +33,30 @@ module _ (image : Image) (world : World) (s t : State) (same : Same s t) where
 
   stopped_back : (cut : ℕ) → StoppedAt image world cut t.waiting t.chain
       → StoppedAt image world cut s.waiting s.chain
-  stopped_back cut h = record {
-    time = h.time;
-    fault = h.fault;
-    from = h.from;
-    passed = h.passed;
-    wave = h.wave ∙ ap (λ (c : Chain). c.wave) (sym same.chain);
-    next = subst (λ (c : Chain). IsNext c (note_of image h.fault.inst.instr)) (sym same.chain) h.next;
-    waits = same.waiting h.fault.inst.wave h.fault.inst.instr ∙ h.waits;
-  }
+  stopped_back cut h = grind (arith, same.waiting)
 
   legal_back : Legal image world t.issued t.waiting t.stopped t.chain t.memory
       → Legal image world s.issued s.waiting s.stopped s.chain s.memory
-  legal_back l = record {
-    cut = l.cut;
-    ordered = record {
-      passed = λ u x lt fx mx. same.issued x.wave x.instr ∙ l.ordered.passed u x lt fx mx;
-      within = l.ordered.within;
-      chain = same.chain ∙ l.ordered.chain;
-      memory = same.memory ∙ l.ordered.memory;
-      others = λ w i a e. l.ordered.others w i a (sym (same.issued w i) ∙ e);
-    };
-    settled = subst (λ (c : Chain). NoneNext image s.issued c) (sym same.chain)
-        (λ i a e. l.settled i a (sym (same.issued t.chain.wave i) ∙ e));
-    halted = λ e. stopped_back l.cut (l.halted (sym same.stopped ∙ e));
-  }
+  legal_back l = grind (arith, stopped_back)
 
   pub fit_same : Fit image world t → Fit image world s
   fit_same fit = record {
-    held_right = λ w i p v e. fit.held_right w i p v (sym (same.held w i p) ∙ e);
-    way_right = λ w i p v e. fit.way_right w i p v (sym (same.way w i p) ∙ e);
-    request_right = λ w i xs e. fit.request_right w i xs (sym (same.waiting w i) ∙ e);
-    one = λ w i p v e. same.way w i p ∙ fit.one w i p v (sym (same.held w i p) ∙ e);
+    held_right = grind (arith, fit.held_right, same.held);
+    way_right = grind (arith, fit.way_right, same.way);
+    request_right = grind (arith, fit.request_right, same.waiting);
+    one = grind (arith, same.way, fit.one, same.held);
     fired_full = λ w i h. (let f = fit.fired_full w i (fired_to w i h) in
         (f.0, filled_back w i (ports image i) f.1));
     full_fired = λ w i pos f. fired_back w i (fit.full_fired w i pos (filled_to w i (ports image i) f));
     start_there = λ w i p v h. there_back w i p v (fit.start_there w i p v h);
     sent_there = λ u x fx told w i p v h. there_back w i p v
         (fit.sent_there u x fx (told_to x told) w i p v h);
-    asked = λ u x fx mx f. elim (fit.asked u x fx mx (fired_to x.wave x.instr f)) [
-      | inl e ↦ inl (same.waiting x.wave x.instr ∙ e)
-      | inr e ↦ inr (e.0, same.issued x.wave x.instr ∙ e.1)
-    ];
+    asked = grind (arith, fit.asked, fired_to, same.waiting, same.issued);
     legal = legal_back fit.legal;
   }
 
   pub grounded_same : Grounded image world t → Grounded image world s
-  grounded_same g = record {
-    tokens = λ w i p v h. elim (g.tokens w i p v (there_to w i p v h)) [
-      | inl k ↦ inl k
-      | inr k ↦
-          inr (record {
-            time = k.time;
-            inst = k.inst;
-            fires = k.fires;
-            fired = fired_back k.inst.wave k.inst.instr k.fired;
-            told = told_back k.inst k.told;
-            sent = k.sent;
-          })
-    ];
-    requests = λ w i xs e. fired_back w i (g.requests w i xs (sym (same.waiting w i) ∙ e));
-    issued = λ w i a e. fired_back w i (g.issued w i a (sym (same.issued w i) ∙ e));
-  }
+  grounded_same g = grind (arith, there_to, fired_back, told_back)
 
 -- a state answers like itself
 pub same_refl : (s : State) → Same s s

@@ -53,9 +53,8 @@ one_more image c d new early rest left k n l nx e f g s =
     (subst (λ (x : Chain). Settles image x rest d left) g s)))
 
 pub index_is : (xs : List ℕ) (k x : ℕ) → k < length xs → x ≡ slice_index_or xs k x → x ≡ slice_index xs k
-index_is [] k x l e = absurd (omega arith)
-index_is (y ∷ xs) zero x l e = e
 index_is (y ∷ xs) (suc k) x l e = index_is xs k x (omega arith) e
+index_is xs k x l e = grind arith
 
 -- one that was looked at
 pub seen_at : (image : Image) (c : Chain) (xs : List ℕ) (at k : ℕ) (n : Note) (b : Bool) → at ≡ k
@@ -73,8 +72,7 @@ all_by l xs e = grind (arith, both_ways)
 -- behind the last operation of a wave nothing is left to pass
 pub all_passed : (image : Image) (c : Chain) (n : Note) (early left : List ℕ) → is_nothing n.succ ≡ true
     → left ≡ left_after n early → Settles image c left c left
-all_passed image c n early left e f = done (λ i h nx. let g : left ≡ [] = f ∙ none_by n.succ early e in
-    subst (λ (xs : List ℕ). In i xs) g h)
+all_passed image c n early left e f = done (grind (arith, none_by))
 
 same_by : (c : Chain) (n : Note) (l : Link) → is_nothing l ≡ false → (pass_by c n l).wave ≡ c.wave
 same_by c n l e = grind (arith, both_ways)
@@ -102,7 +100,7 @@ in_end i j (x ∷ early) (inr (inr h)) = inr (in_end i j early (inr h))
 pub end_in : (i j : ℕ) (early : List ℕ) → In j (early ++ i ∷ []) → In j (i ∷ early)
 end_in i j [] h = h
 end_in i j (x ∷ early) (inl h) = inr (inl h)
-end_in i j (x ∷ early) (inr h) = elim (end_in i j early h) [ inl g ↦ inl g | inr g ↦ inr (inr g) ]
+end_in i j (x ∷ early) (inr h) = grind (arith, end_in i j early h)
 
 -- one that isn't next is kept behind the others
 pub kept_behind : (i : ℕ) (early left : List ℕ) → left ≡ early ++ i ∷ [] → HasOneMore i early left

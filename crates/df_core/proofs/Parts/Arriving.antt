@@ -109,14 +109,7 @@ sent_beside image world f beside old new ts asked early t (inl h) st =
     (behind_first (beside ++ n) l ts)
     (subst (λ (ws : List plain.Token). Stands image world f (ws ++ ts) asked early t)
     (sym (append_assoc beside n l)) st))
-sent_beside image world f beside old new ts asked early t (inr h) st =
-    let n = map token_of old.now.items in
-    let l = map token_of old.later.items in
-    let e : (beside ++ (n ++ l)) ++ ts ≡ beside ++ way_of new =
-    append_assoc beside (n ++ l) ts ∙ ap (λ (xs : List plain.Token). beside ++ xs) (append_assoc n l ts)
-    ∙ ap (λ (xs : List plain.Token). beside ++ (n ++ xs)) (sym h.1)
-    ∙ ap (λ (xs : List Token). beside ++ (map token_of xs ++ map token_of new.later.items)) (sym h.0) in
-    subst (λ (ws : List plain.Token). Stands image world f ws asked early t) e st
+sent_beside image world f beside old new ts asked early t (inr h) st = grind (arith, append_assoc)
 
 module _ (image : Image) (world : World) (formed : Formed image) (sound : Sound image)
     (beside : List plain.Token) where
@@ -289,7 +282,7 @@ module _ (image : Image) (world : World) (formed : Formed image) (sound : Sound 
     pub arrival_port : tok.port < ports image tok.instr
     arrival_port =
         let r : RightToken image world tok.wave tok.instr tok.port tok.value =
-        h.stands.fit.way_right tok.wave tok.instr tok.port tok.value there in
+        grind (arith, h.stands.fit.way_right, tok.instr, tok.port, tok.value, there) in
         let l : tok.port < length r.inst.operands = nth_short r.inst.operands tok.port tok.value r.operand in
         let n : length r.inst.operands ≡ ports image tok.instr = facts.filled r.time r.inst r.at.fires
         ∙ ap (ports image) r.at.instr in
@@ -297,14 +290,11 @@ module _ (image : Image) (world : World) (formed : Formed image) (sound : Sound 
 
     not_held : (o : Option ℕ) → s.held tok.wave tok.instr tok.port ≡ o → s.held tok.wave tok.instr tok.port
         ≡ None
-    not_held None e = e
-    not_held (Some u) e = absurd (let f : Some tok.value ≡ None = sym there
-        ∙ h.stands.fit.one tok.wave tok.instr tok.port u e in cc)
+    not_held o e = grind (arith, there, h.stands.fit.one, tok.instr, tok.port)
 
     -- and has no token
     pub arrival_free : partial_of old.slots.slots.items old.slots.spill tok.wave tok.instr tok.port ≡ None
-    arrival_free = sym (h.stands.held tok.wave tok.instr tok.port unfired)
-        ∙ not_held (s.held tok.wave tok.instr tok.port) refl
+    arrival_free = grind (arith, h.stands.held, tok.instr, tok.port, unfired, not_held, s.held)
 
     few_ports : (op : Op) → ports_of op ≤ 3
     few_ports op = grind arith
@@ -348,8 +338,7 @@ module _ (image : Image) (world : World) (formed : Formed image) (sound : Sound 
 
     here : with_at tok.wave tok.instr tok.port (Some tok.value)
         (partial_of old.slots.slots.items old.slots.spill) tok.wave tok.instr tok.port ≡ Some tok.value
-    here = with_at_same tok.wave tok.instr tok.port (Some tok.value)
-        (partial_of old.slots.slots.items old.slots.spill)
+    here = grind (arith, with_at_same, tok.instr, tok.port, old.slots.slots.items)
 
     pub single_fires : (new : Flow) → ports image tok.instr ≡ 1 → new.slots ≡ old.slots →
         (op : Op) → op ≡ (instr_at image tok.instr).op →

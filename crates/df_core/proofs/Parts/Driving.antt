@@ -288,8 +288,7 @@ same_follows image a b e world s formed sound h = (s, stays, same_holds image wo
 
 pub ended_follows : (image : Image) (until : ℕ) (a b : Flow) (finish : Finish) → Ended image until a b finish
     → RunsOn image a b
-ended_follows image until a b finish e world s formed sound h = let r = e world s formed sound h in
-    (r.0, r.1, r.2)
+ended_follows image until a b finish e world s formed sound h = grind arith
 
 other_budget : (image : Image) (world : World) (until budget : ℕ) (ended : Finish) (s : State)
     → (until ≡ budget) ⊎ (is_budget ended ≡ false) → FinishIs image world until ended s

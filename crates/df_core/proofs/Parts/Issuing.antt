@@ -84,7 +84,7 @@ took_alike q (stores a i v ∷ acts) = took_alike q acts
 took_alike q (reads ∷ acts) = took_alike q acts
 took_alike q (prints v ∷ acts) = took_alike q acts
 took_alike q (gives p ∷ acts) = took_alike q acts
-took_alike q (takes p v ∷ acts) = ap (λ (ws : List ℕ). cond (p == q) (v ∷ ws) ws) (took_alike q acts)
+took_alike q (takes p v ∷ acts) = grind (arith, took_alike q acts)
 
 pub ports_alike : (acts : List Act) → took_by_ports (without_loads acts) ≡ took_by_ports acts
 ports_alike acts = grind (arith, took_alike)
@@ -94,9 +94,8 @@ out_effect o m h = grind (arith, printed_alike, ports_alike)
 
 pub split_at : {A : Type 0} (xs : List A) (k : ℕ) (d : A) → k < length xs
     → take k xs ++ slice_index_or xs k d ∷ drop (suc k) xs ≡ xs
-split_at [] k d l = absurd (omega arith)
-split_at (x ∷ xs) zero d l = refl
 split_at (x ∷ xs) (suc k) d l = ap (λ ys. x ∷ ys) (split_at xs k d (omega arith))
+split_at xs k d l = grind arith
 
 stands_early : (image : Image) (world : World) (f : Ports) (way : List plain.Token) (asked : List Request)
     (xs ys : List ℕ) (s : State) → ((j : ℕ) → In j xs → In j ys) → ((j : ℕ) → In j ys → In j xs)
@@ -105,9 +104,8 @@ stands_early image world f way asked xs ys s to from st = grind arith
 
 pub or_any : {A : Type 0} (xs : List A) (k : ℕ) (x d : A) → k < length xs → x ≡ slice_index_or xs k x
     → x ≡ slice_index_or xs k d
-or_any [] k x d l e = absurd (omega arith)
-or_any (y ∷ xs) zero x d l e = e
 or_any (y ∷ xs) (suc k) x d l e = or_any xs k x d (omega arith) e
+or_any xs k x d l e = grind arith
 
 -- the last of a list, and those before it
 last_of : (x : Asked) (xs : List Asked) (d : Asked) → x ∷ xs ≡ take (length xs) (x ∷ xs) ++ slice_index_or
@@ -208,26 +206,7 @@ module _ (image : Image) (world : World) (formed : Formed image) (sound : Sound 
   turn : IsNext s.chain (note_of image a.instr)
       ⊎ ((is_load image a.instr ≡ true) × (is_past image a.instr xs ≡ false)
       × ((note_of image a.instr).ripple ≤ position_after s.chain.last))
-  turn = elim (either (next_flag (chain_of old.chain) (note_of image a.instr))
-      (is_load_op (instr_at image a.instr).op && not (is_past_op image.arrays (instr_at image a.instr).op
-      (a.operands.first ∷ [])) && nat_le (note_of image a.instr).ripple (position_after old.chain.last))
-      flags.1) [
-        | inl e ↦
-            inl (subst (λ (c : law.Chain). IsNext c (note_of image a.instr)) same_chain
-            (next_is (chain_of old.chain) (note_of image a.instr) e))
-        | inr e ↦
-            (let p = and_parts (is_load_op (instr_at image a.instr).op && not
-            (is_past_op image.arrays (instr_at image a.instr).op (a.operands.first ∷ [])))
-            (nat_le (note_of image a.instr).ripple (position_after old.chain.last)) e in
-            let q = and_parts (is_load_op (instr_at image a.instr).op)
-            (not (is_past_op image.arrays (instr_at image a.instr).op (a.operands.first ∷ []))) p.0 in
-            inr (
-              op_is ∙ q.0,
-              past_is_op ∙ not_false _ q.1,
-              subst (λ (c : law.Chain). (note_of image a.instr).ripple ≤ position_after c.last) same_chain
-                  (leb-true _ _ p.1),
-            ))
-      ]
+  turn = grind (arith, either, nat_le, same_chain, next_is, and_parts, op_is, past_is_op, not_false, leb-true)
 
   pub may : Issuable image s.issued s.chain s.stopped a.wave a.instr xs
   may = record {

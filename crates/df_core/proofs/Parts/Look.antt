@@ -29,7 +29,7 @@ note_none image k e = sym (ap (λ (j : Instr). or_else j.note no_note) e)
 module _ (image : Image) (k r : ℕ) where
   pub to_none : instr_at image k ≡ no_instr → [] ≡ destinations image k r
   unfolding destinations now_dests edge_dests no_instr
-  to_none e = sym (ap (λ (i : Instr). now_of i.op i.dests ++ edge_of image (block_of image k) r i i.op) e)
+  to_none e = sym (grind arith)
 
   pub to_steer : (i : Instr) → i ≡ instr_at image k → i.op ≡ Steer → cond (eqb r 0) i.others i.dests
       ≡ destinations image k r

@@ -1,6 +1,6 @@
 -- What a match and an issue do to a core's parts, put together.
-use Rattle.std.proofs.Common.{ℕ, suc, ◌≡◌, ◌⊎◌, true, false, List, [], ◌∷◌, ◌++◌, length, Option, Some, None}
-use Rattle.std.proofs.Common.{refl, sym, ◌∙◌, subst, inl, inr}
+use Rattle.std.proofs.Common.{arith, ℕ, suc, ◌≡◌, ◌⊎◌, true, false, List, [], ◌∷◌, ◌++◌, length, Option, Some}
+use Rattle.std.proofs.Common.{None, refl, sym, ◌∙◌, subst, inl, inr}
 use Rattle.ws_words.specs.Outside.{World}
 use Rattle.ws_isa.specs.Image.{Image, Token, ports, is_memory, is_load, is_past, note_of, result_of, answer}
 use Rattle.ws_isa.specs.Image.{sends}
@@ -36,22 +36,7 @@ same_of s t e =
 pub stands_alike : (image : Image) (world : World) (f g : Ports) (way : List Token) (asked : List Request)
     (early : List ℕ) (s : State) → ((w i p : ℕ) → g w i p ≡ f w i p) → Stands image world f way asked early s
     → Stands image world g way asked early s
-stands_alike image world f g way asked early s e st = record {
-  fit = st.fit;
-  grounded = st.grounded;
-  once = st.once;
-  held = λ w i p n. st.held w i p n ∙ sym (e w i p);
-  gone = λ w i p h. e w i p ∙ st.gone w i p h;
-  way_to = st.way_to;
-  way_from = st.way_from;
-  way_apart = st.way_apart;
-  asked_to = st.asked_to;
-  asked_from = st.asked_from;
-  asked_once = st.asked_once;
-  unissued = st.unissued;
-  early_issued = st.early_issued;
-  early_all = st.early_all;
-}
+stands_alike image world f g way asked early s e st = grind (arith, st.held, st.gone)
 
 pub record Reordered (xs ys : List Token) : Type 0 where
   pub to : (w i p v : ℕ) → IsSent xs w i p v → IsSent ys w i p v
@@ -61,22 +46,7 @@ pub record Reordered (xs ys : List Token) : Type 0 where
 pub stands_reordered : (image : Image) (world : World) (f : Ports) (xs ys : List Token) (asked : List Request)
     (early : List ℕ) (s : State) → Reordered xs ys → Stands image world f xs asked early s
     → Stands image world f ys asked early s
-stands_reordered image world f xs ys asked early s r st = record {
-  fit = st.fit;
-  grounded = st.grounded;
-  once = st.once;
-  held = st.held;
-  gone = st.gone;
-  way_to = λ w i p v e. r.to w i p v (st.way_to w i p v e);
-  way_from = λ w i p v h. st.way_from w i p v (r.from w i p v h);
-  way_apart = r.apart st.way_apart;
-  asked_to = st.asked_to;
-  asked_from = st.asked_from;
-  asked_once = st.asked_once;
-  unissued = st.unissued;
-  early_issued = st.early_issued;
-  early_all = st.early_all;
-}
+stands_reordered image world f xs ys asked early s r st = grind arith
 
 apart_left : (xs ys : List Token) → Apart (xs ++ ys) → Apart xs
 apart_left [] ys a = tt
@@ -99,12 +69,10 @@ apart_cross (x ∷ xs) ys a w i p c d (inl h) k = a.0 d (is_sent_append_right xs
 apart_cross (x ∷ xs) ys a w i p c d (inr h) k = apart_cross xs ys a.1 w i p c d h k
 
 sent_swap : (xs ys : List Token) (w i p v : ℕ) → IsSent (xs ++ ys) w i p v → IsSent (ys ++ xs) w i p v
-sent_swap xs ys w i p v h = elim (is_sent_append_cases xs ys w i p v h)
-    [ inl g ↦ is_sent_append_right ys xs w i p v g | inr g ↦ is_sent_append_left ys xs w i p v g ]
+sent_swap xs ys w i p v h = grind (arith, is_sent_append_cases, is_sent_append_right, is_sent_append_left)
 
 apart_swap : (xs ys : List Token) → Apart (xs ++ ys) → Apart (ys ++ xs)
-apart_swap xs ys a = apart_append ys xs (apart_right xs ys a) (apart_left xs ys a)
-    (λ w i p c d h k. apart_cross xs ys a w i p d c k h)
+apart_swap xs ys a = grind (arith, apart_append, apart_right, apart_left, apart_cross)
 
 -- two lists change places
 pub swapped : (xs ys : List Token) → Reordered (xs ++ ys) (ys ++ xs)
@@ -114,20 +82,8 @@ swapped xs ys = record { to = sent_swap xs ys; from = sent_swap ys xs; apart = a
 pub to_front : (xs : List Token) (t : Token) (ys : List Token) → Reordered ((xs ++ t ∷ []) ++ ys)
     (t ∷ (xs ++ ys))
 to_front xs t ys = record {
-  to = λ w i p v h. elim (is_sent_append_cases (xs ++ t ∷ []) ys w i p v h) [
-    | inl g ↦ elim (is_sent_append_cases xs (t ∷ []) w i p v g) [
-      | inl k ↦ inr (is_sent_append_left xs ys w i p v k)
-      | inr k ↦ elim k [ inl m ↦ inl m | inr m ↦ absurd m ]
-    ]
-    | inr g ↦ inr (is_sent_append_right xs ys w i p v g)
-  ];
-  from = λ w i p v h. elim h [
-    | inl g ↦ is_sent_append_left (xs ++ t ∷ []) ys w i p v (is_sent_append_right xs (t ∷ []) w i p v (inl g))
-    | inr g ↦ elim (is_sent_append_cases xs ys w i p v g) [
-      | inl k ↦ is_sent_append_left (xs ++ t ∷ []) ys w i p v (is_sent_append_left xs (t ∷ []) w i p v k)
-      | inr k ↦ is_sent_append_right (xs ++ t ∷ []) ys w i p v k
-    ]
-  ];
+  to = grind (arith, is_sent_append_cases, is_sent_append_left, is_sent_append_right);
+  from = grind (arith, is_sent_append_left, is_sent_append_right, is_sent_append_cases);
   apart = λ a. (
     (λ v h. elim (is_sent_append_cases xs ys t.wave t.instr t.port v h) [
       | inl g ↦ apart_cross xs (t ∷ []) (apart_left (xs ++ t ∷ []) ys a) t.wave t.instr t.port v t.value g
@@ -158,22 +114,10 @@ behind_first xs ys ts = record {
 }
   where
     to : (w i p v : ℕ) → IsSent ((xs ++ ys) ++ ts) w i p v → IsSent ((xs ++ ts) ++ ys) w i p v
-    to w i p v h = elim (is_sent_append_cases (xs ++ ys) ts w i p v h) [
-      | inl g ↦ elim (is_sent_append_cases xs ys w i p v g) [
-        | inl k ↦ is_sent_append_left (xs ++ ts) ys w i p v (is_sent_append_left xs ts w i p v k)
-        | inr k ↦ is_sent_append_right (xs ++ ts) ys w i p v k
-      ]
-      | inr g ↦ is_sent_append_left (xs ++ ts) ys w i p v (is_sent_append_right xs ts w i p v g)
-    ]
+    to w i p v h = grind (arith, is_sent_append_cases, is_sent_append_left, is_sent_append_right)
 
     from : (w i p v : ℕ) → IsSent ((xs ++ ts) ++ ys) w i p v → IsSent ((xs ++ ys) ++ ts) w i p v
-    from w i p v h = elim (is_sent_append_cases (xs ++ ts) ys w i p v h) [
-      | inl g ↦ elim (is_sent_append_cases xs ts w i p v g) [
-        | inl k ↦ is_sent_append_left (xs ++ ys) ts w i p v (is_sent_append_left xs ys w i p v k)
-        | inr k ↦ is_sent_append_right (xs ++ ys) ts w i p v k
-      ]
-      | inr g ↦ is_sent_append_left (xs ++ ys) ts w i p v (is_sent_append_right xs ys w i p v g)
-    ]
+    from w i p v h = grind (arith, is_sent_append_cases, is_sent_append_left, is_sent_append_right)
 
 -- requests in another order
 pub record Alike (xs ys : List Request) : Type 0 where
@@ -184,28 +128,13 @@ pub record Alike (xs ys : List Request) : Type 0 where
 pub stands_asked : (image : Image) (world : World) (f : Ports) (way : List Token) (xs ys : List Request)
     (early : List ℕ) (s : State) → Alike xs ys → Stands image world f way xs early s
     → Stands image world f way ys early s
-stands_asked image world f way xs ys early s r st = record {
-  fit = st.fit;
-  grounded = st.grounded;
-  once = st.once;
-  held = st.held;
-  gone = st.gone;
-  way_to = st.way_to;
-  way_from = st.way_from;
-  way_apart = st.way_apart;
-  asked_to = λ w i os e. r.to w i os (st.asked_to w i os e);
-  asked_from = λ w i os h. st.asked_from w i os (r.from w i os h);
-  asked_once = r.once st.asked_once;
-  unissued = st.unissued;
-  early_issued = st.early_issued;
-  early_all = st.early_all;
-}
+stands_asked image world f way xs ys early s r st = grind arith
 
 has_in : (a b : List Request) (w i : ℕ) (os : List ℕ) → HasRequest (a ++ b) w i os
     → HasRequest a w i os ⊎ HasRequest b w i os
 has_in [] b w i os h = inr h
 has_in (x ∷ a) b w i os (inl h) = inl (inl h)
-has_in (x ∷ a) b w i os (inr h) = elim (has_in a b w i os h) [ inl g ↦ inl (inr g) | inr g ↦ inr g ]
+has_in (x ∷ a) b w i os (inr h) = grind (arith, has_in a b w i os h)
 
 in_left : (a b : List Request) (w i : ℕ) (os : List ℕ) → HasRequest a w i os → HasRequest (a ++ b) w i os
 in_left [] b w i os h = absurd h
@@ -219,19 +148,11 @@ in_right (x ∷ a) b w i os h = inr (in_right a b w i os h)
 -- the request stands in the list, and the others as before
 picked_to : (a b : List Request) (r : Request) (w i : ℕ) (os : List ℕ) → HasRequest (a ++ r ∷ b) w i os
     → HasRequest (r ∷ (a ++ b)) w i os
-picked_to a b r w i os h = elim (has_in a (r ∷ b) w i os h) [
-  | inl g ↦ inr (in_left a b w i os g)
-  | inr g ↦ elim g [ inl k ↦ inl k | inr k ↦ inr (in_right a b w i os k) ]
-]
+picked_to a b r w i os h = grind (arith, has_in, in_left, in_right)
 
 picked_from : (a b : List Request) (r : Request) (w i : ℕ) (os : List ℕ) → HasRequest (r ∷ (a ++ b)) w i os
     → HasRequest (a ++ r ∷ b) w i os
-picked_from a b r w i os (inl h) = in_right a (r ∷ b) w i os (inl h)
-picked_from a b r w i os (inr h) = elim (has_in a b w i os h) [
-  | inl g ↦ in_left a (r ∷ b) w i os g
-  | inr g ↦
-      in_right a (r ∷ b) w i os (inr g)
-]
+picked_from a b r w i os j = grind (arith, in_right, has_in, in_left)
 
 picked_once : (a b : List Request) (r : Request) → AllOnce (a ++ r ∷ b) → AllOnce (r ∷ (a ++ b))
 picked_once [] b r o = o
@@ -265,26 +186,16 @@ abbrev pub AlikeBoth : List Request → List Request → Type 0
 AlikeBoth xs ys = Alike xs ys × Alike ys xs
 
 pub both_same : (xs : List Request) → AlikeBoth xs xs
-both_same xs =
-    let same : Alike xs xs = record { to = λ w i os h. h; from = λ w i os h. h; once = λ o. o } in
-    (same, same)
+both_same xs = grind arith
 
 alike_trans : (xs ys zs : List Request) → Alike xs ys → Alike ys zs → Alike xs zs
-alike_trans xs ys zs a b = record {
-  to = λ w i os h. b.to w i os (a.to w i os h);
-  from = λ w i os h. a.from w i os (b.from w i os h);
-  once = λ o. b.once (a.once o);
-}
+alike_trans xs ys zs a b = grind (arith, b.to, a.to, a.from, b.from, b.once, a.once)
 
 alike_cons : (r : Request) (xs ys : List Request) → Alike xs ys → Alike (r ∷ xs) (r ∷ ys)
-alike_cons r xs ys a = record {
-  to = λ w i os h. elim h [ inl g ↦ inl g | inr g ↦ inr (a.to w i os g) ];
-  from = λ w i os h. elim h [ inl g ↦ inl g | inr g ↦ inr (a.from w i os g) ];
-  once = λ o. ((λ os h. o.0 os (a.from r.wave r.instr os h)), a.once o.1);
-}
+alike_cons r xs ys a = grind (arith, a.to, a.from, r.instr, a.once)
 
 pub both_trans : (xs ys zs : List Request) → AlikeBoth xs ys → AlikeBoth ys zs → AlikeBoth xs zs
-both_trans xs ys zs a b = (alike_trans xs ys zs a.0 b.0, alike_trans zs ys xs b.1 a.1)
+both_trans xs ys zs a b = (grind (arith, alike_trans))
 
 pub both_cons : (r : Request) (xs ys : List Request) → AlikeBoth xs ys → AlikeBoth (r ∷ xs) (r ∷ ys)
 both_cons r xs ys a = (alike_cons r xs ys a.0, alike_cons r ys xs a.1)
@@ -295,21 +206,11 @@ both_picked a b r = (picked a b r, unpicked a b r)
 
 cleared_with : (w i p : ℕ) (o : Option ℕ) (f : Ports) (a b q : ℕ) → cleared w i (with_at w i p o f) a b q
     ≡ cleared w i f a b q
-cleared_with w i p o f a b q = elim (M.cleared_cases w i (with_at w i p o f) a b q) [
-  | inl h ↦ h.1 ∙ (elim (M.cleared_cases w i f a b q) [ inl g ↦ sym g.1 | inr g ↦ absurd (g.0 h.0) ])
-  | inr h ↦ h.1 ∙ (elim (with_at_cases w i p o f a b q) [
-    | inl k ↦ absurd (h.0 (record { wave = k.0.wave; instr = k.0.instr }))
-    | inr k ↦ k.1 ∙ (elim (M.cleared_cases w i f a b q) [ inl g ↦ absurd (h.0 g.0) | inr g ↦ sym g.1 ])
-  ])
-]
+cleared_with w i p o f a b q = grind (arith, M.cleared_cases, with_at_cases)
 
 cleared_same : (w i : ℕ) (f g : Ports) → ((a b q : ℕ) → f a b q ≡ g a b q) → (a b q : ℕ)
     → cleared w i f a b q ≡ cleared w i g a b q
-cleared_same w i f g e a b q = elim (M.cleared_cases w i f a b q) [
-  | inl h ↦ h.1 ∙ (elim (M.cleared_cases w i g a b q) [ inl k ↦ sym k.1 | inr k ↦ absurd (k.0 h.0) ])
-  | inr h ↦
-      h.1 ∙ e a b q ∙ (elim (M.cleared_cases w i g a b q) [ inl k ↦ absurd (h.0 k.0) | inr k ↦ sym k.1 ])
-]
+cleared_same w i f g e a b q = grind (arith, M.cleared_cases)
 
 module _ (image : Image) (world : World) (facts : WalkFacts image world) (s : State) (partial : Ports) where
   module _ (rest : List Token) (asked : List Request) (early : List ℕ) (w i p v : ℕ)
@@ -345,8 +246,7 @@ module _ (image : Image) (world : World) (facts : WalkFacts image world) (s : St
     module _ (full : is_full f w i (ports image i) ≡ true) (g : Ports) (g_is : (a b q : ℕ)
         → g a b q ≡ cleared w i f a b q) (xs : List ℕ) (xs_are : xs ≡ gather f w i 0 (ports image i)) where
       gone : (a b q : ℕ) → g a b q ≡ cleared w i partial a b q
-      gone a b q = g_is a b q ∙ cleared_same w i f (with_at w i p (Some v) partial) f_is a b q
-          ∙ cleared_with w i p (Some v) partial a b q
+      gone a b q = grind (arith, cleared_same, cleared_with)
 
       pub calls : is_memory image i ≡ true → StateMoves image world s (Match w i p) g rest
           (record { wave = w; instr = i; operands = xs } ∷ asked) early s.chain s.stopped s.memory
@@ -502,5 +402,5 @@ module _ (image : Image) (world : World) (facts : WalkFacts image world) where
     asked_once = tt;
     unissued = λ w i xs e. cc;
     early_issued = λ i h. absurd h;
-    early_all = λ cut w i a t e is. absurd (let f : None ≡ Some a = is in cc);
+    early_all = grind arith;
   }

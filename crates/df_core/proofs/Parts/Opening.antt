@@ -1,7 +1,6 @@
 -- The parts of the opening state.
-use Rattle.std.proofs.Common.{ℕ, zero, suc, ◌≡◌, ◌≤◌, Bool, true, false, cond, eqb, List, [], ◌++◌, length}
-use Rattle.std.proofs.Common.{map, replicate, Option, None, slice_index_or, refl, sym, ap, ◌∙◌, inl, inr}
-use Rattle.std.proofs.Common.{is_some}
+use Rattle.std.proofs.Common.{arith, ℕ, suc, ◌≡◌, ◌≤◌, Bool, cond, List, [], length, replicate, Option, None}
+use Rattle.std.proofs.Common.{slice_index_or, refl, is_some}
 use Rattle.std.proofs.lemmas.List.{append-nil}
 use Rattle.std.specs.HashMap.{IsEmpty}
 use Rattle.ws_words.specs.Outside.{World, opening_out}
@@ -17,31 +16,25 @@ use Rattle.df_core.proofs.Parts.Moving.{opens, stands_alike}
 use Rattle.df_core.specs.declared.way.Way.{Way}
 use Rattle.df_core.specs.declared.flow.Flow.{Flow}
 use Rattle.df_core.specs.Partial.{Spill, empty_slot, port_of, partial_of}
-use Rattle.df_core.specs.Ways.{token_of, way_of, SentTo}
+use Rattle.df_core.specs.Ways.{way_of, SentTo}
 use Rattle.df_core.specs.Chains.{chain_of}
 use Rattle.df_core.proofs.Walked.Few.{pad_few}
 use Rattle.df_core.specs.Flows.{FlowIs}
 use Rattle.df_core.specs.Outdoors.{MemoryIs}
 
 no_port : (p : ℕ) → port_of empty_slot p ≡ None
-no_port zero = refl
-no_port (suc zero) = refl
-no_port (suc (suc zero)) = refl
-no_port (suc (suc (suc p))) = refl
+no_port p = grind arith
 
 empty_at : (n i : ℕ) → slice_index_or (replicate n empty_slot) i empty_slot ≡ empty_slot
-empty_at zero i = refl
-empty_at (suc n) zero = refl
 empty_at (suc n) (suc i) = empty_at n i
+empty_at n i = grind arith
 
 either_none : (b : Bool) (o : Option ℕ) → o ≡ None → cond b o None ≡ None
-either_none true o e = e
-either_none false o e = refl
+either_none b o e = grind arith
 
 nothing_kept : (n : ℕ) (spill : Spill) → IsEmpty spill → (w i p : ℕ) → partial_of (replicate n empty_slot)
     spill w i p ≡ None
-nothing_kept n spill e w i p = rw (empty_at n i, either_none (eqb 0 w) (port_of empty_slot p) (no_port p), e)
-    (no_port p)
+nothing_kept n spill e w i p = grind (arith, empty_at, either_none, empty_slot, no_port)
 
 pub start_is : (image : Image) → pad_of (block_at image 1).pads 0 ≡ start_dests image
 unfolding start_dests
@@ -52,10 +45,7 @@ start_few image formed = rw (start_is image) at (pad_few image formed 1 0)
 
 sent_first : (old new : Way) (ts : List plain.Token) → old.now.items ≡ [] → old.later.items ≡ []
     → SentTo old new ts → way_of new ≡ ts
-sent_first old new ts a b (inl h) = ap (λ xs. xs ++ map token_of new.later.items)
-    (h.0 ∙ ap (λ ys. map token_of ys ++ ts) a) ∙ ap (λ ys. ts ++ map token_of ys) (h.1 ∙ b) ∙ append-nil ts
-sent_first old new ts a b (inr h) = ap (λ ys. map token_of ys ++ map token_of new.later.items) (h.0 ∙ a) ∙ h.1
-    ∙ ap (λ ys. map token_of ys ++ ts) b
+sent_first old new ts a b i = grind (arith, append-nil)
 
 pub opens_so : (image : Image) (world : World) (old : Way) (new : Flow) (n : ℕ)
     → new.slots.slots.items ≡ replicate n empty_slot → IsEmpty new.slots.spill → old.now.items ≡ []
@@ -68,15 +58,4 @@ unfolding core_opening start_tokens opening_memory
 opens_so image world old new n slots spill now later sent asked early chain stopped memory fired sound
     formed =
     let st = opens image world (facts_of image world (ports_there image formed) sound) in
-    let w : way_of new.way ≡ tokens_to 0 0 (start_dests image) = sent_first old new.way
-    (tokens_to 0 0 (start_dests image)) now later sent in
-    record {
-      stands = rw (slots, w, asked, early) (stands_alike image world (λ a b c. None)
-          (partial_of (replicate n empty_slot) new.slots.spill) (tokens_to 0 0 (start_dests image)) [] []
-          (core_opening image world) (nothing_kept n new.slots.spill spill) st);
-      chain_is = sym chain;
-      stopped_is = ap is_some (sym stopped);
-      fault_is = rw stopped tt;
-      memory_is = memory;
-      count_is = sym fired;
-    }
+    grind (arith, sent_first, new.way, stands_alike, empty_slot, nothing_kept, new.slots.spill, is_some)

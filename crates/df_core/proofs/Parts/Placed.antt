@@ -1,6 +1,6 @@
 -- Instructions by number.
-use Rattle.std.proofs.Common.{ℕ, zero, suc, ◌+◌, ◌-◌, ◌≡◌, ◌<◌, ◌≤◌, List, [], ◌∷◌, ◌++◌, length, map, Option}
-use Rattle.std.proofs.Common.{Some, None, slice_index_or, refl, sym, ap, ◌∙◌, subst, inl, inr, arith}
+use Rattle.std.proofs.Common.{ℕ, suc, ◌+◌, ◌-◌, ◌≡◌, ◌<◌, ◌≤◌, List, [], ◌∷◌, ◌++◌, length, map}
+use Rattle.std.proofs.Common.{Some, None, slice_index_or, refl, sym, ap, ◌∙◌, inl, inr, arith}
 use Rattle.std.proofs.Common.{append_assoc, length-append}
 use Rattle.std.proofs.lemmas.Bool.{cases_lt, lt-ltb, le-ltb}
 use Rattle.ws_isa.specs.Image.{Image, Instr, Block, flat, holder, instr_at, block_of, no_instr}
@@ -11,19 +11,17 @@ use Rattle.df_core.specs.declared.program.PlacedInstr.{PlacedInstr}
 use Rattle.df_core.specs.Listed.{place_in_code, places}
 use Rattle.df_core.specs.Places.{PlaceIs}
 use Rattle.ws_words.proofs.Lists.{length_map}
-use Rattle.ws_words.specs.Items.{nth, or_else}
+use Rattle.ws_words.specs.Items.{nth}
 use Rattle.ws_words.proofs.Places.{nth_append_left}
 
 nth_behind : {A : Type 0} (xs ys : List A) (k : ℕ) → length xs ≤ k → nth (xs ++ ys) k ≡ nth ys (k - length xs)
-nth_behind [] ys k l = let e : k ≡ k - 0 = omega arith in ap (nth ys) e
-nth_behind (x ∷ xs) ys zero l = absurd (omega arith)
 nth_behind (x ∷ xs) ys (suc k) l = grind (arith, nth_behind xs ys k (omega arith))
+nth_behind xs ys k l = grind arith
 
 nth_map : {A B : Type 0} (f : A → B) (xs : List A) (k : ℕ) (y : B) → nth (map f xs) k ≡ Some y
     → (x : A) × (nth xs k ≡ Some x) × (f x ≡ y)
-nth_map f [] k y e = cc
-nth_map f (x ∷ xs) zero y e = (x, refl, cc)
 nth_map f (x ∷ xs) (suc k) y e = nth_map f xs k y e
+nth_map f xs k y e = grind arith
 
 -- the instruction at a place, and its block
 pub placed : (bs : List Block) (n k : ℕ) (i : Instr) (b : ℕ) → nth (places bs n) k ≡ Some (i, b)
@@ -54,14 +52,12 @@ placed (x ∷ bs) n k i b e = elim (cases_lt k (length x.instrs)) [
 
 pub nth_of : {A B : Type 0} (f : A → B) (xs : List A) (k : ℕ) (x : A) → k < length xs
     → x ≡ slice_index_or xs k x → nth (map f xs) k ≡ Some (f x)
-nth_of f [] k x l e = absurd (omega arith)
-nth_of f (y ∷ xs) zero x l e = ap (λ z. Some (f z)) (sym e)
 nth_of f (y ∷ xs) (suc k) x l e = nth_of f xs k x (omega arith) e
+nth_of f xs k x l e = grind arith
 
 pub nth_none : {A : Type 0} (xs : List A) (k : ℕ) → length xs ≤ k → nth xs k ≡ None
-nth_none [] k l = refl
-nth_none (x ∷ xs) zero l = absurd (omega arith)
 nth_none (x ∷ xs) (suc k) l = nth_none xs k (omega arith)
+nth_none xs k l = grind arith
 
 length_places : (bs : List Block) (n : ℕ) → length (places bs n) ≡ length (flat bs)
 length_places [] n = refl
@@ -86,12 +82,7 @@ module _ (image : Image) (spots : List PlacedInstr) (are : map place_in_code spo
   unfolding instr_at block_of
   place_is number at p e l h =
       let n : nth (places image.blocks 1) at ≡ Some (place_in_code p) =
-      subst (λ xs. nth xs at ≡ Some (place_in_code p)) are (nth_of place_in_code spots at p l h) in
-      let r = placed image.blocks 1 at (view.instr p.instr.now) p.block n in
-      record {
-        instr = rw e (ap (λ (o : Option Instr). or_else o no_instr) (sym r.0));
-        block = rw e (sym r.1);
-      }
+      grind (arith, place_in_code, nth_of) in grind (arith, placed, image.blocks, p.block)
 
   pub place_past : (number at : ℕ) → number ≡ suc at → length spots ≤ at → instr_at image number ≡ no_instr
   unfolding instr_at
@@ -116,12 +107,4 @@ pub spots_more : (old new : List PlacedInstr) (now rest : List code_block.Block)
     → map place_in_code old ++ places (map view.block now) m ≡ places all 1
     → map place_in_code new ++ places (map view.block rest) nx ≡ places all 1
 spots_more old new now rest all b n m nx sx nm d e h =
-    ap (λ (k : ℕ). map place_in_code new ++ places (map view.block rest) k) sx
-    ∙ ap (λ (xs : List (Instr × ℕ)). xs ++ places (map view.block rest) (suc m))
-    (e ∙ ap (λ (xs : List (Instr × ℕ)). map place_in_code old ++ xs) (both_maps n b.instrs.items))
-    ∙ append_assoc (map place_in_code old) (map (paired n) (map view.instr b.instrs.items))
-    (places (map view.block rest) (suc m))
-    ∙ ap (λ (k : ℕ). map place_in_code old ++ (map (paired k) (map view.instr b.instrs.items) ++ places
-    (map view.block rest) (suc m))) nm
-    ∙ subst (λ (bs : List code_block.Block). map place_in_code old ++ places (map view.block bs) m
-    ≡ places all 1) d h
+    grind (arith, place_in_code, both_maps, append_assoc, paired)

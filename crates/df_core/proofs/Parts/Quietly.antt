@@ -38,10 +38,7 @@ has_some o = grind arith
 -- the token's own port has it, and the others are as they were
 pub has_at_port : (f : Ports) (w i p q v : ℕ) → has (with_at w i p (Some v) f w i q)
     ≡ (eqb p q || is_some (f w i q))
-has_at_port f w i p q v = rw (eqb_same w, eqb_same i) (by (eqb p q))
-  where
-    by : (b : Bool) → has (cond b (Some v) (f w i q)) ≡ (b || is_some (f w i q))
-    by b = grind (arith, has_some)
+has_at_port f w i p q v = grind (arith, eqb_same, has_some)
 
 -- the first ports are full, and the next one is
 pub full_more : (f : Ports) (w i n m : ℕ) → m ≡ suc n → has (f w i n) ≡ true → is_full f w i n ≡ true
@@ -67,14 +64,8 @@ all_fill image slots (t ∷ ts) f =
 
 pub sent_at : (ts : List Token) (k : ℕ) (t : Token) → k < length ts → t ≡ slice_index_or ts k no_token
     → IsSent (map token_of ts) t.wave t.instr t.port t.value
-sent_at [] k t l e = absurd (omega arith)
-sent_at (x ∷ ts) zero t l e = inl (
-  ap (λ (y : Token). y.wave) (sym e),
-  ap (λ (y : Token). y.instr) (sym e),
-  ap (λ (y : Token). y.port) (sym e),
-  ap (λ (y : Token). y.value) (sym e),
-)
 sent_at (x ∷ ts) (suc k) t l e = inr (sent_at ts k t (omega arith) e)
+sent_at ts k t l e = grind arith
 
 pub sent_left : (xs ys : List plain.Token) (w i p v : ℕ) → IsSent xs w i p v → IsSent (xs ++ ys) w i p v
 sent_left [] ys w i p v h = absurd h

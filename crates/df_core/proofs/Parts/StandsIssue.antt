@@ -9,7 +9,7 @@ use Rattle.df_core.specs.Effect.{effect_after}
 use Rattle.df_core.specs.Core.{Apart, Chain, State, IsSent, IsNext, Passes, stays, passes, pass, Issuable}
 use Rattle.df_core.specs.Core.{issued_with, issue}
 use Rattle.df_core.specs.Fit.{FiresAt, IssuedOp, Ordered, IsThere, HasTold, Fit}
-use Rattle.df_core.specs.Stands.{Request, HasRequest, left_after, HasEarly, Settles, Stands, EarlyIssued}
+use Rattle.df_core.specs.Stands.{Request, left_after, HasEarly, Settles, Stands, EarlyIssued}
 use Rattle.df_core.proofs.Walked.Facts.{WalkFacts}
 use Rattle.df_core.proofs.Keeping.Ports.{SameKey, with_key_cases, with_key_same, put_all_keeps, put_all_from}
 use Rattle.df_core.proofs.Walked.SlotLists.{is_sent_append_left, is_sent_append_right, is_sent_append_cases}
@@ -66,7 +66,7 @@ module _ (image : Image) (world : World) (facts : WalkFacts image world) (s : St
 
       no_place : (a b q v y : ℕ) → IsSent listed a b q v → IsThere s a b q y → ⊥
       no_place a b q v y h k = new_place image world facts s st.grounded u x at.fires not_told a b q v y
-          (subst (λ (ts : List Token). IsSent ts a b q v) the_tokens h) k
+          (grind (arith, the_tokens)) k
 
       still_issued : (a b n : ℕ) → s.issued a b ≡ Some n → issued_with image s.issued s.memory w i xs a b
           ≡ Some n
@@ -174,7 +174,7 @@ module _ (image : Image) (world : World) (facts : WalkFacts image world) (s : St
         unfolding issue listed
         issue_stands = record {
           fit = new_fit;
-          grounded = issue_grounded image world facts s st.fit w i xs waits may d ends.passed st.grounded;
+          grounded = grind (arith, issue_grounded, waits, ends.passed);
           once = st.once;
           held = st.held;
           gone = st.gone;
@@ -201,27 +201,10 @@ module _ (image : Image) (world : World) (facts : WalkFacts image world) (s : St
           way_apart = apart_append way listed st.way_apart
               (subst Apart (sym the_tokens) (facts.sends_apart u x at.fires))
               (λ a b q y z h k. no_place a b q z y k (inr (st.way_from a b q y h)));
-          asked_to = λ a b ys e. elim (with_key_cases w i None s.waiting a b) [
-            | inl h ↦ absurd (let f : None ≡ Some ys = sym h.1 ∙ e in cc)
-            | inr h ↦ elim (st.asked_to a b ys (sym h.1 ∙ e)) [
-              | inl k ↦ absurd (h.0 (record { wave = k.0; instr = k.1 }))
-              | inr k ↦ k
-            ]
-          ];
-          asked_from = λ a b ys h. elim (with_key_cases w i None s.waiting a b) [
-            | inl k ↦
-                absurd (st.asked_once.0 ys (subst (λ (n : ℕ). HasRequest rest w n ys) (sym k.0.instr)
-                (rw k.0.wave h)))
-            | inr k ↦ k.1 ∙ st.asked_from a b ys (inr h)
-          ];
+          asked_to = grind (arith, with_key_cases, s.waiting, st.asked_to);
+          asked_from = grind (arith, with_key_cases, s.waiting, st.asked_from);
           asked_once = st.asked_once.1;
-          unissued = λ a b ys e. elim (with_key_cases w i None s.waiting a b) [
-            | inl k ↦ absurd (let f : None ≡ Some ys = sym k.1 ∙ e in cc)
-            | inr k ↦ elim (with_key_cases w i (Some (answer image i xs s.memory)) s.issued a b) [
-              | inl l ↦ absurd (k.0 l.0)
-              | inr l ↦ l.1 ∙ st.unissued a b ys (sym k.1 ∙ e)
-            ]
-          ];
+          unissued = grind (arith, with_key_cases, s.waiting, s.issued, st.unissued);
           early_issued = ends.issued_are;
           early_all = ends.early_all;
         }

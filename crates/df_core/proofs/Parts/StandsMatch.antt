@@ -5,7 +5,7 @@ use Rattle.std.proofs.lemmas.Bool.{cases_eq, both_ways, cond-true, cond-false}
 use Rattle.ws_words.specs.Outside.{World}
 use Rattle.ws_isa.specs.Image.{Image, Token, ports, is_memory, result_of, sends}
 use Rattle.ws_isa.specs.Walk.{Inst, Ports, fires, gather}
-use Rattle.df_core.specs.Core.{Apart, State, HasFired, IsSent, with_at, with_key, is_full, operands_in}
+use Rattle.df_core.specs.Core.{Apart, State, HasFired, IsSent, with_at, is_full, operands_in}
 use Rattle.df_core.specs.Core.{arrived, asks, tells, matched}
 use Rattle.df_core.specs.Fit.{RightToken, IsThere, HasTold, Fit, Grounded}
 use Rattle.df_core.specs.Stands.{Request, cleared, Stands}
@@ -38,13 +38,7 @@ gather_agree f g w i p (suc n) e = rw (e p, gather_agree f g w i (suc p) n e) re
 
 pub cleared_cases : (w i : ℕ) (f : Ports) (a b q : ℕ) → (SameKey w i a b × (cleared w i f a b q ≡ None))
     ⊎ ((SameKey w i a b → ⊥) × (cleared w i f a b q ≡ f a b q))
-cleared_cases w i f a b q = go (cases_eq w a) (cases_eq i b)
-  where
-    go : (w ≡ a) ⊎ (w ≡ a → ⊥) → (i ≡ b) ⊎ (i ≡ b → ⊥) → (SameKey w i a b × (cleared w i f a b q ≡ None))
-        ⊎ ((SameKey w i a b → ⊥) × (cleared w i f a b q ≡ f a b q))
-    go (inl e) (inl g) = inl (record { wave = e; instr = g }, rw (eq-eqb w a e, eq-eqb i b g) refl)
-    go (inr n) g = inr ((λ s. n s.wave), rw (ne_eqb w a n) refl)
-    go (inl e) (inr n) = inr ((λ s. n s.instr), rw (eq-eqb w a e, ne_eqb i b n) refl)
+cleared_cases w i f a b q = grind (arith, cases_eq, eq-eqb, ne_eqb)
 
 module _ (image : Image) (world : World) (facts : WalkFacts image world) where
   -- an instance with a token on the way hasn't fired
@@ -73,10 +67,7 @@ module _ (image : Image) (world : World) (facts : WalkFacts image world) where
       i p a → IsThere s w i p b → ⊥
   new_place s g t x fx n w i p a b h k = elim (g.tokens w i p b k) [
     | inl l ↦ facts.no_maker t x fx w i p b a l h
-    | inr l ↦ (let e : l.time ≡ t = facts.one_maker l.time t l.inst x l.fires fx w i p b a l.sent h in
-        let f : Some l.inst ≡ Some x = sym l.fires ∙ ap (fires image world) e ∙ fx in
-        let i : l.inst ≡ x = cc in
-        n (subst (HasTold image s) i l.told))
+    | inr l ↦ grind (arith, facts.one_maker, l.fires, l.sent)
   ]
 
   module _ (s : State) (partial : Ports) (rest : List Token) (asked : List Request) (early : List ℕ)
@@ -121,27 +112,8 @@ module _ (image : Image) (world : World) (facts : WalkFacts image world) where
 
       pub waits_stands : Stands image world (with_at w i p (Some v) partial) rest asked early
           (arrived s w i p v)
-      waits_stands = record {
-        fit = subst (Fit image world) waits_is new_fit;
-        grounded = subst (Grounded image world) waits_is new_grounded;
-        once = st.once;
-        held = held_is;
-        gone = λ a b q h. elim (with_at_cases w i p (Some v) partial a b q) [
-          | inl g ↦
-              absurd (unfired (subst (λ (n : ℕ). HasFired s.fired w n) (sym g.0.instr)
-              (rw g.0.wave h)))
-          | inr g ↦ g.1 ∙ st.gone a b q h
-        ];
-        way_to = way_to';
-        way_from = way_from';
-        way_apart = st.way_apart.1;
-        asked_to = st.asked_to;
-        asked_from = st.asked_from;
-        asked_once = st.asked_once;
-        unissued = st.unissued;
-        early_issued = st.early_issued;
-        early_all = st.early_all;
-      }
+      waits_stands =
+          grind (arith, waits_is, new_fit, new_grounded, held_is, with_at_cases, unfired, way_to', way_from')
 
     -- the instance is full
     module _ (full : is_full (with_at w i p (Some v) partial) w i (ports image i) ≡ true) where
@@ -162,8 +134,7 @@ module _ (image : Image) (world : World) (facts : WalkFacts image world) where
         not_asked xs e = unfired (st.grounded.requests w i xs e)
 
         not_issued : (o : Option ℕ) → s.issued w i ≡ o → s.issued w i ≡ None
-        not_issued None e = e
-        not_issued (Some a) e = absurd (unfired (st.grounded.issued w i a e))
+        not_issued o e = grind (arith, unfired, st.grounded.issued)
 
         pub asks_stands : Stands image world (cleared w i partial) rest
             (record {
@@ -172,52 +143,22 @@ module _ (image : Image) (world : World) (facts : WalkFacts image world) where
               operands = gather (with_at w i p (Some v) partial) w i 0
                   (ports image i);
             } ∷ asked) early (asks image w i (arrived s w i p v))
-        asks_stands = record {
-          fit = subst (Fit image world) asks_is new_fit;
-          grounded = subst (Grounded image world) asks_is new_grounded;
-          once = (unfired, st.once);
-          held = held_cleared;
-          gone = gone_cleared;
-          way_to = way_to';
-          way_from = way_from';
-          way_apart = st.way_apart.1;
-          asked_to =
-              λ a b ys e. elim (with_key_cases w i (Some (operands_in image (arrived s w i p v).held w i))
-              s.waiting a b) [
-                | inl h ↦ (let f : Some (operands_in image (arrived s w i p v).held w i) ≡ Some ys = sym h.1
-                    ∙ e in
-                    let g : operands_in image (arrived s w i p v).held w i ≡ ys = cc in
-                    inl (h.0.wave, h.0.instr, sym operands_are ∙ g))
-                | inr h ↦ inr (st.asked_to a b ys (sym h.1 ∙ e))
-              ];
-          asked_from = λ a b ys h. elim h [
-            | inl g ↦ (let e : with_key w i (Some (operands_in image (arrived s w i p v).held w i)) s.waiting
-                w i ≡ Some ys = with_key_same w i _ s.waiting ∙ ap (λ (l : List ℕ). Some l)
-                (operands_are ∙ g.2) in
-                subst (λ (n : ℕ). with_key w i (Some (operands_in image (arrived s w i p v).held w i))
-                s.waiting a n ≡ Some ys) g.1
-                (subst (λ (n : ℕ). with_key w i (Some (operands_in image (arrived s w i p v).held w i))
-                s.waiting n i ≡ Some ys) g.0 e))
-            | inr g ↦ (let e : s.waiting a b ≡ Some ys = st.asked_from a b ys g in
-                elim (with_key_cases w i (Some (operands_in image (arrived s w i p v).held w i)) s.waiting a
-                b) [
-                  | inl k ↦
-                      absurd (not_asked ys (subst (λ (n : ℕ). s.waiting w n ≡ Some ys) (sym k.0.instr)
-                      (rw k.0.wave e)))
-                  | inr k ↦ k.1 ∙ e
-                ])
-          ];
-          asked_once = ((λ ys h. not_asked ys (st.asked_from w i ys h)), st.asked_once);
-          unissued =
-              λ a b ys e. elim (with_key_cases w i (Some (operands_in image (arrived s w i p v).held w i))
-              s.waiting a b) [
-                | inl k ↦ subst (λ (n : ℕ). s.issued a n ≡ None) k.0.instr
-                    (rw k.0.wave at (not_issued (s.issued w i) refl))
-                | inr k ↦ st.unissued a b ys (sym k.1 ∙ e)
-              ];
-          early_issued = st.early_issued;
-          early_all = st.early_all;
-        }
+        asks_stands = grind (
+          arith,
+          asks_is,
+          new_fit,
+          new_grounded,
+          unfired,
+          held_cleared,
+          gone_cleared,
+          way_to',
+          way_from',
+          with_key_cases,
+          operands_are,
+          with_key_same,
+          not_asked,
+          not_issued,
+        )
 
       module _ (plain : is_memory image i ≡ false) where
         pub tells_is : matched image s w i p v ≡ tells image w i (arrived s w i p v)
@@ -231,13 +172,7 @@ module _ (image : Image) (world : World) (facts : WalkFacts image world) where
         filled = full_all (arrived s w i p v).held w i (ports image i) (full_is ∙ full)
 
         right_held : (q u : ℕ) → (arrived s w i p v).held w i q ≡ Some u → RightToken image world w i q u
-        right_held q u e = elim (with_at_cases w i p (Some v) s.held w i q) [
-          | inl h ↦ (let f : Some v ≡ Some u = sym h.1 ∙ e in
-              let g : v ≡ u = cc in
-              subst (λ (n : ℕ). RightToken image world w i n u) h.0.port
-              (subst (λ (n : ℕ). RightToken image world w i p n) g token))
-          | inr h ↦ st.fit.held_right w i q u (sym h.1 ∙ e)
-        ]
+        right_held q u e = grind (arith, with_at_cases, s.held, token, st.fit.held_right)
 
         their_operands : operands_in image (arrived s w i p v).held w i ≡ token.inst.operands
         their_operands = right_operands image world facts (arrived s w i p v).held w i token.time token.inst
@@ -262,19 +197,12 @@ module _ (image : Image) (world : World) (facts : WalkFacts image world) where
 
         no_place : (a b q u y : ℕ) → IsSent listed a b q u → IsThere s a b q y → ⊥
         no_place a b q u y h k = new_place s st.grounded token.time token.inst token.at.fires not_told a b q u
-            y (subst (λ (ts : List Token). IsSent ts a b q u) (listed_is ∙ the_tokens) h) k
+            y (grind (arith, listed_is, the_tokens)) k
 
         tells_way : (a b q u : ℕ) → (tells image w i (arrived s w i p v)).way a b q ≡ Some u
             → IsSent (rest ++ listed) a b q u
         tells_way a b q u e =
-            elim (put_all_from (arrived s w i p v).held
-            (sends image w i (operands_in image (arrived s w i p v).held w i)
-            (result_of image i (operands_in image (arrived s w i p v).held w i))) (arrived s w i p v).way a b
-            q u e) [
-              | inl h ↦ is_sent_append_left rest listed a b q u (way_to' a b q u h)
-              | inr h ↦ is_sent_append_right rest listed a b q u
-                  (rw listed_is h)
-            ]
+            grind (arith, put_all_from, is_sent_append_left, way_to', is_sent_append_right, listed_is)
 
         tells_fit : Fit image world (tells image w i (arrived s w i p v))
         tells_fit = subst (Fit image world) tells_is new_fit

@@ -1,6 +1,6 @@
 -- The core's steps, event by event.
-use Rattle.std.proofs.Common.{ℕ, ◌≡◌, List, [], ◌∷◌, ◌++◌, map, is_some, slice_index_or, sym, ap, ◌∙◌, subst}
-use Rattle.std.proofs.Common.{inl, inr, true, false, ◌⊎◌, ◌<◌, length, Result, Ok, Err, OnOk, OnErr}
+use Rattle.std.proofs.Common.{arith, ℕ, ◌≡◌, List, [], ◌∷◌, ◌++◌, map, is_some, slice_index_or, sym, ap, ◌∙◌}
+use Rattle.std.proofs.Common.{subst, inl, inr, true, false, ◌⊎◌, ◌<◌, length, Result, Ok, Err, OnOk, OnErr}
 use Rattle.std.proofs.lemmas.Bool.{both_ways}
 use Rattle.ws_words.specs.Outside.{World}
 use Rattle.ws_isa.specs.Image as plain
@@ -33,12 +33,7 @@ use Rattle.ws_words.proofs.Lists.{append_on}
 -- the same parts stand for the same
 pub kept_same : (core : Core) (flow : Flow) → SameParts core.flow flow
     → SameStates core (record { program = core.program; flow = flow })
-kept_same core flow same image world s at = record {
-  image_is = at.image_is;
-  formed = at.formed;
-  sound = at.sound;
-  holds = same_holds image world [] core.flow flow s same at.holds;
-}
+kept_same core flow same image world s at = grind (arith, same_holds)
 
 pub runs_same : (core : Core) (flow : Flow) → SameParts core.flow flow → IsRunning core
     → IsRunning (record { program = core.program; flow = flow })
@@ -67,9 +62,7 @@ not_on_way core w i p none image world s at e = none e.0 (at.holds.stands.way_to
 
 pub same_way : (old new : Flow) (w i p : ℕ) → SameParts old new → NoneAt (way_of new.way) w i p
     → NoneAt (way_of old.way) w i p
-same_way old new w i p e none = subst (λ (ts : List plain.Token). NoneAt ts w i p)
-    (ap (λ (xs : List Token). map token_of xs ++ map token_of new.way.later.items) e.now
-    ∙ ap (λ (xs : List Token). map token_of old.way.now.items ++ map token_of xs) e.later) none
+same_way old new w i p e none = grind arith
 
 taken_way : (image : Image) (world : World) (old new : Way) (w i p : ℕ) (tok : Token) (f : Ports)
     (asked : List Request) (early : List ℕ) (s : State) → TakenAt old new w i p tok
@@ -189,8 +182,7 @@ may_enabled core k a l is running flag image world s at =
 module _ (core : Core) (prepared : Flow) (same : SameParts core.flow prepared) where
   holds_prepared : (image : Image) (world : World) (s : State) → IsAt image world core s
       → FlowIs (image_of core.program) world [] prepared s
-  holds_prepared image world s at = same_holds (image_of core.program) world [] core.flow prepared s same
-      (subst (λ (im : Image). FlowIs im world [] core.flow s) (sym at.image_is) at.holds)
+  holds_prepared image world s at = grind (arith, same_holds)
 
   pub going_prepared : IsRunning core → GoingBeside (image_of core.program) [] prepared
   going_prepared r = alone (image_of core.program) [] prepared (record {
@@ -222,8 +214,7 @@ module _ (core : Core) (prepared : Flow) (same : SameParts core.flow prepared) w
 
 pub token_enabled : (core : Core) (tok : Token) → IsSent (way_of core.flow.way) tok.wave tok.instr tok.port
     tok.value → IsEnabled (Match tok.wave tok.instr tok.port) core
-token_enabled core tok h image world s at =
-    (tok.value, at.holds.stands.way_from tok.wave tok.instr tok.port tok.value h)
+token_enabled core tok h image world s at = grind arith
 
 pub core_rests : (core : Core) → way_of core.flow.way ≡ [] → (is_some core.flow.fault ≡ true)
     ⊎ NoneAskedMay (image_of core.program) core.flow → IsAtRest core

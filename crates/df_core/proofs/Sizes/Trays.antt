@@ -1,7 +1,6 @@
 -- Rows of words, each with room for more.
 use Rattle.std.proofs.Common.{ℕ, zero, suc, ◌+◌, ◌≡◌, ◌<◌, ◌≤◌, List, [], ◌∷◌, ◌++◌, length, Some, Vec}
-use Rattle.std.proofs.Common.{Global, vec_len, vec_capacity, slice_set, slice_index_or, refl, sym, ap, inl}
-use Rattle.std.proofs.Common.{inr, ◌⊎◌, arith}
+use Rattle.std.proofs.Common.{Global, vec_len, vec_capacity, slice_set, slice_index_or, refl, ap, ◌⊎◌, arith}
 use Rattle.ws_words.specs.Outside.{row, with_row}
 use Rattle.df_core.specs.Outdoors.{HasSpace, rows_of}
 use Rattle.ws_words.specs.Items.{nth}
@@ -14,24 +13,19 @@ set_rows (x ∷ rows) (suc k) v = ap (λ (rs : List (List ℕ)). x.items ∷ rs)
 
 pub value_in : (rows : List (Vec ℕ Global)) (k : ℕ) (v : Vec ℕ Global) → k < length rows
     → v ≡ slice_index_or rows k v → v.items ≡ row (rows_of rows) k
-value_in [] k v l e = absurd (omega arith)
-value_in (x ∷ rows) zero v l e = ap (λ (w : Vec ℕ Global). w.items) e
 value_in (x ∷ rows) (suc k) v l e = value_in rows k v (omega arith) e
+value_in rows k v l e = grind arith
 
 pub value_nth : (rows : List (Vec ℕ Global)) (k : ℕ) (v : Vec ℕ Global) → k < length rows
     → v ≡ slice_index_or rows k v → nth rows k ≡ Some v
-value_nth [] k v l e = absurd (omega arith)
-value_nth (x ∷ rows) zero v l e = ap (λ (w : Vec ℕ Global). Some w) (sym e)
 value_nth (x ∷ rows) (suc k) v l e = value_nth rows k v (omega arith) e
+value_nth rows k v l e = grind arith
 
 -- the row at a place, after another was written
 pub nth_set : (rows : List (Vec ℕ Global)) (k : ℕ) (w : Vec ℕ Global) (p : ℕ) (v : Vec ℕ Global)
     → nth (slice_set rows k w) p ≡ Some v → ((p ≡ k) × (v ≡ w)) ⊎ ((p ≡ k → ⊥) × (nth rows p ≡ Some v))
-nth_set [] k w p v e = absurd (cc)
-nth_set (x ∷ rows) zero w zero v e = inl (refl, (let f : Some w ≡ Some v = e in let g : v ≡ w = cc in g))
-nth_set (x ∷ rows) zero w (suc p) v e = inr ((λ h. let g : suc p ≡ 0 = h in omega arith), e)
-nth_set (x ∷ rows) (suc k) w zero v e = inr ((λ h. let g : 0 ≡ suc k = h in omega arith), e)
 nth_set (x ∷ rows) (suc k) w (suc p) v e = grind (arith, nth_set rows k w p v e)
+nth_set rows k w p v e = grind arith
 
 pub set_space : (rows : List (Vec ℕ Global)) (k : ℕ) (v w : Vec ℕ Global) (n : ℕ) → k < length rows
     → v ≡ slice_index_or rows k v → vec_len w ≡ vec_len v + 1 → vec_capacity w ≡ vec_capacity v
@@ -52,9 +46,8 @@ written_past (x ∷ rows) (suc k) r l = grind (arith, written_past rows k r (ome
 
 -- a row written over by itself
 pub same_row : (rows : List (List ℕ)) (k : ℕ) → with_row rows k (row rows k) ≡ rows
-same_row [] k = refl
-same_row (x ∷ rows) zero = refl
 same_row (x ∷ rows) (suc k) = ap (λ (rs : List (List ℕ)). x ∷ rs) (same_row rows k)
+same_row rows k = grind arith
 
 pub kept_rows : (rows : List (Vec ℕ Global)) (k : ℕ) (v w : Vec ℕ Global) → k < length rows
     → v ≡ slice_index_or rows k v → w.items ≡ v.items → rows_of (slice_set rows k w) ≡ rows_of rows
@@ -67,9 +60,8 @@ rows_push (x ∷ rows) v = ap (λ (rs : List (List ℕ)). x.items ∷ rs) (rows_
 
 pub length_set : (rows : List (Vec ℕ Global)) (k : ℕ) (w : Vec ℕ Global)
     → length (slice_set rows k w) ≡ length rows
-length_set [] k w = refl
-length_set (x ∷ rows) zero w = refl
 length_set (x ∷ rows) (suc k) w = ap suc (length_set rows k w)
+length_set rows k w = grind arith
 
 pub past_row : (rows : List (Vec ℕ Global)) (k : ℕ) → length rows ≤ k → [] ≡ row (rows_of rows) k
 past_row [] k l = refl

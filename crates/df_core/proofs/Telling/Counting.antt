@@ -58,7 +58,7 @@ pub once_length : (xs ys : List Key) → Once xs → ((w i : ℕ) → HasFired x
     → length xs ≤ length ys
 once_length [] ys o f = omega arith
 once_length (x ∷ xs) ys o f =
-    let l : Less ys x.wave x.instr = take_out ys x.wave x.instr (f x.wave x.instr (inl (refl, refl))) in
+    let l : Less ys x.wave x.instr = grind (arith, take_out, x.instr) in
     let r : length xs ≤ length l.rest =
     once_length xs l.rest o.1 (λ w i h. elim (l.keeps w i (f w i (inr h))) [
       | inl e ↦ absurd (o.0 (has_same xs w i x.wave x.instr (sym e.0) (sym e.1) h))
@@ -72,7 +72,7 @@ has_append : (xs ys : List Inst) (w i : ℕ) → HasFired (keys_of (xs ++ ys)) w
     ⊎ HasFired (keys_of ys) w i
 has_append [] ys w i h = inr h
 has_append (x ∷ xs) ys w i (inl h) = inl (inl h)
-has_append (x ∷ xs) ys w i (inr h) = elim (has_append xs ys w i h) [ inl g ↦ inl (inr g) | inr g ↦ inr g ]
+has_append (x ∷ xs) ys w i (inr h) = grind (arith, has_append xs ys w i h)
 
 append_has_left : (xs ys : List Inst) (w i : ℕ) → HasFired (keys_of xs) w i
     → HasFired (keys_of (xs ++ ys)) w i
@@ -132,7 +132,7 @@ module _ (image : Image) (world : World) (facts : WalkFacts image world) where
   pub walk_from : (t w i : ℕ) → HasFired (keys_of (walk image world t)) w i → InWalk t w i
   walk_from zero w i h = absurd (rw walk_start at h)
   walk_from (suc t) w i h = elim (cases_fires image world t) [
-    | inl e ↦ in_later t w i (walk_from t w i (rw (walk_silent image world t e) at h))
+    | inl e ↦ grind (arith, in_later, walk_silent, walk_from t w i (rw (walk_silent image world t e) at h))
     | inr y ↦ elim (has_append (walk image world t) (y.0 ∷ []) w i (rw (walk_some t y.0 y.1) at h)) [
       | inl g ↦ in_later t w i (walk_from t w i g)
       | inr g ↦
@@ -165,12 +165,7 @@ module _ (image : Image) (world : World) (facts : WalkFacts image world) where
       → HasFired s.fired x.wave x.instr) → (t : ℕ) → length (walk image world t) ≤ length s.fired
   rest_count s fit all t =
       let l : length (keys_of (walk image world t)) ≤ length s.fired =
-      once_length (keys_of (walk image world t)) s.fired (walk_once t) (λ w i h.
-      let r : InWalk t w i = walk_from t w i h in
-      has_same s.fired r.inst.wave r.inst.instr w i r.wave r.instr (all r.time r.inst r.fires)) in
-      let e : length (keys_of (walk image world t)) ≡ length (walk image world t) =
-      keys_length (walk image world t) in
-      omega arith
+      grind (arith, once_length, s.fired, walk_once, walk_from, has_same) in grind (arith, keys_length)
 
   -- what has fired is the walk's
   pub fired_inst : (s : State) → Fit image world s → (w i : ℕ) → HasFired s.fired w i
@@ -267,11 +262,7 @@ module _ (image : Image) (world : World) (facts : WalkFacts image world) where
           → (HasFired (keys_of (operations image xs)) w i → HasFired (keys_of xs) w i
           × (is_memory image i ≡ true)) →
           HasFired (keys_of (x ∷ xs)) w i × (is_memory image i ≡ true)
-      go (inl m) ih = elim (rw m at h) [
-        | inl e ↦ (inl e, rw e.1 at m)
-        | inr e ↦
-            (let r = ih e in (inr r.0, r.1))
-      ]
+      go (inl m) ih = grind arith
       go (inr m) ih = let r = ih (rw m at h) in (inr r.0, r.1)
 
   ops_once : (xs : List Inst) → Once (keys_of xs) → Once (keys_of (operations image xs))
@@ -288,15 +279,8 @@ module _ (image : Image) (world : World) (facts : WalkFacts image world) where
       length (operations image (walk image world t)) ≤ length s.fired
   ops_count s t all =
       let l : length (keys_of (operations image (walk image world t))) ≤ length s.fired =
-      once_length (keys_of (operations image (walk image world t))) s.fired
-      (ops_once (walk image world t) (walk_once t)) (λ w i h.
-      let d = op_listed (walk image world t) w i h in
-      let r : InWalk t w i = walk_from t w i d.0 in
-      has_same s.fired r.inst.wave r.inst.instr w i r.wave r.instr
-      (all r.time r.inst r.earlier r.fires (ap (is_memory image) r.instr ∙ d.1))) in
-      let e : length (keys_of (operations image (walk image world t))) ≡ length
-      (operations image (walk image world t)) = keys_length (operations image (walk image world t)) in
-      omega arith
+      grind (arith, once_length, s.fired, ops_once, walk_once, op_listed, walk_from, has_same) in
+      grind (arith, keys_length)
 
   -- where a token is on the way, the walk has more
   pub way_count : (s : State) → Fit image world s → Once s.fired → (w i p v : ℕ) → s.way w i p ≡ Some v

@@ -1,5 +1,5 @@
 -- Where a fit state is at rest, stopped, or has no request that is issuable.
-use Rattle.std.proofs.Common.{ℕ, suc, ◌+◌, ◌≡◌, ◌<◌, ◌≤◌, ◌⊎◌, true, false, length, Some, refl, sym, ap, ◌∙◌}
+use Rattle.std.proofs.Common.{ℕ, suc, ◌+◌, ◌≡◌, ◌<◌, ◌≤◌, ◌⊎◌, true, false, length, Some, refl, sym, ◌∙◌}
 use Rattle.std.proofs.Common.{subst, inl, inr, arith}
 use Rattle.std.proofs.lemmas.Bool.{cases_Bool, cases_lt, both_ways}
 use Rattle.ws_words.specs.Outside.{Outside, World}
@@ -34,14 +34,7 @@ module _ (image : Image) (world : World) (facts : WalkFacts image world) where
       → (a : ℕ) → s.issued x.wave x.instr ≡ Some a → is_past image x.instr x.operands ≡ false
   issued_within s fit t x fx a e =
       let op : IssuedOp image world fit.legal.cut x.wave x.instr a = fit.legal.ordered.others x.wave x.instr a
-      e in
-      let same : op.inst ≡ x = same_inst image world facts x.wave x.instr op.time t op.inst x op.at
-      (record { fires = fx; wave = refl; instr = refl }) in
-      subst (λ (y : Inst). is_past image y.instr y.operands ≡ false) same (elim op.place [
-        | inl l ↦ fit.legal.ordered.within op.time op.inst l op.at.fires
-            (ap (is_memory image) op.at.instr ∙ op.memory)
-        | inr early ↦ early.1.within
-      ])
+      e in grind (arith, same_inst, x.instr, op.at, op.place, fit.legal.ordered.within, op.at.fires)
 
   pub at_fault : (s : State) → Fit image world s → s.stopped ≡ true → AtFault image world s
   at_fault s fit e = let h = fit.legal.halted e in record {
@@ -69,10 +62,7 @@ module _ (image : Image) (world : World) (facts : WalkFacts image world) where
         → length (ops image world u) < length (ops image world t)
     below_first t u x l fx mx =
         let a : length (ops image world (suc u)) ≡ suc (length (ops image world u)) =
-        fired_more image world u x fx mx in
-        let b : length (ops image world (suc u)) ≤ length (ops image world t) =
-        ops_up image world (suc u) t l in
-        omega arith
+        fired_more image world u x fx mx in grind (arith, ops_up)
 
     -- no operation that is passed is past the end
     steps_within : (t : ℕ) → length (ops image world t) ≤ length (ops image world fit.legal.cut)
@@ -87,12 +77,7 @@ module _ (image : Image) (world : World) (facts : WalkFacts image world) where
     pub passed : ((w i : ℕ) → Enabled image s (Issue w i) → ⊥)
         → Passed image world s (length (ops image world fit.legal.cut))
     passed no_issue = record {
-      memory = record {
-        steps = fit.legal.cut;
-        count = refl;
-        left = sym (effect_is image world fit.legal.cut)
-            ∙ sym fit.legal.ordered.memory;
-      };
+      memory = grind (arith, effect_is);
       within = steps_within;
       most = λ t f. few_left t (none_left image world facts s fit going no_issue t
           (λ k y l fy my. f k y fy my (below_first t k y l fy my)));
@@ -135,11 +120,7 @@ module _ (image : Image) (world : World) (facts : WalkFacts image world) where
 
   pub rest_ends : (s : State) → Fit image world s → Rest image s → WholeRun image world s
       ⊎ AtFault image world s
-  rest_ends s fit rest = elim (cases_Bool s.stopped) [
-    | inl e ↦ inr (at_fault s fit e)
-    | inr e ↦
-        inl (whole s fit e rest)
-  ]
+  rest_ends s fit rest = grind (arith, cases_Bool, at_fault, whole)
 
   -- two effects of as many operations are one
   pub same_effect : (p : ℕ) (m n : Outside) → Effect image world p m → Effect image world p n → m ≡ n
@@ -169,12 +150,8 @@ module _ (image : Image) (world : World) (facts : WalkFacts image world) where
       → WholeRun image world t ⊎ AtFault image world t → s.memory ≡ t.memory
   same_memory s t (inl a) (inl b) = sym (a.memory (a.end + b.end) (omega arith))
       ∙ b.memory (a.end + b.end) (omega arith)
-  same_memory s t (inl a) (inr b) =
-      absurd (both_ways (past image b.fault.inst) (a.within b.time b.fault.inst b.fault.fired)
-      b.fault.is_past)
-  same_memory s t (inr a) (inl b) =
-      absurd (both_ways (past image a.fault.inst) (b.within a.time a.fault.inst a.fault.fired)
-      a.fault.is_past)
+  same_memory s t (inl a) (inr b) = grind (arith, both_ways, a.within)
+  same_memory s t (inr a) (inl b) = grind (arith, both_ways, b.within)
   same_memory s t (inr a) (inr b) = let e : a.time ≡ b.time = one_fault a.time b.time a.fault b.fault in
       same_effect (length (ops image world b.time)) s.memory t.memory
       (subst (λ (n : ℕ). Effect image world (length (ops image world n)) s.memory) e a.memory) b.memory

@@ -20,9 +20,7 @@ module _ (image : Image) (world : World) where
 
   one_more : (t : ℕ) (x : Inst) → fires image world t ≡ Some x → length (walk image world (suc t))
       ≡ suc (length (walk image world t))
-  one_more t x e = ap length (walk_some t x e)
-      ∙ (let l : length (walk image world t ++ x ∷ []) ≡ length (walk image world t) + 1 =
-      length-append (walk image world t) (x ∷ []) in omega arith)
+  one_more t x e = ap length (walk_some t x e) ∙ (grind (arith, length-append))
 
   -- where the whole walk has fired nothing more does
   pub none_fires : (n t u : ℕ) → CostAtMost image world n → n ≤ length (walk image world t)

@@ -1,24 +1,20 @@
 -- Where tables and a buffer owe nothing the state for which they stand is at rest.
-use Rattle.std.proofs.Common.{ℕ, ◌≡◌, ◌⊎◌, Bool, true, false, cond, List, Option, Some, None, refl, sym, ◌∙◌}
-use Rattle.std.proofs.Common.{inl, inr}
+use Rattle.std.proofs.Common.{arith, ℕ, ◌≡◌, ◌⊎◌, Bool, true, cond, List, Option, Some, None, sym, ◌∙◌, inl}
+use Rattle.std.proofs.Common.{inr}
 use Rattle.std.proofs.lemmas.Bool.{and_parts}
 use Rattle.ws_isa.specs.Image.{Image, is_memory}
 use Rattle.ws_isa.specs.Walk.{no_ports}
-use Rattle.df_core.specs.Core.{Match, Issue, Rest}
-use Rattle.df_core.specs.Core.{operands_in}
+use Rattle.df_core.specs.Core.{Match, Issue, Rest, operands_in}
 use Rattle.df_core.specs.Shown.{Tables, Buffer, OwesNothing, NoneIssuable, owed, lists, waits_if, shown}
 use Rattle.df_core.proofs.Keeping.Ports.{put_all_held, put_all_from}
 use Rattle.df_core.proofs.Telling.ShownFit.{lists_true}
 
 pub waits_cases : (o : Option ℕ) (k n : Option (List ℕ)) (xs : List ℕ) → waits_if o k n ≡ Some xs
     → (waits_if o k None ≡ Some xs) ⊎ ((k ≡ None) × (n ≡ Some xs))
-waits_cases (Some a) k n xs e = absurd (let f : None ≡ Some xs = e in cc)
-waits_cases None (Some ys) n xs e = inl e
-waits_cases None None n xs e = inr (refl, e)
+waits_cases o k n xs e = grind arith
 
 pub some_only : (b : Bool) (ys xs : List ℕ) → cond b (Some ys) None ≡ Some xs → b ≡ true
-some_only true ys xs e = refl
-some_only false ys xs e = absurd (let f : None ≡ Some xs = e in cc)
+some_only b ys xs e = grind arith
 
 pub nothing : {A : Type 0} (x : A) → None ≡ Some x → ⊥
 nothing x e = cc

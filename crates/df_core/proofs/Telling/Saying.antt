@@ -118,37 +118,7 @@ module _ (image : Image) (world : World) (facts : WalkFacts image world) (budget
 
   pub says : (finish : Finish) → flow.fired ≤ budget → FinishIs image world budget finish s
       → RunSo image world budget (run_of finish flow)
-  says finish.Rest le f =
-      let w = rested le (going_rest image world s f.1 (rest_ends image world facts s k.fit f.0)) in
-      record {
-        told = w;
-        rests = (
-          λ e. (
-            w.no_fault,
-            λ t. (let a : length (walk image world t) ≤ flow.fired = w.cost t in
-                omega arith),
-          ),
-          λ e. refl,
-        );
-        faults = λ t at c. absurd (no_fault_at image world w.no_fault t at);
-      }
-  says finish.Budget le f =
-      let w = cut f in
-      record {
-        told = w;
-        rests = (λ e. absurd (both_ways false refl e), λ e. absurd (w.dear e.1));
-        faults = λ t at c. absurd (w.dear c);
-      }
-  says (finish.Fault array) le f =
-      let w = faulted le f.0 array f.1 in
-      record {
-        told = w;
-        rests = (
-          λ e. absurd (both_ways false refl e),
-          λ e. absurd (no_fault_at image world e.0 w.time w.fault),
-        );
-        faults = λ t at c. refl;
-      }
+  says finish le f = grind (arith, rested, going_rest, rest_ends, no_fault_at, cut, both_ways, faulted)
 
 -- a run from what was opened
 pub opened_none : (image : Image) (world : World) (flow : Flow)

@@ -1,6 +1,6 @@
 -- What tables and a buffer stand for is fit: no fact spans two locks.
-use Rattle.std.proofs.Common.{ℕ, ◌≡◌, ◌⊎◌, Bool, true, false, cond, ◌&&◌, List, [], ◌∷◌, ◌++◌, Option, Some}
-use Rattle.std.proofs.Common.{None, refl, sym, ap, ◌∙◌, inl, inr, eq-eqb, eqb-true}
+use Rattle.std.proofs.Common.{arith, ℕ, ◌≡◌, ◌⊎◌, Bool, true, false, cond, ◌&&◌, List, [], ◌∷◌, ◌++◌, Option}
+use Rattle.std.proofs.Common.{Some, None, refl, sym, ap, ◌∙◌, inl, inr, eq-eqb, eqb-true}
 use Rattle.std.proofs.lemmas.Bool.{cases_Bool, both_ways, cond-true, cond-false, and_parts, and_from}
 use Rattle.ws_words.specs.Outside.{World}
 use Rattle.ws_isa.specs.Image.{Image, Token, is_memory, result_of, sends}
@@ -21,8 +21,7 @@ lists_true (k ∷ ks) w i e = go (cases_Bool (same_key k.wave k.instr w i)) (λ 
   where
     go : (same_key k.wave k.instr w i ≡ true) ⊎ (same_key k.wave k.instr w i ≡ false)
         → (lists ks w i ≡ true → HasFired ks w i) → HasFired (k ∷ ks) w i
-    go (inl h) ih = let p = and_parts _ _ h in inl (eqb-true k.wave w p.0, eqb-true k.instr i p.1)
-    go (inr h) ih = inr (ih (sym (cond-false (same_key k.wave k.instr w i) true (lists ks w i) h) ∙ e))
+    go j ih = grind (arith, and_parts, eqb-true, k.instr, cond-false)
 
 lists_has : (ks : List Key) (w i : ℕ) → HasFired ks w i → lists ks w i ≡ true
 lists_has [] w i h = absurd h
@@ -31,8 +30,7 @@ lists_has (k ∷ ks) w i (inr h) = go (cases_Bool (same_key k.wave k.instr w i))
   where
     go : (same_key k.wave k.instr w i ≡ true) ⊎ (same_key k.wave k.instr w i ≡ false) → lists ks w i ≡ true
         → lists (k ∷ ks) w i ≡ true
-    go (inl g) ih = cond-true (same_key k.wave k.instr w i) _ _ g
-    go (inr g) ih = cond-false (same_key k.wave k.instr w i) true _ g ∙ ih
+    go h ih = grind (arith, cond-true, k.instr, cond-false)
 
 -- a token of the list comes from one of its instances
 pub record FromPlain (image : Image) (held : Ports) (ks : List Key) (w i p v : ℕ) : Type 0 where
@@ -51,44 +49,22 @@ plain_from : (image : Image) (held : Ports) (ks : List Key) (w i p v : ℕ)
     → IsSent (plain_tokens image held ks) w i p v → FromPlain image held ks w i p v
 plain_from image held [] w i p v h = absurd h
 plain_from image held (k ∷ ks) w i p v h = go (cases_Bool (is_memory image k.instr))
-    (is_sent_append_cases (cond (is_memory image k.instr) [] (plain_sends image held k.wave k.instr))
-    (plain_tokens image held ks) w i p v h) (λ g. plain_from image held ks w i p v g)
+    (grind (arith, is_sent_append_cases)) (λ g. plain_from image held ks w i p v g)
   where
     go : (is_memory image k.instr ≡ true) ⊎ (is_memory image k.instr ≡ false)
         → IsSent (cond (is_memory image k.instr) [] (plain_sends image held k.wave k.instr)) w i p v
         ⊎ IsSent (plain_tokens image held ks) w i p v →
         (IsSent (plain_tokens image held ks) w i p v → FromPlain image held ks w i p v)
         → FromPlain image held (k ∷ ks) w i p v
-    go m (inr g) ih = let r = ih g in record {
-      wave = r.wave;
-      instr = r.instr;
-      fired = inr r.fired;
-      plain = r.plain;
-      sent = r.sent;
-    }
-    go (inl m) (inl g) ih = absurd (rw m at g)
-    go (inr m) (inl g) ih = record {
-      wave = k.wave;
-      instr = k.instr;
-      fired = inl (refl, refl);
-      plain = m;
-      sent = rw m at g;
-    }
+    go m h ih = grind arith
 
 plain_has : (image : Image) (held : Ports) (ks : List Key) (a b w i p v : ℕ) → HasFired ks a b
     → is_memory image b ≡ false → IsSent (plain_sends image held a b) w i p v
     → IsSent (plain_tokens image held ks) w i p v
 plain_has image held [] a b w i p v f m h = absurd f
-plain_has image held (k ∷ ks) a b w i p v (inr f) m h = is_sent_append_right
-    (cond (is_memory image k.instr) [] (plain_sends image held k.wave k.instr)) (plain_tokens image held ks) w
-    i p v (plain_has image held ks a b w i p v f m h)
-plain_has image held (k ∷ ks) a b w i p v (inl f) m h = is_sent_append_left
-    (cond (is_memory image k.instr) [] (plain_sends image held k.wave k.instr)) (plain_tokens image held ks) w
-    i p v
-    (let m' : is_memory image k.instr ≡ false = ap (is_memory image) f.1 ∙ m in
-    let e : plain_sends image held a b ≡ plain_sends image held k.wave k.instr =
-    ap (λ (n : ℕ). plain_sends image held n b) (sym f.0) ∙ ap (plain_sends image held k.wave) (sym f.1) in
-    rw m' (rw e at h))
+plain_has image held (k ∷ ks) a b w i p v (inr f) m h =
+    grind (arith, is_sent_append_right, plain_has image held ks a b w i p v f m h)
+plain_has image held (k ∷ ks) a b w i p v (inl f) m h = grind (arith, is_sent_append_left)
 
 abbrev op_sends : Image → Buffer → ℕ → ℕ → List Token
 op_sends image b w i = sends image w i (or_else (b.kept w i) []) (or_else (b.issued w i) 0)
@@ -103,29 +79,20 @@ op_from : (image : Image) (b : Buffer) (ks : List Key) (w i p v : ℕ) → IsSen
     → FromOp image b ks w i p v
 op_from image b [] w i p v h = absurd h
 op_from image b (k ∷ ks) w i p v h =
-    go (is_sent_append_cases (op_sends image b k.wave k.instr) (op_tokens image b ks) w i p v h)
+    go (grind (arith, is_sent_append_cases))
     (λ g. op_from image b ks w i p v g)
   where
     go : IsSent (op_sends image b k.wave k.instr) w i p v ⊎ IsSent (op_tokens image b ks) w i p v
         → (IsSent (op_tokens image b ks) w i p v → FromOp image b ks w i p v)
         → FromOp image b (k ∷ ks) w i p v
-    go (inl g) ih = record { wave = k.wave; instr = k.instr; listed = inl (refl, refl); sent = g }
-    go (inr g) ih = let r = ih g in record {
-      wave = r.wave;
-      instr = r.instr;
-      listed = inr r.listed;
-      sent = r.sent;
-    }
+    go h ih = grind arith
 
 op_has : (image : Image) (b : Buffer) (ks : List Key) (a c w i p v : ℕ) → HasFired ks a c
     → IsSent (op_sends image b a c) w i p v → IsSent (op_tokens image b ks) w i p v
 op_has image b [] a c w i p v f h = absurd f
-op_has image b (k ∷ ks) a c w i p v (inr f) h = is_sent_append_right (op_sends image b k.wave k.instr)
-    (op_tokens image b ks) w i p v (op_has image b ks a c w i p v f h)
-op_has image b (k ∷ ks) a c w i p v (inl f) h = is_sent_append_left (op_sends image b k.wave k.instr)
-    (op_tokens image b ks) w i p v
-    (let e : op_sends image b a c ≡ op_sends image b k.wave k.instr = ap (λ (n : ℕ). op_sends image b n c)
-    (sym f.0) ∙ ap (op_sends image b k.wave) (sym f.1) in rw e at h)
+op_has image b (k ∷ ks) a c w i p v (inr f) h =
+    grind (arith, is_sent_append_right, op_has image b ks a c w i p v f h)
+op_has image b (k ∷ ks) a c w i p v (inl f) h = grind (arith, is_sent_append_left)
 
 module _ (image : Image) (world : World) (facts : WalkFacts image world) (t : Tables) (b : Buffer)
     (tok : TablesOk image world t) (bok : BufferOk image world b) where
@@ -146,10 +113,7 @@ module _ (image : Image) (world : World) (facts : WalkFacts image world) (t : Ta
   plain_is : (w i u : ℕ) (x : Inst) → FiresAt image world w i u x → operands_in image t.held w i ≡ x.operands
       → is_memory image i ≡ false → plain_sends image t.held w i ≡ sends image x.wave x.instr x.operands
       x.result
-  plain_is w i u x at ops m =
-      let m' : is_memory image x.instr ≡ false = ap (is_memory image) at.instr ∙ m in
-      let res : x.result ≡ result_of image x.instr x.operands = facts.plain u x at.fires m' in
-      rw (ops, res, at.wave, at.instr) refl
+  plain_is w i u x at ops m = grind (arith, x.instr, facts.plain, at.fires)
 
   op_is : (w i a u : ℕ) (x : Inst) → b.issued w i ≡ Some a → FiresAt image world w i u x
       → op_sends image b w i ≡ sends image x.wave x.instr x.operands x.result
@@ -188,11 +152,7 @@ module _ (image : Image) (world : World) (facts : WalkFacts image world) (t : Ta
 
   way_right : (w i p v : ℕ) → put_all t.held (owed image t b) no_ports w i p ≡ Some v
       → RightToken image world w i p v
-  way_right w i p v e = elim (put_all_from t.held (owed image t b) no_ports w i p v e)
-      [ inl h ↦ absurd (none_some h) | inr h ↦ owed_right w i p v h ]
-    where
-      none_some : None ≡ Some v → ⊥
-      none_some h = cc
+  way_right w i p v e = grind (arith, put_all_from, t.held, owed_right)
 
   there : (w i p v : ℕ) → IsSent (owed image t b) w i p v → (t.held w i p ≡ Some v)
       ⊎ (put_all t.held (owed image t b) no_ports w i p ≡ Some v)
@@ -209,10 +169,7 @@ module _ (image : Image) (world : World) (facts : WalkFacts image world) (t : Ta
 
   unknown_if : (w i : ℕ) (o : Option ℕ) (k : Option (List ℕ)) (f : Bool) (ops xs : List ℕ)
       → waits_if o k (cond f (Some ops) None) ≡ Some xs → (k ≡ Some xs) ⊎ ((f ≡ true) × (ops ≡ xs))
-  unknown_if w i (Some a) k f ops xs e = cc
-  unknown_if w i None (Some ys) f ops xs e = inl e
-  unknown_if w i None None true ops xs e = inr (refl, cc)
-  unknown_if w i None None false ops xs e = cc
+  unknown_if w i o k f ops xs e = grind arith
 
   waits_known : (o : Option ℕ) (k n : Option (List ℕ)) (xs : List ℕ) → ((ys : List ℕ) → k ≡ Some ys → ys ≡ xs)
       → n ≡ Some xs → (waits_if o k n ≡ Some xs) ⊎ ((a : ℕ) × (o ≡ Some a))
@@ -222,9 +179,7 @@ module _ (image : Image) (world : World) (facts : WalkFacts image world) (t : Ta
 
   asks_still : (o : Option ℕ) (k n : Option (List ℕ)) (xs : List ℕ) → waits_if o k None ≡ Some xs
       → waits_if o k n ≡ Some xs
-  asks_still (Some a) k n xs e = e
-  asks_still None (Some ys) n xs e = e
-  asks_still None None n xs e = cc
+  asks_still o k n xs e = grind arith
 
   still_stopped : StoppedAt image world bok.legal.cut (asking b) b.chain
       → StoppedAt image world bok.legal.cut (shown image t b).waiting b.chain

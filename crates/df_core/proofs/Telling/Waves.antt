@@ -1,6 +1,6 @@
 -- A wave number is at most the number of instances that have fired.
 use Rattle.std.proofs.Common.{ℕ, zero, suc, ◌≡◌, ◌<◌, ◌≤◌, ◌⊎◌, Bool, cond, List, ◌∷◌, length, Some, refl}
-use Rattle.std.proofs.Common.{sym, ap, subst, inl, inr, arith}
+use Rattle.std.proofs.Common.{sym, ap, inl, inr, arith}
 use Rattle.std.proofs.lemmas.Bool.{cases_eq}
 use Rattle.ws_words.specs.Outside.{World}
 use Rattle.ws_isa.specs.Image.{Image, sends, start_dests}
@@ -51,10 +51,7 @@ of_waves fired (suc n) f =
     }
 
 waves_few : (fired : List Key) (n : ℕ) → ((w : ℕ) → w < n → (i : ℕ) × HasFired fired w i) → n ≤ length fired
-waves_few fired n f =
-    let r : OfWaves fired n = of_waves fired n f in
-    let l : length r.keys ≤ length fired = once_length r.keys fired r.once r.among in
-    omega (arith, r.count)
+waves_few fired n f = let r : OfWaves fired n = of_waves fired n f in grind (arith, once_length, r.once)
 
 module _ (image : Image) (world : World) (facts : WalkFacts image world) (s : State) (fit : Fit image world s)
     (grounded : Grounded image world s) where
@@ -62,11 +59,8 @@ module _ (image : Image) (world : World) (facts : WalkFacts image world) (s : St
   maker_fired : (x : Inst) (v : ℕ) → s.held x.wave x.instr 0 ≡ Some v
       → (t : ℕ) (m : Maker image world t x.wave x.instr 0 v) → HasFired s.fired m.inst.wave m.inst.instr
   maker_fired x v held t m = elim (grounded.tokens x.wave x.instr 0 v (inl held)) [
-    | inl st ↦ absurd (facts.no_maker m.time m.inst m.fires x.wave x.instr 0 v v st m.sent)
-    | inr f ↦ (let e : f.time ≡ m.time = facts.one_maker f.time m.time f.inst m.inst f.fires m.fires x.wave
-        x.instr 0 v v f.sent m.sent in
-        subst (λ (y : Inst). HasFired s.fired y.wave y.instr)
-        (same_fired image world facts f.time m.time f.inst m.inst f.fires m.fires e) f.fired)
+    | inl st ↦ grind (arith, facts.no_maker, m.fires, x.instr)
+    | inr f ↦ grind (arith, facts.one_maker, f.fires, m.fires, x.instr, f.sent, s.fired, same_fired)
   ]
 
   lower_fired : (n t : ℕ) (x : Inst) → t < n → fires image world t ≡ Some x → HasFired s.fired x.wave x.instr
@@ -113,7 +107,7 @@ module _ (image : Image) (world : World) (facts : WalkFacts image world) (s : St
 
   pub way_wave : (w i p v : ℕ) → s.way w i p ≡ Some v → w ≤ length s.fired
   way_wave w i p v e = elim (grounded.tokens w i p v (inr e)) [
-    | inl st ↦ (let z : w ≡ 0 = start_wave image w i p v st in omega arith)
+    | inl st ↦ grind (arith, start_wave)
     | inr f ↦ waves_few s.fired w (λ a k. elim (cases_eq a f.inst.wave) [
       | inl g ↦ (f.inst.instr, has_same s.fired f.inst.wave f.inst.instr a f.inst.instr (sym g) refl f.fired)
       | inr n ↦ lower_key f.inst.wave f.inst.instr f.fired a

@@ -1,6 +1,6 @@
 -- Effects of operations, where loads leave no trace.
-use Rattle.std.proofs.Common.{ℕ, ◌-◌, ◌≡◌, slice_index, slice_set, true, false, List, [], ◌∷◌, ◌++◌, refl}
-use Rattle.std.proofs.Common.{sym, ap, ◌∙◌}
+use Rattle.std.proofs.Common.{arith, ℕ, ◌-◌, ◌≡◌, slice_index, slice_set, true, false, List, [], ◌∷◌, ◌++◌}
+use Rattle.std.proofs.Common.{refl, sym, ap, ◌∙◌}
 use Rattle.std.proofs.lemmas.Bool.{both_ways}
 use Rattle.ws_words.specs.Outside.{Act, loads, stores, reads, prints, gives, takes, Outside, World, with_act}
 use Rattle.ws_words.specs.Outside.{with_row, array_of, rest_of, row}
@@ -22,9 +22,6 @@ gone_twice (prints v ∷ xs) = ap (λ (l : List Act). prints v ∷ l) (gone_twic
 gone_twice (gives p ∷ xs) = ap (λ (l : List Act). gives p ∷ l) (gone_twice xs)
 gone_twice (takes p v ∷ xs) = ap (λ (l : List Act). takes p v ∷ l) (gone_twice xs)
 
-abbrev outside : List (List ℕ) → List ℕ → List (List ℕ) → List Act → Outside
-outside cells input left acts = record { cells = cells; input = input; left = left; acts = acts }
-
 effect_again : (o : Outside) → effect_of (effect_of o) ≡ effect_of o
 effect_again o = ap (with_acts_of o) (gone_twice o.acts)
 
@@ -32,9 +29,7 @@ effect_again o = ap (with_acts_of o) (gone_twice o.acts)
 act_more : (cells : List (List ℕ)) (input : List ℕ) (left : List (List ℕ)) (acts : List Act) (act : Act) →
     effect_of (with_act (record { cells = cells; input = input; left = left; acts = without_loads acts }) act)
     ≡ effect_of (with_act (record { cells = cells; input = input; left = left; acts = acts }) act)
-act_more cells input left acts act = ap (λ (l : List Act). outside cells input left l)
-    (loads_gone (without_loads acts) (act ∷ []) ∙ ap (λ (l : List Act). l ++ without_loads (act ∷ []))
-    (gone_twice acts) ∙ sym (loads_gone acts (act ∷ [])))
+act_more cells input left acts act = grind (arith, loads_gone, gone_twice)
 
 after_effect_op : (op : Op) (xs : List ℕ) (o : Outside) → effect_of (after_op op xs (effect_of o)) ≡ effect_of
     (after_op op xs o)

@@ -32,9 +32,7 @@ module _ (image : Image) (formed : Formed image) where
   both_few k b r Steer = cond_both (eqb r 0) (instr_at image k).others (instr_at image k).dests
       (λ (ds : List Dest). length ds ≤ 8) (λ e. (dests_few k).1) (λ e. (dests_few k).0)
   both_few k b r (Send p) = pad_few (target image b r) p
-  both_few k b r _ = let a : length ((instr_at image k).dests ++ []) ≡ length (instr_at image k).dests + 0 =
-      length-append (instr_at image k).dests [] in
-      let d : length (instr_at image k).dests ≤ 8 = (dests_few k).0 in omega arith
+  both_few k b r _ = grind (arith, length-append, dests_few)
 
   pub few : (k r : ℕ) → length (destinations image k r) ≤ 8
   unfolding destinations now_dests edge_dests

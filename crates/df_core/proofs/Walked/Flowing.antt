@@ -3,7 +3,7 @@ use Rattle.std.proofs.Common.{ℕ, zero, suc, ◌+◌, ◌-◌, ◌≡◌, ◌<�
 use Rattle.std.proofs.Common.{sym, ap, ◌∙◌, subst, inl, inr, arith}
 use Rattle.std.proofs.lemmas.Bool.{cases_Bool, cases_eq, both_ways, cond-true, cond-false}
 use Rattle.ws_words.specs.Outside.{World}
-use Rattle.ws_isa.specs.Image.{Image, ports, is_advance, first_number, target, is_first}
+use Rattle.ws_isa.specs.Image.{Image, ports, first_number, target, is_first}
 use Rattle.ws_isa.specs.Walk.{Pos, pos, fires, choice, wave_of, operands_at, inst_at}
 use Rattle.ws_isa.specs.Sound.{PortsThere, ShapeRules, SlotRules}
 use Rattle.df_core.specs.Fit.{RightToken}
@@ -36,14 +36,7 @@ module _ (image : Image) (world : World) where
     unfolding wave_of operands_at
     turn_token t j q v a w f k l e =
         let same : wave_of image (P t) ≡ turn_number image (P t) j =
-        elim (cases_Bool (is_advance image (P t).next)) [
-          | inl d ↦ cond-true (is_advance image (P t).next) _ _ d
-              ∙ sym (number_ahead image (P t) j
-              (record { advance = ap (is_advance image) (sym k) ∙ d; low = omega arith; high = omega arith }))
-          | inr d ↦ cond-false (is_advance image (P t).next) _ _ d
-              ∙ sym (number_else image (P t) j (λ x. both_ways (is_advance image (P t).next) d
-              (ap (is_advance image) k ∙ x.advance)))
-        ] in
+        grind (arith, cases_Bool, cond-true, number_ahead, cond-false, number_else, both_ways) in
         let l' : q < ports image (P t).next = rw k l in
         let g : nth (operands_at image (P t)) q ≡ Some
         (or_else ((P t).sent (wave_of image (P t)) (P t).next (0 + q)) 0) =

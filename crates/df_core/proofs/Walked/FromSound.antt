@@ -1,10 +1,10 @@
 -- The walk of a formed, sound image has the facts that the core asks.
 use Rattle.std.proofs.Common.{ℕ, suc, ◌≡◌, ◌<◌, ◌≤◌, true, cond, Some, None, refl, sym, ap, ◌∙◌, arith}
 use Rattle.std.proofs.lemmas.Bool.{cond-true, cond-false}
-use Rattle.ws_words.specs.Outside.{Outside, World}
+use Rattle.ws_words.specs.Outside.{World}
 use Rattle.ws_isa.specs.declared.instr.Op.{Op}
 use Rattle.ws_isa.specs.Image.{Image, ports_of, ports, instr_at, is_memory, answer, after}
-use Rattle.ws_isa.specs.Walk.{Inst, Pos, pos, fires, mem, result_at, operands_at}
+use Rattle.ws_isa.specs.Walk.{Inst, pos, fires, mem, result_at}
 use Rattle.ws_isa.specs.Sound.{PortsThere, Sound}
 use Rattle.df_core.specs.Fit.{chain_at}
 use Rattle.ws_isa.specs.Operations.{effect_of}
@@ -35,11 +35,7 @@ module _ (image : Image) (world : World) (formed : PortsThere image) (sound : So
       ≡ cond (is_memory image x.instr) (after image x.instr x.operands (mem image world t))
       (mem image world t)
   mem_next t x fx = let k : Turn image world sound.shape t x = turn_at image world sound.shape t x fx in
-      mem_at (suc t) ∙ ap (λ (p : Pos). p.memory) k.next
-      ∙ ap (λ (y : Inst). cond (is_memory image y.instr)
-      (after image y.instr y.operands (pos image world t).memory) (pos image world t).memory) (sym k.inst)
-      ∙ ap (λ (m : Outside). cond (is_memory image x.instr) (after image x.instr x.operands m) m)
-      (sym (mem_at t))
+      grind (arith, mem_at, x.instr, x.operands)
 
   none_step : (t : ℕ) → fires image world t ≡ None → StepCase image world t
       → (pos image world (suc t)).memory ≡ (pos image world t).memory
@@ -49,14 +45,7 @@ module _ (image : Image) (world : World) (formed : PortsThere image) (sound : So
       → x.result ≡ answer image x.instr x.operands (mem image world t)
   unfolding result_at
   answered t x fx m = let k : Turn image world sound.shape t x = turn_at image world sound.shape t x fx in
-      let m' : is_memory image (pos image world t).next ≡ true =
-      ap (is_memory image) (sym (inst_instr image world sound.shape t x fx)) ∙ m in
-      let e : result_at image (pos image world t) ≡ answer image (pos image world t).next
-      (operands_at image (pos image world t)) (pos image world t).memory =
-      cond-true (is_memory image (pos image world t).next) _ _ m' in
-      ap (λ (y : Inst). y.result) k.inst ∙ e
-      ∙ ap (λ (y : Inst). answer image y.instr y.operands (pos image world t).memory) (sym k.inst)
-      ∙ ap (answer image x.instr x.operands) (sym (mem_at t))
+      grind (arith, inst_instr, sound.shape, cond-true, x.instr, mem_at)
 
   pub facts_of : WalkFacts image world
   facts_of = record {
@@ -64,9 +53,7 @@ module _ (image : Image) (world : World) (formed : PortsThere image) (sound : So
     filled = operands_length image world formed sound.shape sound.slots;
     has_port = λ t x fx. has_port image x.instr;
     plain = plain_result image world formed sound.shape sound.slots;
-    answered = λ t x fx m. answered t x fx m
-        ∙ sym (answer_effect image x.instr x.operands (mem image world t))
-        ∙ ap (answer image x.instr x.operands) (sym (effect_is image world t));
+    answered = grind (arith, answered, answer_effect, effect_is);
     start = start_right image world formed sound.shape sound.slots;
     sent = sent_right image world formed sound.shape sound.slots;
     made = made image world formed sound.shape sound.slots;
@@ -76,9 +63,7 @@ module _ (image : Image) (world : World) (formed : PortsThere image) (sound : So
         ∙ ap (effect_after image x.instr x.operands) (sym (effect_is image world t));
     mem_plain = λ t x fx m. effect_is image world (suc t) ∙ ap effect_of
         (mem_next t x fx ∙ cond-false (is_memory image x.instr) _ _ m) ∙ sym (effect_is image world t);
-    mem_none = λ t n. effect_is image world (suc t)
-        ∙ ap effect_of (mem_at (suc t) ∙ none_step t n (step_case image world t) ∙ sym (mem_at t))
-        ∙ sym (effect_is image world t);
+    mem_none = grind (arith, effect_is, mem_at, none_step, step_case);
     turn_wave = turn_wave image world sound.shape sound.links;
     turn = turn_next image world sound.shape sound.links;
     only_later = only_later image world sound.shape sound.links;
@@ -94,7 +79,7 @@ module _ (image : Image) (world : World) (formed : PortsThere image) (sound : So
         let p = pos_up image world sound.shape sound.links t u l (sym e ∙ same) in
         let r = rise_at image world sound.shape sound.links u y fy m in
         omega arith);
-    behind = λ t u y l fy m same. reach image world sound.shape sound.links u t y fy m l (sym same);
+    behind = grind (arith, reach, sound.shape, sound.links);
     one_maker = one_maker image world formed sound.shape sound.slots;
     no_maker = no_maker image world formed sound.shape sound.slots;
     sends_apart = sends_apart image world formed sound.shape sound.slots;

@@ -4,7 +4,7 @@ use Rattle.std.proofs.Common.{refl, sym, ap, ◌∙◌, subst, inl, inr, arith}
 use Rattle.std.proofs.lemmas.Bool.{cases_Bool, both_ways, cond-true, cond-false}
 use Rattle.ws_words.specs.Outside.{World}
 use Rattle.ws_isa.specs.Image.{Image, ports, first_number, block_of, target, now_dests, edge_dests, selector}
-use Rattle.ws_isa.specs.Image.{tokens_to, sends, is_first, start_dests, size_of, IsIn}
+use Rattle.ws_isa.specs.Image.{sends, is_first, start_dests, size_of, IsIn}
 use Rattle.ws_isa.specs.Walk.{Inst, Pos, pos, fires, choice, wave_of, result_at, operands_at, inst_at}
 use Rattle.ws_isa.specs.Walk.{start_tokens}
 use Rattle.ws_isa.specs.Sound.{OpenSlots, none_open, closed, opens_at, HasDest, PortsThere, ShapeRules}
@@ -55,17 +55,9 @@ module _ (image : Image) (world : World) (formed : PortsThere image) (shape : Sh
   unfolding start_tokens
   pend_start j q s =
       elim (all_opened_from (start_dests image) none_open j q
-      (ap (λ (f : OpenSlots). f j q) (sym (slots_start image world)) ∙ s)) [
+      (grind (arith, slots_start))) [
         | inl g ↦ absurd (both_ways true (sym g) refl)
-        | inr g ↦ (let n : turn_number image (P zero) j ≡ 0 = start_number image world formed shape slots j q
-            g in
-            record {
-              value = 0;
-              is = subst (λ (m : ℕ). (P zero).sent m j q ≡ Some 0) (sym n)
-                  (start_value image world formed shape slots j q g);
-              made = inl (subst (λ (m : ℕ). IsSent (tokens_to 0 0 (start_dests image)) m j q 0) (sym n)
-                  (sent_to 0 0 (start_dests image) j q g));
-            })
+        | inr g ↦ grind (arith, start_number, start_value, sent_to)
       ]
 
   edge_pend : (t j q : ℕ) → (P t).over ≡ false → first_number image (suc (P t).block) ≤ (P t).next
@@ -180,8 +172,7 @@ module _ (image : Image) (world : World) (formed : PortsThere image) (shape : Sh
       → length x.operands ≡ ports image x.instr
   unfolding operands_at
   operands_length t x fx = let k : Turn image world shape t x = turn_at image world shape t x fx in
-      ap (λ (y : Inst). length y.operands) k.inst ∙ gather_length (P t).sent (wave_of image (P t)) (P t).next
-      0 (ports image (P t).next) ∙ ap (ports image) (sym (inst_instr image world shape t x fx))
+      grind (arith, gather_length, inst_instr)
 
   -- the number of an instance is that of its slots
   pub turn_wave : (t : ℕ) → (P t).next < first_number image (suc (P t).block)

@@ -39,7 +39,7 @@ fresh_source : (image : Image) (b r k n c : ℕ) (o : OpenSlots) → Fresh (edge
     → c < k + n → (p : OpenSlots) × Fresh (edge_dests image b r c) p
 fresh_source image b r k zero c o f l h = absurd (omega arith)
 fresh_source image b r k (suc n) c o f l h = elim (cases_eq c k) [
-  | inl e ↦ (o, rw e (fresh_left (edge_dests image b r k) (edge_all image b r (suc k) n) o f))
+  | inl e ↦ grind (arith, fresh_left)
   | inr e ↦ fresh_source image b r (suc k) n c (all_opened (edge_dests image b r k) o)
       (fresh_right (edge_dests image b r k) (edge_all image b r (suc k) n) o f) (omega arith) (omega arith)
 ]
@@ -50,7 +50,7 @@ later_source : (image : Image) (b r k n d j q : ℕ) (o : OpenSlots) → Fresh (
     → ⊥
 later_source image b r k n d j q o f g l h i = fresh_apart (edge_all image b r (suc k) n)
     (all_opened (edge_dests image b r k) o) j q
-    (fresh_right (edge_dests image b r k) (edge_all image b r (suc k) n) o f)
+    (grind (arith, fresh_right))
     (all_opened_has (edge_dests image b r k) o j q g) (edge_all_has image b r (suc k) n d j q l h i)
 
 one_source : (image : Image) (b r k n c d j q : ℕ) (o : OpenSlots) → Fresh (edge_all image b r k n) o → k ≤ c
@@ -58,10 +58,7 @@ one_source : (image : Image) (b r k n c d j q : ℕ) (o : OpenSlots) → Fresh (
     → HasDest (edge_dests image b r d) j q → c ≡ d
 one_source image b r k zero c d j q o f lc hc ld hd g h = absurd (omega arith)
 one_source image b r k (suc n) c d j q o f lc hc ld hd g h = elim (cases_eq c k) [
-  | inl e ↦ elim (cases_eq d k) [
-    | inl i ↦ e ∙ sym i
-    | inr i ↦ absurd (later_source image b r k n d j q o f (rw e at g) (omega arith) (omega arith) h)
-  ]
+  | inl e ↦ grind (arith, cases_eq, later_source)
   | inr e ↦ elim (cases_eq d k) [
     | inl i ↦ absurd (later_source image b r k n c j q o f (rw i at h) (omega arith) (omega arith) g)
     | inr i ↦ one_source image b r (suc k) n c d j q (all_opened (edge_dests image b r k) o)
@@ -250,8 +247,7 @@ module _ (image : Image) (world : World) (there : PortsThere image) (shape : Sha
       → (v : ℕ) × Opening s (P s).wave j q v
   unfolding opens_at size_of
   edge_opens s k j q o l i h =
-      let st : stops image (P s).block ≡ false = goes_on image world there shape slots (P s).block k j q
-      (choice image (P s)) (place image world shape s o).block i h in
+      let st : stops image (P s).block ≡ false = grind (arith, goes_on, place) in
       let sl : EdgeSlot image world there shape slots s k j q o l i h =
       edge_slot image world there shape slots s k j q o l i h in
       let hi : k < first_number image (suc (P s).block) = i.1 in
@@ -297,8 +293,7 @@ module _ (image : Image) (world : World) (there : PortsThere image) (shape : Sha
       ]
 
   opening_of : (t s w j q v : ℕ) (x : Inst) → Opens' t x w j q v s → Opening s w j q v
-  opening_of t s w j q v x (at_turn o) = o
-  opening_of t s w j q v x (at_edge o a l i h) = o
+  opening_of t s w j q v x k = grind arith
 
   -- openings of one slot under one number are at one step
   one_step : (s r w j q a b : ℕ) → Opening s w j q a → Opening r w j q b → s ≡ r
@@ -307,11 +302,7 @@ module _ (image : Image) (world : World) (there : PortsThere image) (shape : Sha
   within_or_end : (t s : ℕ) (x : Inst) → fires image world t ≡ Some x → first_number image (suc (P s).block)
       ≤ (P s).next → t ≡ s → ⊥
   within_or_end t s x fx l e =
-      let k : Turn image world shape t x = turn_at image world shape t x fx in
-      let h : (P t).next < first_number image (suc (P t).block) = k.within in
-      let l' : first_number image (suc (P t).block) ≤ (P t).next =
-      subst (λ (n : ℕ). first_number image (suc (P n).block) ≤ (P n).next) (sym e) l in
-      omega arith
+      let k : Turn image world shape t x = turn_at image world shape t x fx in grind arith
 
   same_flag : (a b : Bool) (m n w : ℕ) → a ≡ b → cond a (suc m) m ≡ w → cond b (suc n) n ≡ w → m ≡ n
   same_flag a b m n w e f g = grind (arith, both_ways)
@@ -326,8 +317,7 @@ module _ (image : Image) (world : World) (there : PortsThere image) (shape : Sha
       → t ≡ u
   unfolding opens_at size_of
   same_edge s r t u w j q x y e fx fy wx wy o l i h i2 h2 =
-      let i3 : IsIn image (P s).block y.instr = subst (λ (n : ℕ). IsIn image (P n).block y.instr) (sym e)
-      i2 in
+      let i3 : IsIn image (P s).block y.instr = grind arith in
       let h3 : HasDest (edge_dests image (P s).block (choice image (P s)) y.instr) j q =
       subst (λ (n : ℕ). HasDest (edge_dests image (P n).block (choice image (P n)) y.instr) j q) (sym e)
       h2 in
@@ -356,10 +346,8 @@ module _ (image : Image) (world : World) (there : PortsThere image) (shape : Sha
       y.wave ≡ w →
       s ≡ r → Opens' t x w j q a s → Opens' u y w j q b r → t ≡ u
   makers t u s r w j q a b x y fx fy wx wy e (at_turn o) (at_turn p) = e
-  makers t u s r w j q a b x y fx fy wx wy e (at_turn o) (at_edge p c l i h) =
-      absurd (within_or_end t r x fx l e)
-  makers t u s r w j q a b x y fx fy wx wy e (at_edge p c l i h) (at_turn o) =
-      absurd (within_or_end u s y fy l (sym e))
+  makers t u s r w j q a b x y fx fy wx wy e (at_turn o) (at_edge p c l i h) = grind (arith, within_or_end)
+  makers t u s r w j q a b x y fx fy wx wy e (at_edge p c l i h) (at_turn o) = grind (arith, within_or_end)
   makers t u s r w j q a b x y fx fy wx wy e (at_edge o c l i h) (at_edge p d m k g) =
       same_edge s r t u w j q x y e fx fy wx wy c l i h k g
 

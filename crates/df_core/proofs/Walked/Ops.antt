@@ -1,6 +1,6 @@
 -- The chain along the walk: links and ripples.
 use Rattle.std.proofs.Common.{ℕ, zero, suc, ◌+◌, ◌≡◌, ◌<◌, ◌≤◌, ◌⊎◌, true, false, cond, List, [], ◌∷◌, length}
-use Rattle.std.proofs.Common.{Option, Some, None, refl, sym, ap, ◌∙◌, subst, inl, inr, arith}
+use Rattle.std.proofs.Common.{Option, Some, None, refl, sym, ap, ◌∙◌, inl, inr, arith}
 use Rattle.std.proofs.lemmas.Bool.{cases_Bool, cases_eq, cases_lt, both_ways, cond-true, cond-false, lt-ltb}
 use Rattle.std.proofs.lemmas.Bool.{le-ltb}
 use Rattle.ws_words.specs.Outside.{World}
@@ -42,10 +42,7 @@ chain_of image w None = record { wave = w; last = None }
 chain_of image w (Some k) = pass (record { wave = w; last = None }) (note_of image k)
 
 memory_advance_op : (o : Op) → is_memory_op o ≡ true → is_advance_op o ≡ false
-memory_advance_op o e = go o e
-  where
-    go : (o : Op) → is_memory_op o ≡ true → is_advance_op o ≡ false
-    go o e = grind (arith, both_ways)
+memory_advance_op o e = grind (arith, both_ways)
 
 pub memory_advance : (image : Image) (k : ℕ) → is_memory image k ≡ true → is_advance image k ≡ false
 unfolding is_memory is_advance
@@ -103,9 +100,8 @@ module _ (image : Image) (world : World) where
     path_step : (t : ℕ) → (P (suc t)).over ≡ false → StepCase image world t
         → ((P t).over ≡ false → InWave image (P t).block (P t).next (done_in image world t))
         → InWave image (P (suc t)).block (P (suc t)).next (done_in image world (suc t))
-    path_step t o (stands a e f) ih =
-        absurd (both_ways true (sym a ∙ ap (λ (p : Pos). p.over) (sym e) ∙ o) refl)
-    path_step t o (ends a w s e f) ih = absurd (both_ways true (ap (λ (p : Pos). p.over) (sym e) ∙ o) refl)
+    path_step t o (stands a e f) ih = grind (arith, both_ways)
+    path_step t o (ends a w s e f) ih = grind (arith, both_ways)
     path_step t o (turns a w e f) ih = rw (done_turn t a w, e) (turn (ih a) w)
     path_step t o (leaves a w s e f) ih =
         elim (cases_Bool (is_first image (target image (P t).block (choice image (P t))))) [
@@ -127,16 +123,7 @@ module _ (image : Image) (world : World) where
     pub follows : (t : ℕ) (x : Inst) → fires image world t ≡ Some x → is_memory image x.instr ≡ true
         → ComesNext image (L t) x.instr
     follows t x fx m = let k : Turn image world shape t x = turn_at image world shape t x fx in
-        let e : x.instr ≡ (P t).next = inst_instr image world shape t x fx in
-        subst (λ (n : ℕ). ComesNext image (L t) n) (sym e)
-        (record {
-          block = (P t).block;
-          done = done_in image world t;
-          path = wave_path t k.over;
-          within = k.within;
-          memory = ap (is_memory image) (sym e) ∙ m;
-          last_is = refl;
-        })
+        grind (arith, inst_instr, wave_path)
 
     -- the wave of the chain after an operation that another follows
     chain_wave : (w : ℕ) (l : Option ℕ) (k : ℕ) → ComesNext image l k → (chain_of image w l).wave ≡ w
@@ -150,15 +137,13 @@ module _ (image : Image) (world : World) where
 
     chain_cross : (w : ℕ) (l : Option ℕ) → PathEnds image l → chain_of image w l
         ≡ record { wave = suc w; last = None }
-    chain_cross w None f = absurd (links.some_op f)
-    chain_cross w (Some k) f = pass_ends (record { wave = w; last = None }) (note_of image k)
-        (links.last_succ k f)
+    chain_cross w l f = grind (arith, links.some_op, pass_ends, links.last_succ)
 
     chain_step : (t : ℕ) → (P (suc t)).over ≡ false → StepCase image world t
         → ((P t).over ≡ false → chain_at image world t ≡ chain_of image (P t).wave (L t))
         → chain_at image world (suc t) ≡ chain_of image (P (suc t)).wave (L (suc t))
     chain_step t o (stands a e f) ih = grind (arith, both_ways)
-    chain_step t o (ends a w s e f) ih = absurd (both_ways true (ap (λ (p : Pos). p.over) (sym e) ∙ o) refl)
+    chain_step t o (ends a w s e f) ih = grind (arith, both_ways)
     chain_step t o (turns a w e f) ih =
         let wv : (P t).wave ≡ (P (suc t)).wave = ap (λ (p : Pos). p.wave) (sym e) in
         let ld : L (suc t) ≡ cond (is_memory image (P t).next) (Some (P t).next) (L t) =
@@ -232,8 +217,7 @@ module _ (image : Image) (world : World) where
 
     pub turn_next : (t : ℕ) (x : Inst) → fires image world t ≡ Some x → is_memory image x.instr ≡ true
         → IsNext (chain_at image world t) (note_of image x.instr)
-    turn_next t x fx m = rw (chain_is t (op_over t x fx))
-        (next_after (P t).wave (L t) x.instr (follows t x fx m))
+    turn_next t x fx m = grind (arith, chain_is, op_over, next_after, x.instr, follows)
 
     rise_of : (w : ℕ) (l : Option ℕ) (k : ℕ) → ComesNext image l k → position_after (chain_of image w l).last
         < seq image k
@@ -408,8 +392,7 @@ module _ (image : Image) (world : World) where
       where
         go : (fires image world t ≡ None) ⊎ ((x : Inst) × (fires image world t ≡ Some x))
             → ((chain_at image world t).last ≡ Some m → LastIs t m) → LastIs (suc t) m
-        go (inl f) ih = let r = ih (ap (λ (c : Chain). c.last) (sym (chain_none image world t f)) ∙ e) in
-            record { time = r.time; inst = r.inst; fires = r.fires; memory = r.memory; note = r.note }
+        go (inl f) ih = grind (arith, chain_none)
         go (inr f) ih = elim (cases_Bool (is_memory image f.0.instr)) [
           | inl b ↦ record {
             time = t;
@@ -465,11 +448,9 @@ module _ (image : Image) (world : World) where
         position_after c.last < seq image zi → seq image zi ≤ position_after d.last
         → position_after d.last < seq image yi →
         (l : Option Note) → c.last ≡ l → NextAfter l (note_of image yi) → ⊥
-    clash c d zi yi w v lz None fz fy ec ed a b e l el nx = let g : position_after d.last ≡ 0 =
-        ap (λ (x : Chain). position_after x.last) ed in omega arith
+    clash c d zi yi w v lz None fz fy ec ed a b e l el nx = grind arith
     clash c d zi yi w v lz (Some j) fz fy ec ed a b e None el nx = links.pred_none j yi nx fy
-    clash c d zi yi w v None (Some j) fz fy ec ed a b e (Some m) el (inl nx) = let g : None ≡ Some m =
-        ap (λ (x : Chain). x.last) (sym ec) ∙ el in cc
+    clash c d zi yi w v None (Some j) fz fy ec ed a b e (Some m) el (inl nx) = grind arith
     clash c d zi yi w v (Some i) (Some j) fz fy ec ed a b e (Some m) el (inl nx) =
         let g : Some (note_of image i) ≡ Some m = sym (ap (λ (x : Chain). x.last) ec ∙ last_of w i zi fz)
         ∙ el in

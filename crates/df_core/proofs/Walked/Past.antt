@@ -1,23 +1,18 @@
 -- Only loads and stores go past an end.
-use Rattle.std.proofs.Common.{ℕ, ◌≡◌, true, false, List, refl}
+use Rattle.std.proofs.Common.{arith, ℕ, ◌≡◌, true, false, List, refl}
 use Rattle.std.proofs.lemmas.Bool.{both_ways}
 use Rattle.ws_isa.specs.declared.instr.Op.{Op}
-use Rattle.ws_isa.specs.declared.instr.Op.TheVariants.{Load, Store}
 use Rattle.ws_isa.specs.Image.{Image, Array, instr_at, is_memory, is_memory_op, is_past, is_past_op}
 use Rattle.ws_isa.specs.Walk.{Inst}
 use Rattle.ws_isa.specs.Operations.{past}
 
 plain_within_op : (arrays : List Array) (op : Op) (xs : List ℕ) → is_memory_op op ≡ false
     → is_past_op arrays op xs ≡ false
-plain_within_op arrays (Load a) xs e = absurd (both_ways true e refl)
-plain_within_op arrays (Store a) xs e = absurd (both_ways true e refl)
-plain_within_op arrays _ xs e = refl
+plain_within_op arrays op xs e = grind (arith, both_ways)
 
 past_memory_op : (arrays : List Array) (op : Op) (xs : List ℕ) → is_past_op arrays op xs ≡ true
     → is_memory_op op ≡ true
-past_memory_op arrays (Load a) xs e = refl
-past_memory_op arrays (Store a) xs e = refl
-past_memory_op arrays _ xs e = absurd (both_ways false refl e)
+past_memory_op arrays op xs e = grind (arith, both_ways)
 
 pub plain_within : (image : Image) (k : ℕ) (xs : List ℕ) → is_memory image k ≡ false
     → is_past image k xs ≡ false

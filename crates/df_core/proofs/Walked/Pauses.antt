@@ -69,7 +69,7 @@ module _ (image : Image) (world : World) where
   chain_same_step t u l h = grind (arith, cases_fires, chain_none, cases_Bool, chain_plain)
 
   pub chain_same : (t u : ℕ) → t ≤ u → NoOp image world t u → chain_at image world u ≡ chain_at image world t
-  chain_same t zero l h = let e : t ≡ zero = omega arith in ap (chain_at image world) (sym e)
+  chain_same t zero l h = grind arith
   chain_same t (suc u) l h = elim (cases_eq t (suc u)) [
     | inl e ↦ ap (chain_at image world) (sym e)
     | inr n ↦ (let l' : t ≤ u = omega arith in chain_same_step t u l' h

@@ -1,12 +1,11 @@
 -- In a formed image destinations name ports that are there.
-use Rattle.std.proofs.Common.{ℕ, zero, suc, ◌<◌, eqb, List, [], ◌∷◌, subst, inl, inr}
+use Rattle.std.proofs.Common.{arith, ℕ, zero, suc, ◌<◌, List, [], ◌∷◌, inl, inr}
 use Rattle.std.specs.List.{AllByRecursion}
 use Rattle.std.proofs.lemmas.Bool.{cond_both}
 use Rattle.ws_isa.specs.declared.instr.Op.{Op}
-use Rattle.ws_isa.specs.declared.instr.Op.TheVariants.{Steer, Send}
 use Rattle.ws_isa.specs.declared.instr.Dest.{Dest}
 use Rattle.ws_isa.specs.Image.{Image, Instr, Pad, Block, flat, ports, pad_of, instr_at, block_at, no_instr}
-use Rattle.ws_isa.specs.Image.{no_block, now_of, now_dests, edge_of, edge_dests, target, start_dests}
+use Rattle.ws_isa.specs.Image.{no_block, now_of, now_dests, edge_of, edge_dests, start_dests}
 use Rattle.ws_isa.specs.Formed.{Formed, DestsIn}
 use Rattle.ws_isa.specs.Sound.{HasDest, PortsThere}
 use Rattle.ws_isa.proofs.There.{all_nth}
@@ -14,15 +13,13 @@ use Rattle.ws_isa.proofs.There.{all_nth}
 module _ (image : Image) where
   in_there : (ds : List Dest) (j q : ℕ) → DestsIn image ds → HasDest ds j q → q < ports image j
   in_there [] j q a h = absurd h
-  in_there (d ∷ ds) j q a (inl h) = subst (λ (n : ℕ). n < ports image j) h.1
-      (subst (λ (n : ℕ). d.port < ports image n) h.0 a.0.1)
+  in_there (d ∷ ds) j q a (inl h) = grind arith
   in_there (d ∷ ds) j q a (inr h) = in_there ds j q a.1 h
 
   pads_in : (pads : List Pad) (k : ℕ) → AllByRecursion (λ (p : Pad). DestsIn image p.dests) pads
       → DestsIn image (pad_of pads k)
   pads_in [] k a = tt
-  pads_in (p ∷ ps) k a = cond_both (eqb p.number k) p.dests (pad_of ps k) (DestsIn image) (λ e. a.0)
-      (λ e. pads_in ps k a.1)
+  pads_in (p ∷ ps) k a = grind (arith, cond_both, p.dests, pads_in ps k a.1)
 
   module _ (formed : Formed image) where
     pad_in : (b k : ℕ) → DestsIn image (pad_of (block_at image b).pads k)
@@ -45,22 +42,11 @@ module _ (image : Image) where
         formed.suited.references.others
 
     now_in : (op : Op) (ds : List Dest) → DestsIn image ds → DestsIn image (now_of op ds)
-    now_in Steer ds a = tt
-    now_in (Send p) ds a = tt
-    now_in _ ds a = a
+    now_in op ds a = grind arith
 
     edge_in : (b r k : ℕ) (op : Op) → DestsIn image (edge_of image b r (instr_at image k) op)
-    edge_in b r k Steer = cond_both (eqb r 0) (instr_at image k).others (instr_at image k).dests
-        (DestsIn image) (λ e. others_in k) (λ e. dests_in k)
-    edge_in b r k (Send p) = pad_in (target image b r) p
-    edge_in b r k _ = tt
+    edge_in b r k op = grind (arith, cond_both, others_in, dests_in, pad_in)
 
     pub ports_there : PortsThere image
     unfolding start_dests now_dests edge_dests
-    ports_there = record {
-      start = λ j q h. in_there (pad_of (block_at image 1).pads 0) j q (pad_in 1 0) h;
-      now = λ k j q h. in_there (now_of (instr_at image k).op (instr_at image k).dests) j q
-          (now_in (instr_at image k).op (instr_at image k).dests (dests_in k)) h;
-      edge = λ b r k j q h. in_there (edge_of image b r (instr_at image k) (instr_at image k).op) j q
-          (edge_in b r k (instr_at image k).op) h;
-    }
+    ports_there = grind (arith, in_there, pad_in, now_in, dests_in, edge_in)

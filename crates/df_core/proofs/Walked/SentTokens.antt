@@ -1,7 +1,6 @@
 -- Result tokens are right, and each operand has a maker.
-use Rattle.std.proofs.Common.{ℕ, zero, suc, ◌+◌, ◌-◌, ◌≡◌, ◌<◌, ◌≤◌, Bool, true, false, cond, eqb, List, []}
-use Rattle.std.proofs.Common.{◌∷◌, Some, refl, sym, ap, ◌∙◌, subst, inl, inr, arith, eq-eqb, ne_eqb}
-use Rattle.std.proofs.Common.{slice_index}
+use Rattle.std.proofs.Common.{ℕ, zero, suc, ◌+◌, ◌-◌, ◌≡◌, ◌<◌, ◌≤◌, Bool, true, false, cond, eqb, List, ◌∷◌}
+use Rattle.std.proofs.Common.{Some, refl, sym, ap, ◌∙◌, subst, inl, inr, arith, eq-eqb, ne_eqb, slice_index}
 use Rattle.std.proofs.lemmas.Bool.{cases_Bool, cases_eq, both_ways, cond-true, cond-false}
 use Rattle.ws_words.specs.Outside.{World}
 use Rattle.ws_isa.specs.declared.instr.Op.{Op}
@@ -12,16 +11,16 @@ use Rattle.ws_isa.specs.Image.{is_advance_op, is_memory_op, first_number, block_
 use Rattle.ws_isa.specs.Image.{target, now_dests, edge_dests, edge_of, selector, selector_of, result_of}
 use Rattle.ws_isa.specs.Image.{result_of_op, tokens_to, sends, is_first, start_dests, size_of, IsIn, IsBlock}
 use Rattle.ws_isa.specs.Walk.{Inst, Pos, no_ports, pos, opening, fire, fires, choice, choice_of, result_at}
-use Rattle.ws_isa.specs.Walk.{operands_at, inst_at, start_tokens, with_tokens, edge_tokens}
+use Rattle.ws_isa.specs.Walk.{inst_at, start_tokens, with_tokens, edge_tokens}
 use Rattle.ws_isa.specs.Sound.{OpenSlots, none_open, closed, opens_at, HasDest, PortsThere, BringsResult}
 use Rattle.ws_isa.specs.Sound.{direct, through, ShapeRules, SlotRules}
 use Rattle.df_core.specs.Core.{IsSent}
 use Rattle.df_core.specs.Fit.{RightToken}
 use Rattle.df_core.proofs.Walked.SlotLists.{sent_from, is_sent_append_cases}
-use Rattle.ws_isa.proofs.Steps.{block_of_is, StepCase, stands, turns, ends, leaves, step_case, Place, place}
+use Rattle.ws_isa.proofs.Steps.{block_of_is, StepCase, stands, turns, ends, leaves, step_case, place}
 use Rattle.ws_isa.proofs.Steps.{pos_start, Turn, turn_at, inst_wave, inst_instr, once}
 use Rattle.df_core.proofs.Walked.Flowing.{consumed}
-use Rattle.ws_isa.proofs.Flow.{Ahead, number_ahead, number_else, slots_turn, slots_leave, slots_start, path}
+use Rattle.ws_isa.proofs.Flow.{number_ahead, number_else, slots_turn, slots_leave, slots_start, path}
 use Rattle.ws_isa.proofs.Flow.{at_end, ahead_open, cross_number, same_wave_number}
 use Rattle.ws_isa.specs.Standing.{turn_number, slots_at}
 use Rattle.ws_isa.proofs.Along.{path_end}
@@ -35,9 +34,8 @@ unfolding is_advance ports
 advance_ports image j e = advance_ports_op (instr_at image j).op e
 
 pub nth_slice : (xs : List ℕ) (q v : ℕ) → nth xs q ≡ Some v → slice_index xs q ≡ v
-nth_slice [] q v e = cc
-nth_slice (x ∷ xs) zero v e = cc
 nth_slice (x ∷ xs) (suc q) v e = nth_slice xs q v e
+nth_slice xs q v e = grind arith
 
 module _ (image : Image) (world : World) (formed : PortsThere image) (shape : ShapeRules image)
     (slots : SlotRules image) where
@@ -110,9 +108,7 @@ module _ (image : Image) (world : World) (formed : PortsThere image) (shape : Sh
   unfolding opening is_first
   start_number j q h =
       let c = (slots.begins j q).0 (all_opened_has (start_dests image) none_open j q h) in
-      let ah : Ahead image (opening image world) j = record { advance = c.1; low = c.0.0; high = c.0.1 } in
-      ap (λ (p : Pos). turn_number image p j) (pos_start image world shape)
-      ∙ number_ahead image (opening image world) j ah
+      grind (arith, pos_start, number_ahead)
 
   pub start_value : (j q : ℕ) → HasDest (start_dests image) j q → (P zero).sent 0 j q ≡ Some 0
   unfolding opening start_tokens
@@ -257,12 +253,7 @@ module _ (image : Image) (world : World) (formed : PortsThere image) (shape : Sh
       → x.result ≡ result_of image x.instr x.operands
   unfolding result_at
   plain_result t x fx m = let k : Turn image world shape t x = turn_at image world shape t x fx in
-      let m' : is_memory image (P t).next ≡ false = ap (is_memory image)
-      (sym (inst_instr image world shape t x fx)) ∙ m in
-      let e : result_at image (P t) ≡ result_of image (P t).next (operands_at image (P t)) =
-      cond-false (is_memory image (P t).next) _ _ m' in
-      ap (λ (y : Inst). y.result) k.inst ∙ e ∙ ap (λ (y : Inst). result_of image y.instr y.operands)
-      (sym k.inst)
+      grind (arith, inst_instr, cond-false)
 
   pos_wave : (t w : ℕ) (x : Inst) → fires image world t ≡ Some x → is_advance image x.instr ≡ false
       → x.wave ≡ w → (P t).wave ≡ w
@@ -306,8 +297,7 @@ module _ (image : Image) (world : World) (formed : PortsThere image) (shape : Sh
       is_advance image x.instr ≡ false → IsIn image (P te).block s → BringsResult image (P te).block s x.instr
       q → slice_index x.operands q ≡ (P te).results s
   selects te t s q x o w fx wv a i c =
-      let ds : Done te s = done_at te s o i.0 (let h : s < first_number image (suc (P te).block) = i.1 in
-      omega arith) in
+      let ds : Done te s = done_at te s o i.0 (grind arith) in
       let r : RightToken image world (P ds.time).wave x.instr q ds.inst.result =
       carried (P te).block s x.instr q c ds.time ds.inst ds.fires ds.instr in
       let xw : x.wave ≡ (P t).wave = inst_wave image world shape t x fx
@@ -356,8 +346,7 @@ module _ (image : Image) (world : World) (formed : PortsThere image) (shape : Sh
   goes : (b k j q r : ℕ) (o : Op) → (instr_at image k).op ≡ o → IsBlock image b → IsIn image b k
       → HasDest (edge_of image b r (instr_at image k) o) j q → stops image b ≡ false
   unfolding stops
-  goes b k j q r Steer e bk i h = let st = (shape.blocks b bk).hang.steers k i e in
-      branch_goes (block_at image b).exit st.0 st.1 st.2 st.3
+  goes b k j q r Steer e bk i h = grind (arith, shape.blocks, branch_goes)
   goes b k j q r (Send p) e bk i h = let st = (shape.blocks b bk).hang.sends k p i e in
       landing_goes (block_at image b).exit st.0 st.1 st.2
   goes b k j q r _ e bk i h = absurd h
@@ -369,11 +358,8 @@ module _ (image : Image) (world : World) (formed : PortsThere image) (shape : Sh
       x.instr
   unfolding edge_dests selector
   agreed te t x o w fx wv i =
-      let bo : block_of image x.instr ≡ (P te).block = block_of_is image (P te).block x.instr
-      (place image world shape te o).block i in
-      ap (λ (b : ℕ). edge_of image b (selector_of (instr_at image x.instr).op x.operands)
-      (instr_at image x.instr) (instr_at image x.instr).op) bo
-      ∙ agree te t x (instr_at image x.instr).op refl o w fx wv i
+      let bo : block_of image x.instr ≡ (P te).block = grind (arith, block_of_is, x.instr, place) in
+      grind (arith, agree)
 
   pub goes_on : (b k j q r : ℕ) → IsBlock image b → IsIn image b k → HasDest (edge_dests image b r k) j q
       → stops image b ≡ false
@@ -383,11 +369,7 @@ module _ (image : Image) (world : World) (formed : PortsThere image) (shape : Sh
   -- an instance stands in its block
   pub inst_in : (t : ℕ) (x : Inst) → fires image world t ≡ Some x → IsIn image (P t).block x.instr
   inst_in t x fx = let k : Turn image world shape t x = turn_at image world shape t x fx in
-      let pl : Place image (P t) = place image world shape t k.over in
-      let e : x.instr ≡ (P t).next = inst_instr image world shape t x fx in
-      let l : first_number image (P t).block ≤ (P t).next = pl.low in
-      let h : (P t).next < first_number image (suc (P t).block) = k.within in
-      (omega arith, omega arith)
+      grind (arith, place, inst_instr)
 
   -- the slot that an edge opens, where the block is left
   module _ (te k j q : ℕ) (o : (P te).over ≡ false) (w : first_number image (suc (P te).block) ≤ (P te).next)
@@ -493,5 +475,4 @@ module _ (image : Image) (world : World) (formed : PortsThere image) (shape : Sh
     where
       back : cond (is_advance image x.instr) (suc x.wave) x.wave ≡ w → x.result ≡ v
           → RightToken image world (P t).wave i p x.result → RightToken image world w i p v
-      back a b r = subst (λ (n : ℕ). RightToken image world w i p n) b
-          (subst (λ (n : ℕ). RightToken image world n i p x.result) (sym (sends_wave t x fx) ∙ a) r)
+      back a b r = grind (arith, sends_wave)

@@ -1,5 +1,5 @@
 -- Lemmas on tokens that are sent.
-use Rattle.std.proofs.Common.{ℕ, ◌≡◌, ◌⊎◌, List, [], ◌∷◌, ◌++◌, refl, inl, inr}
+use Rattle.std.proofs.Common.{arith, ℕ, ◌≡◌, ◌⊎◌, List, [], ◌∷◌, ◌++◌, refl, inl, inr}
 use Rattle.ws_isa.specs.declared.instr.Dest.{Dest}
 use Rattle.ws_isa.specs.Image.{Token, tokens_to}
 use Rattle.ws_isa.specs.Sound.{HasDest}
@@ -29,5 +29,4 @@ pub is_sent_append_cases : (ts us : List Token) (w i p v : ℕ) → IsSent (ts +
     → IsSent ts w i p v ⊎ IsSent us w i p v
 is_sent_append_cases [] us w i p v h = inr h
 is_sent_append_cases (t ∷ ts) us w i p v (inl h) = inl (inl h)
-is_sent_append_cases (t ∷ ts) us w i p v (inr h) = elim (is_sent_append_cases ts us w i p v h)
-    [ inl g ↦ inl (inr g) | inr g ↦ inr g ]
+is_sent_append_cases (t ∷ ts) us w i p v (inr h) = grind (arith, is_sent_append_cases ts us w i p v h)

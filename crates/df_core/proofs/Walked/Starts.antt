@@ -1,8 +1,8 @@
 -- The start pulse's tokens.
-use Rattle.std.proofs.Common.{◌≡◌, ℕ, List, ap, ◌∙◌, subst}
+use Rattle.std.proofs.Common.{arith, ◌≡◌, ℕ, List, ap, ◌∙◌}
 use Rattle.ws_words.specs.Outside.{World}
 use Rattle.ws_isa.specs.declared.instr.Dest.{Dest}
-use Rattle.ws_isa.specs.Image.{Image, Token, tokens_to, start_dests}
+use Rattle.ws_isa.specs.Image.{Image, tokens_to, start_dests}
 use Rattle.ws_isa.specs.Formed.{Formed}
 use Rattle.ws_isa.specs.Sound.{Sound}
 use Rattle.ws_isa.specs.Walk.{start_tokens}
@@ -21,4 +21,4 @@ pub starts_right : (image im : Image) (world : World) (dests : List Dest) → Fo
     → RightToken image world w i p v
 starts_right image im world dests formed sound is same w i p v sent =
     (facts_of image world (ports_there image formed) sound).start w i p v
-    (subst (λ (ts : List Token). IsSent ts w i p v) (starts_are image im dests is same) sent)
+    (grind (arith, starts_are))
