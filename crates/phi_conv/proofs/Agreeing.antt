@@ -1,14 +1,13 @@
 -- Two states that agree on the variables that matter do the same; the second has room for copies.
-use Rattle.std.proofs.Common.{ℕ, zero, suc, ◌-◌, ◌^◌, ◌≡◌, ◌<◌, ◌==◌, Bool, true, false, if◌then◌else◌, List}
-use Rattle.std.proofs.Common.{[], ◌∷◌, ◌++◌, length, get_or, set, refl, sym, ap, ◌∙◌, subst, inl, inr, arith}
+use Rattle.std.proofs.Common.{ℕ, suc, ◌-◌, ◌^◌, ◌≡◌, ◌<◌, ◌==◌, Bool, if◌then◌else◌, List}
+use Rattle.std.proofs.Common.{[], ◌∷◌, ◌++◌, length, get_or, refl, ap, ◌∙◌, inl, inr, arith}
 use Rattle.std.specs.List.{AllByRecursion}
 use Rattle.std.proofs.lemmas.Bool.{cases_eq}
 use Rattle.std.proofs.lemmas.List.{get_or-set_same, get_or-set_other, length-set}
 use Rattle.ws_words.specs.declared.alu.Alu.TheVariants.{Sub}
 use Rattle.ws_words.specs.Operators.{applied, flag}
-use Rattle.ws_words.specs.Outside.{Act, loads, Outside, ProcState, row, write, stored, printed, taken}
-use Rattle.ws_words.specs.Outside.{has_read, given, head_or_zero}
-use Rattle.cfg_core.specs.Graph.{Term, Number, Var, Cell, Flip, Not, Neg, Binary, Op, Assign, Store, Print}
+use Rattle.ws_words.specs.Outside.{Act, Outside, ProcState, row, write, stored, printed, taken, head_or_zero}
+use Rattle.cfg_core.specs.Graph.{Term, Cell, Flip, Not, Neg, Binary, Op, Assign, Store, Print}
 use Rattle.cfg_core.specs.Graph.{Read, Give, Take, Choose, Tick, TickBy, Graph}
 use Rattle.cfg_core.specs.Rules.{TermIn, OpIn}
 use Rattle.cfg_core.specs.Walk.{value, loads_of, values, all_loads, value_of, values_of, OpsOutcome, Done}
@@ -35,29 +34,26 @@ module _ (g : Graph) (v : ℕ) where
     -- a term has the same value on variables that agree on what it mentions
     pub value_same : (t : Term) → TermIn (length g.arrays) v t → Agree v (Mentions t) vs ws
         → value t vs cells ≡ value t ws cells
-    value_same (Number n) i h = refl
-    value_same (Var x) i h = h x i refl
-    value_same (Cell a t) i h = ap (λ n. get_or (row cells (a - 1)) n 0) (value_same t i.1 h)
+    value_same (Cell a t) i h = grind (arith, value_same t i.1 h)
     value_same (Flip t) i h = ap (λ n. 2 ^ 64 - 1 - n) (value_same t i h)
     value_same (Not t) i h = ap (λ n. flag (n == 0)) (value_same t i h)
     value_same (Neg t) i h = ap (λ n. applied Sub 0 n) (value_same t i h)
     value_same (Binary op a b) i h = ap (λ n. applied op n (value b vs cells))
         (value_same a i.0 (λ x lt m. h x lt (inl m))) ∙ ap (λ n. applied op (value a ws cells) n)
         (value_same b i.1 (λ x lt m. h x lt (inr m)))
+    value_same t i h = grind arith
 
     -- it loads the same
     pub loads_same : (t : Term) → TermIn (length g.arrays) v t → Agree v (Mentions t) vs ws
         → loads_of t vs cells ≡ loads_of t ws cells
-    loads_same (Number n) i h = refl
-    loads_same (Var x) i h = refl
-    loads_same (Cell a t) i h = ap (λ (zs : List Act). zs ++ loads a (value t vs cells) ∷ [])
-        (loads_same t i.1 h) ∙ ap (λ n. loads_of t ws cells ++ loads a n ∷ []) (value_same t i.1 h)
+    loads_same (Cell a t) i h = grind (arith, value_same, loads_same t i.1 h)
     loads_same (Flip t) i h = loads_same t i h
     loads_same (Not t) i h = loads_same t i h
     loads_same (Neg t) i h = loads_same t i h
     loads_same (Binary op a b) i h = ap (λ (zs : List Act). zs ++ loads_of b vs cells)
         (loads_same a i.0 (λ x lt m. h x lt (inl m))) ∙ ap (λ (zs : List Act). loads_of a ws cells ++ zs)
         (loads_same b i.1 (λ x lt m. h x lt (inr m)))
+    loads_same t i h = grind arith
 
     -- so do terms
     pub values_same : (ts : List Term) → AllByRecursion (TermIn (length g.arrays) v) ts
@@ -79,12 +75,7 @@ module _ (g : Graph) (v : ℕ) where
 
   -- states that agree on more agree on less
   pub weaker : (P Q : ℕ → Type 0) (s t : ProcState) → ((x : ℕ) → Q x → P x) → States v P s t → States v Q s t
-  weaker P Q s t to h = record {
-    vars = λ x lt q. h.vars x lt (to x q);
-    long = h.long;
-    longer = h.longer;
-    out = h.out;
-  }
+  weaker P Q s t to h = grind (arith, h.vars)
 
   -- the value of a term, and the states after its loads
   module _ (P : ℕ → Type 0) (s t : ProcState) (h : States v P s t) (term : Term)
@@ -94,18 +85,11 @@ module _ (g : Graph) (v : ℕ) where
 
     -- a term has the same value in both states
     pub term_value : (value_of term s).0 ≡ (value_of term t).0
-    term_value = value_same s.vars t.vars s.out.cells term i agreed
-        ∙ ap (λ (o : Outside). value term t.vars o.cells) h.out
+    term_value = grind (arith, value_same, s.vars, t.vars, s.out.cells, agreed)
 
     -- the states still agree after its loads
     pub term_states : States v P (value_of term s).1 (value_of term t).1
-    term_states = record {
-      vars = h.vars;
-      long = h.long;
-      longer = h.longer;
-      out = ap (λ (l : List Act). loaded s.out l) (loads_same s.vars t.vars s.out.cells term i agreed)
-          ∙ ap (λ (o : Outside). loaded o (loads_of term t.vars o.cells)) h.out;
-    }
+    term_states = grind (arith, loads_same, s.vars, t.vars, s.out.cells, agreed)
 
   module _ (P : ℕ → Type 0) (s t : ProcState) (h : States v P s t) (terms : List Term)
       (i : AllByRecursion (TermIn (length g.arrays) v) terms) (known : (x : ℕ) → OneMentions terms x
@@ -115,48 +99,34 @@ module _ (g : Graph) (v : ℕ) where
 
     -- terms have the same values in both states
     pub terms_values : (values_of terms s).0 ≡ (values_of terms t).0
-    terms_values = values_same s.vars t.vars s.out.cells terms i all_agreed
-        ∙ ap (λ (o : Outside). values terms t.vars o.cells) h.out
+    terms_values = grind (arith, values_same, s.vars, t.vars, s.out.cells, all_agreed)
 
     -- the states still agree after their loads
     pub terms_states : States v P (values_of terms s).1 (values_of terms t).1
-    terms_states = record {
-      vars = h.vars;
-      long = h.long;
-      longer = h.longer;
-      out = ap (λ (l : List Act). loaded s.out l) (all_loads_same s.vars t.vars s.out.cells terms i
-          all_agreed) ∙ ap (λ (o : Outside). loaded o (all_loads terms t.vars o.cells)) h.out;
-    }
+    terms_states = grind (arith, all_loads_same, s.vars, t.vars, s.out.cells, all_agreed)
 
   -- a variable is written
   pub written : (P : ℕ → Type 0) (s t : ProcState) (x a b : ℕ) → x < v → a ≡ b
       → ((y : ℕ) → y < v → (y ≡ x → ⊥) → P y → get_or s.vars y 0 ≡ get_or t.vars y 0) → length s.vars ≡ v
       → length t.vars ≡ more_vars v → s.out ≡ t.out → States v P (write s x a) (write t x b)
-  written P s t x a b lt e others ls lt' out = record {
-    vars = λ y ly p. elim (cases_eq y x) [
-      | inl same ↦ subst (λ n. get_or (set s.vars x a) n 0 ≡ get_or (set t.vars x b) n 0) (sym same)
-          (get_or-set_same s.vars x a 0 (omega (arith, lt, ls)) ∙ e
-          ∙ sym (get_or-set_same t.vars x b 0 (omega (arith, lt, lt'))))
-      | inr ne ↦ get_or-set_other s.vars x y a 0 ne ∙ others y ly ne p
-          ∙ sym (get_or-set_other t.vars x y b 0 ne)
-    ];
-    long = length-set s.vars x a ∙ ls;
-    longer = length-set t.vars x b ∙ lt';
-    out = out;
-  }
+  written P s t x a b lt e others ls lt' out = grind (
+    arith,
+    cases_eq,
+    s.vars,
+    t.vars,
+    get_or-set_same,
+    get_or-set_other,
+    length-set,
+  )
 
   if_same : (P : ℕ → Type 0) (b c : Bool) (o o' q q' : OpsOutcome) → b ≡ c → Outcomes v P o o'
       → Outcomes v P q q' → Outcomes v P (if b then o else q) (if c then o' else q')
-  if_same P true true o o' q q' e h i = h
-  if_same P false false o o' q q' e h i = i
-  if_same P true false o o' q q' e h i = absurd (cc)
-  if_same P false true o o' q q' e h i = absurd (cc)
+  if_same P b c o o' q q' e h i = grind arith
 
   spend_same : (P : ℕ → Type 0) (n k : ℕ) (s t : ProcState) → States v P s t
       → Outcomes v P (spend n s k) (spend n t k)
-  spend_same P zero k s t h = (refl, h)
-  spend_same P (suc n) zero s t h = h.out
   spend_same P (suc n) (suc k) s t h = spend_same P n k s t h
+  spend_same P n k s t h = grind arith
 
   abbrev on : Outside → ProcState
   on o = record { vars = []; out = o }
@@ -202,28 +172,12 @@ module _ (g : Graph) (v : ℕ) where
   op_same (Read x) P i s s' k h =
       let r = written P s s' x (head_or_zero s.out.input) (head_or_zero s'.out.input) i
       (ap (λ (o : Outside). head_or_zero o.input) h.out) (λ y lt ne p. h.vars y lt (inr (ne, p))) h.long
-      h.longer h.out in (
-        refl,
-        record {
-          vars = r.vars;
-          long = r.long;
-          longer = r.longer;
-          out = ap (λ (o : Outside). (has_read (on o) x).out) h.out;
-        },
-      )
+      h.longer h.out in grind arith
   op_same (Give p x) P i s s' k h =
       let r = written P s s' x (head_or_zero (row s.out.left (p - 1)))
       (head_or_zero (row s'.out.left (p - 1))) i.1
-      (ap (λ (o : Outside). head_or_zero (row o.left (p - 1))) h.out)
-      (λ y lt ne q. h.vars y lt (inr (ne, q))) h.long h.longer h.out in (
-        refl,
-        record {
-          vars = r.vars;
-          long = r.long;
-          longer = r.longer;
-          out = ap (λ (o : Outside). (given (on o) p x).out) h.out;
-        },
-      )
+      (grind arith)
+      (λ y lt ne q. h.vars y lt (inr (ne, q))) h.long h.longer h.out in grind arith
   op_same (Take p t) P i s s' k h =
       let B : ℕ → Type 0 = Before (Take p t) P in
       let st = term_states B s s' h t i.1 (λ y m. inl m) in (
@@ -251,8 +205,7 @@ module _ (g : Graph) (v : ℕ) where
         written P _ _ x _ _ i.0 (term_value B _ _ st a i.2 (λ y m. inl (inr (inl m))))
             (λ y lt ne p. sa.vars y lt (inr (ne, p))) sa.long sa.longer sa.out,
       )
-  op_same (Tick n) P i s s' k h =
-      spend_same P n k s s' (weaker (Before (Tick n) P) P s s' (λ x p. inr ((λ w. w), p)) h)
+  op_same (Tick n) P i s s' k h = grind (arith, spend_same, weaker)
   op_same (TickBy t n m) P i s s' k h =
       let B : ℕ → Type 0 = Before (TickBy t n m) P in
       let st = weaker B P _ _ (λ x p. inr ((λ w. w), p)) (term_states B s s' h t i (λ y q. inl q)) in
@@ -263,11 +216,7 @@ module _ (g : Graph) (v : ℕ) where
   pub then_same : (P Q : ℕ → Type 0) (o p : OpsOutcome) (go to : ProcState → ℕ → OpsOutcome)
       → Outcomes v P o p → ((s t : ProcState) (k : ℕ) → States v P s t → Outcomes v Q (go s k) (to t k))
       → Outcomes v Q (and_then o go) (and_then p to)
-  then_same P Q (Done s k) (Done t j) go to h f = subst (λ n. Outcomes v Q (go s k) (to t n)) h.0
-      (f s t k h.1)
-  then_same P Q (Out o) (Out p) go to h f = h
-  then_same P Q (Done s k) (Out p) go to h f = absurd h
-  then_same P Q (Out o) (Done t j) go to h f = absurd h
+  then_same P Q o p go to h f = grind arith
 
   -- operations do the same from states that agree on what they need
   pub ops_same : (ops : List Op) (P : ℕ → Type 0) → AllByRecursion (OpIn (length g.arrays) v) ops

@@ -1,11 +1,10 @@
 -- The walk of the joined graph goes along with that of the given graph, which takes a block more where an arm
 -- is one.
-use Rattle.std.proofs.Common.{ℕ, zero, suc, ◌-◌, ◌≡◌, ◌<◌, ◌≤◌, ◌⊎◌, ◌==◌, Bool, true, false, if◌then◌else◌}
-use Rattle.std.proofs.Common.{List, [], ◌++◌, length, Option, Some, None, refl, sym, ap, ◌∙◌, subst, inl, inr}
-use Rattle.std.proofs.Common.{arith}
+use Rattle.std.proofs.Common.{ℕ, suc, ◌-◌, ◌≡◌, ◌<◌, ◌≤◌, ◌⊎◌, ◌==◌, Bool, true, false, if◌then◌else◌, List}
+use Rattle.std.proofs.Common.{[], length, Option, Some, None, refl, sym, ap, ◌∙◌, subst, inl, inr, arith}
 use Rattle.ws_words.specs.Outside.{Outside, ProcState, World, zeros, opening_out}
 use Rattle.cfg_core.specs.Graph.{Term, Op, Exit, Goto, Branch, Call, Return, Send, Stop, Block, Graph}
-use Rattle.cfg_core.specs.Graph.{GraphProc, spots, spot_at, block_at, proc_at, entry_of}
+use Rattle.cfg_core.specs.Graph.{spots, spot_at, block_at, proc_at, entry_of}
 use Rattle.cfg_core.specs.Rules.{ExitIn, Lands, IsGraph}
 use Rattle.cfg_core.specs.Walk.{value_of, OpsOutcome, Done, Out, and_then, run_ops, Frame, Config, At, Over}
 use Rattle.cfg_core.specs.Walk.{Going, leave, passed, step, walk, cells_of, opening, IsOver}
@@ -14,13 +13,13 @@ use Rattle.cfg_core.proofs.Total.{lands_at}
 use Rattle.live_vars.specs.Live.{Live}
 use Rattle.live_vars.specs.Marks.{AreLive}
 use Rattle.phi_conv.specs.Short.{Short, short, short_to}
-use Rattle.phi_conv.specs.Joined.{more_vars, joining, joined_if, joined_proc, joined}
+use Rattle.phi_conv.specs.Joined.{more_vars, joining, joined_if, joined}
 use Rattle.phi_conv.specs.Keeps.{PassesNoMore}
 use Rattle.phi_conv.proofs.Light.{light_run}
 use Rattle.phi_conv.proofs.Choices.{by_zero}
 use Rattle.phi_conv.proofs.Agreeing.{States, Outcomes, ops_same, weaker}
 use Rattle.phi_conv.proofs.Branching.{arm_run}
-use Rattle.phi_conv.specs.IsShort.{Way, direct, through}
+use Rattle.phi_conv.specs.IsShort.{Way}
 use Rattle.phi_conv.proofs.Ways.{ways}
 use Rattle.phi_conv.proofs.Placing.{block_is, entry_is, proc_is}
 use Rattle.phi_conv.proofs.Standing.{vars_at, Stack, Along, goes_to}
@@ -57,11 +56,7 @@ module _ (g : Graph) (rules : IsGraph g) (live : List (List ℕ)) (is : AreLive 
 
     same_passed : (x : Exit) → ExitIn g (spot_at g b).home (V b) x → Lands g x → (o p : OpsOutcome)
         → Outcomes (V b) (After g x) o p → Along g rules (passed g o x fs) (passed h p x es)
-    same_passed x i l (Done s k) (Done r j) e =
-        subst (λ n. Along g rules (leave g x s fs k) (leave h x r es n)) e.0 (same_exit x i l s r k e.1)
-    same_passed x i l (Out o) (Out p) e = e
-    same_passed x i l (Done s k) (Out p) e = absurd e
-    same_passed x i l (Out o) (Done r j) e = absurd e
+    same_passed x i l o p e = grind (arith, same_exit)
 
     -- on to the join of a short branch
     at_join : (j : ℕ) → j < length (spots g) → (spot_at g j).home ≡ (spot_at g b).home → (o p : OpsOutcome)
@@ -76,19 +71,7 @@ module _ (g : Graph) (rules : IsGraph g) (live : List (List ℕ)) (is : AreLive 
     by_way : (c j : ℕ) (ops : List Op) → j < length (spots g) → (spot_at g j).home ≡ (spot_at g b).home
         → Way g c j ops → (a : ProcState) (k : ℕ) (p : OpsOutcome)
         → Outcomes (V b) (Live g j) (arm_run ops a k) p → Follows (At c a fs k) (passed h p (Goto j) es)
-    by_way c j ops lt home (direct e empty) a k p near =
-        let done : Outcomes (V b) (Live g j) (Done a k) p =
-        subst (λ (o : List Op). Outcomes (V b) (Live g j) (arm_run o a k) p) empty near in
-        inl (subst (λ n. Along g rules (At n a fs k) (passed h p (Goto j) es)) (sym e)
-        (at_join j lt home (Done a k) p done))
-    by_way c j ops lt home (through same exit light) a k p near =
-        let along = at_join j lt home (arm_run ops a k) p near in
-        let ran : run_ops (block_at g c).ops a k ≡ arm_run ops a k = ap (λ (o : List Op). run_ops o a k)
-        (sym same) ∙ light_run ops a k light in
-        inr (subst (λ (x : Exit). Along g rules (passed g (run_ops (block_at g c).ops a k) x fs)
-        (passed h p (Goto j) es)) (sym exit)
-        (subst (λ (o : OpsOutcome). Along g rules (passed g o (Goto j) fs) (passed h p (Goto j) es)) (sym ran)
-        along))
+    by_way c j ops lt home i a k p near = grind (arith, at_join, light_run)
 
     module _ (t : Term) (c d : ℕ) (s : Short) (exit : ExitIn g (spot_at g b).home (V b) (Branch t c d))
         (short : short_to g t c d ≡ Some s) where
@@ -97,13 +80,7 @@ module _ (g : Graph) (rules : IsGraph g) (live : List (List ℕ)) (is : AreLive 
         where
           by_two : Way g c s.join s.first → Way g d s.join s.second → (s.join < length (spots g))
               × ((spot_at g s.join).home ≡ (spot_at g b).home)
-          by_two (direct e empty) w =
-              subst (λ n. (n < length (spots g)) × ((spot_at g n).home ≡ (spot_at g b).home)) e
-              (exit.1.0, exit.1.1)
-          by_two (through same goes light) w =
-              let i = subst (λ (x : Exit). ExitIn g (spot_at g c).home (V c) x) goes
-              (numbers_at g rules c).exit in
-              (i.0, i.1 ∙ exit.1.1)
+          by_two h w = grind (arith, numbers_at)
 
       after_branch : (a r : ProcState) (k : ℕ) → States (V b) (After g (Branch t c d)) a r
           → Follows (leave g (Branch t c d) a fs k) (passed h (run_ops (joining live (V b) s) r k)
@@ -126,12 +103,7 @@ module _ (g : Graph) (rules : IsGraph g) (live : List (List ℕ)) (is : AreLive 
       after_ops : (o p : OpsOutcome) → Outcomes (V b) (After g (Branch t c d)) o p
           → Follows (passed g o (Branch t c d) fs) (passed h (and_then p (run_ops (joining live (V b) s)))
           (Goto s.join) es)
-      after_ops (Done a k) (Done r j) e =
-          subst (λ n. Follows (leave g (Branch t c d) a fs k)
-          (passed h (run_ops (joining live (V b) s) r n) (Goto s.join) es)) e.0 (after_branch a r k e.1)
-      after_ops (Out o) (Out p) e = inl e
-      after_ops (Done a k) (Out p) e = absurd e
-      after_ops (Out o) (Done r j) e = absurd e
+      after_ops o p e = grind (arith, after_branch)
 
     by_short : (x : Exit) (found : Option Short) → short g x ≡ found → ExitIn g (spot_at g b).home (V b) x
         → Lands g x → (o p : OpsOutcome) (ops : List Op) (r : ProcState) (k : ℕ) → p ≡ run_ops ops r k
@@ -139,15 +111,8 @@ module _ (g : Graph) (rules : IsGraph g) (live : List (List ℕ)) (is : AreLive 
         → Follows (passed g o x fs)
         (passed h (run_ops (joined_if live (V b) (record { named = []; ops = ops; exit = x }) found).ops r
         k) (joined_if live (V b) (record { named = []; ops = ops; exit = x }) found).exit es)
-    by_short x None e i l o p ops r k ran near =
-        inl (subst (λ (q : OpsOutcome). Along g rules (passed g o x fs) (passed h q x es)) ran
-        (same_passed x i l o p near))
-    by_short (Branch t c d) (Some s) e i l o p ops r k ran near =
-        let both : run_ops (ops ++ joining live (V b) s) r k ≡ and_then p (run_ops (joining live (V b) s)) =
-        run_append ops (joining live (V b) s) r k
-        ∙ ap (λ (q : OpsOutcome). and_then q (run_ops (joining live (V b) s))) (sym ran) in
-        subst (λ (q : OpsOutcome). Follows (passed g o (Branch t c d) fs) (passed h q (Goto s.join) es))
-        (sym both) (after_ops t c d s i e o p near)
+    by_short x None e i l o p ops r k ran near = grind (arith, same_passed)
+    by_short (Branch t c d) (Some s) e i l o p ops r k ran near = grind (arith, run_append, after_ops)
     by_short (Goto c) (Some s) e i l o p ops r k ran near = absurd (cc)
     by_short (Call x f ts back) (Some s) e i l o p ops r k ran near = absurd (cc)
     by_short (Return t) (Some s) e i l o p ops r k ran near = absurd (cc)
@@ -177,12 +142,7 @@ module _ (g : Graph) (rules : IsGraph g) (live : List (List ℕ)) (is : AreLive 
 
   one_block : (b : ℕ) (s : ProcState) (fs : List Frame) (k : ℕ) (d : Config) → Along g rules (At b s fs k) d
       → Follows (step g (At b s fs k)) (step h d)
-  one_block b s fs k (At c r es j) a =
-      subst (λ n. Follows (step g (At b s fs k)) (step h (At n r es j))) a.0
-      (subst (λ n. Follows (step g (At b s fs k)) (step h (At b r es n))) a.1
-      (at_block b a.2 fs es a.4 s r k a.3))
-  one_block b s fs k (Over o j) a = absurd a
-  one_block b s fs k (Going o) a = absurd a
+  one_block b s fs k d a = grind (arith, at_block)
 
   final : (c d : Config) → IsOver c → Along g rules c d → Match (λ (o p : Outside). o ≡ p) c d
   final (Over o k) (Over p j) over a = a
@@ -202,11 +162,6 @@ module _ (g : Graph) (rules : IsGraph g) (live : List (List ℕ)) (is : AreLive 
 
   -- where the first comes to one in m blocks
   answers : (m : ℕ) (c d : Config) → Follows c d → IsOver (walk g m c) → Answers m (walk g m c) d
-  answers zero (Over o k) d (inl a) over = (0, omega arith, final (Over o k) d over a)
-  answers zero (Over o k) d (inr a) over = (0, omega arith, final (Over o k) d over a)
-  answers zero (Going o) d (inl a) over = (0, omega arith, final (Going o) d over a)
-  answers zero (Going o) d (inr a) over = (0, omega arith, final (Going o) d over a)
-  answers zero (At b s fs k) d f over = absurd over
   answers (suc m) (At b s fs k) d (inl a) over =
       let r = answers m (step g (At b s fs k)) (step h d) (one_block b s fs k d a) over in
       let le = r.1 in (suc r.0, omega (arith, le), r.2)
@@ -215,15 +170,10 @@ module _ (g : Graph) (rules : IsGraph g) (live : List (List ℕ)) (is : AreLive 
   answers (suc m) (Over o k) d (inr a) over = later m _ d (answers m (Over o k) d (inl a) over)
   answers (suc m) (Going o) d (inl a) over = later m _ d (answers m (Going o) d (inl a) over)
   answers (suc m) (Going o) d (inr a) over = later m _ d (answers m (Going o) d (inl a) over)
+  answers m c d f over = grind arith
 
   match_over : (c d : Config) → Match (λ (o p : Outside). o ≡ p) c d → IsOver d
-  match_over (Over o k) (Over p j) e = tt
-  match_over (Going o) (Going p) e = tt
-  match_over (At b s fs k) d e = absurd e
-  match_over (Over o k) (At b s fs j) e = absurd e
-  match_over (Over o k) (Going p) e = absurd e
-  match_over (Going o) (At b s fs j) e = absurd e
-  match_over (Going o) (Over p j) e = absurd e
+  match_over c d e = grind arith
 
   abbrev main : ℕ
   main = length g.procs - 1
@@ -234,13 +184,7 @@ module _ (g : Graph) (rules : IsGraph g) (live : List (List ℕ)) (is : AreLive 
   opened : (world : World) (k : ℕ) → opening h world k ≡ At (entry_of g main)
       (record { vars = zeros (more_vars (proc_at g main).vars); out = opening_out (cells_of g.arrays) world })
       [] k
-  opened world k =
-      let out = opening_out (cells_of g.arrays) world in
-      ap (λ n. At (entry_of h (n - 1)) (record { vars = zeros (proc_at h (n - 1)).vars; out = out }) [] k)
-      (map_count (joined_proc g live) g.procs)
-      ∙ ap (λ n. At n (record { vars = zeros (proc_at h main).vars; out = out }) [] k) (entry_is g live main)
-      ∙ ap (λ (p : GraphProc). At (entry_of g main) (record { vars = zeros p.vars; out = out }) [] k)
-      (proc_is g live main main_there)
+  opened world k = grind (arith, map_count, entry_is, proc_is, main_there)
 
   opens : (world : World) (k : ℕ) → Along g rules (opening g world k) (opening h world k)
   opens world k =
@@ -270,4 +214,4 @@ module _ (g : Graph) (rules : IsGraph g) (live : List (List ℕ)) (is : AreLive 
   pub no_more : PassesNoMore g h
   no_more world turns m over =
       let r = answers m (opening g world turns) (opening h world turns) (inl (opens world turns)) over in
-      (r.0, r.1, match_over (walk g m (opening g world turns)) (walk h r.0 (opening h world turns)) r.2)
+      grind (arith, match_over)

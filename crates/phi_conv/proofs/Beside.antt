@@ -1,9 +1,9 @@
 -- A short branch of the graph, after the operations of its block: what stands for it goes along.
-use Rattle.std.proofs.Common.{ℕ, ◌≡◌, ◌<◌, ◌==◌, Bool, true, false, List, [], ◌∷◌, length, Some, refl, sym}
-use Rattle.std.proofs.Common.{ap, ◌∙◌, subst, inl, inr}
+use Rattle.std.proofs.Common.{arith, ℕ, ◌≡◌, ◌<◌, ◌==◌, Bool, true, false, List, [], ◌∷◌, length, Some, refl}
+use Rattle.std.proofs.Common.{sym, ap, ◌∙◌, subst, inl, inr}
 use Rattle.std.specs.List.{AllByRecursion}
 use Rattle.ws_words.specs.Outside.{ProcState}
-use Rattle.cfg_core.specs.Graph.{Term, Op, Exit, Goto, Branch, Graph, spots, spot_at, block_at}
+use Rattle.cfg_core.specs.Graph.{Term, Op, Branch, Graph, spots, spot_at, block_at}
 use Rattle.cfg_core.specs.Rules.{TermIn, OpIn, ExitIn, IsGraph}
 use Rattle.cfg_core.specs.Walk.{value_of, run_ops}
 use Rattle.live_vars.specs.Live.{Mentions, Live}
@@ -26,18 +26,12 @@ needs_more (op ∷ ops) P Q f x (inl r) = inl r
 needs_more (op ∷ ops) P Q f x (inr n) = inr (n.0, needs_more ops P Q f x n.1)
 
 way_light : (g : Graph) (b j : ℕ) (ops : List Op) → Way g b j ops → all_light ops ≡ true
-way_light g b j ops (direct e empty) = ap all_light empty
-way_light g b j ops (through same exit light) = light
+way_light g b j ops h = grind arith
 
 -- what an arm needs is live at its start
 way_live : (g : Graph) (b j : ℕ) (ops : List Op) → Way g b j ops → (x : ℕ) → Needs ops (Live g j) x
     → Live g b x
-way_live g b j ops (direct e empty) x n = subst (λ i. Live g i x) (sym e)
-    (subst (λ (o : List Op). Needs o (Live g j) x) empty n)
-way_live g b j ops (through same exit light) x n =
-    let m = needs_more ops (Live g j) (After g (Goto j)) (λ y l. inr ((λ w. w), (j, refl, l))) x n in
-    needed_is_live g b x (subst (λ (e : Exit). Needs (block_at g b).ops (After g e) x) (sym exit)
-    (subst (λ (o : List Op). Needs o (After g (Goto j)) x) same m))
+way_live g b j ops h x n = grind (arith, needs_more, needed_is_live)
 
 module _ (g : Graph) (rules : IsGraph g) (live : List (List ℕ)) (is : AreLive g live) (b : ℕ)
     (there : b < length (spots g)) where
@@ -46,8 +40,7 @@ module _ (g : Graph) (rules : IsGraph g) (live : List (List ℕ)) (is : AreLive 
 
   way_in : (c j : ℕ) (ops : List Op) → c < length (spots g) → (spot_at g c).home ≡ (spot_at g b).home
       → Way g c j ops → AllByRecursion (OpIn (length g.arrays) v) ops
-  way_in c j ops lt home (direct e empty) =
-      subst (λ (o : List Op). AllByRecursion (OpIn (length g.arrays) v) o) (sym empty) tt
+  way_in c j ops lt home (direct e empty) = grind arith
   way_in c j ops lt home (through same exit light) =
       subst (λ (o : List Op). AllByRecursion (OpIn (length g.arrays) v) o) (sym same)
       (subst (λ n. AllByRecursion (OpIn (length g.arrays) n) (block_at g c).ops)

@@ -4,7 +4,7 @@ use Rattle.std.proofs.Common.{refl, sym, ap, ◌∙◌, subst, arith}
 use Rattle.std.specs.List.{AllByRecursion}
 use Rattle.std.proofs.lemmas.List.{get_or-set_same, get_or-set_other, length-set}
 use Rattle.ws_words.specs.Outside.{ProcState, write}
-use Rattle.cfg_core.specs.Graph.{Term, Number, Var, Cell, Flip, Not, Neg, Binary, Op, TickBy, Graph}
+use Rattle.cfg_core.specs.Graph.{Term, Op, TickBy, Graph}
 use Rattle.cfg_core.specs.Rules.{TermIn, OpIn}
 use Rattle.cfg_core.specs.Walk.{value, value_of, OpsOutcome, Done, and_then, spend, run_op, run_ops}
 use Rattle.live_vars.specs.Live.{Mentions}
@@ -18,13 +18,7 @@ use Rattle.phi_conv.proofs.Joining.{tail, test_bare, tail_run, settled_states, s
 use Rattle.live_vars.proofs.Needed.{Needs}
 
 still_bare : (s : Short) (t : Term) → is_still (written_by s) t ≡ true → is_bare t ≡ true
-still_bare s (Number n) e = refl
-still_bare s (Var x) e = refl
-still_bare s (Cell a t) e = absurd (cc)
-still_bare s (Flip t) e = absurd (cc)
-still_bare s (Not t) e = absurd (cc)
-still_bare s (Neg t) e = absurd (cc)
-still_bare s (Binary op a b) e = absurd (cc)
+still_bare s t e = grind arith
 
 -- after the test: the state, and what stands for the test's value
 pub record Tested (v : ℕ) (B : ℕ → Type 0) (a r : ProcState) (t held : Term) (ops rest : List Op)
@@ -38,12 +32,7 @@ tested : (g : Graph) (v : ℕ) (s : Short) (B : ℕ → Type 0) (a r : ProcState
     → is_still (written_by s) t ≡ c → TermIn (length g.arrays) v t → States v B a r
     → ((x : ℕ) → Mentions t x → B x) → (rest : List Op) (k : ℕ) → Tested v B a r t (test_if c v t)
     (keep_test c v t ++ rest) rest k
-tested g v s B a r t true e i h known rest k = record {
-  state = r;
-  run = refl;
-  states = subst (λ (q : ProcState). States v B q r) (sym (bare_state t a (still_bare s t e))) h;
-  value = sym (term_value g v B a r h t i known);
-}
+tested g v s B a r t true e i h known rest k = grind (arith, bare_state, still_bare, term_value)
 tested g v s B a r t false e i h known rest k =
     let st = term_states g v B a r h t i known in
     let q : ProcState = (value_of t r).1 in
@@ -70,13 +59,11 @@ turns_by test n m r k z bare e =
     ∙ decided z
   where
     decided : (c : Bool) → (if c then spend m r k else spend n r k) ≡ spend (by_zero c n m) r k
-    decided true = refl
-    decided false = refl
+    decided c = grind arith
 
 turns_zero : (z : Bool) (ops ps : List Op) → by_zero z (turns_of ops) (turns_of ps) ≡ turns_of
     (by_zero z ops ps)
-turns_zero true ops ps = refl
-turns_zero false ops ps = refl
+turns_zero z ops ps = grind arith
 
 -- an arm: its turns, then its assignments
 abbrev pub arm_run : List Op → ProcState → ℕ → OpsOutcome

@@ -45,14 +45,12 @@ one_choice test x a b r k z bare e =
   where
     decided : (c : Bool) → (if c then Done (write r x (get_or r.vars b 0)) k
         else Done (write r x (get_or r.vars a 0)) k) ≡ Done (write r x (get_or r.vars (by_zero c a b) 0)) k
-    decided true = refl
-    decided false = refl
+    decided c = grind arith
 
 zero_copied : (z : Bool) (base base' : ℕ) (done done' : List ℕ) (x : ℕ)
     → by_zero z (copied base done x) (copied base' done' x) ≡ copied (by_zero z base base')
     (by_zero z done done') x
-zero_copied true base base' done done' x = refl
-zero_copied false base base' done done' x = refl
+zero_copied z base base' done done' x = grind arith
 
 -- a state with other variables
 abbrev pub with_vars : ProcState → List ℕ → ProcState
@@ -82,15 +80,7 @@ module _ (v base : ℕ) (past : v ≤ base) (done : List ℕ) where
   one_keeps : (x y : ℕ) (ws : List ℕ) → x < v → y < v → v ≤ length ws
       → get_or (set ws x (get_or ws (copied base done x) 0)) (copied base done y) 0 ≡ get_or ws
       (copied base done y) 0
-  one_keeps x y ws lx ly lw = elim (cases_eq (copied base done y) x) [
-    | inl at ↦ elim (cases_eq y x) [
-      | inl same ↦ ap (λ n. get_or (set ws x (get_or ws (copied base done x) 0)) n 0) at
-          ∙ get_or-set_same ws x (get_or ws (copied base done x) 0) 0 (omega (arith, lx, lw))
-          ∙ ap (λ n. get_or ws (copied base done n) 0) (sym same)
-      | inr ne ↦ absurd (not_written x y lx ly ne at)
-    ]
-    | inr ne ↦ get_or-set_other ws x (copied base done y) (get_or ws (copied base done x) 0) 0 ne
-  ]
+  one_keeps x y ws lx ly lw = grind (arith, cases_eq, get_or-set_same, not_written, get_or-set_other)
 
   longer : (x w : ℕ) (ws : List ℕ) → v ≤ length ws → v ≤ length (set ws x w)
   longer x w ws lw = subst (λ n. v ≤ n) (sym (length-set ws x w)) lw
@@ -115,15 +105,10 @@ module _ (v base : ℕ) (past : v ≤ base) (done : List ℕ) where
   pub gets : (xs : List ℕ) (ws : List ℕ) (y : ℕ) → AllByRecursion (λ x. x < v) xs → y < v → v ≤ length ws
       → In y xs → get_or (chosen base done xs ws) y 0 ≡ get_or ws (copied base done y) 0
   gets [] ws y h ly lw i = absurd i
-  gets (x ∷ xs) ws y h ly lw (inl same) =
-      let w = get_or ws (copied base done x) 0 in
-      let keep = one_keeps x y ws h.0 ly lw in
-      stays xs (set ws x w) y h.1 ly (longer x w ws lw) (ap (λ n. get_or (set ws x w) n 0) same
-      ∙ get_or-set_same ws x w 0 (omega (arith, h.0, lw)) ∙ ap (λ n. get_or ws (copied base done n) 0)
-      (sym same) ∙ sym keep) ∙ keep
+  gets (x ∷ xs) ws y h ly lw (inl same) = grind (arith, one_keeps, stays, longer, get_or-set_same)
   gets (x ∷ xs) ws y h ly lw (inr i) =
       let w = get_or ws (copied base done x) 0 in
-      gets xs (set ws x w) y h.1 ly (longer x w ws lw) i ∙ one_keeps x y ws h.0 ly lw
+      grind (arith, longer, one_keeps, gets xs (set ws x w) y h.1 ly (longer x w ws lw) i)
 
 -- there are as many variables as before
 pub chosen_length : (base : ℕ) (done xs ws : List ℕ) → length (chosen base done xs ws) ≡ length ws

@@ -1,19 +1,18 @@
 -- An arm on copies of its variables: after it the copies have what the variables would have.
-use Rattle.std.proofs.Common.{ℕ, ◌+◌, ◌-◌, ◌^◌, ◌≡◌, ◌<◌, ◌≤◌, ◌==◌, ◌&&◌, Bool, true, false, if◌then◌else◌}
+use Rattle.std.proofs.Common.{ℕ, ◌+◌, ◌≡◌, ◌<◌, ◌≤◌, ◌&&◌, Bool, true, if◌then◌else◌}
 use Rattle.std.proofs.Common.{List, [], ◌∷◌, length, get_or, set, refl, sym, ap, ◌∙◌, subst, inl, inr, arith}
 use Rattle.std.specs.List.{AllByRecursion}
 use Rattle.std.proofs.lemmas.Bool.{cases_eq}
 use Rattle.std.proofs.lemmas.List.{get_or-set_same, get_or-set_other, length-set}
-use Rattle.ws_words.specs.declared.alu.Alu.TheVariants.{Sub}
-use Rattle.ws_words.specs.Operators.{applied, flag}
-use Rattle.ws_words.specs.Outside.{ProcState, Outside, row, write}
-use Rattle.cfg_core.specs.Graph.{Term, Number, Var, Cell, Flip, Not, Neg, Binary, Op, Assign, Store, Print}
+use Rattle.ws_words.specs.Operators.{applied}
+use Rattle.ws_words.specs.Outside.{ProcState, Outside, write}
+use Rattle.cfg_core.specs.Graph.{Term, Cell, Flip, Not, Neg, Binary, Op, Assign, Store, Print}
 use Rattle.cfg_core.specs.Graph.{Read, Give, Take, Choose, Tick, TickBy, Graph}
 use Rattle.cfg_core.specs.Rules.{TermIn, OpIn}
 use Rattle.cfg_core.specs.Walk.{value}
 use Rattle.live_vars.specs.Live.{Mentions}
 use Rattle.phi_conv.specs.Short.{is_bare, all_light}
-use Rattle.phi_conv.specs.Joined.{turns_of, is_among, added, copied, renamed, arm, written}
+use Rattle.phi_conv.specs.Joined.{turns_of, added, copied, renamed, arm, written}
 use Rattle.phi_conv.proofs.Picked.{added_here, added_other}
 use Rattle.phi_conv.proofs.Light.{after}
 use Rattle.ws_words.proofs.Bools.{and_left as left_true, and_right as right_true}
@@ -34,30 +33,26 @@ copied_other base x y done ne = ap (λ b. if b then base + y else y) (added_othe
 
 -- one of two numbers that differ from a third differs from it
 pub if_apart : (b : Bool) (m n z : ℕ) → (m ≡ z → ⊥) → (n ≡ z → ⊥) → (if b then m else n) ≡ z → ⊥
-if_apart true m n z h i e = h e
-if_apart false m n z h i e = i e
+if_apart b m n z h i e = grind arith
 
 module _ (g : Graph) (v base : ℕ) (past : v ≤ base) where
   -- no other variable stands in the copy of x
   pub copied_apart : (x y : ℕ) (done : List ℕ) → y < v → (y ≡ x → ⊥) → copied base done y ≡ base + x → ⊥
-  copied_apart x y done lt ne = if_apart (is_among done y) (base + y) y (base + x)
-      (λ e. ne (omega (arith, e))) (λ e. omega (arith, e, lt, past))
+  copied_apart x y done lt ne = grind (arith, if_apart)
 
   -- a renamed term has the value that the term has
   pub value_copied : (done vs ws : List ℕ) (cells : List (List ℕ)) (t : Term) → TermIn (length g.arrays) v t
       → Copies v base done (Mentions t) vs ws → value t vs cells ≡ value (renamed base done t) ws cells
-  value_copied done vs ws cells (Number n) i h = refl
-  value_copied done vs ws cells (Var x) i h = h x i refl
-  value_copied done vs ws cells (Cell a t) i h = ap (λ n. get_or (row cells (a - 1)) n 0)
-      (value_copied done vs ws cells t i.1 h)
-  value_copied done vs ws cells (Flip t) i h = ap (λ n. 2 ^ 64 - 1 - n) (value_copied done vs ws cells t i h)
-  value_copied done vs ws cells (Not t) i h = ap (λ n. flag (n == 0)) (value_copied done vs ws cells t i h)
-  value_copied done vs ws cells (Neg t) i h = ap (λ n. applied Sub 0 n) (value_copied done vs ws cells t i h)
+  value_copied done vs ws cells (Cell a t) i h = grind (arith, value_copied done vs ws cells t i.1 h)
+  value_copied done vs ws cells (Flip t) i h = grind (arith, value_copied done vs ws cells t i h)
+  value_copied done vs ws cells (Not t) i h = grind (arith, value_copied done vs ws cells t i h)
+  value_copied done vs ws cells (Neg t) i h = grind (arith, value_copied done vs ws cells t i h)
   value_copied done vs ws cells (Binary op a b) i h =
       ap (λ n. applied op n (value b vs cells))
       (value_copied done vs ws cells a i.0 (λ x lt m. h x lt (inl m)))
       ∙ ap (λ n. applied op (value (renamed base done a) ws cells) n)
       (value_copied done vs ws cells b i.1 (λ x lt m. h x lt (inr m)))
+  value_copied done vs ws cells t i h = grind arith
 
   -- the variable x is written, and its copy
   written_copies : (done vs ws : List ℕ) (P : ℕ → Type 0) (x a b : ℕ) → x < v → length vs ≡ v
@@ -133,8 +128,12 @@ after_out (TickBy t n m ∷ ops) s = after_out ops s
 -- there are as many variables as before
 pub after_length : (ops : List Op) (s : ProcState) → length (after ops s).vars ≡ length s.vars
 after_length [] s = refl
-after_length (Assign x t ∷ ops) s = after_length ops (write s x (value t s.vars s.out.cells))
-    ∙ length-set s.vars x (value t s.vars s.out.cells)
+after_length (Assign x t ∷ ops) s = grind (
+  arith,
+  s.vars,
+  length-set,
+  after_length ops (write s x (value t s.vars s.out.cells)),
+)
 after_length (Tick n ∷ ops) s = after_length ops s
 after_length (Store a t u ∷ ops) s = after_length ops s
 after_length (Print t ∷ ops) s = after_length ops s
@@ -145,36 +144,28 @@ after_length (Choose x t a b ∷ ops) s = after_length ops s
 after_length (TickBy t n m ∷ ops) s = after_length ops s
 
 bare_renamed : (base : ℕ) (done : List ℕ) (t : Term) → is_bare (renamed base done t) ≡ is_bare t
-bare_renamed base done (Number n) = refl
-bare_renamed base done (Var x) = refl
-bare_renamed base done (Cell a t) = refl
 bare_renamed base done (Flip t) = bare_renamed base done t
 bare_renamed base done (Not t) = bare_renamed base done t
 bare_renamed base done (Neg t) = bare_renamed base done t
-bare_renamed base done (Binary op a b) = ap (λ x. x && is_bare (renamed base done b))
-    (bare_renamed base done a) ∙ ap (λ x. is_bare a && x) (bare_renamed base done b)
+bare_renamed base done (Binary op a b) = grind (arith, bare_renamed base done a, bare_renamed base done b)
+bare_renamed base done t = grind arith
 
 both_true : (a b : Bool) → a ≡ true → b ≡ true → (a && b) ≡ true
-both_true true true e f = refl
-both_true false b e f = e
-both_true true false e f = f
+both_true a b e f = grind arith
 
 -- an arm on copies only assigns
 pub arm_light : (base : ℕ) (done : List ℕ) (ops : List Op) → all_light ops ≡ true
     → all_light (arm base done ops) ≡ true
-arm_light base done [] e = refl
-arm_light base done (Assign x t ∷ ops) e = both_true (is_bare (renamed base done t))
-    (all_light (arm base (added done x) ops)) (bare_renamed base done t
-    ∙ left_true (is_bare t) (all_light ops) e)
-    (arm_light base (added done x) ops (right_true (is_bare t) (all_light ops) e))
+arm_light base done (Assign x t ∷ ops) e = grind (
+  arith,
+  both_true,
+  bare_renamed,
+  left_true,
+  right_true,
+  arm_light base (added done x) ops (right_true (is_bare t) (all_light ops) e),
+)
 arm_light base done (Tick n ∷ ops) e = arm_light base done ops e
-arm_light base done (Store a t u ∷ ops) e = absurd (cc)
-arm_light base done (Print t ∷ ops) e = absurd (cc)
-arm_light base done (Read x ∷ ops) e = absurd (cc)
-arm_light base done (Give p x ∷ ops) e = absurd (cc)
-arm_light base done (Take p t ∷ ops) e = absurd (cc)
-arm_light base done (Choose x t a b ∷ ops) e = absurd (cc)
-arm_light base done (TickBy t n m ∷ ops) e = absurd (cc)
+arm_light base done ops e = grind arith
 
 -- it takes no turn
 pub arm_no_turns : (base : ℕ) (done : List ℕ) (ops : List Op) → turns_of (arm base done ops) ≡ 0

@@ -1,8 +1,7 @@
 -- A path of the joined graph that may take no turn is one of the given graph.
-use Rattle.std.proofs.Common.{ℕ, zero, suc, ◌≡◌, ◌⊎◌, ◌||◌, Bool, true, false, List, [], ◌∷◌, ◌++◌, Option}
+use Rattle.std.proofs.Common.{ℕ, zero, ◌≡◌, ◌⊎◌, ◌||◌, Bool, true, false, List, [], ◌∷◌, ◌++◌, Option}
 use Rattle.std.proofs.Common.{Some, None, refl, sym, subst, inl, inr, arith}
-use Rattle.cfg_core.specs.Graph.{Term, Op, Assign, Store, Print, Read, Give, Take, Choose, Tick, TickBy, Exit}
-use Rattle.cfg_core.specs.Graph.{Goto, Branch, Call, Return, Send, Stop, Block, Graph, spot_at, block_at}
+use Rattle.cfg_core.specs.Graph.{Term, Op, Assign, Tick, TickBy, Exit, Branch, Graph, spot_at, block_at}
 use Rattle.cfg_core.specs.Rules.{takes_turn, has_turn, Leads, Quiet, one, more}
 use Rattle.phi_conv.specs.Short.{Short, is_bare, all_light, short, short_to}
 use Rattle.phi_conv.specs.Joined.{written_by, first_base, second_base, turns_of, arm, is_still, keep_test}
@@ -13,42 +12,35 @@ use Rattle.phi_conv.proofs.Placing.{block_is}
 use Rattle.ws_words.proofs.Bools.{either_right, and_right as right_true}
 
 either_left : (b c d : Bool) → (b || c) ≡ false → (c ≡ false → d ≡ false) → (b || d) ≡ false
-either_left true c d e f = e
-either_left false c d e f = f e
+either_left b c d e f = grind arith
 
 quiet_left : (xs ys : List Op) → has_turn (xs ++ ys) ≡ false → has_turn xs ≡ false
 quiet_left [] ys e = refl
-quiet_left (x ∷ xs) ys e = either_left (takes_turn x) (has_turn (xs ++ ys)) (has_turn xs) e (quiet_left xs ys)
+quiet_left (x ∷ xs) ys e = grind (arith, either_left, quiet_left xs ys)
 
 quiet_right : (xs ys : List Op) → has_turn (xs ++ ys) ≡ false → has_turn ys ≡ false
 quiet_right [] ys e = e
-quiet_right (x ∷ xs) ys e = quiet_right xs ys (either_right (takes_turn x) (has_turn (xs ++ ys)) e)
+quiet_right (x ∷ xs) ys e = grind (
+  arith,
+  either_right,
+  quiet_right xs ys (either_right (takes_turn x) (has_turn (xs ++ ys)) e),
+)
 
 quiet_head : (x : Op) (xs : List Op) → has_turn (x ∷ xs) ≡ false → takes_turn x ≡ false
-quiet_head x xs e = by_test (takes_turn x) e
-  where
-    by_test : (b : Bool) → (b || has_turn xs) ≡ false → b ≡ false
-    by_test true e = e
-    by_test false e = refl
+quiet_head x xs e = grind arith
 
 -- turns by a test that may be none are none for one of the two
 none_of_two : (t : Term) (n m : ℕ) → takes_turn (TickBy t n m) ≡ false → (n ≡ 0) ⊎ (m ≡ 0)
-none_of_two t zero m e = inl refl
-none_of_two t (suc n) zero e = inr refl
-none_of_two t (suc n) (suc m) e = absurd (cc)
+none_of_two t n m e = grind arith
 
 light_quiet : (ops : List Op) → all_light ops ≡ true → turns_of ops ≡ 0 → has_turn ops ≡ false
-light_quiet [] l e = refl
-light_quiet (Assign x t ∷ ops) l e = light_quiet ops (right_true (is_bare t) (all_light ops) l) e
+light_quiet (Assign x t ∷ ops) l e = grind (
+  arith,
+  right_true,
+  light_quiet ops (right_true (is_bare t) (all_light ops) l) e,
+)
 light_quiet (Tick zero ∷ ops) l e = light_quiet ops l (omega (arith, e))
-light_quiet (Tick (suc n) ∷ ops) l e = absurd (omega (arith, e))
-light_quiet (Store a t u ∷ ops) l e = absurd (cc)
-light_quiet (Print t ∷ ops) l e = absurd (cc)
-light_quiet (Read x ∷ ops) l e = absurd (cc)
-light_quiet (Give p x ∷ ops) l e = absurd (cc)
-light_quiet (Take p t ∷ ops) l e = absurd (cc)
-light_quiet (Choose x t a b ∷ ops) l e = absurd (cc)
-light_quiet (TickBy t n m ∷ ops) l e = absurd (cc)
+light_quiet ops l e = grind arith
 
 quiet_path : (g : Graph) (a b c : ℕ) → Quiet g a b → Quiet g b c → Quiet g a c
 quiet_path g a b c p (one d e quiet leads) = more a d e p quiet leads
@@ -64,8 +56,7 @@ module _ (g : Graph) (live : List (List ℕ)) where
         → Quiet g b j
     by_way c j ops leads none (direct e empty) = subst (Quiet g b) e (one b c quiet leads)
     by_way c j ops leads none (through same exit light) =
-        let at : has_turn (block_at g c).ops ≡ false = subst (λ (o : List Op). has_turn o ≡ false) same
-        (light_quiet ops light none) in
+        let at : has_turn (block_at g c).ops ≡ false = grind (arith, light_quiet) in
         more b c j (one b c quiet leads) at (subst (λ (x : Exit). Leads x j) (sym exit) refl)
 
     by_branch : (t : Term) (c d : ℕ) (s : Short) → (block_at g b).exit ≡ Branch t c d
@@ -83,18 +74,11 @@ module _ (g : Graph) (live : List (List ℕ)) where
 
     by_exit : (x : Exit) (s : Short) → (block_at g b).exit ≡ x → short g x ≡ Some s
         → has_turn (joining live v s) ≡ false → Quiet g b s.join
-    by_exit (Branch t c d) s is e none = by_branch t c d s is e none
-    by_exit (Goto c) s is e none = absurd (cc)
-    by_exit (Call r f ts back) s is e none = absurd (cc)
-    by_exit (Return t) s is e none = absurd (cc)
-    by_exit (Send t ts ls) s is e none = absurd (cc)
-    by_exit Stop s is e none = absurd (cc)
+    by_exit x s is e none = grind (arith, by_branch)
 
   -- an edge of the joined graph out of a block that may take no turn
   edge : (b c : ℕ) → has_turn (block_at h b).ops ≡ false → Leads (block_at h b).exit c → Quiet g b c
-  edge b c quiet leads = by_short (short g (block_at g b).exit) refl
-      (subst (λ (x : Block). has_turn x.ops ≡ false) (block_is g live b) quiet)
-      (subst (λ (x : Block). Leads x.exit c) (block_is g live b) leads)
+  edge b c quiet leads = grind (arith, by_short, block_is)
     where
       v : ℕ
       v = (spot_at g b).vars
@@ -112,4 +96,4 @@ module _ (g : Graph) (live : List (List ℕ)) where
   -- a quiet path of the joined graph is one of the given graph
   pub quiet_before : (b c : ℕ) → Quiet h b c → Quiet g b c
   quiet_before b c (one d e quiet leads) = edge d e quiet leads
-  quiet_before b c (more d e f p quiet leads) = quiet_path g d e f (quiet_before d e p) (edge e f quiet leads)
+  quiet_before b c (more d e f p quiet leads) = grind (arith, quiet_path, edge, quiet_before d e p)

@@ -1,21 +1,21 @@
 -- No copy is live at the start of a block of the joined graph.
-use Rattle.std.proofs.Common.{ℕ, ◌+◌, ◌≡◌, ◌<◌, ◌⊎◌, Bool, true, false, if◌then◌else◌, List, [], ◌∷◌, ◌++◌}
-use Rattle.std.proofs.Common.{length, map, Option, Some, None, refl, sym, ap, ◌∙◌, subst, inl, inr, arith}
+use Rattle.std.proofs.Common.{ℕ, ◌+◌, ◌≡◌, ◌<◌, ◌⊎◌, Bool, true, false, List, [], ◌∷◌, ◌++◌}
+use Rattle.std.proofs.Common.{length, map, Option, Some, None, refl, subst, inl, inr, arith}
 use Rattle.std.proofs.lemmas.Bool.{cases_eq}
 use Rattle.std.specs.List.{AllByRecursion, filter}
-use Rattle.cfg_core.specs.Graph.{Term, Number, Var, Cell, Flip, Not, Neg, Binary, Op, Assign, Store, Print}
+use Rattle.cfg_core.specs.Graph.{Term, Cell, Flip, Not, Neg, Binary, Op, Assign, Store, Print}
 use Rattle.cfg_core.specs.Graph.{Read, Give, Take, Choose, Tick, TickBy, Exit, Goto, Branch, Call, Return}
-use Rattle.cfg_core.specs.Graph.{Send, Stop, Block, Graph, Spot, spots, spot_at, block_at}
+use Rattle.cfg_core.specs.Graph.{Send, Stop, Graph, spots, spot_at, block_at}
 use Rattle.cfg_core.specs.Rules.{TermIn, OpIn, ExitIn, IsGraph}
 use Rattle.live_vars.specs.Live.{Mentions, Carries, ReadsFirst, Live, reads, passes}
 use Rattle.live_vars.specs.Marks.{has}
 use Rattle.phi_conv.specs.Short.{Short, short}
-use Rattle.phi_conv.specs.Joined.{first_base, second_base, turns_of, is_among, copied, added, renamed, arm}
-use Rattle.phi_conv.specs.Joined.{written, written_by, is_still, keep_test, test_if, test_of, choice, choices}
+use Rattle.phi_conv.specs.Joined.{first_base, second_base, is_among, copied, added, renamed, arm}
+use Rattle.phi_conv.specs.Joined.{written, written_by, is_still, keep_test, test_if, choice, choices}
 use Rattle.phi_conv.specs.Joined.{joining, joined_if, joined}
 use Rattle.phi_conv.specs.Keeps.{NoCopyLive}
 use Rattle.phi_conv.proofs.Picked.{added_other, written_low}
-use Rattle.phi_conv.proofs.Placing.{joined_spot, spots_count, spot_is, block_is}
+use Rattle.phi_conv.proofs.Placing.{spots_count, spot_is, block_is}
 use Rattle.phi_conv.proofs.Standing.{same_vars}
 use Rattle.phi_conv.proofs.Numbered.{first_in, second_in, test_in}
 use Rattle.phi_conv.proofs.Ruled.{keeps_rules}
@@ -36,36 +36,31 @@ module _ (g : Graph) (v : ℕ) where
     NotCopy done x = (y : ℕ) → is_among done y ≡ true → x ≡ base + y → ⊥
 
     copied_low : (done : List ℕ) (y x : ℕ) → NotCopy done x → y < v → x ≡ copied base done y → x < v
-    copied_low done y x n lt e = by_test (is_among done y) refl e
-      where
-        by_test : (b : Bool) → is_among done y ≡ b → x ≡ (if b then base + y else y) → x < v
-        by_test true h q = absurd (n y h q)
-        by_test false h q = omega (arith, q, lt)
+    copied_low done y x n lt e = grind arith
 
     renamed_low : (done : List ℕ) (t : Term) (x : ℕ) → NotCopy done x → TermIn (length g.arrays) v t
         → Mentions (renamed base done t) x → x < v
-    renamed_low done (Number k) x n i m = absurd m
-    renamed_low done (Var y) x n i m = copied_low done y x n i m
     renamed_low done (Cell a t) x n i m = renamed_low done t x n i.1 m
     renamed_low done (Flip t) x n i m = renamed_low done t x n i m
     renamed_low done (Not t) x n i m = renamed_low done t x n i m
     renamed_low done (Neg t) x n i m = renamed_low done t x n i m
     renamed_low done (Binary op a b) x n i (inl m) = renamed_low done a x n i.0 m
     renamed_low done (Binary op a b) x n i (inr m) = renamed_low done b x n i.1 m
+    renamed_low done t x n i m = grind (arith, copied_low)
 
     one_more : (done : List ℕ) (y x : ℕ) → NotCopy done x → (x ≡ base + y → ⊥) → NotCopy (added done y) x
-    one_more done y x n ne z among e = elim (cases_eq z y) [
-      | inl same ↦ ne (e ∙ ap (λ k. base + k) same)
-      | inr other ↦ n z (sym (added_other done y z other) ∙ among) e
-    ]
+    one_more done y x n ne z among e = grind (arith, cases_eq, added_other)
 
     arm_after : (done : List ℕ) (ops more : List Op) (exit : Exit) (x : ℕ) → NotCopy done x
         → AllByRecursion (OpIn (length g.arrays) v) ops → ReadsFirst (arm base done ops ++ more) exit x
         → (x < v) ⊎ (NotCopy (written done ops) x × ReadsFirst more exit x)
     arm_after done [] more exit x n i h = inr (n, h)
     arm_after done (Assign y t ∷ ops) more exit x n i (inl m) = inl (renamed_low done t x n i.0.1 m)
-    arm_after done (Assign y t ∷ ops) more exit x n i (inr h) = arm_after (added done y) ops more exit x
-        (one_more done y x n h.0) i.1 h.1
+    arm_after done (Assign y t ∷ ops) more exit x n i (inr h) = grind (
+      arith,
+      one_more,
+      arm_after (added done y) ops more exit x (one_more done y x n h.0) i.1 h.1,
+    )
     arm_after done (Store a t u ∷ ops) more exit x n i h = arm_after done ops more exit x n i.1 h
     arm_after done (Print t ∷ ops) more exit x n i h = arm_after done ops more exit x n i.1 h
     arm_after done (Read y ∷ ops) more exit x n i h = arm_after done ops more exit x n i.1 h
@@ -83,14 +78,11 @@ module _ (g : Graph) (v : ℕ) where
     still = is_still (written_by s) s.test
 
     held_low : (c : Bool) → (c ≡ false → x ≡ v → ⊥) → Mentions (test_if c v s.test) x → x < v
-    held_low true n m = low g v s.test x test m
-    held_low false n m = absurd (n refl m)
+    held_low c n m = grind (arith, low)
 
     kept_after : (c : Bool) (more : List Op) → ReadsFirst (keep_test c v s.test ++ more) (Goto j) x
         → (x < v) ⊎ ((c ≡ false → x ≡ v → ⊥) × ReadsFirst more (Goto j) x)
-    kept_after true more h = inr ((λ e. absurd (cc)), h)
-    kept_after false more (inl m) = inl (low g v s.test x test m)
-    kept_after false more (inr n) = inr ((λ e. n.0), n.1)
+    kept_after c more h = grind (arith, low)
 
     choices_low : (xs : List ℕ) → ((y : ℕ) → In y xs → y < v) → NotCopy (first_base v) (written [] s.first) x
         → NotCopy (second_base v) (written [] s.second) x → (still ≡ false → x ≡ v → ⊥)
@@ -118,24 +110,16 @@ module _ (g : Graph) (v : ℕ) where
     others = arm (second_base v) [] s.second ++ choices live v s
 
     pub joining_low : ReadsFirst (joining live v s) (Goto j) x → x < v
-    joining_low h =
-        elim (kept_after still (TickBy (test_of v s) (turns_of s.first) (turns_of s.second)
-        ∷ (arm (first_base v) [] s.first ++ others)) h) [
-          | inl lt ↦ lt
-          | inr p ↦ elim p.1 [
-            | inl m ↦ held_low still p.0 m
-            | inr q ↦ elim (arm_after (first_base v) [] s.first others (Goto j) x (none_copied (first_base v))
-                first q.1) [
-                  | inl lt ↦ lt
-                  | inr a ↦
-                      elim (arm_after (second_base v) [] s.second (choices live v s) (Goto j) x
-                      (none_copied (second_base v)) second a.1) [
-                        | inl lt ↦ lt
-                        | inr b ↦ choices_low chosen chosen_low a.0 b.0 p.0 b.1
-                      ]
-                ]
-          ]
-        ]
+    joining_low h = grind (
+      arith,
+      kept_after,
+      held_low,
+      arm_after,
+      s.first,
+      none_copied,
+      choices_low,
+      chosen_low,
+    )
 
 module _ (g : Graph) (live : List (List ℕ)) (rules : IsGraph g) where
   abbrev h : Graph
@@ -145,8 +129,7 @@ module _ (g : Graph) (live : List (List ℕ)) (rules : IsGraph g) where
   V b = (spot_at g b).vars
 
   block_low : (b x : ℕ) → b < length (spots g) → ReadsFirst (block_at h b).ops (block_at h b).exit x → x < V b
-  block_low b x lt r = by_short (short g (block_at g b).exit) refl
-      (subst (λ (y : Block). ReadsFirst y.ops y.exit x) (block_is g live b) r)
+  block_low b x lt r = by_short (short g (block_at g b).exit) refl (grind (arith, block_is))
     where
       by_exit : (y : Exit) (s : Short) → (block_at g b).exit ≡ y → short g y ≡ Some s
           → ReadsFirst (joining live (V b) s) (Goto s.join) x → x < V b
@@ -179,15 +162,7 @@ module _ (g : Graph) (live : List (List ℕ)) (rules : IsGraph g) where
       → (c < length (spots g)) × (V c ≡ V b)
   on_edge b c lt k =
       let i = carries_stays h (spot_at h b).home (spot_at h b).vars (block_at h b).exit c
-      (numbers_at h R b).exit k in
-      let lc : c < length (spots g) = subst (λ n. c < n) (spots_count g live) i.0 in
-      let lb : b < length (spots h) = subst (λ n. b < n) (sym (spots_count g live)) lt in
-      let same : (spot_at h c).vars ≡ (spot_at h b).vars = same_vars h R b c lb i.0 i.1 in
-      let vb : (spot_at h b).vars ≡ (joined_spot g live (spot_at g b)).vars =
-      ap (λ (s : Spot). s.vars) (spot_is g live b lt) in
-      let vc : (spot_at h c).vars ≡ (joined_spot g live (spot_at g c)).vars =
-      ap (λ (s : Spot). s.vars) (spot_is g live c lc) in
-      (lc, omega (arith, same, vb, vc))
+      (numbers_at h R b).exit k in grind (arith, spots_count, same_vars, R, spot_is)
 
   dead : (b x : ℕ) → b < length (spots g) → Live h b x → x < V b
   dead b x lt (reads _ _ r) = block_low b x lt r

@@ -28,8 +28,7 @@ HasVars v (Some s) = s.vars ≡ v
 
 nth_after : (xs ys : List Spot) (k : ℕ) → nth (xs ++ ys) (length xs + k) ≡ nth ys k
 nth_after [] ys k = ap (nth ys) (omega arith)
-nth_after (x ∷ xs) ys k = ap (nth (x ∷ (xs ++ ys))) (let z : suc (length xs) + k ≡ suc (length xs + k) =
-    omega arith in z) ∙ nth_after xs ys k
+nth_after (x ∷ xs) ys k = grind (arith, nth_after xs ys k)
 
 first_has : (home : ℕ) (p : GraphProc) (rest : List Spot) → 1 ≤ length p.blocks
     → HasVars p.vars (nth (spots_in home p.vars p.blocks ++ rest) 0)
@@ -44,10 +43,7 @@ entry_has : (home first : ℕ) (ps : List GraphProc) (before : List Spot) (f : �
     (nth (before ++ spots_from home ps) (entry_from first ps f))
 entry_has home first [] before f e h lt = absurd (omega arith)
 entry_has home first (p ∷ ps) before zero e h lt =
-    let at : length before + 0 ≡ first = omega (arith, e) in
-    subst (λ n. HasVars p.vars (nth (before ++ spots_from home (p ∷ ps)) n)) at
-    (subst (HasVars p.vars) (sym (nth_after before (spots_from home (p ∷ ps)) 0))
-    (first_has home p (spots_from (suc home) ps) h.0.some_block))
+    let at : length before + 0 ≡ first = omega (arith, e) in grind (arith, p.vars, nth_after, first_has)
 entry_has home first (p ∷ ps) before (suc f) e h lt =
     subst (λ (zs : List Spot). HasVars (or_else (nth ps f) no_proc).vars
     (nth zs (entry_from (first + length p.blocks) ps f)))
@@ -58,9 +54,8 @@ entry_has home first (p ∷ ps) before (suc f) e h lt =
 
 there_by : (v : ℕ) (xs : List Spot) (k : ℕ) → HasVars v (nth xs k) → (k < length xs)
     × ((or_else (nth xs k) no_spot).vars ≡ v)
-there_by v [] k h = absurd h
-there_by v (x ∷ xs) zero h = (omega arith, h)
 there_by v (x ∷ xs) (suc k) h = let r = there_by v xs k h in (omega (arith, r.0), r.1)
+there_by v xs k h = grind arith
 
 -- an item of a list of which all have P
 all_at : (P : ℕ → Type 0) (ls : List ℕ) (k : ℕ) → AllByRecursion P ls → k < length ls → P (slice_index ls k)
@@ -70,8 +65,7 @@ all_at P (l ∷ ls) (suc k) h lt = all_at P ls k h.1 (omega arith)
 
 writes_result : (x : Option ℕ) (f : ℕ) (ts : List Term) (back y : ℕ) → (ResultIs x y → ⊥)
     → ExitWrites (Call x f ts back) y → ⊥
-writes_result None f ts back y ne w = w
-writes_result (Some z) f ts back y ne w = ne w
+writes_result x f ts back y ne w = grind arith
 
 module _ (g : Graph) (rules : IsGraph g) (live : List (List ℕ)) where
   abbrev h : Graph
@@ -93,9 +87,8 @@ module _ (g : Graph) (rules : IsGraph g) (live : List (List ℕ)) where
     where
       by_list : (ps : List GraphProc) (k : ℕ) → AllByRecursion ProcNumbers ps
           → (or_else (nth ps k) no_proc).params ≤ (or_else (nth ps k) no_proc).vars
-      by_list [] k i = omega arith
-      by_list (p ∷ ps) zero i = i.0.params
       by_list (p ∷ ps) (suc k) i = by_list ps k i.1
+      by_list ps k i = grind arith
 
   -- both enter a procedure on the same words
   pub enters : (f : ℕ) → f < length g.procs → (ws us : List ℕ) (o p : Outside) (fs es : List Frame) (k : ℕ)
@@ -109,28 +102,15 @@ module _ (g : Graph) (rules : IsGraph g) (live : List (List ℕ)) where
         vars = us ++ zeros ((proc_at h f).vars - (proc_at h f).params);
         out = p;
       }) es k)
-  enters f lt ws us o p fs es k count same out stack =
-      let e = entry_there f lt in
-      let q = params_at f in
-      let n : ℕ = (proc_at g f).vars - (proc_at g f).params in
-      let m : ℕ = more_vars (proc_at g f).vars - (proc_at g f).params in
-      let st : States (V (entry_of g f)) (Live g (entry_of g f)) (record { vars = ws ++ zeros n; out = o })
-      (record { vars = us ++ zeros m; out = p }) = record {
-        vars = λ x lx l. entered_at ws n x ∙ ap (λ (zs : List ℕ). get_or zs x 0) same
-            ∙ sym (entered_at us m x);
-        long = entered_count ws n ∙ (omega (arith, count, q, e.1));
-        longer = entered_count us m ∙ (let c : length us ≡ length ws = ap length (sym same) in
-            omega (arith, c, count, q, e.1));
-        out = out;
-      } in (
-        sym (entry_is g live f),
-        refl,
-        e.0,
-        subst (λ (r : GraphProc). States (V (entry_of g f)) (Live g (entry_of g f))
-            (record { vars = ws ++ zeros n; out = o })
-            (record { vars = us ++ zeros (r.vars - r.params); out = p })) (sym (proc_is g live f lt)) st,
-        stack,
-      )
+  enters f lt ws us o p fs es k count same out stack = grind (
+    arith,
+    entry_there,
+    params_at,
+    entered_at,
+    entered_count,
+    entry_is,
+    proc_is,
+  )
 
   module _ (b : ℕ) (there : b < length (spots g)) where
     -- a Call leads to configurations that go along

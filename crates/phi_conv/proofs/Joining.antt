@@ -1,13 +1,13 @@
 -- What stands for a short branch does what the branch and the arm that it takes do.
-use Rattle.std.proofs.Common.{ℕ, zero, suc, ◌+◌, ◌-◌, ◌^◌, ◌≡◌, ◌<◌, ◌≤◌, ◌⊎◌, ◌==◌, Bool, true, false}
-use Rattle.std.proofs.Common.{if◌then◌else◌, List, [], ◌++◌, length, get_or, set, refl, sym, ap, ◌∙◌, inl}
+use Rattle.std.proofs.Common.{ℕ, suc, ◌+◌, ◌-◌, ◌^◌, ◌≡◌, ◌<◌, ◌≤◌, ◌⊎◌, ◌==◌, Bool, true, false}
+use Rattle.std.proofs.Common.{if◌then◌else◌, List, [], ◌++◌, length, get_or, refl, sym, ap, ◌∙◌, inl}
 use Rattle.std.proofs.Common.{inr, arith}
 use Rattle.std.specs.List.{AllByRecursion, filter}
 use Rattle.std.proofs.lemmas.List.{get_or-set_other}
 use Rattle.ws_words.specs.declared.alu.Alu.TheVariants.{Sub}
 use Rattle.ws_words.specs.Operators.{applied, flag}
-use Rattle.ws_words.specs.Outside.{Outside, ProcState, row}
-use Rattle.cfg_core.specs.Graph.{Term, Number, Var, Cell, Flip, Not, Neg, Binary, Op, Graph}
+use Rattle.ws_words.specs.Outside.{ProcState}
+use Rattle.cfg_core.specs.Graph.{Term, Cell, Flip, Not, Neg, Binary, Op, Graph}
 use Rattle.cfg_core.specs.Rules.{TermIn, OpIn}
 use Rattle.cfg_core.specs.Walk.{value, OpsOutcome, Done, and_then, spend, run_ops}
 use Rattle.live_vars.specs.Live.{Mentions}
@@ -36,21 +36,19 @@ pure_run ops r k l e = light_run ops r k l ∙ ap (λ n. and_then (spend n r k) 
 pub spend_rel : (v : ℕ) (P : ℕ → Type 0) (n k : ℕ) (s r : ProcState) (go to : ProcState → ℕ → OpsOutcome)
     → s.out ≡ r.out → ((j : ℕ) → Outcomes v P (go s j) (to r j)) → Outcomes v P (and_then (spend n s k) go)
     (and_then (spend n r k) to)
-spend_rel v P zero k s r go to e f = f k
-spend_rel v P (suc n) zero s r go to e f = e
 spend_rel v P (suc n) (suc k) s r go to e f = spend_rel v P n k s r go to e f
+spend_rel v P n k s r go to e f = grind arith
 
 value_agree : (t : Term) (vs ws : List ℕ) (cells : List (List ℕ))
     → ((y : ℕ) → Mentions t y → get_or vs y 0 ≡ get_or ws y 0) → value t vs cells ≡ value t ws cells
-value_agree (Number n) vs ws cells h = refl
-value_agree (Var x) vs ws cells h = h x refl
-value_agree (Cell a t) vs ws cells h = ap (λ n. get_or (row cells (a - 1)) n 0) (value_agree t vs ws cells h)
+value_agree (Cell a t) vs ws cells h = grind (arith, value_agree t vs ws cells h)
 value_agree (Flip t) vs ws cells h = ap (λ n. 2 ^ 64 - 1 - n) (value_agree t vs ws cells h)
 value_agree (Not t) vs ws cells h = ap (λ n. flag (n == 0)) (value_agree t vs ws cells h)
 value_agree (Neg t) vs ws cells h = ap (λ n. applied Sub 0 n) (value_agree t vs ws cells h)
 value_agree (Binary op a b) vs ws cells h = ap (λ n. applied op n (value b vs cells))
     (value_agree a vs ws cells (λ y m. h y (inl m))) ∙ ap (λ n. applied op (value a ws cells) n)
     (value_agree b vs ws cells (λ y m. h y (inr m)))
+value_agree t vs ws cells h = grind arith
 
 module _ (g : Graph) (live : List (List ℕ)) (v : ℕ) (s : Short) (P : ℕ → Type 0) where
   -- where the copies for the first arm begin
@@ -103,31 +101,13 @@ module _ (g : Graph) (live : List (List ℕ)) (v : ℕ) (s : Short) (P : ℕ →
     -- the test reads its own variable, or one that no arm writes
     held : (c : Bool) (t : Term) (y : ℕ) → is_still (written_by s) t ≡ c → TermIn (length g.arrays) v t
         → Mentions (test_if c v t) y → (y ≡ v) ⊎ ((y < v) × (is_among (written_by s) y ≡ false))
-    held false t y e i m = inl m
-    held true (Number n) y e i m = absurd m
-    held true (Var x) y e i m = inr (
-      omega (arith, m, i),
-      ap (λ n. is_among (written_by s) n) m
-          ∙ not_true (is_among (written_by s) x) e,
-    )
-    held true (Cell a t) y e i m = absurd (cc)
-    held true (Flip t) y e i m = absurd (cc)
-    held true (Not t) y e i m = absurd (cc)
-    held true (Neg t) y e i m = absurd (cc)
-    held true (Binary op a b) y e i m = absurd (cc)
+    held c t y e i m = grind (arith, not_true)
 
     test_reads : (y : ℕ) → Mentions test y → (y ≡ v) ⊎ ((y < v) × (is_among (written_by s) y ≡ false))
     test_reads y m = held (is_still (written_by s) s.test) s.test y refl reads_in m
 
     held_bare : (c : Bool) (t : Term) → is_still (written_by s) t ≡ c → is_bare (test_if c v t) ≡ true
-    held_bare false t e = refl
-    held_bare true (Number n) e = refl
-    held_bare true (Var x) e = refl
-    held_bare true (Cell a t) e = absurd (cc)
-    held_bare true (Flip t) e = absurd (cc)
-    held_bare true (Not t) e = absurd (cc)
-    held_bare true (Neg t) e = absurd (cc)
-    held_bare true (Binary op a b) e = absurd (cc)
+    held_bare c t e = grind arith
 
     -- what stands for the test loads nothing
     pub test_bare : is_bare test ≡ true
@@ -142,15 +122,10 @@ module _ (g : Graph) (live : List (List ℕ)) (v : ℕ) (s : Short) (P : ℕ →
     picked_written x i = in_among (written_by s) x (filter_in (has live s.join) (written_by s) x i).0
 
     apart : (x y : ℕ) → In x picked → Mentions test y → y ≡ x → ⊥
-    apart x y i m e = elim (test_reads y m) [
-      | inl at ↦ omega (arith, at, e, picked_low x i)
-      | inr h ↦ let w = picked_written x i in let z : is_among (written_by s) x ≡ false =
-          ap (λ n. is_among (written_by s) n) (sym e) ∙ h.1 in absurd (cc)
-    ]
+    apart x y i m e = grind (arith, test_reads, picked_low, picked_written)
 
     steady : (cells : List (List ℕ)) → AllByRecursion (Steady test cells) picked
-    steady cells = all_from (Steady test cells) picked (λ x i ws w. value_agree test (set ws x w) ws cells
-        (λ y m. get_or-set_other ws x y w 0 (apart x y i m)))
+    steady cells = grind (arith, all_from, value_agree, get_or-set_other, apart)
 
     kept : (r : ProcState) (y : ℕ) → y < base_first → get_or (twice r).vars y 0 ≡ get_or r.vars y 0
     kept r y lt = arm_keeps g v base_second (omega arith) s.second [] (once r) y in_second
@@ -162,13 +137,7 @@ module _ (g : Graph) (live : List (List ℕ)) (v : ℕ) (s : Short) (P : ℕ →
 
     test_twice : (r : ProcState) → value test (twice r).vars (twice r).out.cells ≡ value test r.vars
         r.out.cells
-    test_twice r = ap (λ (o : Outside). value test (twice r).vars o.cells) (twice_out r)
-        ∙ value_agree test (twice r).vars r.vars r.out.cells
-        (λ y m. kept r y (elim (test_reads y m) [
-          | inl e ↦ omega (arith, e)
-          | inr h ↦
-              omega (arith, h.0)
-        ]))
+    test_twice r = grind (arith, twice_out, value_agree, r.vars, r.out.cells, kept, test_reads)
 
     -- the arms and the choices run to their end and take no turn
     pub tail_run : (r : ProcState) (k : ℕ) (z : Bool) → (value test r.vars r.out.cells == 0) ≡ z
@@ -206,8 +175,7 @@ module _ (g : Graph) (live : List (List ℕ)) (v : ℕ) (s : Short) (P : ℕ →
     ]
 
     twice_length : (r : ProcState) → length (twice r).vars ≡ length r.vars
-    twice_length r = after_length (arm base_second [] s.second) (once r)
-        ∙ after_length (arm base_first [] s.first) r
+    twice_length r = grind (arith, after_length)
 
     -- after them the variables that matter have what the arm of the test gives them
     pub settled_states : (z : Bool) (a r : ProcState) → States v (Needs (by_zero z s.first s.second) P) a r
@@ -223,7 +191,7 @@ module _ (g : Graph) (live : List (List ℕ)) (v : ℕ) (s : Short) (P : ℕ →
           (λ e. omega (arith, e, lt)) (λ e. omega (arith, e, lt))))
           );
       long = after_length s.first a ∙ h.long;
-      longer = chosen_length base_first done_first picked (twice r).vars ∙ twice_length r ∙ h.longer;
+      longer = grind (arith, chosen_length, twice_length);
       out = after_out s.first a ∙ h.out ∙ sym (twice_out r);
     }
     settled_states true a r h = record {
@@ -237,6 +205,6 @@ module _ (g : Graph) (live : List (List ℕ)) (v : ℕ) (s : Short) (P : ℕ →
           (λ y ly e. omega (arith, e, lt))))
           );
       long = after_length s.second a ∙ h.long;
-      longer = chosen_length base_second done_second picked (twice r).vars ∙ twice_length r ∙ h.longer;
+      longer = grind (arith, chosen_length, twice_length);
       out = after_out s.second a ∙ h.out ∙ sym (twice_out r);
     }

@@ -1,10 +1,10 @@
 -- The joined graph keeps the walks of the given graph, with the very same outside.
-use Rattle.std.proofs.Common.{ℕ, ◌≡◌, List, refl, ap, subst}
+use Rattle.std.proofs.Common.{arith, ℕ, ◌≡◌, List, refl, subst}
 use Rattle.ws_words.specs.Outside.{Outside, World}
 use Rattle.cfg_core.specs.Graph.{Graph}
 use Rattle.cfg_core.specs.Rules.{IsGraph}
 use Rattle.cfg_core.specs.Walk.{walk, opening, IsOver}
-use Rattle.cfg_core.specs.Shown.{shown_acts, shown_cells, AllInside, SameShown, SameWalks, SameArrays}
+use Rattle.cfg_core.specs.Shown.{AllInside, SameShown, SameWalks, SameArrays}
 use Rattle.cfg_core.proofs.Paired as paired
 use Rattle.live_vars.specs.Marks.{AreLive}
 use Rattle.phi_conv.specs.Joined.{joined}
@@ -22,12 +22,7 @@ module _ (g : Graph) (live : List (List ℕ)) (rules : IsGraph g) (is : AreLive 
   along = forth g rules live is
 
   shown : (o p : Outside) → o ≡ p → SameShown g h o p
-  shown o p e = record {
-    acts = ap (λ (q : Outside). shown_acts g.arrays q.acts) e;
-    cells = ap (λ (q : Outside). shown_cells g.arrays q.cells) e;
-    input = ap (λ (q : Outside). q.input) e;
-    left = ap (λ (q : Outside). q.left) e;
-  }
+  shown o p e = grind arith
 
   -- the walks show the same
   pub walks_kept : SameWalks g h

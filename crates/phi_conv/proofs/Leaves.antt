@@ -1,6 +1,6 @@
 -- An exit that both graphs have leads both walks to configurations that go together.
-use Rattle.std.proofs.Common.{ℕ, ◌≡◌, ◌<◌, ◌≤◌, ◌==◌, List, [], ◌∷◌, length, get_or, set, refl, sym, ap, ◌∙◌}
-use Rattle.std.proofs.Common.{subst, inl, inr, arith}
+use Rattle.std.proofs.Common.{ℕ, ◌≡◌, ◌<◌, ◌≤◌, ◌==◌, List, ◌∷◌, length, get_or, set, refl, ap}
+use Rattle.std.proofs.Common.{inl, inr, arith}
 use Rattle.std.specs.List.{AllByRecursion}
 use Rattle.std.proofs.lemmas.Bool.{cases_eq}
 use Rattle.std.proofs.lemmas.List.{get_or-set_same, get_or-set_other, length-set}
@@ -17,18 +17,10 @@ use Rattle.live_vars.proofs.Needed.{After}
 pub landed_same : (v : ℕ) (xs ws vs us : List ℕ) → AllByRecursion (λ x. x < v) xs → v ≤ length vs
     → v ≤ length us → ((y : ℕ) → y < v → get_or vs y 0 ≡ get_or us y 0) → (y : ℕ) → y < v
     → get_or (landed xs ws vs) y 0 ≡ get_or (landed xs ws us) y 0
-landed_same v [] ws vs us i lv lu h = h
-landed_same v (x ∷ xs) [] vs us i lv lu h = h
 landed_same v (x ∷ xs) (w ∷ ws) vs us i lv lu h =
     landed_same v xs ws (set vs x w) (set us x w) i.1 (omega (arith, lv, length-set vs x w))
-    (omega (arith, lu, length-set us x w)) (
-    λ y lt. elim (cases_eq y x) [
-      | inl same ↦ subst (λ n. get_or (set vs x w) n 0 ≡ get_or (set us x w) n 0) (sym same)
-          (get_or-set_same vs x w 0 (omega (arith, i.0, lv))
-          ∙ sym (get_or-set_same us x w 0 (omega (arith, i.0, lu))))
-      | inr ne ↦ get_or-set_other vs x y w 0 ne ∙ h y lt ∙ sym (get_or-set_other us x y w 0 ne)
-    ]
-    )
+    (omega (arith, lu, length-set us x w)) (grind (arith, cases_eq, get_or-set_same, get_or-set_other))
+landed_same v xs ws vs us i lv lu h = grind arith
 
 module _ (g : Graph) (rules : IsGraph g) (h : Graph) (b : ℕ) (there : b < length (spots g)) where
   abbrev v : ℕ
@@ -39,7 +31,7 @@ module _ (g : Graph) (rules : IsGraph g) (h : Graph) (b : ℕ) (there : b < leng
       → States v (After g (Goto c)) s r → Stack g rules fs es → Along g rules (leave g (Goto c) s fs k)
       (leave h (Goto c) r es k)
   jumps c stays s r fs es k st stack = goes_to g rules b c there stays s r fs es k
-      (weaker g v (After g (Goto c)) (Live g c) s r (λ x l. inr ((λ w. w), (c, refl, l))) st) stack
+      (grind (arith, weaker)) stack
 
   -- so does a Branch that both graphs have
   pub branches : (t : Term) (c d : ℕ) → ExitIn g (spot_at g b).home v (Branch t c d)

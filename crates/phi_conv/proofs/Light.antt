@@ -1,9 +1,9 @@
 -- Operations that only assign and tick: what they do, and how many turns they take.
 use Rattle.std.proofs.Common.{ℕ, zero, suc, ◌+◌, ◌≡◌, true, List, [], ◌∷◌, ◌++◌, refl, ap, ◌∙◌, arith}
 use Rattle.ws_words.specs.Outside.{Act, ProcState, write, with_acts}
-use Rattle.cfg_core.specs.Graph.{Term, Number, Var, Cell, Flip, Not, Neg, Binary, Op, Assign, Store, Print}
+use Rattle.cfg_core.specs.Graph.{Term, Flip, Not, Neg, Binary, Op, Assign, Store, Print}
 use Rattle.cfg_core.specs.Graph.{Read, Give, Take, Choose, Tick, TickBy}
-use Rattle.cfg_core.specs.Walk.{value, loads_of, value_of, OpsOutcome, Done, Out, and_then, spend, run_ops}
+use Rattle.cfg_core.specs.Walk.{value, loads_of, value_of, OpsOutcome, Done, and_then, spend, run_ops}
 use Rattle.phi_conv.specs.Short.{is_bare, all_light}
 use Rattle.phi_conv.specs.Joined.{turns_of}
 use Rattle.ws_words.proofs.Bools.{and_left as left_true, and_right as right_true}
@@ -12,16 +12,18 @@ use Rattle.cfg_core.proofs.Outcomes.{then_cong}
 -- a bare term loads nothing
 pub loads_nothing : (t : Term) (vs : List ℕ) (cells : List (List ℕ)) → is_bare t ≡ true
     → loads_of t vs cells ≡ []
-loads_nothing (Number n) vs cells e = refl
-loads_nothing (Var x) vs cells e = refl
-loads_nothing (Cell a t) vs cells e = absurd (cc)
 loads_nothing (Flip t) vs cells e = loads_nothing t vs cells e
 loads_nothing (Not t) vs cells e = loads_nothing t vs cells e
 loads_nothing (Neg t) vs cells e = loads_nothing t vs cells e
 loads_nothing (Binary op a b) vs cells e =
-    ap (λ (l : List Act). l ++ loads_of b vs cells)
-    (loads_nothing a vs cells (left_true (is_bare a) (is_bare b) e))
-    ∙ loads_nothing b vs cells (right_true (is_bare a) (is_bare b) e)
+    grind (
+      arith,
+      left_true,
+      right_true,
+      loads_nothing a vs cells (left_true (is_bare a) (is_bare b) e),
+      loads_nothing b vs cells (right_true (is_bare a) (is_bare b) e),
+    )
+loads_nothing t vs cells e = grind arith
 
 nothing_more : (l : List Act) → l ++ [] ≡ l
 nothing_more [] = refl
@@ -55,18 +57,17 @@ after (_ ∷ ops) s = after ops s
 
 spend_more : (n m : ℕ) (s : ProcState) (k : ℕ) (go : ProcState → ℕ → OpsOutcome)
     → and_then (spend n s k) (λ r j. and_then (spend m r j) go) ≡ and_then (spend (n + m) s k) go
-spend_more zero m s k go = let z : m ≡ zero + m = omega arith in ap (λ i. and_then (spend i s k) go) z
+spend_more zero m s k go = grind arith
 spend_more (suc n) m s zero go = let z : suc (n + m) ≡ suc n + m = omega arith in
     ap (λ i. and_then (spend i s 0) go) z
 spend_more (suc n) m s (suc k) go = let z : suc (n + m) ≡ suc n + m = omega arith in
-    spend_more n m s k go ∙ ap (λ i. and_then (spend i s (suc k)) go) z
+    grind (arith, spend_more n m s k go)
 
 -- a change of variables may be made before turns are taken or after
 pub spend_moved : (n : ℕ) (s r : ProcState) (k : ℕ) (go to : ProcState → ℕ → OpsOutcome) → r.out ≡ s.out
     → ((j : ℕ) → go r j ≡ to s j) → and_then (spend n r k) go ≡ and_then (spend n s k) to
-spend_moved zero s r k go to e f = f k
-spend_moved (suc n) s r zero go to e f = ap Out e
 spend_moved (suc n) s r (suc k) go to e f = spend_moved n s r k go to e f
+spend_moved n s r k go to e f = grind arith
 
 -- light operations take their turns and then assign
 pub light_run : (ops : List Op) (s : ProcState) (k : ℕ) → all_light ops ≡ true

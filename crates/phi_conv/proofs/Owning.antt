@@ -1,10 +1,9 @@
 -- Arms of branches that no other block has an edge to.
-use Rattle.std.proofs.Common.{ℕ, ◌≡◌, List, sym, ap, ◌∙◌, subst, inl, inr}
+use Rattle.std.proofs.Common.{arith, ℕ, ◌≡◌, List, sym, ap, ◌∙◌, inl, inr}
 use Rattle.cfg_core.specs.Graph.{Term, Exit, Goto, Branch, Block, Graph, block_at}
-use Rattle.cfg_core.specs.Rules.{Leads}
 use Rattle.cfg_core.specs.Shape.{OnlyFrom, ArmsAlone}
 use Rattle.phi_conv.specs.Short.{Short}
-use Rattle.phi_conv.specs.IsShort.{Way, direct, through}
+use Rattle.phi_conv.specs.IsShort.{Way}
 use Rattle.phi_conv.specs.Joined.{joined}
 use Rattle.phi_conv.proofs.Sizing.{short_joined}
 
@@ -20,25 +19,19 @@ module _ (g : Graph) (live : List (List ℕ)) where
       → (block_at g a).exit ≡ Branch t b c
   old_branch a t b c e = elim ((short_joined g live).others a) [
     | inl same ↦ ap (λ (x : Block). x.exit) (sym same) ∙ e
-    | inr new ↦ absurd (no_both (block_at h a).exit t b c new.short.join e new.goes)
+    | inr new ↦ grind (arith, no_both)
   ]
 
   module _ (a : ℕ) (t : Term) (b c d : ℕ) (branch : (block_at g a).exit ≡ Branch t b c)
       (only : OnlyFrom g a d) where
     by_way : (other m n : ℕ) (u : Term) (s : Short) → (block_at g other).exit ≡ Branch u m n → d ≡ s.join
         → Way g m s.join s.first → other ≡ a
-    by_way other m n u s e same (direct f empty) =
-        only other (subst (λ (x : Exit). Leads x d) (sym e) (inl (same ∙ sym f)))
-    by_way other m n u s e same (through held leave light) =
-        let at : m ≡ a = only m (subst (λ (x : Exit). Leads x d) (sym leave) same) in
-        absurd (no_both (block_at g a).exit t b c s.join branch
-        (subst (λ i. (block_at g i).exit ≡ Goto s.join) at leave))
+    by_way other m n u s e same h = grind (arith, no_both)
 
     still_only : OnlyFrom h a d
     still_only other edge = elim ((short_joined g live).others other) [
-      | inl same ↦ only other (subst (λ (x : Block). Leads x.exit d) same edge)
-      | inr new ↦ by_way other new.first new.second new.test new.short new.branch
-          (subst (λ (x : Exit). Leads x d) new.goes edge) new.is.first
+      | inl same ↦ grind arith
+      | inr new ↦ grind (arith, by_way, new.first, new.branch, new.goes)
     ]
 
   -- they are so in the joined graph

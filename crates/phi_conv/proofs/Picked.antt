@@ -1,6 +1,6 @@
 -- Numbers of a list: those that were added, and those that pass a test.
-use Rattle.std.proofs.Common.{ℕ, ◌≡◌, ◌<◌, ◌==◌, ◌||◌, Bool, true, false, if◌then◌else◌, List, [], ◌∷◌, ◌++◌}
-use Rattle.std.proofs.Common.{length, refl, sym, ap, ◌∙◌, inl, inr, arith}
+use Rattle.std.proofs.Common.{ℕ, ◌≡◌, ◌<◌, ◌==◌, Bool, true, false, if◌then◌else◌, List, [], ◌∷◌, ◌++◌}
+use Rattle.std.proofs.Common.{length, refl, inl, inr, arith}
 use Rattle.std.specs.List.{AllByRecursion}
 use Rattle.std.proofs.lemmas.Bool.{cases_eq}
 use Rattle.std.proofs.lemmas.Bool.Decides.{nat_tests}
@@ -28,7 +28,7 @@ among_in (y ∷ xs) x e = elim (either (x == y) (is_among xs x) e) [
 -- one that is there is found
 pub in_among : (xs : List ℕ) (x : ℕ) → In x xs → is_among xs x ≡ true
 in_among [] x i = absurd i
-in_among (y ∷ xs) x (inl e) = ap (λ b. b || is_among xs x) (ap (λ n. x == n) (sym e) ∙ is_self x)
+in_among (y ∷ xs) x (inl e) = grind (arith, is_self)
 in_among (y ∷ xs) x (inr i) = or_true (x == y) (is_among xs x) (in_among xs x i)
 
 -- a number that was added is there
@@ -59,10 +59,7 @@ added_other done x y ne = by_test (is_among done x)
 
 -- what is there stays there
 added_stays : (done : List ℕ) (x y : ℕ) → is_among done y ≡ true → is_among (added done x) y ≡ true
-added_stays done x y e = elim (cases_eq y x) [
-  | inl same ↦ ap (is_among (added done x)) same ∙ added_here done x
-  | inr ne ↦ added_other done x y ne ∙ e
-]
+added_stays done x y e = grind (arith, cases_eq, added_here, added_other)
 
 -- what was written stays written
 pub written_stays : (done : List ℕ) (ops : List Op) (y : ℕ) → is_among done y ≡ true
@@ -80,18 +77,18 @@ written_stays done (TickBy t n m ∷ ops) y e = written_stays done ops y e
 
 added_more : (done more : List ℕ) (x y : ℕ) → (is_among done y ≡ true → is_among more y ≡ true)
     → is_among (added done x) y ≡ true → is_among (added more x) y ≡ true
-added_more done more x y f e = elim (cases_eq y x) [
-  | inl same ↦ ap (is_among (added more x)) same ∙ added_here more x
-  | inr ne ↦ added_other more x y ne ∙ f (sym (added_other done x y ne) ∙ e)
-]
+added_more done more x y f e = grind (arith, cases_eq, added_here, added_other)
 
 -- what an arm writes is among what was written before and by the arm
 pub written_more : (done more : List ℕ) (ops : List Op) (y : ℕ)
     → (is_among done y ≡ true → is_among more y ≡ true) → is_among (written done ops) y ≡ true
     → is_among (written more ops) y ≡ true
 written_more done more [] y f e = f e
-written_more done more (Assign x t ∷ ops) y f e = written_more (added done x) (added more x) ops y
-    (added_more done more x y f) e
+written_more done more (Assign x t ∷ ops) y f e = grind (
+  arith,
+  added_more,
+  written_more (added done x) (added more x) ops y (added_more done more x y f) e,
+)
 written_more done more (Store a t u ∷ ops) y f e = written_more done more ops y f e
 written_more done more (Print t ∷ ops) y f e = written_more done more ops y f e
 written_more done more (Read x ∷ ops) y f e = written_more done more ops y f e
@@ -117,8 +114,11 @@ module _ (g : Graph) (v : ℕ) where
   pub written_low : (done : List ℕ) (ops : List Op) → AllByRecursion (OpIn (length g.arrays) v) ops
       → ((y : ℕ) → In y done → y < v) → (y : ℕ) → In y (written done ops) → y < v
   written_low done [] h f y i = f y i
-  written_low done (Assign x t ∷ ops) h f y i = written_low (added done x) ops h.1 (added_low done x h.0.0 f)
-      y i
+  written_low done (Assign x t ∷ ops) h f y i = grind (
+    arith,
+    added_low,
+    written_low (added done x) ops h.1 (added_low done x h.0.0 f) y i,
+  )
   written_low done (Store a t u ∷ ops) h f y i = written_low done ops h.1 f y i
   written_low done (Print t ∷ ops) h f y i = written_low done ops h.1 f y i
   written_low done (Read x ∷ ops) h f y i = written_low done ops h.1 f y i

@@ -1,9 +1,9 @@
 -- Where blocks and procedures stand in the joined graph: where they stood.
-use Rattle.std.proofs.Common.{ℕ, zero, suc, ◌+◌, ◌≡◌, ◌<◌, List, [], ◌∷◌, ◌++◌, length, map, Option, Some}
-use Rattle.std.proofs.Common.{None, refl, sym, ap, ◌∙◌, subst, inl, inr, arith}
+use Rattle.std.proofs.Common.{ℕ, suc, ◌+◌, ◌≡◌, ◌<◌, List, [], ◌∷◌, ◌++◌, length, map, Option}
+use Rattle.std.proofs.Common.{refl, sym, ap, ◌∙◌, arith}
 use Rattle.cfg_core.specs.Graph.{Block, GraphProc, Graph, Spot, spots_in, spots_from, spots, no_spot, no_proc}
 use Rattle.cfg_core.specs.Graph.{spot_at, block_at, proc_at, entry_from, entry_of}
-use Rattle.phi_conv.specs.Short.{Short, short}
+use Rattle.phi_conv.specs.Short.{Short}
 use Rattle.phi_conv.specs.Joined.{more_vars, joined_if, joined_block, joined_proc, joined}
 use Rattle.phi_conv.specs.Keeps.{SameOrGoto, ExitsKept}
 use Rattle.ws_words.proofs.Lists.{map_append as map_both, length_map as map_count}
@@ -46,15 +46,13 @@ module _ (g : Graph) (live : List (List ℕ)) where
   block_in : (xs : List Spot) (k : ℕ) → (or_else (nth (map joined_spot xs) k) no_spot).block ≡ joined_block g
       live (or_else (nth xs k) no_spot).vars (or_else (nth xs k) no_spot).block
   unfolding no_spot
-  block_in [] k = refl
-  block_in (x ∷ xs) zero = refl
   block_in (x ∷ xs) (suc k) = block_in xs k
+  block_in xs k = grind arith
 
   spot_in : (xs : List Spot) (k : ℕ) → k < length xs → or_else (nth (map joined_spot xs) k) no_spot
       ≡ joined_spot (or_else (nth xs k) no_spot)
-  spot_in [] k lt = absurd (omega arith)
-  spot_in (x ∷ xs) zero lt = refl
   spot_in (x ∷ xs) (suc k) lt = spot_in xs k (omega arith)
+  spot_in xs k lt = grind arith
 
   -- a block stands where it stood
   pub block_is : (b : ℕ) → block_at (joined g live) b ≡ joined_block g live (spot_at g b).vars (block_at g b)
@@ -68,10 +66,8 @@ module _ (g : Graph) (live : List (List ℕ)) where
 
   entry_in : (first : ℕ) (ps : List GraphProc) (f : ℕ) → entry_from first (map (joined_proc g live) ps) f
       ≡ entry_from first ps f
-  entry_in first [] f = refl
-  entry_in first (p ∷ ps) zero = refl
-  entry_in first (p ∷ ps) (suc f) = ap (λ n. entry_from (first + n) (map (joined_proc g live) ps) f)
-      (map_count (joined_block g live p.vars) p.blocks) ∙ entry_in (first + length p.blocks) ps f
+  entry_in first (p ∷ ps) (suc f) = grind (arith, map_count, entry_in (first + length p.blocks) ps f)
+  entry_in first ps f = grind arith
 
   -- a procedure begins where it began
   pub entry_is : (f : ℕ) → entry_of (joined g live) f ≡ entry_of g f
@@ -80,9 +76,8 @@ module _ (g : Graph) (live : List (List ℕ)) where
 
   proc_in : (ps : List GraphProc) (k : ℕ) → k < length ps → or_else (nth (map (joined_proc g live) ps) k)
       no_proc ≡ joined_proc g live (or_else (nth ps k) no_proc)
-  proc_in [] k lt = absurd (omega arith)
-  proc_in (x ∷ xs) zero lt = refl
   proc_in (x ∷ xs) (suc k) lt = proc_in xs k (omega arith)
+  proc_in ps k lt = grind arith
 
   -- a procedure stands where it stood
   pub proc_is : (f : ℕ) → f < length g.procs → proc_at (joined g live) f ≡ joined_proc g live (proc_at g f)
@@ -90,12 +85,8 @@ module _ (g : Graph) (live : List (List ℕ)) where
   proc_is f lt = proc_in g.procs f lt
 
   kept_if : (v : ℕ) (b : Block) (s : Option Short) → SameOrGoto b.exit (joined_if live v b s).exit
-  kept_if v b None = inl refl
-  kept_if v b (Some s) = inr (s.join, refl)
+  kept_if v b s = grind arith
 
   -- each exit is the old one or a Goto
   pub exits_kept : ExitsKept g (joined g live)
-  exits_kept = record {
-    exits = λ b. subst (λ (x : Block). SameOrGoto (block_at g b).exit x.exit)
-        (sym (block_is b)) (kept_if (spot_at g b).vars (block_at g b) (short g (block_at g b).exit));
-  }
+  exits_kept = grind (arith, block_is, kept_if)

@@ -1,10 +1,10 @@
 -- The joined graph keeps the six rules of graphs.
-use Rattle.std.proofs.Common.{ℕ, suc, ◌≡◌, ◌<◌, Bool, true, false, List, [], ◌∷◌, ◌++◌, length, Option, Some}
+use Rattle.std.proofs.Common.{ℕ, suc, ◌≡◌, ◌<◌, Bool, true, List, [], ◌∷◌, ◌++◌, length, Option, Some}
 use Rattle.std.proofs.Common.{None, refl, sym, ap, ◌∙◌, subst, arith}
 use Rattle.std.specs.List.{AllByRecursion, filter}
-use Rattle.cfg_core.specs.Graph.{Term, Number, Var, Cell, Flip, Not, Neg, Binary, Op, Assign, Store, Print}
+use Rattle.cfg_core.specs.Graph.{Term, Op, Assign, Store, Print}
 use Rattle.cfg_core.specs.Graph.{Read, Give, Take, Choose, Tick, TickBy, Exit, Goto, Branch, Call, Return}
-use Rattle.cfg_core.specs.Graph.{Send, Stop, Block, GraphProc, Graph, Spot, spots, no_spot, spot_at, block_at}
+use Rattle.cfg_core.specs.Graph.{Send, Stop, GraphProc, Graph, Spot, spots, no_spot, spot_at, block_at}
 use Rattle.cfg_core.specs.Rules.{OpIn, BlockNumbers, ProcNumbers, Lands, CallsEarlier, calls, has_tick}
 use Rattle.cfg_core.specs.Rules.{NoCell, ChoosesBare, IsGraph}
 use Rattle.live_vars.specs.Marks.{has}
@@ -29,18 +29,10 @@ all_at P [] none h = tt
 all_at P (x ∷ xs) none h = (h 0 (omega arith), all_at P xs none (λ k lt. h (suc k) (omega arith)))
 
 held_bare : (c : Bool) (v : ℕ) (s : Short) (t : Term) → is_still (written_by s) t ≡ c → NoCell (test_if c v t)
-held_bare true v s (Number n) e = tt
-held_bare true v s (Var x) e = tt
-held_bare true v s (Cell a t) e = absurd (cc)
-held_bare true v s (Flip t) e = absurd (cc)
-held_bare true v s (Not t) e = absurd (cc)
-held_bare true v s (Neg t) e = absurd (cc)
-held_bare true v s (Binary op a b) e = absurd (cc)
-held_bare false v s t e = tt
+held_bare c v s t e = grind arith
 
 keep_bare : (c : Bool) (v : ℕ) (t : Term) → AllByRecursion ChoosesBare (keep_test c v t)
-keep_bare true v t = tt
-keep_bare false v t = (tt, tt)
+keep_bare c v t = grind arith
 
 arm_bare : (base : ℕ) (done : List ℕ) (ops : List Op) → AllByRecursion ChoosesBare (arm base done ops)
 arm_bare base done [] = tt
@@ -128,19 +120,10 @@ module _ (g : Graph) (live : List (List ℕ)) (rules : IsGraph g) where
       by_short Stop (Some s) e n = absurd (cc)
 
   proc_numbers : (p : GraphProc) → ProcNumbers p → ProcNumbers (joined_proc g live p)
-  proc_numbers p n = record {
-    some_block = let count = map_count (Rattle.phi_conv.specs.Joined.joined_block g live p.vars) p.blocks in
-        let some = n.some_block in omega (arith, count, some);
-    params = let le = n.params in omega (arith, le);
-  }
+  proc_numbers p n = grind (arith, map_count)
 
   named_is : (b : ℕ) → (block_at h b).named ≡ (block_at g b).named
-  named_is b = ap (λ (x : Block). x.named) (block_is g live b) ∙ by_short (short g (block_at g b).exit)
-    where
-      by_short : (s : Option Short) → (joined_if live (spot_at g b).vars (block_at g b) s).named
-          ≡ (block_at g b).named
-      by_short None = refl
-      by_short (Some s) = refl
+  named_is b = grind (arith, block_is)
 
   lands_too : (x : Exit) → Lands g x → Lands h x
   lands_too (Send t ts ls) l = (
@@ -205,9 +188,7 @@ module _ (g : Graph) (live : List (List ℕ)) (rules : IsGraph g) where
     numbers = record {
       some_proc = let some = rules.numbers.some_proc in let count = map_count (joined_proc g live) g.procs in
           omega (arith, some, count);
-      procs = all_mapped ProcNumbers (joined_proc g live) g.procs
-          (all_so ProcNumbers (λ p. ProcNumbers (joined_proc g live p)) proc_numbers g.procs
-          rules.numbers.procs);
+      procs = grind (arith, all_mapped, g.procs, all_so, proc_numbers);
       blocks = over_spots (BlockNumbers h) numbers_of;
     };
     landings = over_spots (λ s. Lands h s.block.exit) (λ b lt. by_exit (λ s. Lands h s.block.exit) b

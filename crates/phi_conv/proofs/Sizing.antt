@@ -1,16 +1,15 @@
 -- How large what stands for a short branch is.
-use Rattle.std.proofs.Common.{ℕ, suc, ◌+◌, ◌*◌, ◌≡◌, ◌≤◌, ◌⊎◌, Bool, true, false, if◌then◌else◌, List, []}
-use Rattle.std.proofs.Common.{◌∷◌, ◌++◌, length, map, Option, Some, None, refl, sym, ap, ◌∙◌, subst, inl, inr}
-use Rattle.std.proofs.Common.{arith, length-append}
+use Rattle.std.proofs.Common.{ℕ, suc, ◌+◌, ◌*◌, ◌≡◌, ◌≤◌, ◌⊎◌, Bool, List, [], ◌∷◌, ◌++◌, length, map, Option}
+use Rattle.std.proofs.Common.{Some, None, refl, ap, ◌∙◌, inl, inr, arith, length-append}
 use Rattle.std.specs.List.{filter, sum_by}
 use Rattle.std.proofs.lemmas.List.Sums.{sum_by-cons, sum_by-append}
-use Rattle.cfg_core.specs.Graph.{Term, Number, Var, Cell, Flip, Not, Neg, Binary, Op, Assign, Store, Print}
+use Rattle.cfg_core.specs.Graph.{Term, Cell, Flip, Not, Neg, Binary, Op, Assign, Store, Print}
 use Rattle.cfg_core.specs.Graph.{Read, Give, Take, Choose, Tick, TickBy, Exit, Goto, Branch, Call, Return}
-use Rattle.cfg_core.specs.Graph.{Send, Stop, Block, Graph, spot_at, block_at}
+use Rattle.cfg_core.specs.Graph.{Send, Stop, Graph, spot_at, block_at}
 use Rattle.cfg_core.specs.Weights.{term_nodes, op_nodes, exit_nodes, block_nodes}
 use Rattle.live_vars.specs.Marks.{has}
 use Rattle.phi_conv.specs.Short.{Short, all_nodes, most_nodes, short}
-use Rattle.phi_conv.specs.Joined.{first_base, second_base, turns_of, is_among, added, renamed, arm, written}
+use Rattle.phi_conv.specs.Joined.{first_base, second_base, turns_of, added, renamed, arm, written}
 use Rattle.phi_conv.specs.Joined.{written_by, is_still, keep_test, test_if, test_of, choice, choices, joining}
 use Rattle.phi_conv.specs.Joined.{joined_if, joined}
 use Rattle.phi_conv.specs.Keeps.{most_more_ops, most_more_nodes, JoinedAt, ShortJoined, SizesKept}
@@ -22,14 +21,12 @@ use Rattle.ws_words.proofs.Lists.{filter_few as filter_count, length_map as map_
 -- an arm
 
 renamed_nodes : (base : ℕ) (done : List ℕ) (t : Term) → term_nodes (renamed base done t) ≡ term_nodes t
-renamed_nodes base done (Number n) = refl
-renamed_nodes base done (Var x) = refl
 renamed_nodes base done (Cell a t) = ap suc (renamed_nodes base done t)
 renamed_nodes base done (Flip t) = ap suc (renamed_nodes base done t)
 renamed_nodes base done (Not t) = ap suc (renamed_nodes base done t)
 renamed_nodes base done (Neg t) = ap suc (renamed_nodes base done t)
-renamed_nodes base done (Binary op a b) = let x = renamed_nodes base done a in
-    let y = renamed_nodes base done b in omega (arith, x, y)
+renamed_nodes base done (Binary op a b) = grind (arith, renamed_nodes base done a, renamed_nodes base done b)
+renamed_nodes base done t = grind arith
 
 arm_size : (base : ℕ) (done : List ℕ) (ops : List Op) → sum_by op_nodes (arm base done ops) ≡ all_nodes ops
 arm_size base done [] = refl
@@ -47,8 +44,7 @@ arm_size base done (TickBy t n m ∷ ops) = let b = arm_size base done ops in om
 
 arm_count : (base : ℕ) (done : List ℕ) (ops : List Op) → length (arm base done ops) ≤ all_nodes ops
 arm_count base done [] = omega arith
-arm_count base done (Assign x t ∷ ops) = let a = some_nodes t in let b = arm_count base (added done x) ops in
-    omega (arith, a, b)
+arm_count base done (Assign x t ∷ ops) = grind (arith, some_nodes, arm_count base (added done x) ops)
 arm_count base done (Store a t u ∷ ops) = let b = arm_count base done ops in omega (arith, b)
 arm_count base done (Print t ∷ ops) = let b = arm_count base done ops in omega (arith, b)
 arm_count base done (Read x ∷ ops) = let b = arm_count base done ops in omega (arith, b)
@@ -61,16 +57,16 @@ arm_count base done (TickBy t n m ∷ ops) = let b = arm_count base done ops in 
 -- the variables that it writes
 
 pub added_count : (done : List ℕ) (x : ℕ) → length (added done x) ≤ suc (length done)
-added_count done x = by_test (is_among done x)
-  where
-    by_test : (b : Bool) → length (if b then done else done ++ x ∷ []) ≤ suc (length done)
-    by_test true = omega arith
-    by_test false = omega (arith, length-append done (x ∷ []))
+added_count done x = grind (arith, length-append)
 
 pub written_count : (done : List ℕ) (ops : List Op) → length (written done ops) ≤ length done + all_nodes ops
 written_count done [] = omega arith
-written_count done (Assign x t ∷ ops) = let a = some_nodes t in let c = added_count done x in
-    let b = written_count (added done x) ops in omega (arith, a, b, c)
+written_count done (Assign x t ∷ ops) = grind (
+  arith,
+  some_nodes,
+  added_count,
+  written_count (added done x) ops,
+)
 written_count done (Store a t u ∷ ops) = let b = written_count done ops in omega (arith, b)
 written_count done (Print t ∷ ops) = let b = written_count done ops in omega (arith, b)
 written_count done (Read x ∷ ops) = let b = written_count done ops in omega (arith, b)
@@ -86,22 +82,13 @@ sum_both f xs ys = sum_by-append f xs ys
 
 held_nodes : (c : Bool) (v : ℕ) (either : List ℕ) (t : Term) → is_still either t ≡ c
     → term_nodes (test_if c v t) ≡ 1
-held_nodes true v either (Number n) e = refl
-held_nodes true v either (Var x) e = refl
-held_nodes true v either (Cell a t) e = absurd (cc)
-held_nodes true v either (Flip t) e = absurd (cc)
-held_nodes true v either (Not t) e = absurd (cc)
-held_nodes true v either (Neg t) e = absurd (cc)
-held_nodes true v either (Binary op a b) e = absurd (cc)
-held_nodes false v either t e = refl
+held_nodes c v either t e = grind arith
 
 keep_count : (c : Bool) (v : ℕ) (t : Term) → length (keep_test c v t) ≤ 1
-keep_count true v t = omega arith
-keep_count false v t = omega arith
+keep_count c v t = grind arith
 
 keep_size : (c : Bool) (v : ℕ) (t : Term) → sum_by op_nodes (keep_test c v t) ≤ term_nodes t
-keep_size true v t = omega arith
-keep_size false v t = omega arith
+keep_size c v t = grind arith
 
 -- what stands for a short branch: the variables that are chosen, the operations behind its test, and its
 -- turns
@@ -126,26 +113,11 @@ module _ (live : List (List ℕ)) (v : ℕ) (s : Short) (few : all_nodes s.first
       let c = sum_by-cons op_nodes (choice v s x) (map (choice v s) xs) in omega (arith, a, r, c)
 
   pub chosen_count : length (chosen live v s) ≤ most_nodes
-  chosen_count =
-      let a = filter_count (has live s.join) (written_by s) in
-      let b = written_count (written [] s.first) s.second in
-      let c = written_count [] s.first in
-      omega (arith, a, b, c, few)
+  chosen_count = grind (arith, filter_count, written_count)
 
   -- how many operations stand for a short branch
   pub joining_count : length (joining live v s) ≤ most_more_ops
-  joining_count =
-      let a = arm_count (first_base v) [] s.first in
-      let b = arm_count (second_base v) [] s.second in
-      let c = chosen_count in
-      let d = map_count (choice v s) (chosen live v s) in
-      let e = keep_count (is_still (written_by s) s.test) v s.test in
-      let f = length-append (keep_test (is_still (written_by s) s.test) v s.test)
-      (turns live v s ∷ arms live v s) in
-      let i = length-append (arm (first_base v) [] s.first) (arm (second_base v) [] s.second ++ choices live v
-      s) in
-      let j = length-append (arm (second_base v) [] s.second) (choices live v s) in
-      omega (arith, a, b, c, d, e, f, i, j, few)
+  joining_count = grind (arith, arm_count, chosen_count, map_count, keep_count, length-append)
 
   -- how many nodes they have
   pub joining_size : sum_by op_nodes (joining live v s) ≤ term_nodes s.test + most_more_nodes
@@ -177,14 +149,10 @@ module _ (g : Graph) (live : List (List ℕ)) where
     short = s;
     branch = e;
     is = ways g t c d s f;
-    goes = ap (λ (x : Block). x.exit) (block_is g live b)
-        ∙ ap (λ (r : Option Short). (joined_if live (spot_at g b).vars (block_at g b) r).exit)
-        (ap (short g) e ∙ f);
+    goes = grind (arith, block_is);
     sets = live;
     vars = (spot_at g b).vars;
-    ops = ap (λ (x : Block). x.ops) (block_is g live b)
-        ∙ ap (λ (r : Option Short). (joined_if live (spot_at g b).vars (block_at g b) r).ops)
-        (ap (short g) e ∙ f);
+    ops = grind (arith, block_is);
   }
   is_joined b (Goto c) s e f = absurd (cc)
   is_joined b (Call r c ts back) s e f = absurd (cc)
@@ -206,12 +174,7 @@ module _ (g : Graph) (live : List (List ℕ)) where
 
   exit_has : (x : Exit) (s : Short) → short g x ≡ Some s → (exit_nodes x ≡ term_nodes s.test)
       × (all_nodes s.first + all_nodes s.second ≤ most_nodes)
-  exit_has (Branch t c d) s e = let w = ways g t c d s e in (ap term_nodes (sym w.test), w.few)
-  exit_has (Goto c) s e = absurd (cc)
-  exit_has (Call r c ts back) s e = absurd (cc)
-  exit_has (Return t) s e = absurd (cc)
-  exit_has (Send t ts ls) s e = absurd (cc)
-  exit_has Stop s e = absurd (cc)
+  exit_has x s e = grind (arith, ways)
 
   -- how many operations stand for a short branch
   pub joining_few : (b v : ℕ) (s : Short) → short g (block_at g b).exit ≡ Some s
@@ -227,19 +190,8 @@ module _ (g : Graph) (live : List (List ℕ)) where
   -- how many nodes a block has more
   pub nodes_kept : (b : ℕ) (v : ℕ) (r : Option Short) → short g (block_at g b).exit ≡ r
       → block_nodes (joined_if live v (block_at g b) r) ≤ block_nodes (block_at g b) + most_more_nodes
-  nodes_kept b v None e = omega arith
-  nodes_kept b v (Some s) e =
-      let x = exit_has (block_at g b).exit s e in
-      let a = joining_size live v s x.1 in
-      let y = x.0 in
-      omega (arith, a, y, sum_both op_nodes (block_at g b).ops (joining live v s))
+  nodes_kept b v r e = grind (arith, exit_has, joining_size, sum_both)
 
   -- as many blocks, not much larger ones
   pub sizes_kept : SizesKept g h
-  sizes_kept = record {
-    count = spots_count g live;
-    ops = λ b. subst (λ (x : Block). length x.ops ≤ length (block_at g b).ops + most_more_ops)
-        (sym (block_is g live b)) (ops_kept b (spot_at g b).vars (short g (block_at g b).exit) refl);
-    nodes = λ b. subst (λ (x : Block). block_nodes x ≤ block_nodes (block_at g b) + most_more_nodes)
-        (sym (block_is g live b)) (nodes_kept b (spot_at g b).vars (short g (block_at g b).exit) refl);
-  }
+  sizes_kept = grind (arith, spots_count, block_is, ops_kept, nodes_kept)

@@ -1,8 +1,7 @@
 -- Two walks beside one another: at the same block, with states that agree on what is live, and frames that do
 -- so where they go on.
-use Rattle.std.proofs.Common.{ℕ, zero, suc, ◌+◌, ◌-◌, ◌≡◌, ◌<◌, Bool, true, false, if◌then◌else◌, List, []}
-use Rattle.std.proofs.Common.{◌∷◌, length, get_or, set, Option, Some, None, refl, sym, ap, ◌∙◌, subst, inl}
-use Rattle.std.proofs.Common.{inr, arith}
+use Rattle.std.proofs.Common.{ℕ, suc, ◌+◌, ◌-◌, ◌≡◌, ◌<◌, Bool, if◌then◌else◌, List, [], ◌∷◌, length, Option}
+use Rattle.std.proofs.Common.{Some, None, refl, sym, ◌∙◌, subst, inl, inr, arith}
 use Rattle.std.proofs.lemmas.Bool.{cases_eq, cases_lt}
 use Rattle.std.proofs.lemmas.List.{get_or-set_same, get_or-set_other, length-set}
 use Rattle.ws_words.specs.Outside.{Outside, ProcState}
@@ -26,17 +25,13 @@ record HomeIs (f : ℕ) (ps : List GraphProc) (s : Spot) : Type 0 where
 
 in_blocks : (home vars : ℕ) (xs : List Block) (i : ℕ) (s : Spot) → nth (spots_in home vars xs) i ≡ Some s
     → (s.home ≡ home) × (s.vars ≡ vars)
-in_blocks home vars [] i s e = absurd (cc)
-in_blocks home vars (x ∷ xs) zero s e = (cc, cc)
 in_blocks home vars (x ∷ xs) (suc i) s e = in_blocks home vars xs i s e
+in_blocks home vars xs i s e = grind arith
 
 home_is : (f : ℕ) (ps : List GraphProc) (i : ℕ) (s : Spot) → nth (spots_from f ps) i ≡ Some s → HomeIs f ps s
 home_is f [] i s e = absurd (cc)
 home_is f (p ∷ ps) i s e = elim (cases_lt i (length (spots_in f p.vars p.blocks))) [
-  | inl lt ↦
-      let r = in_blocks f p.vars p.blocks i s
-      (sym (nth_append_left (spots_in f p.vars p.blocks) (spots_from (suc f) ps) i lt) ∙ e) in
-      record { place = 0; home = omega (arith, r.0); there = omega arith; vars = r.1 }
+  | inl lt ↦ grind (arith, in_blocks, p.vars, p.blocks, nth_append_left)
   | inr ge ↦
       let n = length (spots_in f p.vars p.blocks) in
       let k = i - n in
@@ -67,9 +62,7 @@ module _ (g : Graph) (rules : IsGraph g) where
   unfolding spot_at
   same_vars b c lb lc e =
       let hb = home_is 0 g.procs b (spot_at g b) (nth_or (spots g) b no_spot lb) in
-      let hc = home_is 0 g.procs c (spot_at g c) (nth_or (spots g) c no_spot lc) in
-      let same : hc.place ≡ hb.place = omega (arith, e, hb.home, hc.home) in
-      hc.vars ∙ ap (λ n. (or_else (nth g.procs n) no_proc).vars) same ∙ sym hb.vars
+      let hc = home_is 0 g.procs c (spot_at g c) (nth_or (spots g) c no_spot lc) in grind (arith, g.procs)
 
   -- a call that waits in both walks
   pub record Waits (f e : Frame) : Type 0 where
@@ -99,44 +92,25 @@ module _ (g : Graph) (rules : IsGraph g) where
   pub goes_to : (b c : ℕ) → b < length (spots g) → StaysIn g (spot_at g b).home c
       → (s r : ProcState) (fs es : List Frame) (k : ℕ) → States (vars_at b) (Live g c) s r → Stack fs es
       → Along (At c s fs k) (At c r es k)
-  goes_to b c lb stays s r fs es k st stack = (
-    refl,
-    refl,
-    stays.0,
-    subst (λ n. States n (Live g c) s r) (sym (same_vars b c lb stays.0 stays.1)) st,
-    stack,
-  )
+  goes_to b c lb stays s r fs es k st stack = grind (arith, same_vars)
 
   -- the same test leads to configurations that go along
   pub if_along : (x y : Bool) (c c' d d' : Config) → x ≡ y → Along c c' → Along d d'
       → Along (if x then c else d) (if y then c' else d')
-  if_along true true c c' d d' e h i = h
-  if_along false false c c' d d' e h i = i
-  if_along true false c c' d d' e h i = absurd (cc)
-  if_along false true c c' d d' e h i = absurd (cc)
+  if_along x y c c' d d' e h i = grind arith
 
   -- the variable that takes the result has it, and the others what they had
   result_states : (v : ℕ) (P : ℕ → Type 0) (x : Option ℕ) (w u : ℕ) (vs ws : List ℕ) (o p : Outside) → w ≡ u
       → TargetIn v x → Agree v (λ y. (ResultIs x y → ⊥) × P y) vs ws → length vs ≡ v → length ws ≡ more_vars v
       → o ≡ p → States v P (record { vars = with_result x w vs; out = o })
       (record { vars = with_result x u ws; out = p })
-  result_states v P None w u vs ws o p e i h lv lw eo = record {
-    vars = λ y lt q. h y lt ((λ z. z), q);
-    long = lv;
-    longer = lw;
-    out = eo;
-  }
-  result_states v P (Some x) w u vs ws o p e i h lv lw eo = record {
-    vars = λ y lt q. elim (cases_eq y x) [
-      | inl same ↦ subst (λ n. get_or (set vs x w) n 0 ≡ get_or (set ws x u) n 0) (sym same)
-          (get_or-set_same vs x w 0 (omega (arith, i, lv)) ∙ e
-          ∙ sym (get_or-set_same ws x u 0 (omega (arith, i, lw))))
-      | inr ne ↦ get_or-set_other vs x y w 0 ne ∙ h y lt (ne, q) ∙ sym (get_or-set_other ws x y u 0 ne)
-    ];
-    long = length-set vs x w ∙ lv;
-    longer = length-set ws x u ∙ lw;
-    out = eo;
-  }
+  result_states v P x w u vs ws o p e i h lv lw eo = grind (
+    arith,
+    cases_eq,
+    get_or-set_same,
+    get_or-set_other,
+    length-set,
+  )
 
   -- a return into the frames leads to configurations that go along
   pub returns : (w u : ℕ) (o p : Outside) (fs es : List Frame) (k : ℕ) → w ≡ u → o ≡ p → Stack fs es

@@ -2,7 +2,7 @@
 use Rattle.std.proofs.Common.{ℕ, suc, ◌≡◌, ◌+◌, ◌<◌, ◌≤◌, ◌∙◌, ◌==◌, ◌&&◌, Bool, true, false, if◌then◌else◌}
 use Rattle.std.proofs.Common.{List, [], Option, Some, None, refl, sym, ap, subst, arith}
 use Rattle.std.proofs.lemmas.Bool.Decides.{nat_tests}
-use Rattle.cfg_core.specs.Graph.{Term, Op, Exit, Goto, Branch, Call, Return, Send, Stop, Graph, block_at}
+use Rattle.cfg_core.specs.Graph.{Term, Op, Exit, Goto, Graph, block_at}
 use Rattle.phi_conv.specs.Short.{Short, all_light, all_nodes, most_nodes, goes_to, is_arm, goal, are_few}
 use Rattle.phi_conv.specs.Short.{is_lone_arm, are_two_arms, two_arms, short_to}
 use Rattle.phi_conv.specs.IsShort.{Way, direct, through, IsShort}
@@ -10,64 +10,35 @@ use Rattle.ws_words.proofs.Bools.{and_left as left_true, and_right as right_true
 use Rattle.ws_words.proofs.Numbers.{is_self}
 
 goes : (x : Exit) (d : ℕ) → goes_to x d ≡ true → x ≡ Goto d
-goes (Goto c) d e = let same : c ≡ d = grind (arith, nat_tests) in ap Goto same
-goes (Branch t a b) d e = absurd (cc)
-goes (Call r f ts back) d e = absurd (cc)
-goes (Return t) d e = absurd (cc)
-goes (Send t ts ls) d e = absurd (cc)
-goes Stop d e = absurd (cc)
+goes x d e = grind (arith, nat_tests)
 
 by_arm : (g : Graph) (b j : ℕ) → is_arm (block_at g b) j ≡ true → Way g b j (block_at g b).ops
-by_arm g b j e =
-    through refl
-    (goes (block_at g b).exit j (left_true (goes_to (block_at g b).exit j) (all_light (block_at g b).ops) e))
-    (right_true (goes_to (block_at g b).exit j) (all_light (block_at g b).ops) e)
+by_arm g b j e = grind (arith, goes, left_true, right_true)
 
 few_are : (n : ℕ) → are_few n ≡ true → n ≤ most_nodes
 few_are n e = let lt : n < suc most_nodes = grind (arith, nat_tests) in omega (arith, lt)
 
 are_few_too : (n : ℕ) → n ≤ most_nodes → are_few n ≡ true
-are_few_too n le = by_test (are_few n) refl
-  where
-    by_test : (b : Bool) → are_few n ≡ b → are_few n ≡ true
-    by_test true e = e
-    by_test false e = absurd (let ge : suc most_nodes ≤ n = grind (arith, nat_tests) in omega (arith, ge, le))
+are_few_too n le = grind (arith, nat_tests)
 
 -- each arm that goes on to j passes the test
 arm_is : (g : Graph) (b j : ℕ) → (block_at g b).exit ≡ Goto j → all_light (block_at g b).ops ≡ true
     → is_arm (block_at g b) j ≡ true
-arm_is g b j e light = ap (λ (x : Exit). goes_to x j && all_light (block_at g b).ops) e
-    ∙ ap (λ t. t && all_light (block_at g b).ops) (is_self j) ∙ light
+arm_is g b j e light = grind (arith, is_self)
 
 some_same : (a b : Short) → Some a ≡ Some b → a ≡ b
 some_same a b e = cc
 
 module _ (g : Graph) (t : Term) (c d : ℕ) (s : Short) where
   at_second : (j : ℕ) → are_two_arms (block_at g c) (block_at g d) j ≡ true → is_arm (block_at g d) j ≡ true
-  at_second j h = left_true (is_arm (block_at g d) j)
-      (are_few (all_nodes (block_at g c).ops + all_nodes (block_at g d).ops))
-      (right_true (is_arm (block_at g c) j) _ h)
+  at_second j h = grind (arith, left_true, right_true)
 
   at_few : (j : ℕ) → are_two_arms (block_at g c) (block_at g d) j ≡ true
       → all_nodes (block_at g c).ops + all_nodes (block_at g d).ops ≤ most_nodes
-  at_few j h = few_are _ (right_true (is_arm (block_at g d) j) _ (right_true (is_arm (block_at g c) j) _ h))
+  at_few j h = few_are _ (grind (arith, right_true))
 
   two : (x : Option ℕ) → two_arms g t c d x ≡ Some s → IsShort g t c d s
-  two None e = absurd (cc)
-  two (Some j) e = by_test (are_two_arms (block_at g c) (block_at g d) j) refl e
-    where
-      both : Short
-      both = record { test = t; first = (block_at g c).ops; second = (block_at g d).ops; join = j }
-
-      by_test : (b : Bool) → are_two_arms (block_at g c) (block_at g d) j ≡ b
-          → (if b then Some both else None) ≡ Some s → IsShort g t c d s
-      by_test true h e = subst (IsShort g t c d) (some_same both s e) (record {
-        test = refl;
-        first = by_arm g c j (left_true (is_arm (block_at g c) j) _ h);
-        second = by_arm g d j (at_second j h);
-        few = at_few j h;
-      })
-      by_test false h e = absurd (cc)
+  two x e = grind (arith, some_same, by_arm, left_true, at_second, at_few)
 
   -- a branch that is found is short
   pub ways : short_to g t c d ≡ Some s → IsShort g t c d s
@@ -100,24 +71,12 @@ module _ (g : Graph) (t : Term) (c d : ℕ) (s : Short) where
       next : (b : Bool) → is_lone_arm (block_at g c) d ≡ b
           → (if b then Some one else if is_lone_arm (block_at g d) c then Some other
           else two_arms g t c d (goal (block_at g c).exit)) ≡ Some s → IsShort g t c d s
-      next true h e = subst (IsShort g t c d) (some_same one s e)
-          (record {
-            test = refl;
-            first = by_arm g c d (left_true (is_arm (block_at g c) d) (are_few (all_nodes (block_at g c).ops))
-                h);
-            second = direct refl refl;
-            few = let n = few_are (all_nodes (block_at g c).ops)
-                (right_true (is_arm (block_at g c) d) _ h) in omega (arith, n);
-          })
-      next false h e = last (is_lone_arm (block_at g d) c) refl e
+      next b h e = grind (arith, some_same, by_arm, left_true, few_are, right_true, last)
 
       at_once : (b : Bool) → (c == d) ≡ b → (if b then Some none else if is_lone_arm (block_at g c) d
           then Some one else if is_lone_arm (block_at g d) c then Some other
           else two_arms g t c d (goal (block_at g c).exit)) ≡ Some s → IsShort g t c d s
-      at_once true h e = let same : c ≡ d = grind (arith, nat_tests) in
-          subst (IsShort g t c d) (some_same none s e)
-          (record { test = refl; first = direct same refl; second = direct refl refl; few = omega arith })
-      at_once false h e = next (is_lone_arm (block_at g c) d) refl e
+      at_once b h e = grind (arith, nat_tests, some_same, next)
 
   -- a branch that the relation has is found
   pub found : IsShort g t c d s → (r : Short) × (short_to g t c d ≡ Some r)

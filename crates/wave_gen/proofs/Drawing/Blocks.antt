@@ -56,9 +56,8 @@ numbers_zero (m ∷ ms) = refl
 
 numbers_next : (ms : List Made) (i : ℕ) (m : Made) → nth ms i ≡ Some m → numbers ms (suc i) ≡ numbers ms i
     + length m.code
-numbers_next [] i m e = absurd (let a : None ≡ Some m = e in cc)
-numbers_next (n ∷ ms) zero m e = grind (arith, numbers_zero)
 numbers_next (n ∷ ms) (suc i) m e = grind (arith, numbers_next ms i m e)
+numbers_next ms i m e = grind (arith, numbers_zero)
 
 -- exits that agree on the wants at their targets
 targets_agree : (s t : ℕ → Wants) → HowLeft → Type 0
@@ -120,11 +119,7 @@ module _ (width : ℕ) (ps : List Plan) where
 
   tails_same : (s t : ℕ → Wants) (x : HowLeft) → targets_agree s t x → tails_of width s x ≡ tails_of width t x
   unfolding targets_agree
-  tails_same s t (Onto c) a = refl
-  tails_same s t (Either op from c d) a = ap (λ (w : Wants). steers w (s d) (steered width w (s d))) a.0
-      ∙ ap (λ (w : Wants). steers (t c) w (steered width (t c) w)) a.1
-  tails_same s t (Lands op from values ls) a = refl
-  tails_same s t Halts a = refl
+  tails_same s t x a = grind arith
 
   end_same : (s t : ℕ → Wants) (x : HowLeft) → targets_agree s t x → ◌≡◌ {A = Wants} (end_wants width s x)
       (end_wants width t x)
@@ -233,11 +228,7 @@ module _ (width : ℕ) (ps : List Plan) where
 
   pub past_wanted : (xs : List ℕ) (w : Wants) (x : ℕ) → Wanted (past xs w) x → (is_among x xs ≡ false)
       × Wanted w x
-  past_wanted xs w x h = go (cases_Bool (is_among x xs))
-    where
-      go : (is_among x xs ≡ true) ⊎ (is_among x xs ≡ false) → (is_among x xs ≡ false) × Wanted w x
-      go (inl e) = absurd (h (rw e refl))
-      go (inr e) = (e, λ f. h (rw e f))
+  past_wanted xs w x h = grind (arith, cases_Bool)
 
   -- what is wanted behind an exit's front is what the exit needs
   exit_wanted : (Live : ℕ → ℕ → Type 0) (b : ℕ) (p : Plan) (x : ℕ)
@@ -325,10 +316,7 @@ module _ (width : ℕ) (ps : List Plan) where
   ahead_low Fn k l p m a = grind arith
 
   pub past_is : (xs : List ℕ) (w : Wants) (x : ℕ) → (past xs w x ≡ []) ⊎ (past xs w x ≡ w x)
-  past_is xs w x = go (is_among x xs)
-    where
-      go : (f : Bool) → (cond f [] (w x) ≡ []) ⊎ (cond f [] (w x) ≡ w x)
-      go f = grind arith
+  past_is xs w x = grind arith
 
   pub past_clean : (Fn : ℕ → ℕ → Type 0) (k : ℕ) (xs : List ℕ) (w : Wants) → Clean F Fn k width w
       → Clean F Fn k width (past xs w)

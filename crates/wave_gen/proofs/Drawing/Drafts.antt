@@ -1,6 +1,6 @@
 -- The steps of each block of a draft stand in it.
 use Rattle.std.proofs.Common.{ℕ, zero, suc, ◌+◌, ◌-◌, ◌≡◌, ◌<◌, ◌≤◌, ◌⊎◌, Bool, true, false, cond, List, []}
-use Rattle.std.proofs.Common.{◌∷◌, length, Some, None, refl, sym, ap, ◌∙◌, subst, inl, inr, arith}
+use Rattle.std.proofs.Common.{◌∷◌, length, Some, refl, sym, ap, ◌∙◌, subst, inl, inr, arith}
 use Rattle.std.proofs.lemmas.Bool.{cases_Bool, cases_lt, cases_order, both_ways, cond-true, cond-false}
 use Rattle.ws_isa.specs.declared.instr.Op.{Op}
 use Rattle.ws_isa.specs.declared.instr.Op.TheVariants.{Merge, Advance, Halt, Steer, Send}
@@ -12,19 +12,16 @@ use Rattle.wave_gen.specs.Waits.{DistinctDests, Owner, Step, Fires, Rests, Skips
 use Rattle.wave_gen.specs.Wire.{Target, Back, Front, dest_of, dests_of, WiredInstr, Wants, Made, emit, rest}
 use Rattle.wave_gen.specs.Wire.{with_rooms, make, Item, Make, Act, Same}
 use Rattle.wave_gen.specs.Plans.{merges, HowLeft, Onto, Either, Lands, Halts, Plan, pulse, Tail, TailAt}
-use Rattle.wave_gen.specs.Plans.{steers, sends, steered, hang, selected, tails_of, end_wants, behind_source}
+use Rattle.wave_gen.specs.Plans.{steers, sends, steered, hang, tails_of, end_wants, behind_source}
 use Rattle.wave_gen.specs.Plans.{exit_made, body_made, renew, advances, plan_at, made_at, starts_at, begins}
 use Rattle.wave_gen.specs.Plans.{owner_of, instr_of, draft_of, source_of, operands_needed, chooses, KeptOf}
 use Rattle.wave_gen.proofs.Planning.Planned.{is_act_op, ItemsAre, SourceIs, PlanIs}
 use Rattle.wave_gen.proofs.Waits.Wiring.{Ahead, CodeOk, spot_of}
 use Rattle.wave_gen.proofs.OfItems.Keeping.{KeptOk, KeptAt, Body, wire_body, renew_body, advances_body}
-use Rattle.wave_gen.proofs.OfItems.Keeping.{merge_body}
-use Rattle.wave_gen.proofs.OfItems.Keeping.{act_body, AllHold, hang_count, from_src, rooms_chain}
-use Rattle.wave_gen.proofs.OfItems.Keeping.{selected_chain}
-use Rattle.wave_gen.proofs.OfItems.Keeping.{source_body}
+use Rattle.wave_gen.proofs.OfItems.Keeping.{merge_body, act_body, AllHold, hang_count, from_src, rooms_chain}
+use Rattle.wave_gen.proofs.OfItems.Keeping.{selected_chain, source_body}
 use Rattle.wave_gen.proofs.OfItems.Lines.{Lines, line_at, Items, Tails, rooms_more, make_more, wire_more}
-use Rattle.wave_gen.proofs.OfItems.Lines.{renew_more}
-use Rattle.wave_gen.proofs.OfItems.Lines.{hang_lines, selected_more}
+use Rattle.wave_gen.proofs.OfItems.Lines.{renew_more, hang_lines, selected_more}
 use Rattle.wave_gen.proofs.Waits.Fronts.{advances_count}
 use Rattle.wave_gen.proofs.Drawing.Blocks.{Facts, facts, Fine, FineAt, entry_inside, begins_next, begins_le}
 use Rattle.wave_gen.proofs.Drawing.Blocks.{made_is}
@@ -33,18 +30,14 @@ use Rattle.ws_words.specs.Items.{nth}
 
 hold_steers : (w v : Wants) (xs : List ℕ) → AllHold (steers w v xs)
 hold_steers w v [] = tt
-hold_steers w v (x ∷ xs) = (record { gives = λ z. (refl, λ env. refl) }, hold_steers w v xs)
+hold_steers w v (x ∷ xs) = grind (arith, hold_steers w v xs)
 
 hold_sends : (p : ℕ) (xs : List ℕ) → AllHold (sends p xs)
 hold_sends p [] = tt
-hold_sends p (x ∷ xs) = (record { gives = λ z. (refl, λ env. refl) }, hold_sends (suc p) xs)
+hold_sends p (x ∷ xs) = grind (arith, hold_sends (suc p) xs)
 
 hold_tails : (width : ℕ) (starts : ℕ → Wants) (e : HowLeft) → AllHold (tails_of width starts e)
-hold_tails width starts (Onto c) = tt
-hold_tails width starts (Either op from c d) = hold_steers (starts c) (starts d)
-    (steered width (starts c) (starts d))
-hold_tails width starts (Lands op from values ls) = hold_sends 0 values
-hold_tails width starts Halts = tt
+hold_tails width starts e = grind (arith, hold_steers, hold_sends)
 
 -- lines of a kind
 pub steers_kind : (P : Op → Type 0) → P Steer → (w v : Wants) (xs : List ℕ) → Tails P (steers w v xs)
@@ -94,11 +87,7 @@ abbrev pub NoAdvance : Op → Type 0
 NoAdvance op = is_advance_op op ≡ false
 
 act_no_advance : (op : Op) → is_act_op op ≡ true → is_advance_op op ≡ false
-act_no_advance Advance e = absurd (both_ways false refl e)
-act_no_advance (Rattle.ws_isa.specs.declared.instr.Op.TheVariants.Store a) e = refl
-act_no_advance (Rattle.ws_isa.specs.declared.instr.Op.TheVariants.Output) e = refl
-act_no_advance (Rattle.ws_isa.specs.declared.instr.Op.TheVariants.Take p) e = refl
-act_no_advance _ e = absurd (both_ways false refl e)
+act_no_advance op e = grind (arith, both_ways)
 
 items_no_advance : (is : List Item) → ItemsAre is → Items NoAdvance is
 items_no_advance [] h = tt
@@ -107,27 +96,18 @@ items_no_advance (Act op from ∷ is) h = (act_no_advance op h.0.1, items_no_adv
 items_no_advance (Same x y ∷ is) h = items_no_advance is h.1
 
 exit_no_advance : (e : HowLeft) → SourceIs e → Kind NoAdvance e
-exit_no_advance (Onto c) s = tt
-exit_no_advance (Either op from c d) s = (s.0.1, refl)
-exit_no_advance (Lands op from values ls) s = (s.0.1, λ p. refl)
-exit_no_advance Halts s = refl
+exit_no_advance e s = grind arith
 
 -- the lines of a first block
 pub advance_line : (b : ℕ) (xs : List ℕ) (s : Made) (i : ℕ) (l : WiredInstr) → i < length xs
     → nth (advances b xs s).code i ≡ Some l → l.op ≡ Advance
-advance_line b [] s i l u e = absurd (omega arith)
-advance_line b (x ∷ xs) s zero l u e = let g : record {
-  op = Advance;
-  dests = (advances b xs s).wants x;
-  others = [];
-} ≡ l = cc in ap (λ (m : WiredInstr). m.op) (sym g)
 advance_line b (x ∷ xs) s (suc i) l u e = advance_line b xs s i l (omega arith) e
+advance_line b xs s i l u e = grind arith
 
 pub behind_advances : (b : ℕ) (xs : List ℕ) (s : Made) (i : ℕ) → nth (advances b xs s).code (length xs + i)
     ≡ nth s.code i
 behind_advances b [] s i = let z : 0 + i ≡ i = omega arith in rw z refl
-behind_advances b (x ∷ xs) s i = let z : suc (length xs) + i ≡ suc (length xs + i) = omega arith in
-    rw z (behind_advances b xs s i)
+behind_advances b (x ∷ xs) s i = grind (arith, behind_advances b xs s i)
 
 -- steps and lines make an image's instructions
 module _ (image : Image) (first : ℕ → ℕ) (b : ℕ) (o : Owner) (K : ℕ → ℕ → Type 0) where
@@ -137,8 +117,6 @@ module _ (image : Image) (first : ℕ → ℕ) (b : ℕ) (o : Owner) (K : ℕ �
       ((i j q : ℕ) (l : WiredInstr) → nth code i ≡ Some l → HasDest (dests_of first l.dests) j q
       → is_advance image j ≡ true → IsIn image b j → j ≤ k + i) → Stands image b K k ss o
   unfolding now_dests
-  stands_of k code [] c t n look back = let z : length code ≡ 0 = ap length c in omega arith
-  stands_of k [] (Fires x op from ∷ ss) c t n look back = absurd c
   stands_of k (l ∷ code) (Fires x op from ∷ ss) c t n look back = (
     record {
       op_is = op_here;
@@ -168,7 +146,6 @@ module _ (image : Image) (first : ℕ → ℕ) (b : ℕ) (o : Owner) (K : ℕ �
       dests_here : now_of (instr_at image k).op (instr_at image k).dests ≡ dests_of first l.dests
       dests_here = ap (λ (a : Op). now_of a (instr_at image k).dests) op_here
           ∙ c.0.sends_now (instr_at image k).dests ∙ ap (λ (i : Instr). i.dests) here
-  stands_of k [] (Rests op from ∷ ss) c t n look back = absurd c
   stands_of k (l ∷ code) (Rests op from ∷ ss) c t n look back = (
     record {
       op_is = op_here;
@@ -192,6 +169,7 @@ module _ (image : Image) (first : ℕ → ℕ) (b : ℕ) (o : Owner) (K : ℕ �
   stands_of k code (Skips x op from ∷ ss) c t n look back =
       (c.0, t.0, stands_of k code ss c.1 t.1 n look back)
   stands_of k code (Copies x y ∷ ss) c t n look back = (t.0, stands_of k code ss c t.1 n look back)
+  stands_of k code ss c t n look back = grind arith
 
 module _ (arrays : List Array) (width : ℕ) (ps : List Plan) (Live : ℕ → ℕ → Type 0)
     (plans : (b : ℕ) → (1 ≤ b) × (b ≤ length ps) → PlanIs ps width Live b) where
@@ -284,9 +262,7 @@ module _ (arrays : List Array) (width : ℕ) (ps : List Plan) (Live : ℕ → �
         }
 
     pub inside : (j : ℕ) → IsIn I b j → (F b ≤ j) × (j < F (suc b))
-    inside j i = let a : first_number I b ≡ F b = number_is arrays width ps b in
-        let c : first_number I (suc b) ≡ F (suc b) = number_is arrays width ps (suc b) in
-        (omega (arith, i.0), omega (arith, i.1))
+    inside j i = grind (arith, number_is)
 
     pub line_in : (j : ℕ) → IsIn I b j → LineOf j
     line_in j i = let r = inside j i in line_of j r.0 r.1
@@ -394,14 +370,7 @@ module _ (arrays : List Array) (width : ℕ) (ps : List Plan) (Live : ℕ → �
 
       room : suc (length (with_rooms b (length from) from (behind_source width S b (plan_at ps b))).code)
           ≤ F (suc b)
-      room = let z : F (suc b) ≡ F b + length (made_at width ps b).code = size in
-          let e : length (exit_made width S b (plan_at ps b) (plan_at ps b).exit).code
-          ≡ suc (length (with_rooms b (length from) from (behind_source width S b (plan_at ps b))).code) =
-          ap (λ (s : Made). length s.code) made in
-          let u : length (exit_made width S b (plan_at ps b) (plan_at ps b).exit).code
-          ≤ length (body_made width S b (plan_at ps b)).code = exit_in_body in
-          let v : length (body_made width S b (plan_at ps b)).code ≤ length (made_at width ps b).code =
-          body_in_made in omega arith
+      room = grind (arith, size, exit_in_body, body_in_made)
 
       pub source_at : source_of width ps b ≡ F (suc b) - suc
           (length (with_rooms b (length from) from (behind_source width S b (plan_at ps b))).code)
@@ -410,28 +379,10 @@ module _ (arrays : List Array) (width : ℕ) (ps : List Plan) (Live : ℕ → �
 
       source_low : F b ≤ F (suc b) - suc
           (length (with_rooms b (length from) from (behind_source width S b (plan_at ps b))).code)
-      source_low = let z : F (suc b) ≡ F b + length (made_at width ps b).code = size in
-          let e : length (exit_made width S b (plan_at ps b) (plan_at ps b).exit).code
-          ≡ suc (length (with_rooms b (length from) from (behind_source width S b (plan_at ps b))).code) =
-          ap (λ (s : Made). length s.code) made in
-          let u : length (exit_made width S b (plan_at ps b) (plan_at ps b).exit).code
-          ≤ length (body_made width S b (plan_at ps b)).code = exit_in_body in
-          let v : length (body_made width S b (plan_at ps b)).code ≤ length (made_at width ps b).code =
-          body_in_made in omega arith
+      source_low = grind (arith, size, exit_in_body, body_in_made)
 
       pub source_in : IsIn I b (source_of width ps b)
-      source_in =
-          let y : first_number I b ≡ F b = number_is arrays width ps b in
-          let w : first_number I (suc b) ≡ F (suc b) = number_is arrays width ps (suc b) in
-          let l : F b ≤ F (suc b) - suc
-          (length (with_rooms b (length from) from (behind_source width S b (plan_at ps b))).code) =
-          source_low in
-          let r : suc (length (with_rooms b (length from) from (behind_source width S b (plan_at ps b))).code)
-          ≤ F (suc b) = room in
-          let s : source_of width ps b ≡ F (suc b) - suc
-          (length (with_rooms b (length from) from (behind_source width S b (plan_at ps b))).code) =
-          source_at in
-          (omega arith, omega arith)
+      source_in = grind (arith, number_is, source_low, room, source_at)
 
       enough : length (tails_of width S (plan_at ps b).exit) ≤ length
           (with_rooms b (length from) from (behind_source width S b (plan_at ps b))).code
@@ -452,8 +403,7 @@ module _ (arrays : List Array) (width : ℕ) (ps : List Plan) (Live : ℕ → �
 
       only : (m i : ℕ) → K m i → ((m ≡ source_of width ps b) × (i ≡ (plan_at ps b).test))
           ⊎ TailAt (F (suc b)) m i (tails_of width S (plan_at ps b).exit)
-      only m i (inl k) = inl (k.1, k.2)
-      only m i (inr t) = inr t
+      only m i h = grind arith
 
       abbrev L : ℕ
       L = length (with_rooms b (length from) from (behind_source width S b (plan_at ps b))).code
@@ -515,21 +465,12 @@ module _ (arrays : List Array) (width : ℕ) (ps : List Plan) (Live : ℕ → �
     -- nothing is read where nothing is chosen
     none_read : chooses (plan_at ps b).exit ≡ false → tails_of width S (plan_at ps b).exit ≡ [] → (m i : ℕ)
         → K m i → ⊥
-    none_read c t m i (inl k) = both_ways (chooses (plan_at ps b).exit) c k.0
-    none_read c t m i (inr a) = let e : nth [] a.place ≡ Some a.tail =
-        subst (λ (ts : List Tail). nth ts a.place ≡ Some a.tail) t a.at in let z : None ≡ Some a.tail = e in
-        cc
+    none_read c t m i h = grind (arith, both_ways)
 
     bare_body : (c : chooses (plan_at ps b).exit ≡ false) (t : tails_of width S (plan_at ps b).exit ≡ [])
         → Body K (F (suc b)) (F (suc b)) (λ m i k. absurd (none_read c t m i k))
         (behind_source width S b (plan_at ps b))
-    bare_body c t =
-        record {
-          grown = omega arith;
-          kept = λ l.
-              subst (λ (ts : List Tail). KeptAt K (F (suc b))
-              (selected b (plan_at ps b).test ts (end_wants width S (plan_at ps b).exit))) (sym t) tt;
-        }
+    bare_body c t = grind arith
 
     pub block_kept : KeptAt K (F (suc b)) (made_at width ps b)
     block_kept = go (plan_at ps b).exit refl

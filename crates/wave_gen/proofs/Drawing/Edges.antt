@@ -70,11 +70,9 @@ spot_eq : (p q : Target) → same_spot p q ≡ true → p ≡ q
 spot_eq p q e = grind (arith, and_both, eqb_is, both_ways)
 
 spots_eq : (l m : List Target) → same_spots l m ≡ true → l ≡ m
-spots_eq [] [] e = refl
-spots_eq [] (q ∷ m) e = absurd (both_ways false refl e)
-spots_eq (p ∷ l) [] e = absurd (both_ways false refl e)
 spots_eq (p ∷ l) (q ∷ m) e = let a = and_both (same_spot p q) (same_spots l m) e in
     ap (λ (x : Target). x ∷ l) (spot_eq p q a.0) ∙ ap (λ (r : List Target). q ∷ r) (spots_eq l m a.1)
+spots_eq l m e = grind (arith, both_ways)
 
 pub among_in : (x : ℕ) (xs : List ℕ) → is_among x xs ≡ true → In x xs
 among_in x [] e = absurd (both_ways false refl e)
@@ -129,9 +127,8 @@ steered_apart width w v = or_apart (differing w v 0 width) (differing_apart w v 
 
 steers_nth : (w v : Wants) (xs : List ℕ) (i x : ℕ) → nth xs i ≡ Some x
     → nth (steers w v xs) i ≡ Some (steer_of w v x)
-steers_nth w v [] i x e = absurd (let a : None ≡ Some x = e in cc)
-steers_nth w v (y ∷ xs) zero x e = let g : y ≡ x = cc in ap (λ (z : ℕ). Some (steer_of w v z)) g
 steers_nth w v (y ∷ xs) (suc i) x e = steers_nth w v xs i x e
+steers_nth w v xs i x e = grind arith
 
 steers_from : (w v : Wants) (xs : List ℕ) (i : ℕ) (t : Tail) → nth (steers w v xs) i ≡ Some t
     → (x : ℕ) × (nth xs i ≡ Some x) × (steer_of w v x ≡ t)
@@ -140,11 +137,8 @@ steers_from w v (y ∷ xs) zero t e = (y, refl, (let g : steer_of w v y ≡ t = 
 steers_from w v (y ∷ xs) (suc i) t e = steers_from w v xs i t e
 
 pub nth_apart : (xs : List ℕ) (i j x : ℕ) → Apart xs → nth xs i ≡ Some x → nth xs j ≡ Some x → i ≡ j
-nth_apart [] i j x a e f = absurd (let c : None ≡ Some x = e in cc)
-nth_apart (y ∷ xs) zero zero x a e f = refl
-nth_apart (y ∷ xs) zero (suc j) x a e f = absurd (let g : y ≡ x = cc in a.0 (rw (sym g) at (in_nth xs j x f)))
-nth_apart (y ∷ xs) (suc i) zero x a e f = absurd (let g : y ≡ x = cc in a.0 (rw (sym g) at (in_nth xs i x e)))
 nth_apart (y ∷ xs) (suc i) (suc j) x a e f = ap suc (nth_apart xs i j x a.1 e f)
+nth_apart xs i j x a e f = grind (arith, in_nth)
 
 module _ (arrays : List Array) (width : ℕ) (ps : List Plan) (Live : ℕ → ℕ → Type 0)
     (plans : PlansAre ps width Live) where
@@ -271,10 +265,7 @@ module _ (arrays : List Array) (width : ℕ) (ps : List Plan) (Live : ℕ → �
     module _ (op : Op) (from : List ℕ) (c d : ℕ) (q0 : (plan_at ps b).exit ≡ Either op from c d) (hc : Is c)
         (hd : Is d) where
       arm_is : (r : ℕ) → Is (cond (eqb r 0) d c)
-      arm_is r = go (eqb r 0)
-        where
-          go : (f : Bool) → Is (cond f d c)
-          go f = grind arith
+      arm_is r = grind arith
 
       pub either_target : (r : ℕ) → target I b r ≡ cond (eqb r 0) d c
       either_target r = target_is (Either op from c d) q0 r
@@ -319,17 +310,11 @@ module _ (arrays : List Array) (width : ℕ) (ps : List Plan) (Live : ℕ → �
 
       arm_wants : (r x j q : ℕ) → (In x (steered width (S c) (S d)) → ⊥)
           → HasDest (dests_of F (S (cond (eqb r 0) d c) x)) j q → HasDest (dests_of F (S c x)) j q
-      arm_wants r x j q n g = go (eqb r 0) g
-        where
-          go : (f : Bool) → HasDest (dests_of F (S (cond f d c) x)) j q → HasDest (dests_of F (S c x)) j q
-          go f k = grind (arith, alike, wanted_by)
+      arm_wants r x j q n g = grind (arith, alike, wanted_by)
 
       wants_arm : (r x j q : ℕ) → (In x (steered width (S c) (S d)) → ⊥) → HasDest (dests_of F (S c x)) j q
           → HasDest (dests_of F (S (cond (eqb r 0) d c) x)) j q
-      wants_arm r x j q n g = go (eqb r 0)
-        where
-          go : (f : Bool) → HasDest (dests_of F (S (cond f d c) x)) j q
-          go f = grind (arith, alike, wanted_by)
+      wants_arm r x j q n g = grind (arith, alike, wanted_by)
 
       not_among : (x : ℕ) → (In x (steered width (S c) (S d)) → ⊥) → past (steered width (S c) (S d)) (S c) x
           ≡ S c x
@@ -361,12 +346,7 @@ module _ (arrays : List Array) (width : ℕ) (ps : List Plan) (Live : ℕ → �
 
       past_not : (x j q : ℕ) → HasDest (dests_of F (past (steered width (S c) (S d)) (S c) x)) j q
           → (In x (steered width (S c) (S d)) → ⊥) × HasDest (dests_of F (S c x)) j q
-      past_not x j q g = go (cases_Bool (is_among x (steered width (S c) (S d))))
-        where
-          go : (is_among x (steered width (S c) (S d)) ≡ true)
-              ⊎ (is_among x (steered width (S c) (S d)) ≡ false) → (In x (steered width (S c) (S d)) → ⊥)
-              × HasDest (dests_of F (S c x)) j q
-          go h = grind (arith, both_ways, in_among)
+      past_not x j q g = grind (arith, cases_Bool, both_ways, in_among)
 
       end_past : (j q x : ℕ) → C.ends b j q ≡ Some x → (In x (steered width (S c) (S d)) → ⊥)
           × HasDest (dests_of F (S c x)) j q
@@ -446,10 +426,8 @@ module _ (arrays : List Array) (width : ℕ) (ps : List Plan) (Live : ℕ → �
         (ok : AllIn landings (λ c. Outer ps c × PadsFit ps values c)) where
       landing_in : (ls : List ℕ) (r : ℕ) → 1 ≤ length ls → AllIn ls (λ c. Outer ps c × PadsFit ps values c)
           → Outer ps (landing_of ls r) × PadsFit ps values (landing_of ls r)
-      landing_in [] r l a = absurd (omega arith)
-      landing_in (c ∷ []) r l a = a.0
-      landing_in (c ∷ d ∷ ls) zero l a = a.0
       landing_in (c ∷ d ∷ ls) (suc r) l a = landing_in (d ∷ ls) r (omega arith) a.1
+      landing_in ls r l a = grind arith
 
       pub lands_target : (r : ℕ) → target I b r ≡ landing_of landings r
       lands_target r = target_is (Lands op from values landings) q0 r
@@ -515,11 +493,9 @@ module _ (arrays : List Array) (width : ℕ) (ps : List Plan) (Live : ℕ → �
 
       filled_at : (ys vs : List ℕ) (env : ℕ → ℕ) (i x v : ℕ) → Apart ys → nth ys i ≡ Some x
           → nth vs i ≡ Some v → filled ys vs env x ≡ env v
-      filled_at [] vs env i x v a e f = absurd (let c : None ≡ Some x = e in cc)
-      filled_at (y ∷ ys) [] env i x v a e f = absurd (let c : None ≡ Some v = f in cc)
-      filled_at (y ∷ ys) (u ∷ vs) env zero x v a e f = grind arith
       filled_at (y ∷ ys) (u ∷ vs) env (suc i) x v a e f =
           rw (ne_eqb x y (λ g. a.0 (rw (sym g) (in_nth ys i x e)))) (filled_at ys vs env i x v a.1 e f)
+      filled_at ys vs env i x v a e f = grind arith
 
       pub lands_arrives : (r j q x : ℕ) → starts I C (target I b r) j q ≡ Some x → Arrives I C b r j q x
       lands_arrives r j q x e = was_sent t.instr v.0 t.inside

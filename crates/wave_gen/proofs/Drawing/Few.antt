@@ -1,10 +1,10 @@
 -- No list of destinations is long.
-use Rattle.std.proofs.Common.{ℕ, zero, suc, ◌+◌, ◌≡◌, ◌<◌, ◌≤◌, ◌⊎◌, ◌&&◌, not, Bool, true, false, cond, ltb}
+use Rattle.std.proofs.Common.{ℕ, zero, suc, ◌+◌, ◌≡◌, ◌<◌, ◌≤◌, ◌⊎◌, ◌&&◌, not, Bool, true, false, cond}
 use Rattle.std.proofs.Common.{eqb, List, [], ◌∷◌, ◌++◌, length, refl, sym, ap, ◌∙◌, subst, inl, inr, arith}
 use Rattle.std.proofs.Common.{eq-eqb, ne_eqb}
 use Rattle.std.proofs.lemmas.Bool.{cases_eq, cases_lt, cases_order, lt-ltb, le-ltb}
 use Rattle.ws_isa.specs.declared.instr.Op.{Op}
-use Rattle.ws_isa.specs.declared.instr.Op.TheVariants.{Advance, Send}
+use Rattle.ws_isa.specs.declared.instr.Op.TheVariants.{Send}
 use Rattle.ws_isa.specs.Image.{is_memory_op, ports_of}
 use Rattle.wave_gen.specs.Wire.{Target, Back, WiredInstr, Wants, Made, with_wants, with_uses, moved, emit}
 use Rattle.wave_gen.specs.Wire.{rest, skip, copy, gather, with_room, with_rooms, Item, Make, Act, Same}
@@ -63,26 +63,20 @@ gather_few b x s f = grind (arith, cases_eq, gather_one, gather_other)
 
 -- the room that a merge makes stays
 room_here : (b n x : ℕ) (s : Made) → suc n ≤ 7 → length ((with_room b n x s).wants x) + n ≤ 7
-room_here b n x s l = go (cases_lt most (length (s.wants x) + n))
-  where
-    go : (most < length (s.wants x) + n) ⊎ (length (s.wants x) + n ≤ most)
-        → length ((with_room b n x s).wants x) + n ≤ 7
-    go h = grind (arith, lt-ltb, gather_one, le-ltb)
+room_here b n x s l = grind (arith, cases_lt, s.wants, lt-ltb, gather_one, le-ltb)
 
 room_keeps : (b n x y : ℕ) (s : Made) → suc n ≤ 7 → length (s.wants y) + n ≤ 7
     → length ((with_room b n x s).wants y) + n ≤ 7
-room_keeps b n x y s l h = elim (cases_eq y x) [
-  | inl e ↦ rw e (room_here b n x s l)
-  | inr d ↦ go (ltb most (length (s.wants x) + n)) d
-]
-  where
-    go : (f : Bool) → (y ≡ x → ⊥) → length ((cond f (gather b x s) s).wants y) + n ≤ 7
-    go f d = grind (arith, gather_other)
+room_keeps b n x y s l h = grind (arith, cases_eq, room_here, s.wants, gather_other)
 
 rooms_keep : (b n : ℕ) (xs : List ℕ) (y : ℕ) (s : Made) → suc n ≤ 7 → length (s.wants y) + n ≤ 7
     → length ((with_rooms b n xs s).wants y) + n ≤ 7
 rooms_keep b n [] y s l h = h
-rooms_keep b n (x ∷ xs) y s l h = rooms_keep b n xs y (with_room b n x s) l (room_keeps b n x y s l h)
+rooms_keep b n (x ∷ xs) y s l h = grind (
+  arith,
+  room_keeps,
+  rooms_keep b n xs y (with_room b n x s) l (room_keeps b n x y s l h),
+)
 
 rooms_here : (b n : ℕ) (xs : List ℕ) (s : Made) → suc n ≤ 7 → Room n xs (with_rooms b n xs s)
 rooms_here b n [] s l y i = absurd i
@@ -90,10 +84,7 @@ rooms_here b n (x ∷ xs) s l y (inr i) = rooms_here b n xs (with_room b n x s) 
 rooms_here b n (x ∷ xs) s l y (inl e) = grind (arith, rooms_keep, room_here)
 
 room_few : (b n x : ℕ) (s : Made) → Few s → Few (with_room b n x s)
-room_few b n x s f = go (ltb most (length (s.wants x) + n))
-  where
-    go : (c : Bool) → Few (cond c (gather b x s) s)
-    go c = grind (arith, gather_few)
+room_few b n x s f = grind (arith, s.wants, gather_few)
 
 rooms_few : (b n : ℕ) (xs : List ℕ) (s : Made) → Few s → Few (with_rooms b n xs s)
 rooms_few b n [] s f = f
@@ -107,7 +98,7 @@ make_few b x op from s e f = let p : ports_of op ≤ 3 = ports_few op in
 
 app_length : (xs ys : List Target) → length (xs ++ ys) ≡ length xs + length ys
 app_length [] ys = omega arith
-app_length (x ∷ xs) ys = let e : length (xs ++ ys) ≡ length xs + length ys = app_length xs ys in omega arith
+app_length (x ∷ xs) ys = grind (arith, app_length xs ys)
 
 copy_few : (x y : ℕ) (s : Made) → Few s → ((x ≡ y → ⊥) → length (s.wants x) + length (s.wants y) ≤ 7)
     → Few (copy x y s)
@@ -174,7 +165,7 @@ again_few b x op s f = grind (arith, gather_few)
 
 pub advances_few : (b : ℕ) (xs : List ℕ) (s : Made) → Few s → Few (advances b xs s)
 advances_few b [] s f = f
-advances_few b (x ∷ xs) s f = again_few b x Advance (advances b xs s) (advances_few b xs s f)
+advances_few b (x ∷ xs) s f = grind (arith, again_few, advances_few b xs s f)
 
 -- two uses
 record TwoUses (w v : Wants) (a c : ℕ) : Type 0 where

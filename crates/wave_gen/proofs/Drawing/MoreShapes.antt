@@ -56,8 +56,6 @@ module _ (arrays : List Array) (width : ℕ) (ps : List Plan) (Live : ℕ → �
   -- waves
   waves_from : (n b : ℕ) → suc b + n ≡ suc (length ps) → 1 ≤ b → WavesFrom (plan_at ps b).wave
       (blocks_of width ps (suc b) n)
-  waves_from zero b e l = tt
-  waves_from (suc n) zero e l = absurd (omega arith)
   waves_from (suc n) (suc b) e l = (
     elim (cases_Bool (plan_at ps (suc (suc b))).first) [
       | inl f ↦ inr (plans.rises b (omega arith) f)
@@ -66,6 +64,7 @@ module _ (arrays : List Array) (width : ℕ) (ps : List Plan) (Live : ℕ → �
     ],
     waves_from n (suc (suc b)) (omega arith) (omega arith),
   )
+  waves_from n b e l = grind arith
 
   some_waves : (n : ℕ) → n ≡ length ps → WavesInOrder (blocks_of width ps 1 n)
   some_waves zero e = (let l : 1 ≤ length ps = plans.some in omega arith)
@@ -159,10 +158,8 @@ module _ (arrays : List Array) (width : ℕ) (ps : List Plan) (Live : ℕ → �
   landing_outer : (values ls : List ℕ) (r : ℕ) → 1 ≤ length ls
       → AllIn ls (λ c. Outer ps c × PadsFit ps values c) → Outer ps (image.landing_of ls r)
       × PadsFit ps values (image.landing_of ls r)
-  landing_outer values [] r l a = absurd (omega arith)
-  landing_outer values (c ∷ []) r l a = a.0
-  landing_outer values (c ∷ d ∷ ls) zero l a = a.0
   landing_outer values (c ∷ d ∷ ls) (suc r) l a = landing_outer values (d ∷ ls) r (omega arith) a.1
+  landing_outer values ls r l a = grind arith
 
   -- where an exit with landings leads
   lands_at : (b s r : ℕ) (ls : List ℕ) (h : Is b) → (block_at I b).exit ≡ image.Landings s ls

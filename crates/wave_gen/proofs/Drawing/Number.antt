@@ -1,5 +1,5 @@
 -- The numbers of the blocks and instructions of a draft.
-use Rattle.std.proofs.Common.{ℕ, zero, suc, ◌+◌, ◌-◌, ◌≡◌, ◌<◌, ◌≤◌, List, [], ◌∷◌, length, map, Some, None}
+use Rattle.std.proofs.Common.{ℕ, zero, suc, ◌+◌, ◌-◌, ◌≡◌, ◌<◌, ◌≤◌, List, [], ◌∷◌, length, map, Some}
 use Rattle.std.proofs.Common.{refl, sym, ap, ◌∙◌, arith}
 use Rattle.ws_isa.specs.Image.{Image, Instr, Block, Array, flat, first_of, first_number, instr_at, block_at}
 use Rattle.ws_isa.specs.Image.{IsBlock}
@@ -14,15 +14,13 @@ use Rattle.ws_words.proofs.Places.{nth_short, nth_append_left}
 
 pub nth_map : {A B : Type 0} (f : A → B) (xs : List A) (i : ℕ) (x : A) → nth xs i ≡ Some x
     → nth (map f xs) i ≡ Some (f x)
-nth_map f [] i x e = absurd (let a : None ≡ Some x = e in cc)
-nth_map f (y ∷ xs) zero x e = let g : y ≡ x = cc in rw g refl
 nth_map f (y ∷ xs) (suc i) x e = nth_map f xs i x e
+nth_map f xs i x e = grind arith
 
 flat_nth : (bs : List Block) (b i : ℕ) (x : Block) (n : Instr) → nth bs b ≡ Some x → nth x.instrs i ≡ Some n
     → nth (flat bs) ((first_of bs b + i) - 1) ≡ Some n
-flat_nth [] b i x n e f = absurd (let a : None ≡ Some x = e in cc)
-flat_nth (y ∷ bs) zero i x n e f = grind (arith, nth_append_left, nth_short)
 flat_nth (y ∷ bs) (suc b) i x n e f = grind (arith, first_of_pos, nth_append_right, flat_nth bs b i x n e f)
+flat_nth bs b i x n e f = grind (arith, nth_append_left, nth_short)
 
 module _ (arrays : List Array) (width : ℕ) (ps : List Plan) where
   abbrev I : Image
@@ -39,8 +37,6 @@ module _ (arrays : List Array) (width : ℕ) (ps : List Plan) where
   firsts : (ms : List Made) (s n i : ℕ)
       → ((j : ℕ) → made_at width ps (suc s + j) ≡ or_else (nth ms j) no_made) → n ≡ length ms
       → first_of (blocks_of width ps (suc s) n) i ≡ numbers ms i
-  firsts [] s n i h e = rw e refl
-  firsts (m ∷ ms) s n zero h e = rw e refl
   firsts (m ∷ ms) s n (suc i) h e =
       let here : made_at width ps (suc s) ≡ m = (let z : suc s + 0 ≡ suc s = omega arith in rw z at (h 0)) in
       rw e (rw (
@@ -49,6 +45,7 @@ module _ (arrays : List Array) (width : ℕ) (ps : List Plan) where
         firsts ms (suc s) (length ms) i (λ j. (let z : suc (suc s) + j ≡ suc s + suc j = omega arith in
             rw z (h (suc j)))) refl,
       ) refl)
+  firsts ms s n i h e = grind arith
 
   made_shown : (j : ℕ) → made_at width ps (suc j) ≡ or_else (nth (mades width ps) j) no_made
   unfolding made_at

@@ -1,5 +1,5 @@
 -- A property of the operations of a graph's terms, operations and exits holds of those of its plans.
-use Rattle.std.proofs.Common.{ℕ, zero, suc, List, [], ◌∷◌, ◌++◌}
+use Rattle.std.proofs.Common.{arith, ℕ, zero, suc, List, [], ◌∷◌, ◌++◌}
 use Rattle.std.specs.List.{AllByRecursion}
 use Rattle.ws_words.specs.declared.alu.Alu.{Alu as Operator}
 use Rattle.ws_words.specs.declared.alu.Alu.TheVariants.{Sub, Eq}
@@ -69,9 +69,6 @@ module _ (P : Op → Type 0) (plain : Plain P) where
   last g op from e h = both P g.items (Make g.next op from ∷ []) h (e, tt)
 
   term_items : (t : Term) (k : ℕ) → TermHas P t → Items P (gen_term k t).items
-  term_items (Number zero) k h = tt
-  term_items (Number (suc n)) k h = (h, tt)
-  term_items (Var x) k h = tt
   term_items (Cell a t) k h = let g = gen_term k t in last g (Load a) (g.name ∷ []) h.0 (term_items t k h.1)
   term_items (Flip t) k h = let g = gen_term k t in
       last (then_make g (λ n. Make n (Const top_word) (g.name ∷ []))) (Alu Sub) (g.next ∷ g.name ∷ [])
@@ -84,28 +81,10 @@ module _ (P : Op → Type 0) (plain : Plain P) where
       let g = gen_term k a in let i = gen_term g.next b in
       last (got (g.items ++ i.items) i.name i.next) (Alu op) (g.name ∷ i.name ∷ []) (plain.alu op)
       (both P g.items i.items (term_items a k h.0) (term_items b g.next h.1))
+  term_items t k h = grind arith
 
   source_items : (t : Term) (k : ℕ) → TermHas P t → Items P (gen_source k t).items
-  source_items (Number zero) k h = tt
-  source_items (Number (suc n)) k h = tt
-  source_items (Var x) k h = tt
-  source_items (Cell a t) k h = term_items t k h.1
-  source_items (Flip t) k h = let g = gen_term k t in last g (Const top_word) (g.name ∷ []) plain.top
-      (term_items t k h)
-  source_items (Not t) k h = term_items t k h
-  source_items (Neg t) k h = term_items t k h
-  source_items (Binary op a b) k h = let g = gen_term k a in both P g.items (gen_term g.next b).items
-      (term_items a k h.0) (term_items b g.next h.1)
-
-  source_has : (t : Term) (k : ℕ) → TermHas P t → P (gen_source k t).op
-  source_has (Number zero) k h = plain.merge
-  source_has (Number (suc n)) k h = h
-  source_has (Var x) k h = plain.merge
-  source_has (Cell a t) k h = h.0
-  source_has (Flip t) k h = plain.alu Sub
-  source_has (Not t) k h = plain.alu Eq
-  source_has (Neg t) k h = plain.alu Sub
-  source_has (Binary op a b) k h = plain.alu op
+  source_items t k h = grind (arith, term_items, last, both)
 
   terms_items : (ts : List Term) (k : ℕ) → AllByRecursion (TermHas P) ts → Items P (gen_terms k ts).items
   terms_items [] k h = tt
@@ -114,50 +93,18 @@ module _ (P : Op → Type 0) (plain : Plain P) where
       (terms_items ts (suc g.next) h.1)
 
   op_items : (op : graph.Op) (k : ℕ) → OpHas P op → Items P (gen_op k op).items
-  op_items (graph.Assign x t) k h = let g = gen_term k t in both P g.items (Same (suc x) g.name ∷ [])
-      (term_items t k h) tt
-  op_items (graph.Store a t u) k h = let g = gen_term k t in let i = gen_term g.next u in
-      both P g.items (i.items ++ Act (Store a) (g.name ∷ i.name ∷ []) ∷ []) (term_items t k h.1)
-      (both P i.items (Act (Store a) (g.name ∷ i.name ∷ []) ∷ []) (term_items u g.next h.2) (h.0, tt))
-  op_items (graph.Print t) k h = let g = gen_term k t in both P g.items (Act Output (g.name ∷ []) ∷ [])
-      (term_items t k h) (plain.output, tt)
-  op_items (graph.Read x) k h = (plain.input, tt)
-  op_items (graph.Give p x) k h = (h, tt)
-  op_items (graph.Take p t) k h = let g = gen_term k t in both P g.items (Act (Take p) (g.name ∷ []) ∷ [])
-      (term_items t k h.1) (h.0, tt)
-  op_items (graph.Choose x t a b) k h = let g = gen_term k t in let i = gen_term g.next a in
-      let j = gen_term i.next b in
-      both P g.items (i.items ++ (j.items ++ Make (suc x) Phi (i.name ∷ j.name ∷ g.name ∷ []) ∷ []))
-      (term_items t k h.0)
-      (both P i.items (j.items ++ Make (suc x) Phi (i.name ∷ j.name ∷ g.name ∷ []) ∷ [])
-      (term_items a g.next h.1)
-      (both P j.items (Make (suc x) Phi (i.name ∷ j.name ∷ g.name ∷ []) ∷ []) (term_items b i.next h.2)
-      (plain.phi, tt)))
-  op_items (graph.Tick n) k h = tt
-  op_items (graph.TickBy t n m) k h = tt
+  op_items op k h = grind (arith, both, term_items)
 
   -- operations, one after another
   pub ops_items : (ops : List graph.Op) (k : ℕ) → AllByRecursion (OpHas P) ops → Items P (gen_ops k ops).items
   ops_items [] k h = tt
-  ops_items (op ∷ ops) k h = both P (gen_op k op).items (gen_ops (gen_op k op).next ops).items
-      (op_items op k h.0) (ops_items ops (gen_op k op).next h.1)
+  ops_items (op ∷ ops) k h = grind (arith, both, op_items, ops_items ops (gen_op k op).next h.1)
 
   -- the items of an exit, and its own operations
   pub exit_items : (place : ℕ → ℕ) (exit : graph.Exit) (k : ℕ) → ExitHas P exit
       → Items P (gen_exit place k exit).items
-  exit_items place (graph.Goto c) k h = tt
-  exit_items place (graph.Branch t a b) k h = source_items t k h
-  exit_items place (graph.Call r f ts back) k h = tt
-  exit_items place (graph.Return t) k h = term_items t k h
-  exit_items place (graph.Send t ts ls) k h = both P (gen_term k t).items
-      (gen_terms (gen_term k t).next ts).items (term_items t k h.0) (terms_items ts (gen_term k t).next h.1)
-  exit_items place graph.Stop k h = tt
+  exit_items place exit k h = grind (arith, source_items, term_items, both, terms_items)
 
   pub exit_kind : (place : ℕ → ℕ) (exit : graph.Exit) (k : ℕ) → ExitHas P exit
       → Kind P (gen_exit place k exit).exit
-  exit_kind place (graph.Goto c) k h = tt
-  exit_kind place (graph.Branch t a b) k h = (source_has t k h, plain.steer)
-  exit_kind place (graph.Call r f ts back) k h = plain.halt
-  exit_kind place (graph.Return t) k h = plain.halt
-  exit_kind place (graph.Send t ts ls) k h = (plain.merge, plain.send)
-  exit_kind place graph.Stop k h = plain.halt
+  exit_kind place exit k h = grind (arith, plain.halt)

@@ -43,7 +43,7 @@ count_app (Copies x y ∷ xs) ys = count_app xs ys
 
 length_app : (xs ys : List WiredInstr) → length (xs ++ ys) ≡ length xs + length ys
 length_app [] ys = omega arith
-length_app (x ∷ xs) ys = let e : length (xs ++ ys) ≡ length xs + length ys = length_app xs ys in omega arith
+length_app (x ∷ xs) ys = grind (arith, length_app xs ys)
 
 module _ (image : Image) (b : ℕ) (Kept : ℕ → ℕ → Type 0) (o : Owner) where
   stands_suffix : (k : ℕ) (xs ss : List Step) → Stands image b Kept k (xs ++ ss) o
@@ -58,7 +58,6 @@ module _ (image : Image) (b : ℕ) (Kept : ℕ → ℕ → Type 0) (o : Owner) w
       → Carried image b Kept o s k ss → (m : ℕ) → k ≤ m → m < k + count ss
       → is_tail_op (instr_at image m).op ≡ true → BringsResult image b s m
       (selector_port (instr_at image m).op)
-  find_carried s z n k [] st sel c m l u t = absurd (omega arith)
   find_carried s z n k (Fires x op from ∷ ss) st sel c m l u t = elim (cases_eq m k) [
     | inl e ↦
         absurd (both_ways false refl (ap is_tail_op (sym sel.0) ∙ ap is_tail_op (sym st.0.op_is)
@@ -74,7 +73,7 @@ module _ (image : Image) (b : ℕ) (Kept : ℕ → ℕ → Type 0) (o : Owner) w
   ]
   find_carried s z n k (Skips x op from ∷ ss) st sel c m l u t =
       grind (arith, find_carried s z (suc n) k ss st.2 sel.1 c m l u t)
-  find_carried s z n k (Copies x y ∷ ss) st sel c m l u t = absurd sel
+  find_carried s z n k ss st sel c m l u t = grind arith
 
 module _ (arrays : List Array) (width : ℕ) (ps : List Plan) (Live : ℕ → ℕ → Type 0)
     (plans : PlansAre ps width Live) where
@@ -181,15 +180,13 @@ module _ (arrays : List Array) (width : ℕ) (ps : List Plan) (Live : ℕ → �
 
   steer_only : (b : ℕ) → (w v : Wants) (xs : List ℕ) (i : ℕ) (t : Tail) → nth (steers w v xs) i ≡ Some t
       → t.line.op ≡ Steer
-  steer_only b w v [] i t e = absurd (let a : None ≡ Some t = e in cc)
-  steer_only b w v (x ∷ xs) zero t e = grind arith
   steer_only b w v (x ∷ xs) (suc i) t e = steer_only b w v xs i t e
+  steer_only b w v xs i t e = grind arith
 
   pub send_only : (p : ℕ) (xs : List ℕ) (i : ℕ) (t : Tail) → nth (sends p xs) i ≡ Some t
       → t.line.op ≡ Send (p + i)
-  send_only p [] i t e = absurd (let a : None ≡ Some t = e in cc)
-  send_only p (x ∷ xs) zero t e = grind arith
   send_only p (x ∷ xs) (suc i) t e = grind (arith, send_only (suc p) xs i t e)
+  send_only p xs i t e = grind arith
 
   there : (b : ℕ) → IsBlock I b → Is b
   there b h = is_block arrays width ps b h
@@ -206,10 +203,8 @@ module _ (arrays : List Array) (width : ℕ) (ps : List Plan) (Live : ℕ → �
 
   landing_ok : (values ls : List ℕ) (r : ℕ) → 1 ≤ length ls → AllIn ls (λ c. Outer ps c × PadsFit ps values c)
       → Outer ps (image.landing_of ls r)
-  landing_ok values [] r l a = absurd (omega arith)
-  landing_ok values (c ∷ []) r l a = a.0.0
-  landing_ok values (c ∷ d ∷ ls) zero l a = a.0.0
   landing_ok values (c ∷ d ∷ ls) (suc r) l a = landing_ok values (d ∷ ls) r (omega arith) a.1
+  landing_ok values ls r l a = grind arith
 
   -- where an edge leads
   goes : (b r : ℕ) → Is b → stops I b ≡ false → Inner ps b (target I b r) ⊎ Outer ps (target I b r)

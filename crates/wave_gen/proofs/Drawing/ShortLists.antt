@@ -1,6 +1,6 @@
 -- The lists of a draft fit.
 use Rattle.std.proofs.Common.{ℕ, zero, suc, ◌+◌, ◌≡◌, ◌<◌, ◌≤◌, ◌⊎◌, Bool, true, false, cond, List, [], ◌∷◌}
-use Rattle.std.proofs.Common.{length, Some, None, refl, sym, ap, ◌∙◌, subst, inl, inr, arith}
+use Rattle.std.proofs.Common.{length, Some, refl, sym, ap, ◌∙◌, subst, inl, inr, arith}
 use Rattle.std.proofs.lemmas.Bool.{cases_Bool}
 use Rattle.ws_isa.specs.declared.instr.Op.TheVariants.{Merge, Halt}
 use Rattle.ws_isa.specs.Image as image
@@ -195,9 +195,8 @@ module _ (arrays : List Array) (width : ℕ) (ps : List Plan) (Live : ℕ → �
 
   short_at : (ls : List WiredInstr) (i : ℕ) (l : WiredInstr) → Short ls → nth ls i ≡ Some l
       → (length l.dests ≤ 7) × (length l.others ≤ 7)
-  short_at [] i l s e = absurd (let a : None ≡ Some l = e in cc)
-  short_at (m ∷ ls) zero l s e = let g : m ≡ l = cc in rw (sym g) (s.0, s.1)
   short_at (m ∷ ls) (suc i) l s e = short_at ls i l s.2 e
+  short_at ls i l s e = grind arith
 
   pads_short : (b i : ℕ) (entries xs : List ℕ) (q : Pad) → In q (pads_of (begins width ps) b i entries xs)
       → length q.dests ≤ 7

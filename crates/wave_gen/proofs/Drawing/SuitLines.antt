@@ -1,16 +1,15 @@
 -- Lists of destinations suit the operations of lines.
-use Rattle.std.proofs.Common.{ℕ, zero, suc, ◌+◌, ◌≡◌, ◌≤◌, ◌&&◌, not, Bool, true, false, cond, ltb, List, []}
-use Rattle.std.proofs.Common.{◌∷◌, length, Some, None, refl, subst}
+use Rattle.std.proofs.Common.{arith, ℕ, zero, suc, ◌+◌, ◌≡◌, ◌≤◌, ◌&&◌, not, Bool, true, false, cond, ltb}
+use Rattle.std.proofs.Common.{List, [], ◌∷◌, length, Some, refl}
 use Rattle.std.proofs.lemmas.Bool.{both_ways}
 use Rattle.ws_isa.specs.declared.instr.Op.{Op}
-use Rattle.ws_isa.specs.declared.instr.Op.TheVariants.{Merge, Advance, Send, Halt}
+use Rattle.ws_isa.specs.declared.instr.Op.TheVariants.{Merge, Send}
 use Rattle.ws_isa.specs.Image.{is_memory_op, is_giving_op, is_steer_op}
 use Rattle.wave_gen.specs.Wire.{WiredInstr, Wants, Made, emit, gather, with_room, with_rooms, Item, Make, Act}
 use Rattle.wave_gen.specs.Wire.{Same, is_nil, skip, make, alias, wire, most}
-use Rattle.wave_gen.specs.Plans.{merges, Tail, HowLeft, Onto, Either, Lands, Halts, Plan, pulse, steers}
-use Rattle.wave_gen.specs.Plans.{sends, steered, hang, more, chain, tails_of, end_wants, behind_source}
-use Rattle.wave_gen.specs.Plans.{exit_made, body_made, renew, advances, has_front, plan_at, made_at}
-use Rattle.wave_gen.specs.Plans.{starts_at}
+use Rattle.wave_gen.specs.Plans.{merges, Tail, HowLeft, Plan, pulse, steers, sends, hang, chain, tails_of}
+use Rattle.wave_gen.specs.Plans.{behind_source, exit_made, body_made, renew, advances, has_front, plan_at}
+use Rattle.wave_gen.specs.Plans.{made_at, starts_at}
 use Rattle.wave_gen.proofs.Planning.Planned.{PlansAre}
 use Rattle.wave_gen.proofs.Planning.More.{ItemsGive, SourceGives, PlansGive}
 use Rattle.wave_gen.proofs.Drawing.Blocks.{made_is}
@@ -26,17 +25,15 @@ SuitAll [] = Unit {0}
 SuitAll (l ∷ ls) = Suits l × SuitAll ls
 
 pub suits_at : (ls : List WiredInstr) (i : ℕ) (l : WiredInstr) → SuitAll ls → nth ls i ≡ Some l → Suits l
-suits_at [] i l h e = absurd (let a : None ≡ Some l = e in cc)
-suits_at (m ∷ ls) zero l h e = let g : m ≡ l = cc in subst Suits g h.0
 suits_at (m ∷ ls) (suc i) l h e = suits_at ls i l h.1 e
+suits_at ls i l h e = grind arith
 
 bare_suits : (op : Op) → Suits (record { op = op; dests = []; others = [] })
 bare_suits op = record { dests = λ g s. refl; others = λ s. refl }
 
 emit_suits : (b x : ℕ) (op : Op) (from : List ℕ) (s : Made) → is_giving_op op ≡ true → SuitAll s.code
     → SuitAll (emit b x op from s).code
-emit_suits b x op from s g h =
-    (record { dests = λ n t. absurd (both_ways (is_giving_op op) n g); others = λ t. refl }, h)
+emit_suits b x op from s g h = grind (arith, both_ways)
 
 gather_suits : (b x : ℕ) (s : Made) → SuitAll s.code → SuitAll (gather b x s).code
 gather_suits b x s h = emit_suits b x Merge (x ∷ []) s refl h
@@ -46,20 +43,14 @@ rooms_suit b n [] s h = h
 rooms_suit b n (x ∷ xs) s h = rooms_suit b n xs (with_room b n x s) (go (ltb most (length (s.wants x) + n)))
   where
     go : (f : Bool) → SuitAll (cond f (gather b x s) s).code
-    go true = gather_suits b x s h
-    go false = h
+    go f = grind (arith, gather_suits)
 
 make_suits : (b x : ℕ) (op : Op) (from : List ℕ) (s : Made) → is_giving_op op ≡ true → SuitAll s.code
     → SuitAll (make b x op from s).code
-make_suits b x op from s g h = emit_suits b x op from (with_rooms b (length from) from s) g
-    (rooms_suit b (length from) from s h)
+make_suits b x op from s g h = grind (arith, emit_suits, rooms_suit)
 
 alias_suits : (b x y : ℕ) (s : Made) → SuitAll s.code → SuitAll (alias b x y s).code
-alias_suits b x y s h = go (ltb most (length (s.wants x) + length (s.wants y)))
-  where
-    go : (f : Bool) → SuitAll (cond f (gather b y (gather b x s)) s).code
-    go true = gather_suits b y (gather b x s) (gather_suits b x s h)
-    go false = h
+alias_suits b x y s h = grind (arith, s.wants, gather_suits)
 
 wire_suits : (b : ℕ) (is : List Item) (s : Made) → ItemsGive is → SuitAll s.code → SuitAll (wire b is s).code
 wire_suits b [] s g h = h
@@ -68,10 +59,8 @@ wire_suits b (Make x op from ∷ is) s g h = go (wire_suits b is s g.1 h)
   where
     go : SuitAll (wire b is s).code → (f : Bool)
         → SuitAll (cond f (skip x op from (wire b is s)) (make b x op from (wire b is s))).code
-    go w true = w
-    go w false = make_suits b x op from (wire b is s) g.0 w
-wire_suits b (Act op from ∷ is) s g h =
-    (bare_suits op, rooms_suit b (length from) from (wire b is s) (wire_suits b is s g h))
+    go w f = grind (arith, make_suits)
+wire_suits b (Act op from ∷ is) s g h = grind (arith, bare_suits, rooms_suit, wire_suits b is s g h)
 wire_suits b (Same x y ∷ is) s g h = alias_suits b x y (wire b is s) (wire_suits b is s g h)
 
 abbrev TailsSuit : List Tail → Type 0
@@ -80,21 +69,14 @@ TailsSuit (t ∷ ts) = Suits t.line × TailsSuit ts
 
 steers_suit : (w v : Wants) (xs : List ℕ) → TailsSuit (steers w v xs)
 steers_suit w v [] = tt
-steers_suit w v (x ∷ xs) = (
-  record { dests = λ n s. absurd (both_ways true s refl); others = λ s. absurd (both_ways true s refl) },
-  steers_suit w v xs,
-)
+steers_suit w v (x ∷ xs) = grind (arith, both_ways, steers_suit w v xs)
 
 sends_suit : (p : ℕ) (xs : List ℕ) → TailsSuit (sends p xs)
 sends_suit p [] = tt
 sends_suit p (x ∷ xs) = (bare_suits (Send p), sends_suit (suc p) xs)
 
 tails_suit : (width : ℕ) (starts : ℕ → Wants) (e : HowLeft) → TailsSuit (tails_of width starts e)
-tails_suit width starts (Onto c) = tt
-tails_suit width starts (Either op from c d) = steers_suit (starts c) (starts d)
-    (steered width (starts c) (starts d))
-tails_suit width starts (Lands op from values ls) = sends_suit 0 values
-tails_suit width starts Halts = tt
+tails_suit width starts e = grind (arith, steers_suit, sends_suit)
 
 hang_suits : (b n z : ℕ) (ts : List Tail) (w : Wants) → TailsSuit ts → SuitAll (hang b n z ts w).code
 hang_suits b n z [] w h = tt
@@ -111,28 +93,18 @@ renew_suits b (x ∷ xs) s h = renew_suits b xs (cond (has_front b (s.wants x)) 
     (go (has_front b (s.wants x)))
   where
     go : (f : Bool) → SuitAll (cond f (gather b x s) s).code
-    go true = gather_suits b x s h
-    go false = h
+    go f = grind (arith, gather_suits)
 
 advances_suit : (b : ℕ) (xs : List ℕ) (s : Made) → SuitAll s.code → SuitAll (advances b xs s).code
 advances_suit b [] s h = h
-advances_suit b (x ∷ xs) s h = emit_suits b x Advance (x ∷ []) (advances b xs s) refl (advances_suit b xs s h)
+advances_suit b (x ∷ xs) s h = grind (arith, emit_suits, advances_suit b xs s h)
 
 module _ (width : ℕ) (starts : ℕ → Wants) (b : ℕ) (p : Plan) where
   behind_suits : SuitAll (behind_source width starts b p).code
-  behind_suits = wire_suits b (chain p.test (more 6 (tails_of width starts p.exit)))
-      (hang b 6 p.test (tails_of width starts p.exit) (end_wants width starts p.exit))
-      (chain_gives p.test (more 6 (tails_of width starts p.exit)))
-      (hang_suits b 6 p.test (tails_of width starts p.exit) (end_wants width starts p.exit)
-      (tails_suit width starts p.exit))
+  behind_suits = grind (arith, wire_suits, chain_gives, hang_suits, tails_suit)
 
   exit_suits : (e : HowLeft) → SourceGives e → SuitAll (exit_made width starts b p e).code
-  exit_suits (Onto c) g = behind_suits
-  exit_suits (Either op from c d) g = make_suits b p.test op from (behind_source width starts b p) g
-      behind_suits
-  exit_suits (Lands op from values ls) g = make_suits b p.test op from (behind_source width starts b p) g
-      behind_suits
-  exit_suits Halts g = (bare_suits Halt, behind_suits)
+  exit_suits e g = grind (arith, behind_suits, make_suits, bare_suits)
 
   body_suits : ItemsGive p.items → SourceGives p.exit → SuitAll (body_made width starts b p).code
   body_suits i g = wire_suits b p.items (exit_made width starts b p p.exit) i (exit_suits p.exit g)

@@ -25,14 +25,12 @@ in_among x (y ∷ ys) h = elim (cases_eq x y) [
 ]
 
 pub from_rules : (x : ℕ) (ys : List ℕ) → In x ys → In x ys
-from_rules x [] h = h
-from_rules x (y ∷ ys) (inl e) = inl e
 from_rules x (y ∷ ys) (inr h) = inr (from_rules x ys h)
+from_rules x ys h = grind arith
 
 pub to_rules : (x : ℕ) (ys : List ℕ) → In x ys → In x ys
-to_rules x [] h = h
-to_rules x (y ∷ ys) (inl e) = inl e
 to_rules x (y ∷ ys) (inr h) = inr (to_rules x ys h)
+to_rules x ys h = grind arith
 
 -- a name in the list of those of n variables from x on that are live
 pub record LiveName (live : ℕ → Bool) (x n z : ℕ) : Type 0 where

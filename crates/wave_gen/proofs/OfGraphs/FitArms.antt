@@ -1,23 +1,22 @@
 -- No arm of a branch begins a wave.
-use Rattle.std.proofs.Common.{ℕ, zero, suc, ◌+◌, ◌≡◌, ◌<◌, ◌≤◌, ◌⊎◌, Bool, true, false, List, [], ◌∷◌, ◌++◌}
-use Rattle.std.proofs.Common.{length, Some, None, refl, sym, ap, ◌∙◌, subst, inl, inr, arith}
+use Rattle.std.proofs.Common.{ℕ, suc, ◌+◌, ◌≡◌, ◌<◌, ◌≤◌, ◌⊎◌, Bool, true, false, List, [], ◌∷◌, ◌++◌}
+use Rattle.std.proofs.Common.{length, Some, None, sym, subst, inl, inr, arith}
 use Rattle.std.proofs.lemmas.Bool.{both_ways}
 use Rattle.cfg_core.specs.Graph as graph
 use Rattle.cfg_core.specs.Graph.{Term, Branch, Block, GraphProc, Graph, Spot, spots, spot_at, block_at}
 use Rattle.cfg_core.specs.Graph.{entry_of, entry_from}
-use Rattle.cfg_core.specs.Rules.{Leads, calls}
+use Rattle.cfg_core.specs.Rules.{Leads}
 use Rattle.cfg_core.specs.Edges.{Edge}
 use Rattle.cfg_core.specs.Shape.{OnlyFrom}
-use Rattle.wave_cut.specs.Cut.{Cut, is_first, Returns, wave}
+use Rattle.wave_cut.specs.Cut.{Cut, is_first}
 use Rattle.wave_gen.specs.Fitting.{Fits}
 use Rattle.wave_gen.proofs.Walking.Tied.{spot_nth}
 use Rattle.wave_link.proofs.Grown.GrownEdges.{not_true}
 use Rattle.ws_words.specs.Items.{nth}
 
 entry_low : (first : ℕ) (ps : List GraphProc) (f : ℕ) → f < length ps → first ≤ entry_from first ps f
-entry_low first [] f l = absurd (omega arith)
-entry_low first (p ∷ ps) zero l = omega arith
 entry_low first (p ∷ ps) (suc f) l = grind (arith, entry_low (first + length p.blocks) ps f (omega arith))
+entry_low first ps f l = grind arith
 
 -- a block before a procedure's first one belongs to an earlier procedure, one from it on to no earlier one
 abbrev Sides : ℕ → ℕ → List GraphProc → ℕ → Spot → Type 0
@@ -28,9 +27,8 @@ Sides first h ps n s = (h ≤ s.home)
 in_or_after : (h vars : ℕ) (xs : List Block) (rest : List Spot) (k : ℕ) (s : Spot)
     → nth (graph.spots_in h vars xs ++ rest) k ≡ Some s → ((k < length xs) × (s.home ≡ h))
     ⊎ ((i : ℕ) × (k ≡ length xs + i) × (nth rest i ≡ Some s))
-in_or_after h vars [] rest k s q = inr (k, (let z : k ≡ 0 + k = omega arith in z), q)
-in_or_after h vars (x ∷ xs) rest zero s q = grind arith
 in_or_after h vars (x ∷ xs) rest (suc k) s q = grind (arith, in_or_after h vars xs rest k s q)
+in_or_after h vars xs rest k s q = grind arith
 
 sides : (first h : ℕ) (ps : List GraphProc) (n : ℕ) (s : Spot) → nth (graph.spots_from h ps) n ≡ Some s
     → Sides first h ps n s
@@ -60,31 +58,7 @@ module _ (g : Graph) (live : ℕ → ℕ → Bool) (cut : Cut) (fit : Fits g liv
   alone : (a : ℕ) (t : Term) (x y c : ℕ) → a < length (spots g) → (block_at g a).exit ≡ Branch t x y
       → OnlyFrom g a c → a < c → Edge g a c → c < length (spots g) → (spot_at g c).home ≡ (spot_at g a).home
       → is_first cut c ≡ true → ⊥
-  alone a t x y c la q only l k lc h f = elim ((fit.cuts.rule c lc).0 f) [
-    | inl s ↦ elim s [
-      | inl e ↦ not_entry g a c e.0 la lc h l e.1 e.2
-      | inr s ↦ elim s [
-        | inl d ↦ (let z : d.0 ≡ a = only d.0 d.2 in let u : c ≤ d.0 = d.1 in omega (arith, z, u, l))
-        | inr r ↦ returns r.0 (block_at g r.0).exit refl r.1
-      ]
-    ]
-    | inr s ↦ elim s [
-      | inl n ↦ n a k
-      | inr j ↦ (let u : j.0 ≡ a = only j.0 j.2 in let v : j.1 ≡ a = only j.1 j.3 in
-          j.4 (ap (wave cut) (u ∙ sym v)))
-    ]
-  ]
-    where
-      returns : (b : ℕ) (exit : graph.Exit) → (block_at g b).exit ≡ exit → Returns exit c → ⊥
-      returns b (graph.Call r f ts back) e i = both_ways (calls (block_at g b).exit) (fit.no_call b)
-          (ap calls e)
-      returns b (graph.Send u ts ls) e i =
-          let z : b ≡ a = only b (subst (λ w. Leads w c) (sym e) i) in
-          let w : graph.Send u ts ls ≡ Branch t x y = sym e ∙ ap (λ n. (block_at g n).exit) z ∙ q in cc
-      returns b (graph.Goto d) e i = i
-      returns b (graph.Branch u d m) e i = i
-      returns b (graph.Return u) e i = i
-      returns b graph.Stop e i = i
+  alone a t x y c la q only l k lc h f = grind (arith, not_entry, both_ways, fit.no_call)
 
   -- no arm of a branch begins a wave
   pub arm_inside : (a : ℕ) (t : Term) (x y c : ℕ) → a < length (spots g) → (block_at g a).exit ≡ Branch t x y

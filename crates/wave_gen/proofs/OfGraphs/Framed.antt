@@ -1,6 +1,6 @@
 -- Where blocks start, and how they end.
 use Rattle.std.proofs.Common.{ℕ, zero, suc, ◌+◌, ◌-◌, ◌≡◌, ◌<◌, ◌≤◌, true, false, List, [], ◌∷◌, ◌++◌, length}
-use Rattle.std.proofs.Common.{map, reverse, drop, get_or, refl, sym, ap, ◌∙◌, arith}
+use Rattle.std.proofs.Common.{map, reverse, drop, get_or, refl, ap, ◌∙◌, arith}
 use Rattle.std.proofs.lemmas.Bool.{cases_Bool}
 use Rattle.std.proofs.lemmas.List.{drop_more, reverse-append, length-reverse, get_or-reverse}
 use Rattle.wave_gen.specs.declared.plan.Plan as code
@@ -17,16 +17,14 @@ use Rattle.ws_words.specs.Items.{nth, or_else}
 
 nth_plan : (ps : List code.Plan) (k : ℕ) (p : code.Plan) → k < length ps → p ≡ get_or ps k p
     → or_else (nth (map view.plan ps) k) no_plan ≡ view.plan p
-nth_plan [] k p lt e = absurd (omega arith)
-nth_plan (q ∷ ps) zero p lt e = ap view.plan (sym e)
 nth_plan (q ∷ ps) (suc k) p lt e = nth_plan ps k p (omega arith) e
+nth_plan ps k p lt e = grind arith
 
 nth_none : (ps : List code.Plan) (k : ℕ) → length ps ≤ k → (or_else (nth (map view.plan ps) k) no_plan).first
     ≡ false
 unfolding no_plan
-nth_none [] k le = refl
-nth_none (q ∷ ps) zero le = absurd (omega arith)
 nth_none (q ∷ ps) (suc k) le = nth_none ps k (omega arith)
+nth_none ps k le = grind arith
 
 pub plan_is : (ps : List code.Plan) (b k : ℕ) (p : code.Plan) → b ≡ suc k → b ≤ length ps → p ≡ get_or ps k p
     → plan_at (map view.plan ps) b ≡ view.plan p
@@ -98,9 +96,8 @@ nth_drop (x ∷ xs) (suc j) k = grind (arith, nth_drop xs j k)
 
 drop_nth : {A : Type 0} (xs : List A) (k : ℕ) (d : A) → k < length xs → drop k xs ≡ or_else (nth xs k) d
     ∷ drop (suc k) xs
-drop_nth [] k d lt = absurd (omega arith)
-drop_nth (x ∷ xs) zero d lt = refl
 drop_nth (x ∷ xs) (suc k) d lt = drop_nth xs k d (omega arith)
+drop_nth xs k d lt = grind arith
 
 drop_plan : (ps : List Plan) (k : ℕ) → k < length ps → drop k ps ≡ plan_at ps (suc k) ∷ drop (suc k) ps
 unfolding plan_at
@@ -109,9 +106,8 @@ drop_plan ps k lt = drop_nth ps k no_plan lt
 module _ (width : ℕ) (ps : List Plan) where
   drop_blocks : (a j : ℕ) (qs : List Plan) → drop j (blocks_from width ps a qs) ≡ blocks_from width ps (a + j)
       (drop j qs)
-  drop_blocks a zero qs = let e : a ≡ a + 0 = omega arith in ap (λ n. blocks_from width ps n qs) e
-  drop_blocks a (suc j) [] = refl
   drop_blocks a (suc j) (q ∷ qs) = grind (arith, drop_blocks (suc a) j qs)
+  drop_blocks a j qs = grind arith
 
   abbrev Behind : ℕ → List Made
   Behind b = blocks_from width ps (suc b) (drop b ps)

@@ -1,5 +1,5 @@
 -- What holds of the draft that is made of a graph.
-use Rattle.std.proofs.Common.{ℕ, ◌≡◌, Bool, true, false, List, refl, sym, subst}
+use Rattle.std.proofs.Common.{arith, ℕ, ◌≡◌, Bool, true, false, List, refl, sym, subst}
 use Rattle.ws_words.specs.Outside.{World, WorldOfWords}
 use Rattle.ws_isa.specs.Image.{Image}
 use Rattle.ws_isa.specs.Open.{OpenToNotes}
@@ -32,35 +32,15 @@ use Rattle.ws_words.specs.Items.{In}
 
 -- what the passes before give is what plans are made of
 pub no_call : (x : graph.Exit) → NoCall x → calls x ≡ false
-no_call (graph.Goto b) h = refl
-no_call (graph.Branch t a b) h = refl
-no_call (graph.Call r f ts back) h = absurd h
-no_call (graph.Return t) h = refl
-no_call (graph.Send t ts ls) h = refl
-no_call graph.Stop h = refl
+no_call x h = grind arith
 
 pub brought : (g : Graph) (exit : graph.Exit) → NoneAcross g exit → (l x : ℕ) → In l (landings_of exit)
     → Live g l x → In x (block_at g l).named
-brought g (graph.Send t ts ls) h l x i v = h l x i v
-brought g (graph.Goto b) h l x i v = absurd i
-brought g (graph.Branch t a b) h l x i v = absurd i
-brought g (graph.Call r f ts back) h l x i v = absurd i
-brought g (graph.Return t) h l x i v = absurd i
-brought g graph.Stop h l x i v = absurd i
+brought g exit h l x i v = grind arith
 
 pub fits : (g : Graph) (planes : List (List ℕ)) (cut : Cut) → IsGraph g → AreLive g planes → IsCut g cut
     → AreWaves g cut → HasNoCall g → NoneLiveAcross g → ArmsAlone g → Fits g (has planes) cut
-fits g planes cut r l c w n a b = record {
-  graph = r;
-  sets = l;
-  cuts = c;
-  waves = w;
-  no_call = λ b. no_call (block_at g b).exit (n b);
-  brought = λ b l x. brought g (block_at g b).exit (a.landings b) l x;
-  start = a.start;
-  apart = b.apart;
-  ahead = b.ahead;
-}
+fits g planes cut r l c w n a b = grind (arith, no_call, brought, a.landings)
 
 pub record Kept (g : Graph) (live : ℕ → ℕ → Bool) (draft : Image) : Type 0 where
   pub open_to_notes : OpenToNotes draft

@@ -1,5 +1,5 @@
 -- Drafts of graphs are open to notes.
-use Rattle.std.proofs.Common.{◌++◌, ℕ, zero, suc, ◌≡◌, ◌<◌, ◌≤◌, Bool, true, List, [], ◌∷◌, length, map, refl}
+use Rattle.std.proofs.Common.{◌++◌, ℕ, suc, ◌≡◌, ◌<◌, ◌≤◌, Bool, true, List, [], ◌∷◌, length, map, refl}
 use Rattle.std.proofs.Common.{sym, ap, subst, arith}
 use Rattle.std.specs.List.{AllByRecursion}
 use Rattle.ws_words.specs.Outside.{World, zeros, WorldOfWords}
@@ -8,7 +8,7 @@ use Rattle.ws_isa.specs.Image.{Image, Array, cells_of}
 use Rattle.ws_isa.specs.Formed as formed
 use Rattle.ws_isa.specs.Open.{OpenToNotes}
 use Rattle.cfg_core.specs.Graph as graph
-use Rattle.cfg_core.specs.Graph.{Term, Number, Cell, Flip, Not, Neg, Binary, GraphArray, Graph, spots}
+use Rattle.cfg_core.specs.Graph.{Term, Cell, Flip, Not, Neg, Binary, GraphArray, Graph, spots}
 use Rattle.cfg_core.specs.Graph.{spot_at, block_at}
 use Rattle.cfg_core.specs.Rules.{TermIn, OpIn, ExitIn}
 use Rattle.cfg_core.specs.Walk as walks
@@ -76,13 +76,12 @@ module _ (g : Graph) (image : Image) (same : length image.arrays ≡ length g.ar
   array_in a h = (h.0, let l : a ≤ length g.arrays = h.1 in omega arith)
 
   term_in : (vars : ℕ) (t : Term) → TermIn (length g.arrays) vars t → TermHas (formed.OpIn image) t
-  term_in vars (Number zero) h = tt
   term_in vars (Cell a t) h = (array_in a h.0, term_in vars t h.1)
   term_in vars (Flip t) h = term_in vars t h
   term_in vars (Not t) h = term_in vars t h
   term_in vars (Neg t) h = term_in vars t h
   term_in vars (Binary op a b) h = (term_in vars a h.0, term_in vars b h.1)
-  term_in vars _ h = tt
+  term_in vars t h = grind arith
 
   terms_in : (vars : ℕ) (ts : List Term) → AllByRecursion (TermIn (length g.arrays) vars) ts
       → AllByRecursion (TermHas (formed.OpIn image)) ts

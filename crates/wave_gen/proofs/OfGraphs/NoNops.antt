@@ -1,11 +1,11 @@
 -- The draft of a graph has no no-op, since no plan makes one.
-use Rattle.std.proofs.Common.{ℕ, zero, suc, ◌≡◌, Bool, true, false, List, [], ◌∷◌, refl, sym, ap, ◌∙◌}
+use Rattle.std.proofs.Common.{arith, ℕ, ◌≡◌, Bool, true, false, List, [], ◌∷◌, refl, sym, ap, ◌∙◌}
 use Rattle.std.specs.List.{AllByRecursion}
 use Rattle.ws_isa.specs.declared.instr.Op.{Op}
 use Rattle.ws_isa.specs.declared.instr.Op.TheVariants.{Nop}
 use Rattle.ws_isa.specs.Image.{Image, flat}
 use Rattle.cfg_core.specs.Graph as graph
-use Rattle.cfg_core.specs.Graph.{Term, Number, Var, Cell, Flip, Not, Neg, Binary, Graph, block_at}
+use Rattle.cfg_core.specs.Graph.{Term, Cell, Flip, Not, Neg, Binary, Graph, block_at}
 use Rattle.wave_cut.specs.Cut.{Cut}
 use Rattle.wave_link.proofs.Sound.FormedOf.{instr_of_all}
 use Rattle.wave_gen.specs.Plans.{draft_of}
@@ -29,42 +29,22 @@ abbrev IsOther : Op → Type 0
 IsOther op = is_nop op ≡ false
 
 plain_other : Plain IsOther
-plain_other = record {
-  top = refl;
-  alu = λ o. refl;
-  merge = refl;
-  phi = refl;
-  input = refl;
-  output = refl;
-  steer = refl;
-  send = λ p. refl;
-  halt = refl;
-}
+plain_other = grind arith
 
 term_other : (t : Term) → TermHas IsOther t
-term_other (Number zero) = tt
-term_other (Number (suc n)) = refl
-term_other (Var x) = tt
 term_other (Cell a t) = (refl, term_other t)
 term_other (Flip t) = term_other t
 term_other (Not t) = term_other t
 term_other (Neg t) = term_other t
 term_other (Binary op a b) = (term_other a, term_other b)
+term_other t = grind arith
 
 terms_other : (ts : List Term) → AllByRecursion (TermHas IsOther) ts
 terms_other [] = tt
 terms_other (t ∷ ts) = (term_other t, terms_other ts)
 
 op_other : (op : graph.Op) → OpHas IsOther op
-op_other (graph.Assign x t) = term_other t
-op_other (graph.Store a t u) = (refl, term_other t, term_other u)
-op_other (graph.Print t) = term_other t
-op_other (graph.Read x) = tt
-op_other (graph.Give p x) = refl
-op_other (graph.Take p t) = (refl, term_other t)
-op_other (graph.Choose x t a b) = (term_other t, term_other a, term_other b)
-op_other (graph.Tick n) = tt
-op_other (graph.TickBy t n m) = tt
+op_other op = grind (arith, term_other)
 
 ops_other : (ops : List graph.Op) → AllByRecursion (OpHas IsOther) ops
 ops_other [] = tt

@@ -1,6 +1,6 @@
 -- The plan of a block, by the outline of its graph.
-use Rattle.std.proofs.Common.{ℕ, suc, ◌+◌, ◌-◌, ◌≡◌, ◌<◌, ◌||◌, cond, not, eqb, true, false, Bool, List, []}
-use Rattle.std.proofs.Common.{◌∷◌, ◌++◌, length, map, refl, sym, ap, ◌∙◌, append_assoc, arith}
+use Rattle.std.proofs.Common.{ℕ, suc, ◌+◌, ◌-◌, ◌≡◌, ◌<◌, ◌||◌, cond, not, eqb, Bool, List, []}
+use Rattle.std.proofs.Common.{◌∷◌, ◌++◌, length, map, append_assoc, arith}
 use Rattle.cfg_core.specs.Graph.{Block, spots, spot_at}
 use Rattle.cfg_core.specs.View as view
 use Rattle.cfg_core.specs.Shows.{SpotIs}
@@ -25,17 +25,7 @@ use Rattle.ws_words.specs.Items.{flag_at}
 pub entries_next : (f : ℕ → Bool) (x vars : ℕ) (old new whole : List ℕ) → x < vars
     → new ≡ old ++ cond (f x) (suc x ∷ []) [] → old ++ live_from f x (vars - x) ≡ whole
     → new ++ live_from f (x + 1) (vars - (x + 1)) ≡ whole
-entries_next f x vars old new whole l e h =
-    let z : x + 1 ≡ suc x = omega arith in let n = vars - suc x in let y : vars - x ≡ suc n = omega arith in
-    let rest = live_from f (suc x) n in
-    ap (λ j. new ++ live_from f j (vars - j)) z
-    ∙ ap (λ (xs : List ℕ). xs ++ rest) e
-    ∙ append_assoc old (cond (f x) (suc x ∷ []) []) rest
-    ∙ ap (λ (xs : List ℕ). old ++ xs)
-    (elim (f x) as (λ v. cond v (suc x ∷ []) [] ++ rest ≡ cond v (suc x ∷ rest) rest)
-    [ true ↦ refl | false ↦ refl ])
-    ∙ ap (λ k. old ++ live_from f x k) (sym y)
-    ∙ h
+entries_next f x vars old new whole l e h = grind (arith, append_assoc)
 
 -- the code's plan is this one
 pub plan_is : (p : Plan) (q : plans.Plan) → p.wave ≡ q.wave → p.first ≡ q.first → p.joined ≡ q.joined

@@ -29,9 +29,8 @@ use Rattle.ws_words.specs.Items.{nth, or_else, In, Distinct}
 
 some_in : (f : graph.Exit → List ℕ) (ss : List Spot) (b c : ℕ) → b < length ss
     → In c (f (or_else (nth ss b) no_spot).block.exit) → in_some f ss c ≡ true
-some_in f [] b c l h = absurd (omega (arith, l))
-some_in f (s ∷ ss) zero c l h = rw (in_among c (f s.block.exit) h) refl
 some_in f (s ∷ ss) (suc b) c l h = grind (arith, or_right, some_in f ss b c (omega (arith, l)) h)
+some_in f ss b c l h = grind (arith, in_among)
 
 suc_in : (x : ℕ) (xs : List ℕ) → In x xs → In (suc x) (map suc xs)
 suc_in x [] h = h

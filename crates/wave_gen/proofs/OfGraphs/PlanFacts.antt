@@ -1,6 +1,6 @@
 -- The plans of a graph, by their numbers, and what they need.
 use Rattle.std.proofs.Common.{ℕ, zero, suc, ◌≡◌, ◌<◌, ◌≤◌, Bool, true, false, List, [], ◌∷◌, ◌++◌, length}
-use Rattle.std.proofs.Common.{map, Some, None, refl, sym, ap, subst, inl, inr, arith}
+use Rattle.std.proofs.Common.{map, Some, refl, sym, ap, subst, inl, inr, arith}
 use Rattle.std.proofs.lemmas.Bool.{both_ways}
 use Rattle.cfg_core.specs.Graph as graph
 use Rattle.cfg_core.specs.Graph.{Graph, spots, spot_at, block_at, no_spot}
@@ -27,9 +27,8 @@ use Rattle.live_vars.proofs.Below.{reads_below, carries_stays}
 use Rattle.ws_words.proofs.Places.{nth_short}
 
 nth_map : (f : ℕ → Plan) (xs : List ℕ) (i b : ℕ) → nth xs i ≡ Some b → nth (map f xs) i ≡ Some (f b)
-nth_map f [] i b e = absurd (let h : None ≡ Some b = e in cc)
-nth_map f (x ∷ xs) zero b e = let h : x ≡ b = cc in ap (λ z. Some (f z)) h
 nth_map f (x ∷ xs) (suc i) b e = nth_map f xs i b e
+nth_map f xs i b e = grind arith
 
 length_map : (f : ℕ → Plan) (xs : List ℕ) → length (map f xs) ≡ length xs
 length_map f [] = refl

@@ -1,6 +1,6 @@
 -- The plans of a graph give what they make, and have pads only where a wave begins.
 use Rattle.std.proofs.Common.{◌++◌, ℕ, zero, suc, ◌≡◌, ◌<◌, ◌≤◌, ◌||◌, Bool, true, false, cond, List, [], ◌∷◌}
-use Rattle.std.proofs.Common.{length, map, refl, sym, ap, ◌∙◌, subst, inl, inr, arith, ne_eqb}
+use Rattle.std.proofs.Common.{length, map, refl, sym, ap, ◌∙◌, arith, ne_eqb}
 use Rattle.std.proofs.lemmas.Bool.{both_ways, cases_eq}
 use Rattle.cfg_core.specs.Graph as graph
 use Rattle.cfg_core.specs.Graph.{Graph, Spot, spots, spot_at, block_at, no_spot}
@@ -18,7 +18,6 @@ use Rattle.wave_gen.proofs.OfGraphs.Turned.{start_first}
 use Rattle.wave_gen.proofs.OfGraphs.Entries.{among_in, to_rules}
 use Rattle.wave_gen.proofs.OfGraphs.PlanFacts.{planned, plan_there, as_many, block_there}
 use Rattle.ws_words.specs.Items.{nth, or_else, In}
-use Rattle.cfg_core.specs.Weights.{first_block}
 use Rattle.ws_words.proofs.Places.{nth_there}
 
 -- a block in the list of whose exit this one is
@@ -39,18 +38,11 @@ returns exit c h = grind (arith, to_rules)
 module _ (g : Graph) (live : ℕ → ℕ → Bool) (cut : Cut) (fit : Fits g live cut) where
   pads_first : (c : ℕ) → c < length (spots g) → has_pads g c ≡ true → is_first cut c ≡ true
   unfolding spot_at
-  pads_first c l h = elim (cases_eq c (first_block g)) [
-    | inl e ↦ ap (is_first cut) e ∙ start_first g live cut fit
-    | inr d ↦
-        (let r = some_of landings_of (spots g) c (subst (λ v. (v || in_some landings_of (spots g) c) ≡ true)
-        (ne_eqb c (first_block g) d) h) in
-        (fit.cuts.rule c l).1 (inl (inr (inr (r.0, returns (block_at g r.0).exit c r.1)))))
-  ]
+  pads_first c l h = grind (arith, cases_eq, start_first, some_of, ne_eqb, returns)
 
   no_pads : (c : ℕ) → c < length (spots g) → is_first cut c ≡ false → (v : Bool) → has_pads g c ≡ v
       → cond v (pulse ∷ map suc (block_at g c).named) [] ≡ []
-  no_pads c l e true f = absurd (both_ways (is_first cut c) e (pads_first c l f))
-  no_pads c l e false f = refl
+  no_pads c l e v f = grind (arith, both_ways, pads_first)
 
   -- the block of which a plan is made
   pub found : (n : ℕ) → (1 ≤ n) × (n ≤ length (plans_of g live cut)) → (c : ℕ) × (c < length (spots g))

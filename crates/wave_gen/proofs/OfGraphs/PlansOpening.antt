@@ -1,6 +1,6 @@
 -- The plans of a graph are open to notes.
 use Rattle.std.proofs.Common.{ℕ, zero, suc, ◌≡◌, ◌<◌, ◌≤◌, ◌||◌, Bool, true, false, not, List, [], ◌∷◌}
-use Rattle.std.proofs.Common.{length, map, Some, None, refl, sym, ap, ◌∙◌, subst, inl, inr, arith}
+use Rattle.std.proofs.Common.{length, map, Some, refl, sym, ap, ◌∙◌, subst, inl, inr, arith}
 use Rattle.std.proofs.lemmas.Bool.{both_ways}
 use Rattle.ws_isa.specs.declared.instr.Op.{Op}
 use Rattle.ws_isa.specs.Image.{edges_of}
@@ -35,9 +35,8 @@ second_arm _ = 0
 
 -- a block to which an edge of a plan's exit leads
 in_map : (f : ℕ → ℕ) (xs : List ℕ) (i n : ℕ) → nth (map f xs) i ≡ Some n → (c : ℕ) × In c xs × (f c ≡ n)
-in_map f [] i n e = absurd (let h : None ≡ Some n = e in cc)
-in_map f (x ∷ xs) zero n e = (x, inl refl, some_same e)
 in_map f (x ∷ xs) (suc i) n e = let r = in_map f xs i n e in (r.0, inr r.1, r.2)
+in_map f xs i n e = grind (arith, some_same)
 
 edge_to : (place : ℕ → ℕ) (exit : graph.Exit) (k i n : ℕ)
     → nth (edges_of (exit_of 0 (gen_exit place k exit).exit)) i ≡ Some n → (c : ℕ) × rules.Leads exit c
@@ -176,9 +175,8 @@ module _ (g : Graph) (live : ℕ → ℕ → Bool) (cut : Cut) (fit : Fits g liv
   there_with : (ss : List Spot) (b c : ℕ) → In c (arms_of (or_else (nth ss b) no_spot).block.exit)
       → b < length ss
   unfolding no_spot
-  there_with [] b c i = absurd i
-  there_with (s ∷ ss) zero c i = omega arith
   there_with (s ∷ ss) (suc b) c i = let l : b < length ss = there_with ss b c i in omega (arith, l)
+  there_with ss b c i = grind arith
 
   some_branch : (x : ℕ) → in_some arms_of (spots g) x ≡ true → (b : ℕ) × (b < length (spots g))
       × In x (arms_of (block_at g b).exit)

@@ -83,9 +83,6 @@ up : (w k : ℕ) (is : List Item) (m : ℕ) → w ≤ k → Fresh w k is m → w
 up w k is m l h = let g = h.grows in omega arith
 
 pub term_fresh : (w : ℕ) (t : Term) (k : ℕ) → w ≤ k → Fresh w k (gen_term k t).items (gen_term k t).next
-term_fresh w (Number zero) k l = fresh_none w k
-term_fresh w (Number (suc n)) k l = fresh_make w k (Const (suc n)) (pulse ∷ [])
-term_fresh w (Var x) k l = fresh_none w k
 term_fresh w (Cell a t) k l = let g = gen_term k t in then_fresh w k g (Load a) (g.name ∷ []) l
     (term_fresh w t k l)
 term_fresh w (Flip t) k l =
@@ -100,6 +97,7 @@ term_fresh w (Binary op a b) k l =
     let g = gen_term k a in let h = gen_term g.next b in let f = term_fresh w a k l in
     then_fresh w k (got (g.items ++ h.items) h.name h.next) (Alu op) (g.name ∷ h.name ∷ []) l
     (fresh_append w k g.next h.next g.items h.items l f (term_fresh w b g.next (up w k g.items g.next l f)))
+term_fresh w t k l = grind (arith, fresh_none, fresh_make)
 
 source_fresh : (w : ℕ) (t : Term) (k : ℕ) → w ≤ k → Fresh w k (gen_source k t).items (gen_source k t).next
 source_fresh w (Number zero) k l = fresh_none w k

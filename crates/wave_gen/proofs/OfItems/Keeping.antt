@@ -1,13 +1,12 @@
 -- What an exit reads stays as it was read.
-use Rattle.std.proofs.Common.{ℕ, zero, suc, ◌+◌, ◌-◌, ◌≡◌, ◌<◌, ◌≤◌, ◌⊎◌, ◌&&◌, not, Bool, true, false, cond}
-use Rattle.std.proofs.Common.{ltb, List, [], ◌∷◌, ◌++◌, length, map, Some, refl, sym, ap, ◌∙◌, subst, inl}
-use Rattle.std.proofs.Common.{inr, arith}
+use Rattle.std.proofs.Common.{ℕ, zero, suc, ◌+◌, ◌-◌, ◌≡◌, ◌<◌, ◌≤◌, ◌⊎◌, ◌&&◌, not, Bool, false, cond, List}
+use Rattle.std.proofs.Common.{[], ◌∷◌, ◌++◌, length, map, Some, refl, sym, ap, ◌∙◌, subst, inl, inr, arith}
 use Rattle.ws_isa.specs.declared.instr.Op.{Op}
-use Rattle.ws_isa.specs.declared.instr.Op.TheVariants.{Merge, Advance}
+use Rattle.ws_isa.specs.declared.instr.Op.TheVariants.{Merge}
 use Rattle.ws_isa.specs.Image.{is_memory_op, result_of_op}
 use Rattle.wave_gen.specs.Waits.{Step, Fires, Rests, Skips, Copies}
 use Rattle.wave_gen.specs.Wire.{WiredInstr, Wants, Made, emit, rest, skip, copy, gather, with_room}
-use Rattle.wave_gen.specs.Wire.{with_rooms, Item, Make, Act, Same, is_nil, make, alias, wire_item, wire, most}
+use Rattle.wave_gen.specs.Wire.{with_rooms, Item, is_nil, make, alias, wire_item, wire}
 use Rattle.wave_gen.specs.Plans.{Tail, TailAt, operands_of, hung, hang, more, chain, selected, renew}
 use Rattle.wave_gen.specs.Plans.{advances, has_front}
 use Rattle.ws_isa.proofs.Blocks.{nth_append_right}
@@ -49,10 +48,7 @@ module _ (K : ℕ → ℕ → Type 0) (top : ℕ) where
     copy_body x y s h = grind arith
 
     room_body : (b n x : ℕ) (s : Made) → Body s → Body (with_room b n x s)
-    room_body b n x s h = go (ltb most (length (s.wants x) + n))
-      where
-        go : (f : Bool) → Body (cond f (gather b x s) s)
-        go f = grind (arith, emit_body)
+    room_body b n x s h = grind (arith, s.wants, emit_body)
 
     rooms_body : (b n : ℕ) (xs : List ℕ) (s : Made) → Body s → Body (with_rooms b n xs s)
     rooms_body b n [] s h = h
@@ -62,22 +58,10 @@ module _ (K : ℕ → ℕ → Type 0) (top : ℕ) where
     make_body b x op from s h = grind (arith, emit_body, rooms_body)
 
     alias_body : (b x y : ℕ) (s : Made) → Body s → Body (alias b x y s)
-    alias_body b x y s h =
-        copy_body x y (cond (ltb most (length (s.wants x) + length (s.wants y))) (gather b y (gather b x s))
-        s) (go (ltb most (length (s.wants x) + length (s.wants y))))
-      where
-        go : (f : Bool) → Body (cond f (gather b y (gather b x s)) s)
-        go f = grind (arith, emit_body)
+    alias_body b x y s h = grind (arith, copy_body, s.wants, emit_body)
 
     item_body : (b : ℕ) (i : Item) (s : Made) → Body s → Body (wire_item b i s)
-    item_body b (Make x op from) s h = go (is_nil (s.wants x) && not (is_memory_op op))
-      where
-        go : (f : Bool) → Body (cond f (skip x op from s) (make b x op from s))
-        go true = skip_body x op from s h
-        go false = make_body b x op from s h
-    item_body b (Act op from) s h = rest_body b (record { op = op; dests = []; others = [] }) from
-        (with_rooms b (length from) from s) (rooms_body b (length from) from s h)
-    item_body b (Same x y) s h = alias_body b x y s h
+    item_body b i s h = grind (arith, s.wants, skip_body, make_body, rest_body, rooms_body, alias_body)
 
     pub wire_body : (b : ℕ) (is : List Item) (s : Made) → Body s → Body (wire b is s)
     wire_body b [] s h = h
@@ -93,7 +77,7 @@ module _ (K : ℕ → ℕ → Type 0) (top : ℕ) where
 
     pub advances_body : (b : ℕ) (xs : List ℕ) (s : Made) → Body s → Body (advances b xs s)
     advances_body b [] s h = h
-    advances_body b (x ∷ xs) s h = emit_body b x Advance (x ∷ []) (advances b xs s) (advances_body b xs s h)
+    advances_body b (x ∷ xs) s h = grind (arith, emit_body, advances_body b xs s h)
 
     pub merge_body : (b x : ℕ) (s : Made) → Body s → Body (gather b x s)
     merge_body b x s h = emit_body b x Merge (x ∷ []) s h
@@ -154,14 +138,15 @@ module _ (K : ℕ → ℕ → Type 0) (top src z most_code : ℕ) (ts : List Tai
 
   room_chain : (b n x : ℕ) (s : Made) → Chained s → Chained (with_room b n x s)
   unfolding Other
-  room_chain b n x s c = go (ltb most (length (s.wants x) + n))
-    where
-      go : (f : Bool) → Chained (cond f (gather b x s) s)
-      go f = grind (arith, emit_chain)
+  room_chain b n x s c = grind (arith, s.wants, emit_chain)
 
   pub rooms_chain : (b n : ℕ) (xs : List ℕ) (s : Made) → Chained s → Chained (with_rooms b n xs s)
   rooms_chain b n [] s c = c
-  rooms_chain b n (x ∷ xs) s c = rooms_chain b n xs (with_room b n x s) (room_chain b n x s c)
+  rooms_chain b n (x ∷ xs) s c = grind (
+    arith,
+    room_chain,
+    rooms_chain b n xs (with_room b n x s) (room_chain b n x s c),
+  )
 
   chain_chain : (b y n : ℕ) (s : Made) → z ≤ y → Chained s → Chained (wire b (chain y n) s)
   unfolding Other

@@ -56,8 +56,7 @@ module _ (P : Op → Type 0) (merge : P Merge) where
 
   length_append : (xs ys : List WiredInstr) → length (xs ++ ys) ≡ length xs + length ys
   length_append [] ys = omega arith
-  length_append (x ∷ xs) ys = let e : length (xs ++ ys) ≡ length xs + length ys = length_append xs ys in
-      omega arith
+  length_append (x ∷ xs) ys = grind (arith, length_append xs ys)
 
   pub same_more : (s : Made) → More s s
   same_more s = record {
@@ -215,8 +214,6 @@ module _ (P : Op → Type 0) (merge : P Merge) where
 
 pub hang_nth : (b n z : ℕ) (ts : List Tail) (w : ℕ → List _) (i : ℕ) (t : Tail) → nth ts i ≡ Some t
     → nth (hang b n z ts w).code i ≡ Some t.line
-hang_nth b n z [] w i t e = absurd (let a : None ≡ Some t = e in cc)
-hang_nth b zero z (u ∷ ts) w zero t e = let g : u ≡ t = cc in ap (λ (x : Tail). Some x.line) g
 hang_nth b zero z (u ∷ ts) w (suc i) t e = hang_nth b 5 (suc z) ts w i t e
-hang_nth b (suc n) z (u ∷ ts) w zero t e = let g : u ≡ t = cc in ap (λ (x : Tail). Some x.line) g
 hang_nth b (suc n) z (u ∷ ts) w (suc i) t e = hang_nth b n z ts w i t e
+hang_nth b n z ts w i t e = grind arith

@@ -1,12 +1,12 @@
 -- The items of operations do what the operations do.
-use Rattle.std.proofs.Common.{ℕ, zero, suc, ◌-◌, ◌≡◌, ◌<◌, ◌≤◌, ◌==◌, Bool, true, false, cond, eqb, List, []}
+use Rattle.std.proofs.Common.{ℕ, suc, ◌-◌, ◌≡◌, ◌<◌, ◌≤◌, ◌==◌, Bool, true, false, cond, eqb, List, []}
 use Rattle.std.proofs.Common.{◌∷◌, ◌++◌, length, slice_index, slice_set, refl, sym, ap, ◌∙◌, subst, arith}
 use Rattle.std.proofs.lemmas.Bool.{cases_eq}
 use Rattle.ws_words.specs.Outside as outside
 use Rattle.ws_words.specs.Outside.{Outside, ProcState, row, write, stored, printed, taken, has_read, given}
 use Rattle.ws_isa.specs.declared.instr.Op.TheVariants.{Phi, Store, Output, Take}
 use Rattle.cfg_core.specs.Graph as graph
-use Rattle.cfg_core.specs.Graph.{Graph, Term, Number, Var, Cell, Flip, Not, Neg, Binary}
+use Rattle.cfg_core.specs.Graph.{Graph, Term, Flip, Not, Neg, Binary}
 use Rattle.cfg_core.specs.Rules.{TermIn, OpIn, NoCell, ChoosesBare}
 use Rattle.cfg_core.specs.Walk.{value, loads_of, value_of, OpsOutcome, Done, Out, spend, run_op, run_ops}
 use Rattle.cfg_core.specs.Walk.{and_then}
@@ -23,16 +23,12 @@ use Rattle.ws_words.proofs.Acts.{with_more}
 
 -- lists of variables
 pub get_set : (xs : List ℕ) (i v : ℕ) → i < length xs → slice_index (slice_set xs i v) i ≡ v
-get_set [] i v l = absurd (omega arith)
-get_set (x ∷ xs) zero v l = refl
 get_set (x ∷ xs) (suc i) v l = get_set xs i v (omega arith)
+get_set xs i v l = grind arith
 
 pub get_other : (xs : List ℕ) (i j v : ℕ) → (j ≡ i → ⊥) → slice_index (slice_set xs i v) j ≡ slice_index xs j
-get_other [] i j v n = refl
-get_other (x ∷ xs) zero zero v n = absurd (n refl)
-get_other (x ∷ xs) zero (suc j) v n = refl
-get_other (x ∷ xs) (suc i) zero v n = refl
 get_other (x ∷ xs) (suc i) (suc j) v n = get_other xs i j v (λ e. n (ap suc e))
+get_other xs i j v n = grind arith
 
 agrees_set : (vars : List ℕ) (env : ℕ → ℕ) (x v : ℕ) → Agrees vars env
     → Agrees (slice_set vars x v) (set env (suc x) v)
@@ -45,13 +41,11 @@ pub record IsState (st : ProcState) (s : NameState) : Type 0 where
 
 -- a term without cells loads nothing
 no_loads : (t : Term) (vars : List ℕ) (cells : List (List ℕ)) → NoCell t → loads_of t vars cells ≡ []
-no_loads (Number n) vars cells h = refl
-no_loads (Var x) vars cells h = refl
-no_loads (Cell a t) vars cells h = absurd h
 no_loads (Flip t) vars cells h = no_loads t vars cells h
 no_loads (Not t) vars cells h = no_loads t vars cells h
 no_loads (Neg t) vars cells h = no_loads t vars cells h
 no_loads (Binary op a b) vars cells h = rw (no_loads a vars cells h.0, no_loads b vars cells h.1) refl
+no_loads t vars cells h = grind arith
 
 same_test : (v : ℕ) → eqb v 0 ≡ (v == 0)
 same_test v = refl
@@ -66,9 +60,8 @@ pub done_is : (a c : ProcState) (k l : ℕ) → Done a k ≡ Done c l → a ≡ 
 done_is a c k l e = cc
 
 spend_is : (n : ℕ) (s st : ProcState) (k l : ℕ) → spend n s k ≡ Done st l → s ≡ st
-spend_is zero s st k l e = done_is s st k l e
-spend_is (suc n) s st zero l e = absurd (let z : Out s.out ≡ Done st l = e in cc)
 spend_is (suc n) s st (suc k) l e = spend_is n s st k l e
+spend_is n s st k l e = grind (arith, done_is)
 
 same_state : (k : ℕ) (st st' : ProcState) (s : NameState) → IsState st s → st ≡ st' → Left k st st' [] k s
 same_state k st st' s i e = record { is = rw (sym e) i; length_same = rw (sym e) refl; next = omega arith }

@@ -9,8 +9,7 @@ use Rattle.wave_gen.proofs.Planning.Planned.{Reads, Apart, AllBelow}
 use Rattle.wave_gen.specs.Gen.{top_word, gen_term}
 use Rattle.wave_gen.specs.Drawn.{gen_source, gen_terms}
 use Rattle.wave_gen.proofs.OfItems.ReadTerms.{Ground, ground_more, Beyond, reads_append, next_after}
-use Rattle.wave_gen.proofs.OfItems.ReadTerms.{from_term}
-use Rattle.wave_gen.proofs.OfItems.ReadTerms.{term_reads}
+use Rattle.wave_gen.proofs.OfItems.ReadTerms.{from_term, term_reads}
 use Rattle.ws_words.specs.Items.{In}
 
 -- what is behind a source reads its operands, or Q says that it reads x

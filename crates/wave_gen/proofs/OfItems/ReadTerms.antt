@@ -33,9 +33,6 @@ reads_append (Same y z ∷ is) js P x (inl h) = inl h
 reads_append (Same y z ∷ is) js P x (inr h) = inr (h.0, reads_append is js P x h.1)
 
 pub next_after : (t : Term) (k : ℕ) → k ≤ (gen_term k t).next
-next_after (Number zero) k = omega arith
-next_after (Number (suc n)) k = omega arith
-next_after (Var x) k = omega arith
 next_after (Cell a t) k = let l : k ≤ (gen_term k t).next = next_after t k in omega arith
 next_after (Flip t) k = let l : k ≤ (gen_term k t).next = next_after t k in omega arith
 next_after (Not t) k = let l : k ≤ (gen_term k t).next = next_after t k in omega arith
@@ -43,6 +40,7 @@ next_after (Neg t) k = let l : k ≤ (gen_term k t).next = next_after t k in ome
 next_after (Binary op a b) k =
     let g = gen_term k a in let l : k ≤ g.next = next_after a k in let m : g.next ≤ (gen_term g.next b).next =
     next_after b g.next in omega arith
+next_after t k = grind arith
 
 -- a term's value has a name of its own, or that of the pulse or of a variable
 pub named : (t : Term) (k : ℕ) → Ground (Mentions t) (gen_term k t).name
@@ -73,11 +71,6 @@ made g k R P op from x f ih h = grind (arith, reads_append)
 
 pub term_reads : (t : Term) (k : ℕ) (P : ℕ → Type 0) (x : ℕ) → Reads (gen_term k t).items P x
     → Ground (Mentions t) x ⊎ (P x × Beyond k (gen_term k t).next x)
-term_reads (Number zero) k P x h = inr (h, λ l. l)
-term_reads (Number (suc n)) k P x (inl (inl e)) = inl (inl e)
-term_reads (Number (suc n)) k P x (inl (inr b)) = absurd b
-term_reads (Number (suc n)) k P x (inr h) = inr (h.1, λ l. (let d : x ≡ k → ⊥ = h.0 in omega arith))
-term_reads (Var y) k P x h = inr (h, λ l. l)
 term_reads (Cell a t) k P x h = let g = gen_term k t in
     made g k (Mentions t) P (Load a) (g.name ∷ []) x
     (λ i out. elim i [ inl e ↦ from_term t k x e out | inr b ↦ absurd b ])
@@ -146,3 +139,4 @@ term_reads (Binary op a b) k P x h = let g = gen_term k a in let m = gen_term g.
         Reads ((gen_term k a).items ++ (gen_term (gen_term k a).next b).items) Q x →
         Ground (λ y. Mentions a y ⊎ Mentions b y) x ⊎ (Q x × Beyond k (gen_term (gen_term k a).next b).next x)
     two_reads a b k Q x ia ib r = grind (arith, reads_append, ground_more)
+term_reads t k P x h = grind arith

@@ -26,15 +26,12 @@ gather_runs b x s n = ap (run_steps s.steps) (merged n x)
 
 room_runs : (b k x : ℕ) (s : Made) (n : NameState) → run_steps (with_room b k x s).steps n ≡ run_steps s.steps
     n
-room_runs b k x s n = go (ltb most (length (s.wants x) + k))
-  where
-    go : (f : Bool) → run_steps (cond f (gather b x s) s).steps n ≡ run_steps s.steps n
-    go f = grind (arith, gather_runs)
+room_runs b k x s n = grind (arith, s.wants, gather_runs)
 
 pub rooms_runs : (b k : ℕ) (xs : List ℕ) (s : Made) (n : NameState) → run_steps (with_rooms b k xs s).steps n
     ≡ run_steps s.steps n
 rooms_runs b k [] s n = refl
-rooms_runs b k (x ∷ xs) s n = rooms_runs b k xs (with_room b k x s) n ∙ room_runs b k x s n
+rooms_runs b k (x ∷ xs) s n = grind (arith, room_runs, rooms_runs b k xs (with_room b k x s) n)
 
 pub make_runs : (b x : ℕ) (op : Op) (from : List ℕ) (s : Made) (n : NameState)
     → run_steps (make b x op from s).steps n ≡ run_steps s.steps (run_item (Make x op from) n)
@@ -67,8 +64,7 @@ wire_runs b (Make x op from ∷ is) s n = go (is_nil ((wire b is s).wants x) && 
         run_steps (cond f (skip x op from (wire b is s)) (make b x op from (wire b is s))).steps n ≡ run_steps
         s.steps (run_items is (run_item (Make x op from) n))
     go f e ih = grind (arith, skips_value, not_true, and_right, make_runs)
-wire_runs b (Act op from ∷ is) s n =
-    grind (arith, rooms_runs, run_item, wire_runs b is s (run_item (Act op from) n))
+wire_runs b (Act op from ∷ is) s n = grind (arith, rooms_runs, wire_runs b is s (run_item (Act op from) n))
 wire_runs b (Same x y ∷ is) s n = alias_runs b x y (wire b is s) n ∙ wire_runs b is s (run_item (Same x y) n)
 
 -- fronts change nothing

@@ -10,7 +10,7 @@ use Rattle.wave_gen.specs.Waits.{NameState, set}
 use Rattle.wave_gen.specs.Wire.{Item, Make, Act, Same}
 use Rattle.wave_gen.specs.Plans.{pulse}
 use Rattle.wave_gen.specs.Shared.{is_pulse, const_of, share, share_as, learn, learn_of, shared, none_known}
-use Rattle.wave_gen.proofs.Planning.Planned.{Reads, ItemIs, ItemsAre}
+use Rattle.wave_gen.proofs.Planning.Planned.{Reads, ItemsAre}
 use Rattle.wave_gen.proofs.Planning.More.{ItemsGive}
 use Rattle.wave_gen.proofs.OfItems.Lines.{Items}
 use Rattle.wave_gen.proofs.OfItems.Runs.{run_item, run_items}
@@ -76,7 +76,7 @@ item_shared P same K i h = grind (arith, turns)
 
 pub shared_are : (K : ℕ → ℕ) (is : List Item) → ItemsAre is → ItemsAre (shared K is)
 shared_are K [] h = tt
-shared_are K (i ∷ is) h = (item_shared ItemIs (λ x y. tt) K i h.0, shared_are (learn K i) is h.1)
+shared_are K (i ∷ is) h = grind (arith, shared_are (learn K i) is h.1)
 
 Has : (Op → Type 0) → Item → Type 0
 Has P (Make x op from) = P op
@@ -85,15 +85,11 @@ Has P (Same x y) = Unit {0}
 
 has_first : (P : Op → Type 0) (i : Item) (is : List Item) → Items P (i ∷ is) → Has P i × Items P is
 unfolding Has
-has_first P (Make x op from) is h = h
-has_first P (Act op from) is h = h
-has_first P (Same x y) is h = (tt, h)
+has_first P i is h = grind arith
 
 has_cons : (P : Op → Type 0) (i : Item) (is : List Item) → Has P i → Items P is → Items P (i ∷ is)
 unfolding Has
-has_cons P (Make x op from) is h k = (h, k)
-has_cons P (Act op from) is h k = (h, k)
-has_cons P (Same x y) is h k = k
+has_cons P i is h k = grind arith
 
 same_has : (P : Op → Type 0) (x y : ℕ) → Has P (Same x y)
 unfolding Has
@@ -113,15 +109,11 @@ Gives (Same x y) = Unit {0}
 
 give_first : (i : Item) (is : List Item) → ItemsGive (i ∷ is) → Gives i × ItemsGive is
 unfolding Gives
-give_first (Make x op from) is h = h
-give_first (Act op from) is h = (tt, h)
-give_first (Same x y) is h = (tt, h)
+give_first i is h = grind arith
 
 give_cons : (i : Item) (is : List Item) → Gives i → ItemsGive is → ItemsGive (i ∷ is)
 unfolding Gives
-give_cons (Make x op from) is h k = (h, k)
-give_cons (Act op from) is h k = k
-give_cons (Same x y) is h k = k
+give_cons i is h k = grind arith
 
 same_gives : (x y : ℕ) → Gives (Same x y)
 unfolding Gives
@@ -250,5 +242,4 @@ heavies (i ∷ is) = weight i + extra_of (const_of i) + heavies is
 
 pub shared_weigh : (K : ℕ → ℕ) (is : List Item) → weights (shared K is) ≤ heavies is
 shared_weigh K [] = omega arith
-shared_weigh K (i ∷ is) =
-    grind (arith, weights, heavies, turns, weight, extra_of, shared_weigh (learn K i) is)
+shared_weigh K (i ∷ is) = grind (arith, turns, shared_weigh (learn K i) is)

@@ -1,5 +1,5 @@
 -- The items of a term make its value.
-use Rattle.std.proofs.Common.{ℕ, zero, suc, ◌-◌, ◌^◌, ◌≡◌, ◌<◌, ◌≤◌, List, [], ◌∷◌, ◌++◌, length, map}
+use Rattle.std.proofs.Common.{ℕ, ◌-◌, ◌^◌, ◌≡◌, ◌<◌, ◌≤◌, List, [], ◌∷◌, ◌++◌, length, map}
 use Rattle.std.proofs.Common.{slice_index, refl, sym, ap, ◌∙◌, subst, arith, eq-eqb, ne_eqb}
 use Rattle.std.proofs.lemmas.Nat.{mod-mul-add}
 use Rattle.ws_words.specs.Outside.{Act, loads, Outside, row}
@@ -7,7 +7,7 @@ use Rattle.ws_words.specs.Operators.{applied}
 use Rattle.ws_words.specs.declared.alu.Alu.TheVariants.{Sub, Eq}
 use Rattle.ws_isa.specs.declared.instr.Op.{Op}
 use Rattle.ws_isa.specs.declared.instr.Op.TheVariants.{Const, Alu, Load}
-use Rattle.cfg_core.specs.Graph.{Graph, Term, Number, Var, Cell, Flip, Not, Neg, Binary}
+use Rattle.cfg_core.specs.Graph.{Graph, Term, Cell, Flip, Not, Neg, Binary}
 use Rattle.cfg_core.specs.Rules.{TermIn}
 use Rattle.cfg_core.specs.Walk.{value, loads_of}
 use Rattle.wave_gen.specs.Waits.{NameState, set, outcome, effect}
@@ -50,8 +50,7 @@ pub make_gives : (k : ℕ) (s : NameState) (g : Got) (v : ℕ) (ls : List Act) �
     → effect op (map (run_items g.items s).env from) (run_items g.items s).out ≡ with_more
     (run_items g.items s).out more →
     Gives k s (then_make g (λ n. Make n op from)) w (ls ++ more)
-make_gives k s g v ls h op from w more a b =
-    grind (arith, run_items, run_item, run_append, set_here, set_other, with_more, acted_more)
+make_gives k s g v ls h op from w more a b = grind (arith, run_append, set_here, set_other, acted_more)
 
 pub flipped : (v : ℕ) → v < 2 ^ 64 → applied Sub (2 ^ 64 - 1) v ≡ 2 ^ 64 - 1 - v
 unfolding top_word
@@ -79,27 +78,6 @@ module _ (graph : Graph) where
   pub term_gives : (t : Term) (k n : ℕ) (vars : List ℕ) (s : NameState) → TermIn (length graph.arrays) n t
       → n ≡ length vars → n < k → Agrees vars s.env → FlipsWords t vars s.out.cells →
       Gives k s (gen_term k t) (value t vars s.out.cells) (loads_of t vars s.out.cells)
-  term_gives (Number zero) k n vars s i m l a f = record {
-    value = a.zero_pulse;
-    keeps = λ y u. refl;
-    out = sym (acted_none s.out);
-    named = omega arith;
-    next = omega arith;
-  }
-  term_gives (Number (suc w)) k n vars s i m l a f = record {
-    value = set_here s.env k (suc w);
-    keeps = λ y u. set_other s.env k (suc w) y (λ e. omega arith);
-    out = sym (acted_none s.out);
-    named = omega arith;
-    next = omega arith;
-  }
-  term_gives (Var x) k n vars s i m l a f = record {
-    value = a.var x (let u : x < n = i in omega arith);
-    keeps = λ y u. refl;
-    out = sym (acted_none s.out);
-    named = (let u : x < n = i in omega arith);
-    next = omega arith;
-  }
   term_gives (Cell c t) k n vars s i m l a f =
       let g = gen_term k t in
       let h : Gives k s g (value t vars s.out.cells) (loads_of t vars s.out.cells) =
@@ -166,3 +144,4 @@ module _ (graph : Graph) where
       (loads_of t vars s.out.cells ++ loads_of u vars s.out.cells) b.0 (Alu op) (g.name ∷ q.name ∷ [])
       (applied op (value t vars s.out.cells) (value u vars s.out.cells)) []
       (rw (b.0.value, b.1) refl) (sym (acted_none (run_items (g.items ++ q.items) s).out)))
+  term_gives t k n vars s i m l a f = grind (arith, acted_none, set_here, s.env, set_other, a.var)

@@ -1,5 +1,5 @@
 -- Edges of plans of a draft lead ahead where they don't lead to the first block of a wave.
-use Rattle.std.proofs.Common.{ℕ, zero, suc, ◌<◌, ◌≤◌, List, [], ◌∷◌, length, sym, ◌∙◌, inl, inr, arith}
+use Rattle.std.proofs.Common.{ℕ, zero, suc, ◌<◌, ◌≤◌, List, ◌∷◌, length, sym, ◌∙◌, inl, inr, arith}
 use Rattle.std.proofs.lemmas.Bool.{cases_lt, false≢true}
 use Rattle.wave_gen.specs.Plans.{HowLeft, Plan, no_plan, plan_at}
 use Rattle.wave_gen.specs.Kept.{Ahead, LeadsAhead}
@@ -14,9 +14,8 @@ edges_ahead ps b x e = grind (arith, outer_ahead)
 
 none_ahead : (ps qs : List Plan) (b k : ℕ) → length qs ≤ k → LeadsAhead ps b (or_else (nth qs k) no_plan).exit
 unfolding no_plan
-none_ahead ps [] b k le = tt
-none_ahead ps (q ∷ qs) b zero le = absurd (omega arith)
 none_ahead ps (q ∷ qs) b (suc k) le = none_ahead ps qs b k (omega arith)
+none_ahead ps qs b k le = grind arith
 
 past_ahead : (ps : List Plan) (b : ℕ) → length ps < b → LeadsAhead ps b (plan_at ps b).exit
 unfolding plan_at

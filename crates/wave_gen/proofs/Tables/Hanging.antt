@@ -26,11 +26,10 @@ hang_at b (suc n) z k p (t ∷ ts) w le e =
 
 more_at : (n z k p : ℕ) (t : Tail) (ts : List Tail) → n ≤ 6 → 6 * z + 6 ≡ 6 * k + (p + n)
     → z + more n (t ∷ ts) ≡ k + (p + length ts) / 6
-more_at zero z k p t [] le e = grind (arith, next_name)
-more_at (suc n) z k p t [] le e = grind (arith, this_name)
 more_at zero z k p t (u ∷ ts) le e =
     grind (arith, more_at 5 (suc z) k (suc p) u ts (omega arith) (omega arith))
 more_at (suc n) z k p t (u ∷ ts) le e = grind (arith, more_at n z k (suc p) u ts (omega arith) (omega arith))
+more_at n z k p t ts le e = grind (arith, next_name, this_name)
 
 more_is : (ts : List Tail) → more 6 ts ≡ (length ts - 1) / 6
 more_is [] = refl

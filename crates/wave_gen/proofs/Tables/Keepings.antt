@@ -23,7 +23,7 @@ wanted_append (p ∷ ps) qs x = grind (arith, cases_eq, wanted_append ps qs p.na
 
 wanted_here : (x : ℕ) (l : List Target) → wanted (wants_of x l) x ≡ l
 wanted_here x [] = refl
-wanted_here x (p ∷ l) = rw (eq-eqb x x refl) (ap (λ (k : List Target). p ∷ k) (wanted_here x l))
+wanted_here x (p ∷ l) = grind (arith, eq-eqb, wanted_here x l)
 
 wanted_there : (x y : ℕ) (l : List Target) → (y ≡ x → ⊥) → wanted (wants_of x l) y ≡ []
 wanted_there x y [] n = refl
@@ -169,7 +169,5 @@ false_and : (a b : Bool) → false ≡ b → false ≡ a && b
 false_and a b e = grind arith
 
 pub lengths_differ : (ps qs : List Target) → (length ps ≡ length qs → ⊥) → false ≡ same_spots ps qs
-lengths_differ [] [] n = absurd (n refl)
-lengths_differ [] (q ∷ qs) n = refl
-lengths_differ (p ∷ ps) [] n = refl
 lengths_differ (p ∷ ps) (q ∷ qs) n = grind (arith, false_and, lengths_differ ps qs (λ e. n (ap suc e)))
+lengths_differ ps qs n = grind arith

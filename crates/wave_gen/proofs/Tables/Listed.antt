@@ -1,5 +1,5 @@
 -- What is wanted by a table after a change.
-use Rattle.std.proofs.Common.{drop, slice_index, add-one, ℕ, zero, suc, ◌+◌, ◌≡◌, ◌<◌, ◌≤◌, Bool, cond, eqb}
+use Rattle.std.proofs.Common.{drop, slice_index, add-one, ℕ, suc, ◌+◌, ◌≡◌, ◌<◌, ◌≤◌, Bool, cond, eqb}
 use Rattle.std.proofs.Common.{List, [], ◌∷◌, ◌++◌, length, slice_set, refl, sym, ap, ◌∙◌, arith, ne_eqb}
 use Rattle.std.proofs.lemmas.Bool.{cases_eq}
 use Rattle.std.proofs.lemmas.List.{drop_more}
@@ -13,28 +13,22 @@ Lists = List (Vec Target Global)
 
 pub list_at : (vs : Lists) (x : ℕ) (v : Vec Target Global) → x < length vs → v ≡ slice_index_or vs x v
     → v.items ≡ listed vs x
-list_at [] x v lt e = absurd (omega arith)
-list_at (w ∷ vs) zero v lt e = ap (λ (u : Vec Target Global). u.items) e
 list_at (w ∷ vs) (suc x) v lt e = list_at vs x v (omega arith) e
+list_at vs x v lt e = grind arith
 
 pub list_past : (vs : Lists) (x : ℕ) → length vs ≤ x → listed vs x ≡ []
-list_past [] x le = refl
-list_past (w ∷ vs) zero le = absurd (omega arith)
 list_past (w ∷ vs) (suc x) le = list_past vs x (omega arith)
+list_past vs x le = grind arith
 
 set_same : (vs : Lists) (x : ℕ) (v : Vec Target Global) → x < length vs
     → listed (slice_set vs x v) x ≡ v.items
-set_same [] x v lt = absurd (omega arith)
-set_same (w ∷ vs) zero v lt = refl
 set_same (w ∷ vs) (suc x) v lt = set_same vs x v (omega arith)
+set_same vs x v lt = grind arith
 
 set_other : (vs : Lists) (x y : ℕ) (v : Vec Target Global) → (y ≡ x → ⊥)
     → listed (slice_set vs x v) y ≡ listed vs y
-set_other [] x y v n = refl
-set_other (w ∷ vs) zero zero v n = absurd (n refl)
-set_other (w ∷ vs) zero (suc y) v n = refl
-set_other (w ∷ vs) (suc x) zero v n = refl
 set_other (w ∷ vs) (suc x) (suc y) v n = set_other vs x y v (λ e. n (ap suc e))
+set_other vs x y v n = grind arith
 
 set_at : (vs : Lists) (x y : ℕ) (v : Vec Target Global) → x < length vs
     → listed (slice_set vs x v) y ≡ cond (eqb y x) v.items (listed vs y)
@@ -45,10 +39,8 @@ pub list_set : (vs : Lists) (x : ℕ) (v : Vec Target Global) (l : List Target) 
 list_set vs x v l lt e = grind (arith, set_at)
 
 push_at : (vs : Lists) (v : Vec Target Global) (y : ℕ) → v.items ≡ [] → listed (vs ++ v ∷ []) y ≡ listed vs y
-push_at [] v zero e = e
-push_at [] v (suc y) e = refl
-push_at (w ∷ vs) v zero e = refl
 push_at (w ∷ vs) v (suc y) e = push_at vs v y e
+push_at vs v y e = grind arith
 
 -- an empty list more
 pub list_push : (vs : Lists) (v : Vec Target Global) → v.items ≡ [] → ◌≡◌ {A = Wants} (listed (vs ++ v ∷ []))

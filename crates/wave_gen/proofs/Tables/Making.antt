@@ -116,7 +116,11 @@ not_renewed b x m s l r el er t st = grind (arith, front_is)
 pub renew_push : (b : ℕ) (xs : List ℕ) (x : ℕ) (s : Made) → renew b (xs ++ x ∷ []) s ≡ renew b (x ∷ [])
     (renew b xs s)
 renew_push b [] x s = refl
-renew_push b (y ∷ xs) x s = renew_push b xs x (cond (has_front b (s.wants y)) (gather b y s) s)
+renew_push b (y ∷ xs) x s = grind (
+  arith,
+  s.wants,
+  renew_push b xs x (cond (has_front b (s.wants y)) (gather b y s) s),
+)
 
 pub begun_first : (b : ℕ) (p : Plan) (n : Maker) (s : Made) → p.first ≡ true
     → HasMade b n (advances b p.entries (renew b p.entries s)) → HasMade b n (begun b p s)

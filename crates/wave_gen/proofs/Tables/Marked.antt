@@ -37,11 +37,7 @@ none_vars s h = sym (ap (λ (x : Spot). x.vars) h)
 pub vars_next : (g : Graph) (j most vars : ℕ) → 0 < j → j ≤ length (spots g)
     → most ≡ most_vars (drop j (spots g)) → vars ≡ (spot_at g (j - 1)).vars
     → cond (ltb vars most) most vars ≡ most_vars (drop (j - 1) (spots g))
-vars_next g j most vars o l h e =
-    let i = j - 1 in let z : j ≡ suc i = omega arith in
-    ap (λ m. cond (ltb vars m) m vars) (h ∙ ap (λ k. most_vars (drop k (spots g))) z)
-    ∙ ap (λ v. cond (ltb v (most_vars (drop (suc i) (spots g)))) (most_vars (drop (suc i) (spots g))) v) e
-    ∙ ap most_vars (sym (spot_drop g i (omega arith)))
+vars_next g j most vars o l h e = grind (arith, spot_drop)
 
 pub vars_more : (g : Graph) (j most vars : ℕ) → 0 < j → j ≤ length (spots g)
     → most ≡ most_vars (drop j (spots g)) → vars ≡ (spot_at g (j - 1)).vars → most ≤ vars

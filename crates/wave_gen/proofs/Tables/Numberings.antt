@@ -1,5 +1,5 @@
 -- Blocks with numbers are those of the draft.
-use Rattle.std.proofs.Common.{ℕ, zero, suc, ◌+◌, ◌-◌, ◌≡◌, ◌<◌, ◌≤◌, min, List, [], ◌∷◌, ◌++◌, length, map}
+use Rattle.std.proofs.Common.{ℕ, suc, ◌+◌, ◌-◌, ◌≡◌, ◌<◌, ◌≤◌, min, List, [], ◌∷◌, ◌++◌, length, map}
 use Rattle.std.proofs.Common.{reverse, drop, get_or, refl, sym, ap, ◌∙◌, arith}
 use Rattle.std.proofs.lemmas.List.{drop_more, append_assoc, map_push, length-map, length-reverse}
 use Rattle.std.proofs.lemmas.List.{get_or-reverse}
@@ -29,10 +29,8 @@ pads_next f b i entries xs ps new p whole lt en ep h = grind (arith, map_push, a
 module _ (width : ℕ) (ps : List Plan) where
   kept_is : (b : ℕ) (ks : List Kept) (ss : List Made) (i : ℕ) (x : Kept) → AreKept width ps b ks ss
       → i < length ks → x ≡ get_or ks i x → IsKept width ps (b + i) x (or_else (nth ss i) no_made)
-  kept_is b [] ss i x h lt e = absurd (omega arith)
-  kept_is b (y ∷ ks) [] i x h lt e = absurd h
-  kept_is b (y ∷ ks) (s ∷ ss) zero x h lt e = grind arith
   kept_is b (y ∷ ks) (s ∷ ss) (suc i) x h lt e = grind (arith, kept_is (suc b) ks ss i x h.1 (omega arith) e)
+  kept_is b ks ss i x h lt e = grind arith
 
   code_length : (b : ℕ) (k : Kept) (s : Made) → IsKept width ps b k s → length k.code.items ≡ length s.code
   code_length b k s h = grind (arith, length-map, length-reverse)
@@ -43,10 +41,6 @@ module _ (width : ℕ) (ps : List Plan) where
 
   number_from : (b n : ℕ) (ks : List Kept) (ss : List Made) (c q : ℕ) → AreKept width ps b ks ss
       → q ≡ min (suc c) (length (numbers_from n ks)) → at_place (numbers_from n ks) q + 1 ≡ n + numbers ss c
-  number_from b n [] [] c q h e = let one : q ≡ 1 = omega arith in ap (λ z. at_place (n ∷ []) z + 1) one
-  number_from b n [] (s ∷ ss) c q h e = absurd h
-  number_from b n (k ∷ ks) [] c q h e = absurd h
-  number_from b n (k ∷ ks) (s ∷ ss) zero q h e = grind arith
   number_from b n (k ∷ ks) (s ∷ ss) (suc c) q h e =
       let rest = numbers_from (n + length k.code.items) ks in
       let long : 1 ≤ length rest = numbers_long (n + length k.code.items) ks in
@@ -55,6 +49,7 @@ module _ (width : ℕ) (ps : List Plan) where
       let less : suc (q - 2) ≡ min (suc c) (length rest) = omega arith in
       let same : length k.code.items ≡ length s.code = code_length b k s h.0 in
       omega (arith, number_from (suc b) (n + length k.code.items) ks ss c (suc (q - 2)) h.1 less)
+  number_from b n ks ss c q h e = grind arith
 
   begins_at : (ks : List Kept) (x : ℕ) → AreKept width ps 1 ks (mades width ps)
       → number_at (numbers_from 1 ks) x ≡ begins width ps x

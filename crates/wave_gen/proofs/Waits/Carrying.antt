@@ -65,7 +65,6 @@ module _ (image : Image) (b : ℕ) (Kept : ℕ → ℕ → Type 0) (o : Owner) w
 
   pub carried : (s z n k : ℕ) (ss : List Step) → Stands image b Kept k ss o → first_number image b ≤ k → z ≤ n
       → Sel z n ss → Reached s z n k ss → Carried s k ss
-  carried s z n k [] st lo zn sel r = tt
   carried s z n k (Fires x op from ∷ ss) st lo zn sel r = elim sel.1 [
     | inl a ↦ carried s z (suc n) (suc k) ss st.1 (omega arith) (omega arith) a.2
         (λ y j q l u e. elim (cases_eq x y) [
@@ -104,7 +103,7 @@ module _ (image : Image) (b : ℕ) (Kept : ℕ → ℕ → Type 0) (o : Owner) w
         | inl f ↦ absurd (st.0 j q (e ∙ ap Some (sym f)))
         | inr f ↦ r y j q l (let g : x ≡ suc n = sel.0 in omega arith) e
       ])
-  carried s z n k (Copies x y ∷ ss) st lo zn sel r = absurd sel
+  carried s z n k ss st lo zn sel r = grind arith
 
 -- the steps behind the choice carry the selector's names
 module _ (z : ℕ) where

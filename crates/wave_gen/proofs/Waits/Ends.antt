@@ -88,11 +88,11 @@ TailsAre (t ∷ ts) = TailIs t × TailsAre ts
 
 steers_are : (w v : Wants) (xs : List ℕ) → TailsAre (steers w v xs)
 steers_are w v [] = tt
-steers_are w v (x ∷ xs) = (record { silent = λ ds. refl; two = λ x z. refl }, steers_are w v xs)
+steers_are w v (x ∷ xs) = grind (arith, steers_are w v xs)
 
 sends_are : (p : ℕ) (xs : List ℕ) → TailsAre (sends p xs)
 sends_are p [] = tt
-sends_are p (x ∷ xs) = (record { silent = λ ds. refl; two = λ x z. refl }, sends_are (suc p) xs)
+sends_are p (x ∷ xs) = grind (arith, sends_are (suc p) xs)
 
 pub tails_are : (width : ℕ) (starts : ℕ → Wants) (e : HowLeft) → TailsAre (tails_of width starts e)
 tails_are width starts e = grind (arith, steers_are, sends_are)

@@ -1,13 +1,12 @@
 -- Which names are wanted before some code: those that it reads before it makes them, and those that are
 -- wanted behind it.
-use Rattle.std.proofs.Common.{ℕ, zero, suc, ◌+◌, ◌≡◌, ◌<◌, ◌≤◌, ◌⊎◌, ◌&&◌, not, Bool, true, false, cond, ltb}
+use Rattle.std.proofs.Common.{ℕ, zero, suc, ◌+◌, ◌≡◌, ◌<◌, ◌≤◌, ◌⊎◌, ◌&&◌, not, Bool, true, false, cond}
 use Rattle.std.proofs.Common.{List, [], ◌∷◌, length, refl, ap, ◌∙◌, inl, inr, arith, eq-eqb, ne_eqb}
 use Rattle.std.proofs.lemmas.Bool.{cases_eq, cases_lt, both_ways}
 use Rattle.ws_isa.specs.declared.instr.Op.{Op}
 use Rattle.ws_isa.specs.Image.{is_memory_op}
-use Rattle.wave_gen.specs.Wire.{Target, Back, Wants, Made, with_wants, with_uses, moved, emit, skip, copy}
-use Rattle.wave_gen.specs.Wire.{gather, with_room, with_rooms, Item, Make, Act, Same, is_nil, make, alias}
-use Rattle.wave_gen.specs.Wire.{wire, most}
+use Rattle.wave_gen.specs.Wire.{Target, Back, Wants, Made, with_wants, with_uses, moved, emit, skip, gather}
+use Rattle.wave_gen.specs.Wire.{with_room, with_rooms, Item, Make, Act, Same, is_nil, make, alias, wire}
 use Rattle.wave_gen.specs.Plans.{Tail, operands_of, hung, hang, more, chain, selected}
 use Rattle.wave_gen.proofs.Planning.Planned.{Reads}
 use Rattle.ws_words.specs.Items.{In}
@@ -19,13 +18,7 @@ pub with_uses_wanted : (b r q : ℕ) (from : List ℕ) (w : Wants) (x : ℕ) →
     → In x from ⊎ Wanted w x
 with_uses_wanted b r q [] w x h = inr h
 with_uses_wanted b r q (y ∷ from) w x h =
-    elim (with_uses_wanted b r (suc q) from (with_wants w y (Back b r q ∷ w y)) x h) [
-      | inl g ↦ inl (inr g)
-      | inr g ↦ elim (cases_eq x y) [
-        | inl e ↦ inl (inl e)
-        | inr n ↦ inr (λ e. g (rw (ne_eqb x y n) e))
-      ]
-    ]
+    grind (arith, cases_eq, ne_eqb, with_uses_wanted b r (suc q) from (with_wants w y (Back b r q ∷ w y)) x h)
 
 pub emit_wanted : (b y : ℕ) (op : Op) (from : List ℕ) (s : Made) (x : ℕ) → Wanted (emit b y op from s).wants x
     → In x from ⊎ ((x ≡ y → ⊥) × Wanted s.wants x)
@@ -43,10 +36,7 @@ pub gather_wanted : (b y : ℕ) (s : Made) (x : ℕ) → Wanted (gather b y s).w
 gather_wanted b y s x h = grind (arith, emit_wanted)
 
 room_wanted : (b n y : ℕ) (s : Made) (x : ℕ) → Wanted (with_room b n y s).wants x → (x ≡ y) ⊎ Wanted s.wants x
-room_wanted b n y s x h = go (ltb most (length (s.wants y) + n)) h
-  where
-    go : (f : Bool) → Wanted (cond f (gather b y s) s).wants x → (x ≡ y) ⊎ Wanted s.wants x
-    go f g = grind (arith, gather_wanted)
+room_wanted b n y s x h = grind (arith, s.wants, gather_wanted)
 
 pub rooms_wanted : (b n : ℕ) (ys : List ℕ) (s : Made) (x : ℕ) → Wanted (with_rooms b n ys s).wants x
     → In x ys ⊎ Wanted s.wants x
@@ -65,37 +55,7 @@ moved_wanted y z w x h = grind (arith, cases_eq)
 
 pub alias_wanted : (b y z : ℕ) (s : Made) (x : ℕ) → Wanted (alias b y z s).wants x
     → (x ≡ z) ⊎ ((x ≡ y → ⊥) × Wanted s.wants x)
-alias_wanted b y z s x h = go (cases_eq y z) h
-  where
-    t : Made
-    t = cond (ltb most (length (s.wants y) + length (s.wants z))) (gather b z (gather b y s)) s
-
-    before : (f : Bool) → (x ≡ z → ⊥) → (x ≡ y → ⊥) → Wanted (cond f (gather b z (gather b y s)) s).wants x
-        → Wanted s.wants x
-    before false n m g = g
-    before true n m g = elim (gather_wanted b z (gather b y s) x g) [
-      | inl e ↦ absurd (n e)
-      | inr g' ↦ elim (gather_wanted b y s x g') [ inl e ↦ absurd (m e) | inr w ↦ w ]
-    ]
-
-    go : (y ≡ z) ⊎ (y ≡ z → ⊥)
-        → Wanted (copy y z (cond (ltb most (length (s.wants y) + length (s.wants z)))
-        (gather b z (gather b y s)) s)).wants x → (x ≡ z) ⊎ ((x ≡ y → ⊥) × Wanted s.wants x)
-    go (inl e) g = elim (cases_eq x z) [
-      | inl f ↦ inl f
-      | inr n ↦
-          (let m : x ≡ y → ⊥ = λ f. n (f ∙ e) in
-          inr (m, before (ltb most (length (s.wants y) + length (s.wants z))) n m (rw (eq-eqb y z e) at g)))
-    ]
-    go (inr d) g = elim (cases_eq x z) [
-      | inl f ↦ inl f
-      | inr n ↦
-          elim (moved_wanted y z (cond (ltb most (length (s.wants y) + length (s.wants z)))
-          (gather b z (gather b y s)) s).wants x (rw (ne_eqb y z d) at g)) [
-            | inl f ↦ inl f
-            | inr f ↦ inr (f.0, before (ltb most (length (s.wants y) + length (s.wants z))) n f.0 f.1)
-          ]
-    ]
+alias_wanted b y z s x h = grind (arith, cases_eq, s.wants, gather_wanted, eq-eqb, moved_wanted, ne_eqb)
 
 nil_and : (l : List Target) (m : Bool) → (is_nil l && m) ≡ true → l ≡ []
 nil_and l m e = grind (arith, both_ways)
@@ -163,11 +123,7 @@ operands_are op x z y h = grind (arith, turn_round, one_of_two)
 
 hung_wanted : (b : ℕ) (t : Tail) (z : ℕ) (s : Made) (x : ℕ) → Wanted (hung b t z s).wants x
     → (x ≡ t.held) ⊎ ((x ≡ z) ⊎ Wanted s.wants x)
-hung_wanted b t z s x h = elim (with_uses_wanted b (length s.code) 0 (operands_of t.line.op t.held z) s.wants
-    x h) [
-      | inl g ↦ elim (operands_are t.line.op t.held z x g) [ inl e ↦ inl e | inr e ↦ inr (inl e) ]
-      | inr g ↦ inr (inr g)
-    ]
+hung_wanted b t z s x h = grind (arith, with_uses_wanted, t.held, s.wants, operands_are)
 
 -- a name of the selector
 abbrev pub IsSelector : ℕ → ℕ → ℕ → Type 0
@@ -196,7 +152,7 @@ hang_wanted b (suc n) z (t ∷ ts) w x h = elim (hung_wanted b t z (hang b n z t
 
 pub chain_reads : (z n : ℕ) (P : ℕ → Type 0) (x : ℕ) → Reads (chain z n) P x
     → (x ≡ z) ⊎ (((x ≤ z) ⊎ (z + n < x)) × P x)
-chain_reads z zero P x h = elim (cases_lt z x) [ inl l ↦ inr (inr (omega arith), h) | inr l ↦ inr (inl l, h) ]
+chain_reads z zero P x h = grind (arith, cases_lt)
 chain_reads z (suc n) P x h = elim h [
   | inl g ↦ elim g [ inl e ↦ inl e | inr a ↦ absurd a ]
   | inr g ↦ elim (chain_reads (suc z) n P x g.1) [

@@ -1,21 +1,19 @@
 -- The fronts of blocks: entries, their advances, and merges behind them.
 use Rattle.std.proofs.Common.{ℕ, zero, suc, ◌+◌, ◌-◌, ◌≡◌, ◌<◌, ◌≤◌, ◌⊎◌, ◌||◌, Bool, true, false, cond, eqb}
-use Rattle.std.proofs.Common.{List, [], ◌∷◌, length, Some, None, refl, sym, ap, ◌∙◌, subst, inl, inr, arith}
+use Rattle.std.proofs.Common.{List, [], ◌∷◌, length, Some, None, refl, sym, ap, ◌∙◌, inl, inr, arith}
 use Rattle.std.proofs.Common.{eq-eqb, ne_eqb}
 use Rattle.std.proofs.lemmas.Bool.{cases_eq, both_ways}
 use Rattle.ws_isa.specs.Sound.{HasDest}
 use Rattle.wave_gen.specs.Wire.{Target, Back, Front, dests_of, Made, gather}
 use Rattle.wave_gen.specs.Plans.{has_front, renew, advances, fronts}
 use Rattle.wave_gen.proofs.Planning.Planned.{Apart}
-use Rattle.wave_gen.proofs.Waits.Wiring.{Ahead}
 use Rattle.wave_gen.proofs.Waits.Flow.{Wanted}
 use Rattle.wave_gen.proofs.Waits.Ends.{Clean}
 use Rattle.ws_words.specs.Items.{nth, In}
 
 pub in_nth : (xs : List ℕ) (i x : ℕ) → nth xs i ≡ Some x → In x xs
-in_nth [] i x e = absurd (let a : None ≡ Some x = e in cc)
-in_nth (y ∷ xs) zero x e = inl (let g : y ≡ x = cc in sym g)
 in_nth (y ∷ xs) (suc i) x e = inr (in_nth xs i x e)
+in_nth xs i x e = grind arith
 
 pub nth_in : (xs : List ℕ) (x : ℕ) → In x xs → (i : ℕ) × (nth xs i ≡ Some x)
 nth_in [] x h = absurd h
@@ -29,9 +27,8 @@ in_or_not (y ∷ xs) x = grind (arith, cases_eq, in_or_not xs x)
 -- fronts
 pub fronts_at : (b k : ℕ) (xs : List ℕ) (i x : ℕ) → Apart xs → nth xs i ≡ Some x
     → fronts b k xs x ≡ Front b (k + i) ∷ []
-fronts_at b k [] i x a e = absurd (let c : None ≡ Some x = e in cc)
-fronts_at b k (y ∷ xs) zero x a e = grind arith
 fronts_at b k (y ∷ xs) (suc i) x a e = grind (arith, in_nth, fronts_at b (suc k) xs i x a.1 e)
+fronts_at b k xs i x a e = grind arith
 
 pub fronts_none : (b k : ℕ) (xs : List ℕ) (x : ℕ) → (In x xs → ⊥) → fronts b k xs x ≡ []
 fronts_none b k [] x n = refl
@@ -60,25 +57,7 @@ fronts_one b k (y ∷ xs) x = grind (arith, cases_eq, fronts_one b (suc k) xs x)
 pub fronts_clean : (first : ℕ → ℕ) (Fine : ℕ → ℕ → Type 0) (k width b : ℕ) (xs : List ℕ) → Apart xs
     → ((x : ℕ) → In x xs → x < width) → ((i : ℕ) → i < length xs → Fine b i)
     → Clean first Fine k width (fronts b 0 xs)
-fronts_clean first Fine k width b xs a few fine = record {
-  apart = λ x y j q h g. same x y j q (front_is first b xs x j q a h) (front_is first b xs y j q a g);
-  once = λ x. elim (fronts_one b 0 xs x) [ inl e ↦ rw e tt | inr r ↦ rw r.3 ((λ h. h), tt) ];
-  few = λ x h. elim (in_or_not xs x) [ inl i ↦ few x i | inr n ↦ absurd (h (fronts_none b 0 xs x n)) ];
-  ahead = λ x p h. elim (fronts_one b 0 xs x) [
-    | inl e ↦ absurd (subst (λ (l : List Target). In p l) e h)
-    | inr r ↦ elim (subst (λ (l : List Target). In p l) r.3 h) [
-      | inl e ↦ subst (λ (s : Target). Ahead first Fine k s) (sym e)
-          (fine r.0 (let l : r.0 < 0 + length xs = r.2 in omega arith))
-      | inr z ↦ absurd z
-    ]
-  ];
-}
-  where
-    same : (x y j q : ℕ) → FrontIs first b xs x j q → FrontIs first b xs y j q → x ≡ y
-    same x y j q f g =
-        let e : f.place ≡ g.place = (let c : j ≡ first b + f.place = f.instr in
-        let d : j ≡ first b + g.place = g.instr in omega arith) in
-        let z : Some x ≡ Some y = sym f.is ∙ ap (nth xs) e ∙ g.is in cc
+fronts_clean first Fine k width b xs a few fine = grind (arith, front_is, fronts_one, in_or_not, fronts_none)
 
 -- advances
 one_use : (b y : ℕ) (s : Made) → (gather b y s).wants y ≡ Back b (length s.code) 0 ∷ []

@@ -1,5 +1,5 @@
 -- The walk of the image goes where the run of the code on names goes.
-use Rattle.std.proofs.Common.{ℕ, zero, suc, ◌+◌, ◌-◌, ◌≡◌, ◌<◌, ◌≤◌, ◌⊎◌, Bool, true, false, cond, List, []}
+use Rattle.std.proofs.Common.{ℕ, zero, suc, ◌+◌, ◌-◌, ◌≡◌, ◌<◌, ◌≤◌, ◌⊎◌, true, false, cond, List, []}
 use Rattle.std.proofs.Common.{◌∷◌, length, Some, None, refl, sym, ap, ◌∙◌, subst, inl, inr, arith, is_some}
 use Rattle.std.proofs.lemmas.Bool.{cases_Bool, both_ways, cond-true, cond-false}
 use Rattle.ws_words.specs.Outside.{World, with_input}
@@ -143,11 +143,7 @@ module _ (image : Image) (world : World) (c : Code) (shape : WalkShape image) (w
     unfired_first : (d w : ℕ) (sent' : Ports) (env' : ℕ → ℕ) → IsBlock image d
         → ((j q x : ℕ) → starts image c d j q ≡ Some x → sent' w j q ≡ Some (env' x)) →
         Holds image d (first_number image d) (cond (is_first image d) (suc w) w) (starts image c d) sent' env'
-    unfired_first d w sent' env' h a = go (is_first image d) refl
-      where
-        go : (f : Bool) → is_first image d ≡ f → Holds image d (first_number image d) (cond f (suc w) w)
-            (starts image c d) sent' env'
-        go f e = grind (arith, both_ways)
+    unfired_first d w sent' env' h a = grind (arith, both_ways)
 
     pub entered : stops image b ≡ false → (r : ℕ) → Mid image (c.Kept (target image b r)) (target image b r)
         (first_number image (target image b r)) (starts image c (target image b r))

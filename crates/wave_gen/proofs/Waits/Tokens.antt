@@ -1,14 +1,11 @@
 -- What stands at an open slot is the value of the name for which it waits.
-use Rattle.std.proofs.Common.{ℕ, suc, ◌+◌, ◌-◌, ◌≡◌, ◌<◌, ◌≤◌, ◌⊎◌, true, false, cond, List, [], ◌∷◌, length}
-use Rattle.std.proofs.Common.{map, Some, refl, sym, ap, ◌∙◌, inl, inr, arith, eq-eqb, ne_eqb}
+use Rattle.std.proofs.Common.{ℕ, suc, ◌+◌, ◌-◌, ◌≡◌, ◌<◌, ◌≤◌, true, false, cond, List, [], ◌∷◌, length}
+use Rattle.std.proofs.Common.{map, Some, refl, ap, arith, eq-eqb, ne_eqb}
 use Rattle.std.proofs.lemmas.Bool.{cases_Bool, cases_eq, both_ways, cond-false}
-use Rattle.ws_words.specs.Outside.{with_input}
 use Rattle.ws_isa.specs.declared.instr.Op.{Op}
 use Rattle.ws_isa.specs.Image.{Image, instr_at, ports, ports_of, is_advance, is_memory, is_memory_op}
 use Rattle.ws_isa.specs.Image.{result_of, result_of_op, answer, after, first_number, now_dests, tokens_to}
-use Rattle.ws_isa.specs.Image.{IsIn}
 use Rattle.ws_isa.specs.Walk.{Ports, Pos, gather, fire, result_at, operands_at, wave_of, with_tokens}
-use Rattle.ws_isa.specs.Sound.{HasDest}
 use Rattle.wave_gen.specs.Waits.{Owner, Fires, Rests, Skips, Copies, NameState, without, with_ports, renamed}
 use Rattle.wave_gen.specs.Waits.{set, outcome, effect, run_step, FiresAt, RestsAt}
 use Rattle.wave_gen.proofs.Waits.Steps.{place_fire}
@@ -64,17 +61,7 @@ module _ (image : Image) (b : ℕ) (Kept : ℕ → ℕ → Type 0) (shape : Walk
       (here : (q : ℕ) → o k q ≡ nth from q) (l : k < first_number image (suc b)) where
     operands : operands_at image p ≡ map s.env from
     unfolding operands_at wave_of ports
-    operands = rw m.next (gathered p.sent s.env (cond (is_advance image k) (p.wave - 1) p.wave) k 0
-        (ports_of (instr_at image k).op) from (ap ports_of op_is ∙ sym ports_are)
-        (λ i x f. (let z : 0 + i ≡ i = omega arith in rw z (stands_at i x (here i ∙ f)))))
-      where
-        stands_at : (q x : ℕ) → o k q ≡ Some x → p.sent (cond (is_advance image k) (p.wave - 1) p.wave) k q
-            ≡ Some (s.env x)
-        stands_at q x e = go (cases_Bool (is_advance image k))
-          where
-            go : (is_advance image k ≡ true) ⊎ (is_advance image k ≡ false)
-                → p.sent (cond (is_advance image k) (p.wave - 1) p.wave) k q ≡ Some (s.env x)
-            go h = grind (arith, both_ways)
+    operands = grind (arith, m.next, gathered, p.sent, s.env, cases_Bool, both_ways)
 
     result : result_at image p ≡ outcome op (map s.env from) s.out
     unfolding result_at is_memory answer result_of
@@ -95,8 +82,7 @@ module _ (image : Image) (b : ℕ) (Kept : ℕ → ℕ → Type 0) (shape : Walk
 
     result_v : result_at image p ≡ v
     unfolding v
-    result_v = result k op from (with_ports k from (without x n)) p s m f.op_is f.ports
-        (ports_here k from (without x n)) l
+    result_v = grind (arith, result, f.ports, ports_here)
 
     sent_now : Ports
     sent_now = with_tokens (tokens_to p.wave (result_at image p) (now_dests image p.next)) p.sent
@@ -114,50 +100,29 @@ module _ (image : Image) (b : ℕ) (Kept : ℕ → ℕ → Type 0) (shape : Walk
 
     holds_now : Holds image b (suc k) p.wave n sent_now (set s.env x v)
     unfolding sent_now
-    holds_now = record {
-      late = λ j q y e u.
-          (let ne : x ≡ y
-          → ⊥ = (λ g. (let d : HasDest (now_dests image k) j q = f.lists_all j q (e ∙ ap Some (sym g)) in
-          let lo : suc k ≤ j = u.low in
-          let z : j ≤ k = f.back j q d u.advance (inside j q y e u) in omega arith)) in
-          still (p.wave - 1) j q y e ne ∙ m.holds.late j q y (before j q y e ne)
-          (record {
-            advance = u.advance;
-            low = (let lo : suc k ≤ j = u.low in omega arith);
-            high = u.high;
-          })
-          ∙ ap Some (sym (set_other s.env x v y (λ g. ne (sym g)))));
-      now = λ j q y e u. go j q y e u (cases_eq x y);
-    }
-      where
-        inside : (j q y : ℕ) → n j q ≡ Some y → Unfired image b (suc k) j → IsIn image b j
-        inside j q y e u = grind arith
-
-        go : (j q y : ℕ) → n j q ≡ Some y → (Unfired image b (suc k) j → ⊥) → (x ≡ y) ⊎ (x ≡ y → ⊥)
-            → sent_now p.wave j q ≡ Some (set s.env x v y)
-        go j q y e u h =
-            grind (arith, result_v, set_here, v, with_tokens_lands, still, before, not_here, set_other)
+    holds_now = grind (
+      arith,
+      f.lists_all,
+      f.back,
+      still,
+      m.holds.late,
+      before,
+      set_other,
+      s.env,
+      cases_eq,
+      result_v,
+      set_here,
+      with_tokens_lands,
+      not_here,
+    )
 
     kept_now : (i h : ℕ) → Kept i h → i < suc k → set p.results p.next (result_at image p) i ≡ set s.env x v h
     unfolding v
-    kept_now i h w u = go (cases_eq i k) (cases_eq x h)
-      where
-        go : (i ≡ k) ⊎ (i ≡ k → ⊥) → (x ≡ h) ⊎ (x ≡ h → ⊥) → set p.results p.next (result_at image p) i
-            ≡ set s.env x v h
-        go h y = grind (arith, set_here, result_v, v, set_other)
+    kept_now i h w u = grind (arith, cases_eq, set_here, result_v, set_other)
 
     pub fires_mid : Mid image Kept b (suc k) n (fire image p) (run_step (Fires x op from) s)
     unfolding v sent_now
-    fires_mid = record {
-      over = refl;
-      block = m.block;
-      next = ap suc m.next;
-      place = place_fire image (with_input []) shape p m.place (rw (m.next, m.block) l);
-      out = out_after k op from (with_ports k from (without x n)) p s m f.op_is f.ports
-          (ports_here k from (without x n)) l;
-      holds = holds_now;
-      kept = kept_now;
-    }
+    fires_mid = grind (arith, place_fire, m.place, out_after, f.ports, ports_here, holds_now, kept_now)
 
   -- one that sends nothing
   module _ (k : ℕ) (op : Op) (from : List ℕ) (n : Owner) (p : Pos) (s : NameState)
@@ -178,40 +143,29 @@ module _ (image : Image) (b : ℕ) (Kept : ℕ → ℕ → Type 0) (shape : Walk
     pure_value e = grind (arith, cond-false)
 
     pub rests_mid : Mid image Kept b (suc k) n (fire image p) (run_step (Rests op from) s)
-    rests_mid = record {
-      over = refl;
-      block = m.block;
-      next = ap suc m.next;
-      place = place_fire image (with_input []) shape p m.place (rw (m.next, m.block) l);
-      out = out_after k op from (with_ports k from n) p s m f.op_is f.ports (ports_here k from n) l;
-      holds = record {
-        late = λ j q y e u. rests_sent (p.wave - 1) j q ∙ m.holds.late j q y (rests_before j q y e)
-            (record {
-              advance = u.advance;
-              low = (let lo : suc k ≤ j = u.low in omega arith);
-              high = u.high;
-            });
-        now = λ j q y e u. rests_sent p.wave j q ∙ m.holds.now j q y (rests_before j q y e)
-            (λ h. u (record {
-              advance = h.advance;
-              low = (let lo : k ≤ j = h.low in let d : j ≡ k
-                  → ⊥ = rests_apart j q y e in omega arith);
-              high = h.high;
-            }));
-      };
-      kept = λ i h w u. kept_now i h w u (cases_eq i k);
-    }
-      where
-        kept_now : (i h : ℕ) → Kept i h → i < suc k → (i ≡ k) ⊎ (i ≡ k → ⊥)
-            → set p.results p.next (result_at image p) i ≡ s.env h
-        kept_now i h w u (inl e) =
-            let t = f.wants h (rw e at w) in
-            ap (set p.results p.next (result_at image p)) (e ∙ sym m.next)
-            ∙ set_here p.results p.next (result_at image p)
-            ∙ result k op from (with_ports k from n) p s m f.op_is f.ports (ports_here k from n) l
-            ∙ pure_value t.0 ∙ t.1 s.env
-        kept_now i h w u (inr e) = set_other p.results p.next (result_at image p) i (λ z. e (z ∙ m.next))
-            ∙ m.kept i h w (omega arith)
+    rests_mid = grind (
+      arith,
+      place_fire,
+      m.place,
+      out_after,
+      f.ports,
+      ports_here,
+      rests_sent,
+      m.holds.late,
+      rests_before,
+      m.holds.now,
+      rests_apart,
+      cases_eq,
+      f.wants,
+      p.results,
+      p.next,
+      set_here,
+      result,
+      pure_value,
+      s.env,
+      set_other,
+      m.kept,
+    )
 
   -- steps for which no instruction stands
   pub skips_mid : (k x : ℕ) (op : Op) (from : List ℕ) (n : Owner) (p : Pos) (s : NameState)

@@ -36,10 +36,7 @@ pub name_of : (x : ℕ) (o : Option ℕ) → o ≡ Some x → is_name x o ≡ tr
 name_of x o e = rw e (eq-eqb x x refl)
 
 pub without_is : (x : ℕ) (o : Owner) (j q y : ℕ) → without x o j q ≡ Some y → (o j q ≡ Some y) × (x ≡ y → ⊥)
-without_is x o j q y e = go (cases_Bool (is_name x (o j q)))
-  where
-    go : (is_name x (o j q) ≡ true) ⊎ (is_name x (o j q) ≡ false) → (o j q ≡ Some y) × (x ≡ y → ⊥)
-    go h = grind (arith, cond-true, cond-false, both_ways, name_of)
+without_is x o j q y e = grind (arith, cases_Bool, cond-true, cond-false, both_ways, name_of)
 
 pub without_keeps : (x : ℕ) (o : Owner) (j q y : ℕ) → o j q ≡ Some y → (x ≡ y → ⊥) → without x o j q ≡ Some y
 without_keeps x o j q y e n = rw e (rw (ne_eqb x y n) refl)
@@ -55,11 +52,7 @@ pub ports_other : (k : ℕ) (from : List ℕ) (o : Owner) (j q : ℕ) → (j ≡
 ports_other k from o j q n = rw (ne_eqb j k n) refl
 
 renamed_some : (x y : ℕ) (o : Owner) (j q : ℕ) → is_some (renamed x y o j q) ≡ is_some (o j q)
-renamed_some x y o j q = go (cases_Bool (is_name x (o j q)))
-  where
-    go : (is_name x (o j q) ≡ true) ⊎ (is_name x (o j q) ≡ false) → is_some (renamed x y o j q)
-        ≡ is_some (o j q)
-    go h = grind (arith, cond-true, name_is, cond-false)
+renamed_some x y o j q = grind (arith, cases_Bool, cond-true, name_is, cond-false)
 
 -- what instruction k does to the open slots
 pub record Turn (image : Image) (o p : Owner) (k : ℕ) : Type 0 where
@@ -108,18 +101,25 @@ module _ (image : Image) (b : ℕ) (Kept : ℕ → ℕ → Type 0) where
   at_end n [] o s j q = refl
   at_end n (Fires x op from ∷ ss) o s j q = grind (arith, stands_end, lt-ltb, at_end (suc n) ss o s.1 j q)
   at_end n (Rests op from ∷ ss) o s j q = grind (arith, stands_end, lt-ltb, at_end (suc n) ss o s.1 j q)
-  at_end n (Skips x op from ∷ ss) o s j q = elim (cases_lt n (first_number image (suc b))) [
-    | inl l ↦ rw (lt-ltb n (first_number image (suc b)) l) (at_end n ss o s.2 j q)
-    | inr l ↦ rw (le-ltb n (first_number image (suc b)) l)
-        (ap (λ (f : Owner). is_some (f j q)) (sym (at_here n ss o (first_number image (suc b)) l))
-        ∙ at_end n ss o s.2 j q)
-  ]
-  at_end n (Copies x y ∷ ss) o s j q = elim (cases_lt n (first_number image (suc b))) [
-    | inl l ↦ rw (lt-ltb n (first_number image (suc b)) l) (at_end n ss o s.1 j q)
-    | inr l ↦ rw (le-ltb n (first_number image (suc b)) l) (renamed_some x y (own n ss o) j q
-        ∙ ap (λ (f : Owner). is_some (f j q)) (sym (at_here n ss o (first_number image (suc b)) l))
-        ∙ at_end n ss o s.1 j q)
-  ]
+  at_end n (Skips x op from ∷ ss) o s j q = grind (
+    arith,
+    cases_lt,
+    lt-ltb,
+    le-ltb,
+    is_some,
+    at_here,
+    at_end n ss o s.2 j q,
+  )
+  at_end n (Copies x y ∷ ss) o s j q = grind (
+    arith,
+    cases_lt,
+    lt-ltb,
+    le-ltb,
+    renamed_some,
+    is_some,
+    at_here,
+    at_end n ss o s.1 j q,
+  )
 
   -- how the open slots change at an instruction
   fires_turn : (n x : ℕ) (op : Op) (from : List ℕ) (p : Owner) → FiresAt image b Kept n x op from p
@@ -224,11 +224,7 @@ module _ (image : Image) (c : Code) (shape : WalkShape image) (waits : Waits ima
 
   block_from : (b : ℕ) → is_block b ≡ true → IsBlock image b
   unfolding is_block
-  block_from b e = go (cases_lt 0 b) (cases_lt b (suc (length image.blocks)))
-    where
-      go : (0 < b) ⊎ (b ≤ 0) → (b < suc (length image.blocks)) ⊎ (suc (length image.blocks) ≤ b)
-          → IsBlock image b
-      go h m = grind (arith, both_ways, cond-false, le-ltb, cond-true, lt-ltb)
+  block_from b e = grind (arith, cases_lt, both_ways, cond-false, le-ltb, cond-true, lt-ltb)
 
   open_at : ℕ → ℕ → OpenSlots
   open_at b k j q = is_some (at (first_number image b) (c.steps b) (c.ends b) k j q)
@@ -240,8 +236,7 @@ module _ (image : Image) (c : Code) (shape : WalkShape image) (waits : Waits ima
   open_end : (b j q : ℕ) → IsBlock image b → open_at b (first_number image (suc b)) j q
       ≡ is_some (c.ends b j q)
   unfolding open_at
-  open_end b j q h = at_end image b (c.Kept b) (first_number image b) (c.steps b) (c.ends b)
-      (waits.stands b h) j q
+  open_end b j q h = grind (arith, at_end, c.ends, waits.stands)
 
   turn : (b k : ℕ) → IsBlock image b → IsIn image b k
       → Turn image (at (first_number image b) (c.steps b) (c.ends b) k)
@@ -255,21 +250,16 @@ module _ (image : Image) (c : Code) (shape : WalkShape image) (waits : Waits ima
   turn_open : (b k : ℕ) → IsBlock image b → IsIn image b k
       → Alike (all_opened (now_dests image k) (closed k (open_at b k))) (open_at b (suc k))
   unfolding open_at
-  turn_open b k h i j q = go (has_or_not (now_dests image k) j q) (closed_cases k (open_at b k) j q)
-    where
-      t : Turn image (at (first_number image b) (c.steps b) (c.ends b) k)
-          (at (first_number image b) (c.steps b) (c.ends b) (suc k)) k
-      t = turn b k h i
-
-      not_listed : (v : Bool) → (HasDest (now_dests image k) j q → ⊥) → closed k (open_at b k) j q ≡ v
-          → all_opened (now_dests image k) (closed k (open_at b k)) j q ≡ v
-      not_listed v n e = grind (arith, same_bool, open_at, all_opened_from, all_opened_keeps)
-
-      go : HasDest (now_dests image k) j q ⊎ (HasDest (now_dests image k) j q → ⊥)
-          → ((k ≡ j) × (closed k (open_at b k) j q ≡ false))
-          ⊎ ((k ≡ j → ⊥) × (closed k (open_at b k) j q ≡ open_at b k j q)) →
-          all_opened (now_dests image k) (closed k (open_at b k)) j q ≡ open_at b (suc k) j q
-      go h x = grind (arith, all_opened_has, open_at, t, not_listed)
+  turn_open b k h i j q = grind (
+    arith,
+    has_or_not,
+    closed_cases,
+    turn,
+    same_bool,
+    all_opened_from,
+    all_opened_keeps,
+    all_opened_has,
+  )
 
   fresh : (b k : ℕ) → IsBlock image b → IsIn image b k → Fresh (now_dests image k) (closed k (open_at b k))
   unfolding open_at
@@ -323,15 +313,18 @@ module _ (image : Image) (c : Code) (shape : WalkShape image) (waits : Waits ima
   first_open b h f j q = grind (arith, open_at, some_of, open_start)
 
   start_open : Alike (all_opened (start_dests image) none_open) (open_at 1 (first_number image 1))
-  start_open j q = same_bool (all_opened (start_dests image) none_open j q)
-      (open_at 1 (first_number image 1) j q)
-      (λ a. elim (all_opened_from (start_dests image) none_open j q a) [
-        | inl f ↦
-            absurd (both_ways false refl f)
-        | inr f ↦ open_start 1 j q ∙ ap is_some (waits.start j q f).1
-      ])
-      (λ a. (let x = some_of (starts image c 1 j q) (sym (open_start 1 j q) ∙ a) in
-      all_opened_has (start_dests image) none_open j q (waits.start_back j q x.0 x.1)))
+  start_open j q = grind (
+    arith,
+    same_bool,
+    all_opened_from,
+    both_ways,
+    open_start,
+    is_some,
+    waits.start,
+    some_of,
+    all_opened_has,
+    waits.start_back,
+  )
 
   has_all : (b k : ℕ) → IsBlock image b → IsIn image b k → (q : ℕ) → q < ports image k
       → open_at b k k q ≡ true

@@ -7,17 +7,14 @@ use Rattle.ws_isa.specs.Image.{Image, instr_at, block_at, first_number, ports, p
 use Rattle.ws_isa.specs.Image.{now_dests, edge_dests, stops, target, IsIn, IsBlock}
 use Rattle.ws_isa.specs.Sound.{HasDest, IsAhead}
 use Rattle.wave_gen.specs.Waits.{Owner, Step, Fires, Rests, Skips, Copies, without, with_ports, renamed}
-use Rattle.wave_gen.specs.Waits.{is_name, own, count, Stands, Code, starts, Waits}
+use Rattle.wave_gen.specs.Waits.{own, count, Stands, Code, starts, Waits}
 use Rattle.wave_gen.proofs.Waits.Turns.{name_is, without_is, ports_here, ports_other, stands_end}
 use Rattle.wave_gen.proofs.Waits.WalkShape.{WalkShape}
 use Rattle.ws_isa.proofs.Steps.{first_up, block_of_is, first_le}
 use Rattle.ws_words.proofs.Places.{nth_short}
 
 renamed_from : (x y : ℕ) (p : Owner) (j q z : ℕ) → renamed x y p j q ≡ Some z → (w : ℕ) × (p j q ≡ Some w)
-renamed_from x y p j q z e = go (cases_Bool (is_name x (p j q)))
-  where
-    go : (is_name x (p j q) ≡ true) ⊎ (is_name x (p j q) ≡ false) → (w : ℕ) × (p j q ≡ Some w)
-    go h = grind (arith, name_is, cond-false)
+renamed_from x y p j q z e = grind (arith, cases_Bool, name_is, cond-false)
 
 -- a slot of this block from instruction k on
 record Here (image : Image) (b k j q : ℕ) : Type 0 where
@@ -89,10 +86,7 @@ module _ (image : Image) (c : Code) (shape : WalkShape image) (waits : Waits ima
 
   one_port : (j : ℕ) → is_advance image j ≡ true → 1 ≤ ports image j
   unfolding ports is_advance
-  one_port j a = go (instr_at image j).op
-    where
-      go : (op : Op) → 1 ≤ ports_of op
-      go op = grind arith
+  one_port j a = grind arith
 
   here_slot : (b k j q : ℕ) → IsBlock image b → Here image b k j q → Slot b k j q
   here_slot b k j q h g = grind arith
@@ -153,15 +147,17 @@ module _ (image : Image) (c : Code) (shape : WalkShape image) (waits : Waits ima
   -- what an instruction sends to at its turn, and on an edge
   pub now_slot : (b k j q : ℕ) → IsBlock image b → IsIn image b k → HasDest (now_dests image k) j q
       → Slot b (suc k) j q
-  now_slot b k j q h i d =
-      let w : first_number image b + count (c.steps b) ≡ first_number image (suc b) =
-      stands_end image b (c.Kept b) (first_number image b) (c.steps b) (c.ends b) (waits.stands b h) in
-      elim (listed image b (c.Kept b) (c.ends b) (first_number image b) (c.steps b) k j q (waits.stands b h)
-      (omega arith) i.0 (omega (arith, i.1)) d) [
-        | inl g ↦ here_slot b (suc k) j q h g
-        | inr g ↦ weaker b (suc k) (first_number image (suc b)) j q i.1
-            (onward b j q g.0 h g.1 (λ t y ht m f. starts_slot t j q y ht f))
-      ]
+  now_slot b k j q h i d = grind (
+    arith,
+    stands_end,
+    c.ends,
+    waits.stands,
+    listed,
+    here_slot,
+    weaker,
+    onward,
+    starts_slot,
+  )
 
   pub edge_slot : (b r k j q : ℕ) → IsBlock image b → stops image b ≡ false → IsIn image b k
       → HasDest (edge_dests image b r k) j q → Slot b (suc k) j q

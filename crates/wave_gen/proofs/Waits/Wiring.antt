@@ -1,5 +1,5 @@
 -- Making code from its end keeps this: what is wanted of a name are the slots that wait for it.
-use Rattle.std.proofs.Common.{ℕ, zero, suc, ◌+◌, ◌-◌, ◌≡◌, ◌<◌, ◌≤◌, ◌⊎◌, ◌&&◌, not, Bool, true, false, cond}
+use Rattle.std.proofs.Common.{ℕ, suc, ◌+◌, ◌-◌, ◌≡◌, ◌<◌, ◌≤◌, ◌⊎◌, ◌&&◌, not, Bool, true, false, cond}
 use Rattle.std.proofs.Common.{ltb, List, [], ◌∷◌, ◌++◌, length, Option, Some, None, refl, sym, ap, ◌∙◌, subst}
 use Rattle.std.proofs.Common.{inl, inr, arith, eq-eqb, ne_eqb}
 use Rattle.std.proofs.lemmas.Bool.{cases_Bool, cases_eq, both_ways, cond-true, cond-false}
@@ -150,10 +150,9 @@ module _ (first : ℕ → ℕ) (b : ℕ) (o : Owner) (IsFront : ℕ → ℕ → 
 
   uses_has : (r k i : ℕ) (from : List ℕ) (w : Wants) (y t : ℕ) → k ≡ first (suc b) - suc r
       → nth from t ≡ Some y → HasDest (dests_of first (with_uses b r i from w y)) k (i + t)
-  uses_has r k i [] w y t e f = absurd (let a : None ≡ Some y = f in cc)
-  uses_has r k i (x ∷ from) w y zero e f = grind (arith, uses_keeps, wants_here)
   uses_has r k i (x ∷ from) w y (suc t) e f =
       grind (arith, uses_has r k (suc i) from (with_wants w x (Back b r i ∷ w x)) y t e f)
+  uses_has r k i from w y t e f = grind (arith, uses_keeps, wants_here)
 
   uses_once : (r k i : ℕ) (from : List ℕ) (w : Wants) → k ≡ first (suc b) - suc r
       → ((y : ℕ) → DistinctDests (dests_of first (w y)))
@@ -184,19 +183,13 @@ module _ (first : ℕ → ℕ) (b : ℕ) (o : Owner) (IsFront : ℕ → ℕ → 
       → ((q : ℕ) × (p ≡ Back b r q)) ⊎ In p (w y)
   uses_spot r i [] w y p h = inr h
   uses_spot r i (x ∷ from) w y p h =
-      elim (uses_spot r (suc i) from (with_wants w x (Back b r i ∷ w x)) y p h) [
-        | inl g ↦ inl g
-        | inr g ↦ elim (cases_eq y x) [
-          | inl m ↦
-              elim (rw (ap (with_wants w x (Back b r i ∷ w x)) m
-              ∙ wants_here w x (Back b r i ∷ w x)) at
-              g) [
-                | inl e ↦ inl (i, e)
-                | inr z ↦ inr (rw m z)
-              ]
-          | inr n ↦ inr (rw (wants_other w x y (Back b r i ∷ w x) n) at g)
-        ]
-      ]
+      grind (
+        arith,
+        cases_eq,
+        wants_here,
+        wants_other,
+        uses_spot r (suc i) from (with_wants w x (Back b r i ∷ w x)) y p h,
+      )
 
   module _ (k : ℕ) (s : Made) (inv : Inv (suc k) s) (clear : (c i : ℕ) → IsFront c i → first c + i ≡ k
       → ⊥) where
@@ -328,11 +321,7 @@ module _ (first : ℕ → ℕ) (b : ℕ) (o : Owner) (IsFront : ℕ → ℕ → 
 
   renamed_is : (x y : ℕ) (p : Owner) (j q z : ℕ) → renamed x y p j q ≡ Some z → ((p j q ≡ Some x) × (z ≡ y))
       ⊎ ((p j q ≡ Some z) × (z ≡ x → ⊥))
-  renamed_is x y p j q z e = go (cases_Bool (is_name x (p j q)))
-    where
-      go : (is_name x (p j q) ≡ true) ⊎ (is_name x (p j q) ≡ false) → ((p j q ≡ Some x) × (z ≡ y))
-          ⊎ ((p j q ≡ Some z) × (z ≡ x → ⊥))
-      go h = grind (arith, cond-true, name_is, cond-false, both_ways, name_of)
+  renamed_is x y p j q z e = grind (arith, cases_Bool, cond-true, name_is, cond-false, both_ways, name_of)
 
   renamed_x : (x y : ℕ) (p : Owner) (j q : ℕ) → p j q ≡ Some x → renamed x y p j q ≡ Some y
   renamed_x x y p j q e = cond-true (is_name x (p j q)) (Some y) (p j q) (name_of x (p j q) e)
@@ -436,10 +425,7 @@ module _ (first : ℕ → ℕ) (b : ℕ) (o : Owner) (IsFront : ℕ → ℕ → 
     gather_good x s g = emit_good x Merge (x ∷ []) s (λ ds. refl) refl g
 
     room_good : (n x : ℕ) (s : Made) → Good s → Good (with_room b n x s)
-    room_good n x s g = go (ltb most (length (s.wants x) + n))
-      where
-        go : (f : Bool) → Good (cond f (gather b x s) s)
-        go f = grind (arith, gather_good)
+    room_good n x s g = grind (arith, s.wants, gather_good)
 
     rooms_good : (n : ℕ) (xs : List ℕ) (s : Made) → Good s → Good (with_rooms b n xs s)
     rooms_good n [] s g = g

@@ -7,7 +7,7 @@ use Rattle.std.proofs.lemmas.Nat.{mul-le}
 use Rattle.std.proofs.Math.Nat.{mul-add}
 use Rattle.ws_words.specs.Outside.{Outside}
 use Rattle.ws_isa.specs.Image.{Image, is_first, stops, target, IsBlock}
-use Rattle.wave_gen.specs.Waits.{NameState, Code, count, names_at, chosen, RunPlace, pass, places}
+use Rattle.wave_gen.specs.Waits.{Code, count, names_at, chosen, RunPlace, pass, places}
 use Rattle.wave_gen.proofs.Waits.WalkShape.{WalkShape}
 
 -- n blocks, m of them passed, f instructions fired before block b
@@ -57,9 +57,6 @@ module _ (image : Image) (c : Code) (shape : WalkShape image) (busy : (b : ℕ) 
     })
   ]
     where
-      e : NameState
-      e = names_at c p
-
       r : ℕ
       r = chosen image c p.block (names_at c p).env
 

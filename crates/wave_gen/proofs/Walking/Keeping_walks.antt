@@ -1,6 +1,6 @@
 -- Drafts keep walks.
 use Rattle.std.proofs.Common.{ℕ, zero, suc, ◌+◌, ◌-◌, ◌*◌, ◌≡◌, ◌<◌, ◌≤◌, Bool, true, false, List, [], ◌∷◌}
-use Rattle.std.proofs.Common.{◌++◌, length, Option, Some, None, refl, sym, ap, ◌∙◌, subst, inl, inr, arith}
+use Rattle.std.proofs.Common.{◌++◌, length, Option, Some, refl, sym, ap, ◌∙◌, subst, inl, inr, arith}
 use Rattle.std.proofs.lemmas.Bool.{cond-true}
 use Rattle.std.specs.List.{AllByRecursion}
 use Rattle.ws_words.specs.Past.{ActsBegin}
@@ -68,8 +68,6 @@ entry_first first h p procs l = go p.blocks refl l
 
 entry_is : (first h : ℕ) (procs : List graph.GraphProc) (f : ℕ) → AllByRecursion ProcNumbers procs
     → f < length procs → EntryOf first h procs f
-entry_is first h [] f a l = absurd (omega arith)
-entry_is first h (p ∷ procs) zero a l = entry_first first h p procs a.0.some_block
 entry_is first h (p ∷ procs) (suc f) a l =
     let r = entry_is (first + length p.blocks) (suc h) procs f a.1 (omega arith) in
     let n : graph.entry_from (first + length p.blocks) procs f ≡ first + length p.blocks + r.place =
@@ -81,11 +79,11 @@ entry_is first h (p ∷ procs) (suc f) a l =
       is = spots_skip h p.vars p.blocks (graph.spots_from (suc h) procs) r.place ∙ r.is;
       vars = r.vars;
     }
+entry_is first h procs f a l = grind (arith, entry_first)
 
 nth_low : (xs : List Spot) (i : ℕ) (s : Spot) → nth xs i ≡ Some s → i < length xs
-nth_low [] i s e = absurd (let a : None ≡ Some s = e in cc)
-nth_low (x ∷ xs) zero s e = omega arith
 nth_low (x ∷ xs) (suc i) s e = let l : i < length xs = nth_low xs i s e in omega arith
+nth_low xs i s e = grind arith
 
 pub main_entry : (g : Graph) → IsGraph g → (entry_of g (length g.procs - 1) < length (spots g))
     × ((spot_at g (entry_of g (length g.procs - 1))).vars ≡ (proc_at g (length g.procs - 1)).vars)

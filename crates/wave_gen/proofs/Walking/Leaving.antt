@@ -75,9 +75,7 @@ module _ (g : Graph) where
   -- a walk is over once it has left its blocks
   pub path_enough : (m : ℕ) (c : Config) (o : Outside) (k : ℕ) → graph.walk g m c ≡ Over o k
       → graph.walk g (length (path g m c)) c ≡ Over o k
-  path_enough zero c o k e = e
   path_enough (suc m) (Over p j) o k e = path_enough m (Over p j) o k e
-  path_enough (suc m) (Going p) o k e = absurd (walk_going m p o k e)
   path_enough (suc m) (At b s frames j) o k e = go (graph.step g (At b s frames j)) refl
       (path_enough m (graph.step g (At b s frames j)) o k e) e
     where
@@ -85,3 +83,4 @@ module _ (g : Graph) where
           → graph.walk g m c ≡ Over o k → graph.walk g (length (block_left (At b s frames j) c ++ path g m c))
           (At b s frames j) ≡ Over o k
       go c to h w = grind (arith, walk_going)
+  path_enough m c o k e = grind (arith, walk_going)

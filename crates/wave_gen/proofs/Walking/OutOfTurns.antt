@@ -1,5 +1,5 @@
 -- What a walk has done when it is out of turns is done first by the walk with more turns.
-use Rattle.std.proofs.Common.{ℕ, zero, suc, ◌+◌, ◌-◌, ◌≡◌, ◌≤◌, ◌==◌, Bool, true, false, if◌then◌else◌, List}
+use Rattle.std.proofs.Common.{ℕ, suc, ◌+◌, ◌-◌, ◌≡◌, ◌≤◌, ◌==◌, Bool, true, false, if◌then◌else◌, List}
 use Rattle.std.proofs.Common.{[], ◌∷◌, ◌++◌, refl, ap, ◌∙◌, arith}
 use Rattle.ws_words.specs.Outside.{Act, Outside, ProcState}
 use Rattle.ws_words.specs.Past.{ActsBegin}
@@ -29,7 +29,7 @@ pub longer_same : (o : Outside) → Longer o o
 longer_same o = ([], append_nil o.acts)
 
 longer_trans : (o p q : Outside) → Longer o p → Longer p q → Longer o q
-longer_trans o p q a b = (a.0 ++ b.0, b.1 ∙ ap (λ (r : List Act). r ++ b.0) a.1 ∙ append_assoc o.acts a.0 b.0)
+longer_trans o p q a b = (grind (arith, append_assoc, o.acts))
 
 loads_longer : (t : _) (s : ProcState) → Longer s.out (value_of t s).1.out
 loads_longer t s = (_, refl)
@@ -62,14 +62,12 @@ at_once s u n l = record {
 }
 
 spend_done : (m : ℕ) (s : ProcState) (n : ℕ) → m ≤ n → spend m s n ≡ Done s (n - m)
-spend_done zero s n l = ap (Done s) (let z : n ≡ n - 0 = omega arith in z)
-spend_done (suc m) s zero l = absurd (omega arith)
 spend_done (suc m) s (suc n) l = grind (arith, spend_done m s n (omega (arith, l)))
+spend_done m s n l = grind arith
 
 spend_same : (m : ℕ) (s : ProcState) (k : ℕ) → Agrees s (spend m s k)
-spend_same zero s k = refl
-spend_same (suc m) s zero = refl
 spend_same (suc m) s (suc k) = spend_same m s k
+spend_same m s k = grind arith
 
 spent : (s u : ProcState) (m most n : ℕ) → m ≤ most → most ≤ n → Longer s.out u.out
     → Whole s most n (spend m u)
@@ -124,7 +122,7 @@ pub record Ran (o : Outside) (r : OpsOutcome) : Type 0 where
   pub longer : Longer o state.out
 
 all_run : (ops : List Op) (s : ProcState) (n : ℕ) → ops_most ops ≤ n → Ran s.out (run_ops ops s n)
-all_run [] s n h = record { state = s; left = n; done = refl; longer = longer_same s.out }
+all_run [] s n h = grind (arith, longer_same)
 all_run (op ∷ ops) s n h =
     let w = op_whole op s n (omega arith) in
     let e : n ≤ w.left + op_most op = w.enough in

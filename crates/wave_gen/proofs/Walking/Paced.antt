@@ -35,12 +35,11 @@ paid_more : (a b k : ℕ) (r : OpsOutcome) → a ≤ b → Paid a k r → Paid b
 paid_more a b k r h p = grind arith
 
 spend_paid : (n : ℕ) (s : ProcState) (k : ℕ) → Paid n k (spend n s k)
-spend_paid zero s k = omega arith
-spend_paid (suc n) s zero = omega arith
 spend_paid (suc n) s (suc k) = go (spend n s k) (spend_paid n s k)
   where
     go : (r : OpsOutcome) → Paid n k r → Paid (suc n) (suc k) r
     go r h = grind arith
+spend_paid n s k = grind arith
 
 either_paid : (n k : ℕ) (v : Bool) (x y : OpsOutcome) → Paid n k x → Paid n k y
     → Paid n k (if v then x else y)
@@ -84,9 +83,8 @@ walk_over g (suc m) o p k e = walk_over g m o p k e
 
 block_most : (ss : List Spot) (b : ℕ) → ops_most (or_else (nth ss b) no_spot).block.ops ≤ spots_most ss
 unfolding no_spot
-block_most [] b = omega arith
-block_most (s ∷ ss) zero = omega arith
 block_most (s ∷ ss) (suc b) = grind (arith, ops_most, spots_most, block_most ss b)
+block_most ss b = grind arith
 
 module _ (g : Graph) where
   few : (b : ℕ) → ops_most (block_at g b).ops < suc (spots_most (spots g))

@@ -48,9 +48,8 @@ all_at P (x ∷ xs) d (suc i) h l = all_at P xs d i h.1 (omega arith)
 in_proc : (h v : ℕ) (bs : List graph.Block) (rest : List Spot) (i : ℕ) (s : Spot)
     → nth (graph.spots_in h v bs ++ rest) i ≡ Some s → ((s.home ≡ h) × (s.vars ≡ v))
     ⊎ ((j : ℕ) × (nth rest j ≡ Some s))
-in_proc h v [] rest i s e = inr (i, e)
-in_proc h v (b ∷ bs) rest zero s e = grind arith
 in_proc h v (b ∷ bs) rest (suc i) s e = in_proc h v bs rest i s e
+in_proc h v bs rest i s e = grind arith
 
 record HomeOf (h : ℕ) (procs : List graph.GraphProc) (s : Spot) : Type 0 where
   pub proc : graph.GraphProc
@@ -70,9 +69,8 @@ home_of h (p ∷ procs) i s e = go (in_proc h p.vars p.blocks (graph.spots_from 
     go h ih = grind arith
 
 pub spot_nth : (xs : List Spot) (i : ℕ) → i < length xs → nth xs i ≡ Some (or_else (nth xs i) no_spot)
-spot_nth [] i l = absurd (omega arith)
-spot_nth (x ∷ xs) zero l = refl
 spot_nth (x ∷ xs) (suc i) l = spot_nth xs i (omega arith)
+spot_nth xs i l = grind arith
 
 pub same_home : (g : Graph) (b c : ℕ) → b < length (spots g) → c < length (spots g)
     → (spot_at g c).home ≡ (spot_at g b).home → (spot_at g c).vars ≡ (spot_at g b).vars
@@ -87,18 +85,14 @@ same_home g b c l m e =
 -- what a Send leaves in a landing's variables
 landed_other : (xs vs vars : List ℕ) (y : ℕ) → (In y xs → ⊥) → slice_index (walks.landed xs vs vars) y
     ≡ slice_index vars y
-landed_other [] vs vars y n = refl
-landed_other (x ∷ xs) [] vars y n = refl
 landed_other (x ∷ xs) (v ∷ vs) vars y n =
     grind (arith, get_other, landed_other xs vs (slice_set vars x v) y (λ h. n (inr h)))
+landed_other xs vs vars y n = grind arith
 
 -- as names: the pads' names have the values, all others 0
 fills : (xs names vs vars : List ℕ) (env : ℕ → ℕ) (y : ℕ) → Distinct xs → map env names ≡ vs → y < length vars
     → slice_index vars y ≡ 0 → length names ≡ length xs →
     filled (map suc xs) names env (suc y) ≡ slice_index (walks.landed xs vs vars) y
-fills [] names vs vars env y a e l z n = sym z
-fills (x ∷ xs) [] vs vars env y a e l z n = absurd (omega arith)
-fills (x ∷ xs) (m ∷ names) [] vars env y a e l z n = grind arith
 fills (x ∷ xs) (m ∷ names) (v ∷ vs) vars env y a e l z n =
     let q : env m ∷ map env names ≡ v ∷ vs = e in
     let hd : env m ≡ v = cc in
@@ -112,6 +106,7 @@ fills (x ∷ xs) (m ∷ names) (v ∷ vs) vars env y a e l z n =
           (let u : length (slice_set vars x v) ≡ length vars = set_length vars x v in omega (arith, l))
           (get_other vars x y v f ∙ z) (omega arith))
     ]
+fills xs names vs vars env y a e l z n = grind (arith, z)
 
 -- the landing that is chosen
 landing_pair : (g : Graph) (ps : List Plan) (place : ℕ → ℕ) (zeroed : ℕ → List ℕ) (ns cs : List ℕ) (a : ℕ)
@@ -144,14 +139,12 @@ names_count k [] = refl
 names_count k (t ∷ ts) = ap suc (names_count (suc (gen_term k t).next) ts)
 
 term_next : (k : ℕ) (t : graph.Term) → k ≤ (gen_term k t).next
-term_next k (graph.Number zero) = omega arith
-term_next k (graph.Number (suc n)) = omega arith
-term_next k (graph.Var x) = omega arith
 term_next k (graph.Cell a t) = let l : k ≤ (gen_term k t).next = term_next k t in omega arith
 term_next k (graph.Flip t) = let l : k ≤ (gen_term k t).next = term_next k t in omega arith
 term_next k (graph.Not t) = let l : k ≤ (gen_term k t).next = term_next k t in omega arith
 term_next k (graph.Neg t) = let l : k ≤ (gen_term k t).next = term_next k t in omega arith
 term_next k (graph.Binary op a b) = grind (arith, term_next k a, term_next (gen_term k a).next b)
+term_next k t = grind arith
 
 terms_next : (k : ℕ) (ts : List graph.Term) → k ≤ (gen_terms k ts).next
 terms_next k [] = omega arith
@@ -166,10 +159,8 @@ map_below k (t ∷ ts) f h e = grind (arith, terms_next, map_below (suc (gen_ter
 landing_outer : (ps : List Plan) (values ls : List ℕ) (r : ℕ) → 1 ≤ length ls
     → AllIn ls (λ c. Outer ps c × PadsFit ps
     values c) → Outer ps (image.landing_of ls r)
-landing_outer ps values [] r l a = absurd (omega arith)
-landing_outer ps values (c ∷ []) r l a = a.0.0
-landing_outer ps values (c ∷ d ∷ ls) zero l a = a.0.0
 landing_outer ps values (c ∷ d ∷ ls) (suc r) l a = landing_outer ps values (d ∷ ls) r (omega arith) a.1
+landing_outer ps values ls r l a = grind arith
 
 agrees_zero : (vars : List ℕ) (env : ℕ → ℕ) (x : ℕ) → slice_index vars x ≡ 0 → Agrees vars env
     → Agrees vars (set env (suc x) (env pulse))
@@ -384,9 +375,6 @@ module _ (arrays : List Array) (width : ℕ) (ps : List Plan) (Live : ℕ → �
 
           src : Source
           src = gen_source (gen_ops width (graph.block_at g b).ops).next t
-
-          Z : ℕ
-          Z = (plan_at ps (place b)).test
 
           cells : s2.out.cells ≡ st'.out.cells
           cells = ap (λ (o : Outside). o.cells) z.is.out

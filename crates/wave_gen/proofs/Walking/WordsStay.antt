@@ -1,7 +1,6 @@
 -- The walk of a graph of words in a world of words has words alone.
-use Rattle.std.proofs.Common.{ℕ, zero, suc, ◌+◌, ◌-◌, ◌*◌, ◌/◌, ◌%◌, ◌^◌, ◌<◌, ◌≤◌, ◌==◌, Bool, true, false}
-use Rattle.std.proofs.Common.{if◌then◌else◌, List, [], ◌∷◌, ◌++◌, Option, slice_index, slice_set, subst}
-use Rattle.std.proofs.Common.{arith}
+use Rattle.std.proofs.Common.{ℕ, zero, suc, ◌+◌, ◌-◌, ◌*◌, ◌/◌, ◌%◌, ◌^◌, ◌<◌, ◌≤◌, ◌==◌, Bool, if◌then◌else◌}
+use Rattle.std.proofs.Common.{List, [], ◌∷◌, ◌++◌, Option, slice_index, slice_set, subst, arith}
 use Rattle.std.proofs.Math.Nat.{mod-lt, mod-le, div-le_self}
 use Rattle.std.proofs.lemmas.Nat.{or_lt, xor_lt}
 use Rattle.std.specs.Int.Bits.{and_lt}
@@ -12,10 +11,8 @@ use Rattle.ws_words.specs.declared.alu.Alu.TheVariants.{Ne, Lt, Le, Gt, Ge}
 use Rattle.ws_words.specs.Operators.{applied, flag}
 use Rattle.ws_words.specs.Outside.{ProcState, World, row, with_row, head_or_zero, rest_of, zeros}
 use Rattle.ws_words.specs.Outside.{WorldOfWords}
-use Rattle.cfg_core.specs.Graph.{Term, Number, Var, Cell, Flip, Not, Neg, Binary, Op, Assign, Store, Print}
-use Rattle.cfg_core.specs.Graph.{Read, Give, Take, Choose, Tick, TickBy, Exit, Goto, Branch, Call, Return}
-use Rattle.cfg_core.specs.Graph.{Send, Stop, Graph, GraphArray, Spot, no_spot, spots, spot_at, block_at}
-use Rattle.cfg_core.specs.Graph.{proc_at}
+use Rattle.cfg_core.specs.Graph.{Term, Cell, Flip, Not, Neg, Binary, Op, Exit, Graph, GraphArray, Spot}
+use Rattle.cfg_core.specs.Graph.{no_spot, spots, spot_at, block_at}
 use Rattle.cfg_core.specs.Walk.{value, values, value_of, OpsOutcome, Done, Out, and_then, spend, run_op}
 use Rattle.cfg_core.specs.Walk.{run_ops, Config, At, Over, Going, Frame, landed, with_result, leave, step}
 use Rattle.cfg_core.specs.Walk.{walk, cells_of, opening}
@@ -69,24 +66,20 @@ applied_word Gt a b h i = flag_word _
 applied_word Ge a b h i = flag_word _
 
 index_word : (xs : List ℕ) (i : ℕ) → Words xs → Word (slice_index xs i)
-index_word [] i h = some
-index_word (x ∷ xs) zero h = h.0
 index_word (x ∷ xs) (suc i) h = index_word xs i h.1
+index_word xs i h = grind (arith, some)
 
 set_words : (xs : List ℕ) (i v : ℕ) → Words xs → Word v → Words (slice_set xs i v)
-set_words [] i v h w = tt
-set_words (x ∷ xs) zero v h w = (w, h.1)
 set_words (x ∷ xs) (suc i) v h w = (h.0, set_words xs i v h.1 w)
+set_words xs i v h w = grind arith
 
 row_words : (xss : List (List ℕ)) (k : ℕ) → Rows xss → Words (row xss k)
-row_words [] k h = tt
-row_words (xs ∷ xss) zero h = h.0
 row_words (xs ∷ xss) (suc k) h = row_words xss k h.1
+row_words xss k h = grind arith
 
 with_rows : (xss : List (List ℕ)) (k : ℕ) (r : List ℕ) → Rows xss → Words r → Rows (with_row xss k r)
-with_rows [] k r h w = tt
-with_rows (xs ∷ xss) zero r h w = (w, h.1)
 with_rows (xs ∷ xss) (suc k) r h w = (h.0, with_rows xss k r h.1 w)
+with_rows xss k r h w = grind arith
 
 head_word : (xs : List ℕ) → Words xs → Word (head_or_zero xs)
 head_word xs h = grind (arith, some)
@@ -109,26 +102,21 @@ cells_words (a ∷ xs) = (zeros_words a.length, cells_words xs)
 -- terms
 module _ (vars : List ℕ) (cells : List (List ℕ)) (v : Words vars) (c : Rows cells) where
   value_word : (t : Term) → TermOfWords t → Word (value t vars cells)
-  value_word (Number n) h = h
-  value_word (Var x) h = index_word vars x v
-  value_word (Cell a t) h = index_word (row cells (a - 1)) (value t vars cells) (row_words cells (a - 1) c)
-  value_word (Flip t) h = omega arith
-  value_word (Not t) h = flag_word (value t vars cells == 0)
   value_word (Neg t) h = applied_word Sub 0 (value t vars cells) some (value_word t h)
   value_word (Binary op a b) h = grind (arith, applied_word, value_word a h.0, value_word b h.1)
+  value_word t h = grind (arith, index_word, row_words, flag_word)
 
   values_words : (ts : List Term) → AllByRecursion TermOfWords ts → Words (values ts vars cells)
   values_words [] h = tt
   values_words (t ∷ ts) h = (value_word t h.0, values_words ts h.1)
 
   flips_words : (t : Term) → TermOfWords t → FlipsWords t vars cells
-  flips_words (Number n) h = tt
-  flips_words (Var x) h = tt
   flips_words (Cell a t) h = flips_words t h
   flips_words (Flip t) h = (value_word t h, flips_words t h)
   flips_words (Not t) h = flips_words t h
   flips_words (Neg t) h = flips_words t h
   flips_words (Binary op a b) h = (flips_words a h.0, flips_words b h.1)
+  flips_words t h = grind arith
 
   all_flips : (ts : List Term) → AllByRecursion TermOfWords ts → AllByRecursion (λ u. FlipsWords u vars cells)
       ts
@@ -150,78 +138,32 @@ Kept (Done s k) = Held s
 Kept (Out o) = Unit {0}
 
 spend_kept : (n : ℕ) (s : ProcState) (k : ℕ) → Held s → Kept (spend n s k)
-spend_kept zero s k h = h
-spend_kept (suc n) s zero h = tt
 spend_kept (suc n) s (suc k) h = spend_kept n s k h
+spend_kept n s k h = grind arith
 
 either_kept : (v : Bool) (x y : OpsOutcome) → Kept x → Kept y → Kept (if v then x else y)
 either_kept v x y h i = grind arith
 
 op_kept : (op : Op) (s : ProcState) (k : ℕ) → OpOfWords op → Held s → Kept (run_op op s k)
-op_kept (Assign x t) s k w h =
-    record {
-      vars = set_words s.vars x (value t s.vars s.out.cells) h.vars
-          (value_word s.vars s.out.cells h.vars h.cells t w);
-      cells = h.cells;
-      input = h.input;
-      left = h.left;
-    }
-op_kept (Store a t u) s k w h = record {
-  vars = h.vars;
-  cells = with_rows s.out.cells (a - 1) (slice_set (row s.out.cells (a - 1)) (value t s.vars s.out.cells)
-      (value u s.vars s.out.cells)) h.cells
-      (set_words (row s.out.cells (a - 1)) (value t s.vars s.out.cells) (value u s.vars s.out.cells)
-      (row_words s.out.cells (a - 1) h.cells) (value_word s.vars s.out.cells h.vars h.cells u w.1));
-  input = h.input;
-  left = h.left;
-}
-op_kept (Print t) s k w h = record { vars = h.vars; cells = h.cells; input = h.input; left = h.left }
-op_kept (Read x) s k w h =
-    record {
-      vars = set_words s.vars x (head_or_zero s.out.input) h.vars (head_word s.out.input h.input);
-      cells = h.cells;
-      input = rest_words s.out.input h.input;
-      left = h.left;
-    }
-op_kept (Give p x) s k w h = record {
-  vars = set_words s.vars x (head_or_zero (row s.out.left (p - 1))) h.vars
-      (head_word (row s.out.left (p - 1)) (row_words s.out.left (p - 1) h.left));
-  cells = h.cells;
-  input = h.input;
-  left = with_rows s.out.left (p - 1) (rest_of (row s.out.left (p - 1))) h.left
-      (rest_words (row s.out.left (p - 1)) (row_words s.out.left (p - 1) h.left));
-}
-op_kept (Take p t) s k w h = record { vars = h.vars; cells = h.cells; input = h.input; left = h.left }
-op_kept (Choose x t a b) s k w h = either_kept (value t s.vars s.out.cells == 0) _ _
-    (record {
-      vars = set_words s.vars x (value b s.vars s.out.cells) h.vars
-          (value_word s.vars s.out.cells h.vars h.cells b w.2);
-      cells = h.cells;
-      input = h.input;
-      left = h.left;
-    })
-    (record {
-      vars = set_words s.vars x (value a s.vars s.out.cells) h.vars
-          (value_word s.vars s.out.cells h.vars h.cells a w.1);
-      cells = h.cells;
-      input = h.input;
-      left = h.left;
-    })
-op_kept (Tick n) s k w h = spend_kept n s k h
-op_kept (TickBy t n m) s k w h = either_kept (value t s.vars s.out.cells == 0) (spend m (value_of t s).1 k)
-    (spend n (value_of t s).1 k)
-    (spend_kept m (value_of t s).1 k (record {
-      vars = h.vars;
-      cells = h.cells;
-      input = h.input;
-      left = h.left;
-    }))
-    (spend_kept n (value_of t s).1 k (record {
-      vars = h.vars;
-      cells = h.cells;
-      input = h.input;
-      left = h.left;
-    }))
+op_kept op s k w h = grind (
+  arith,
+  set_words,
+  s.vars,
+  h.vars,
+  value_word,
+  s.out.cells,
+  h.cells,
+  with_rows,
+  slice_set,
+  row_words,
+  head_word,
+  rest_words,
+  s.out.left,
+  h.left,
+  either_kept,
+  spend_kept,
+  value_of,
+)
 
 ops_kept : (ops : List Op) (s : ProcState) (k : ℕ) → AllByRecursion OpOfWords ops → Held s
     → Kept (run_ops ops s k)
@@ -240,15 +182,7 @@ ops_fine (op ∷ ops) s w h = (
 )
 
 exit_fine : (exit : Exit) (s : ProcState) → ExitOfWords exit → Held s → ExitFine exit s
-exit_fine (Goto b) s w h = tt
-exit_fine (Branch t a b) s w h = flips_words s.vars s.out.cells h.vars h.cells t w
-exit_fine (Call x f ts back) s w h = tt
-exit_fine (Return t) s w h = flips_words s.vars s.out.cells h.vars h.cells t w
-exit_fine (Send t ts ls) s w h = (
-  flips_words s.vars s.out.cells h.vars h.cells t w.0,
-  all_flips s.vars s.out.cells h.vars h.cells ts w.1,
-)
-exit_fine Stop s w h = tt
+exit_fine exit s w h = grind (arith, flips_words, s.vars, s.out.cells, h.vars, h.cells, all_flips)
 
 -- configurations, with the frames of calls
 abbrev Frames : List Frame → Type 0
@@ -260,10 +194,9 @@ Holds (Over o k) = Unit {0}
 Holds (Going o) = Unit {0}
 
 landed_words : (xs vs vars : List ℕ) → Words vs → Words vars → Words (landed xs vs vars)
-landed_words [] vs vars h i = i
-landed_words (x ∷ xs) [] vars h i = i
 landed_words (x ∷ xs) (v ∷ vs) vars h i = landed_words xs vs (slice_set vars x v) h.1
     (set_words vars x v i h.0)
+landed_words xs vs vars h i = grind arith
 
 result_words : (x : Option ℕ) (v : ℕ) (vars : List ℕ) → Word v → Words vars → Words (with_result x v vars)
 result_words x v vars w h = grind (arith, set_words)
@@ -274,53 +207,27 @@ loaded t s h = record { vars = h.vars; cells = h.cells; input = h.input; left = 
 module _ (g : Graph) (words : GraphOfWords g) where
   exit_holds : (exit : Exit) (s : ProcState) (frames : List Frame) (k : ℕ) → ExitOfWords exit → Held s
       → Frames frames → Holds (leave g exit s frames k)
-  exit_holds (Goto b) s frames k w h f = (h, f)
-  exit_holds (Branch t a b) s frames k w h f = go (value t s.vars s.out.cells == 0)
-    where
-      go : (v : Bool) → Holds (if v then At b (value_of t s).1 frames k else At a (value_of t s).1 frames k)
-      go true = (loaded t s h, f)
-      go false = (loaded t s h, f)
-  exit_holds (Call x c ts back) s frames k w h f = (
-    record {
-      vars = append_words (values ts s.vars s.out.cells) (zeros ((proc_at g c).vars - (proc_at g c).params))
-          (values_words s.vars s.out.cells h.vars h.cells ts w)
-          (zeros_words ((proc_at g c).vars - (proc_at g c).params));
-      cells = h.cells;
-      input = h.input;
-      left = h.left;
-    },
-    (h.vars, f),
+  exit_holds exit s frames k w h f = grind (
+    arith,
+    s.vars,
+    s.out.cells,
+    loaded,
+    append_words,
+    values_words,
+    h.vars,
+    h.cells,
+    zeros_words,
+    result_words,
+    value_word,
+    landed_words,
   )
-  exit_holds (Return t) s [] k w h f = tt
-  exit_holds (Return t) s (r ∷ frames) k w h f = (
-    record {
-      vars = result_words r.result (value t s.vars s.out.cells) r.vars
-          (value_word s.vars s.out.cells h.vars h.cells t w) f.0;
-      cells = h.cells;
-      input = h.input;
-      left = h.left;
-    },
-    f.1,
-  )
-  exit_holds (Send t ts ls) s frames k w h f = (
-    record {
-      vars = landed_words _ (values ts s.vars s.out.cells) (zeros _)
-          (values_words s.vars s.out.cells h.vars h.cells ts w.1) (zeros_words _);
-      cells = h.cells;
-      input = h.input;
-      left = h.left;
-    },
-    f,
-  )
-  exit_holds Stop s frames k w h f = tt
 
   at_spot : (ss : List Spot) (b : ℕ) → AllByRecursion (λ s. AllByRecursion OpOfWords s.block.ops
       × ExitOfWords s.block.exit) ss → (let s = or_else (nth ss b) no_spot in
       AllByRecursion OpOfWords s.block.ops × ExitOfWords s.block.exit)
   unfolding no_spot
-  at_spot [] b h = (tt, tt)
-  at_spot (s ∷ ss) zero h = h.0
   at_spot (s ∷ ss) (suc b) h = at_spot ss b h.1
+  at_spot ss b h = grind arith
 
   -- the numbers of a block are words
   pub block_words : (b : ℕ) → AllByRecursion OpOfWords (block_at g b).ops × ExitOfWords (block_at g b).exit

@@ -1,6 +1,6 @@
 -- How many instructions the draft of a graph has.
 use Rattle.std.proofs.Common.{ℕ, zero, suc, ◌+◌, ◌-◌, ◌*◌, ◌≡◌, ◌<◌, ◌≤◌, Bool, true, List, [], ◌∷◌, ◌++◌}
-use Rattle.std.proofs.Common.{length, map, Some, refl, ap, ◌∙◌, subst, inl, inr, arith, eq-eqb, ne_eqb}
+use Rattle.std.proofs.Common.{length, map, Some, refl, ap, ◌∙◌, subst, arith, eq-eqb, ne_eqb}
 use Rattle.std.proofs.lemmas.Bool.{cases_eq, cases_lt}
 use Rattle.std.proofs.lemmas.List.{length-map}
 use Rattle.std.specs.List.{sum_by, range_with_len}
@@ -60,13 +60,7 @@ module _ (w waves : ℕ → ℕ) where
   lists_step : (b n k m : ℕ) → sum_by w (lists b (suc n) k m) ≤ w b + sum_by w (lists (suc b) n k m)
   lists_step b n k zero = omega arith
   lists_step b n k (suc m) =
-      let x = sum_by-append w (of_wave waves k b (suc n)) (lists b (suc n) (suc k) m) in
-      let y = sum_by-append w (of_wave waves k (suc b) n) (lists (suc b) n (suc k) m) in
-      elim (cases_eq (waves b) k) [
-        | inl e ↦ (let f = one_more b n k e in let i = lists_skip b n (suc k) m (omega (arith, e)) in
-            omega arith)
-        | inr d ↦ (let f = none_more b n k d in let i = lists_step b n (suc k) m in omega arith)
-      ]
+      grind (arith, sum_by-append, cases_eq, one_more, lists_skip, none_more, lists_step b n (suc k) m)
 
   lists_sum : (n b k m : ℕ) → sum_by w (lists b n k m) ≤ below b n
   lists_sum zero b k m = let e = lists_none b k m in omega (arith, e)
@@ -74,7 +68,7 @@ module _ (w waves : ℕ → ℕ) where
 
   lists_are : (n k m : ℕ) → waves_from waves n k m ≡ lists 0 n k m
   lists_are n k zero = refl
-  lists_are n k (suc m) = ap (λ (xs : List ℕ). of_wave waves k 0 n ++ xs) (lists_are n (suc k) m)
+  lists_are n k (suc m) = grind (arith, lists_are n (suc k) m)
 
   pub waves_sum : (n k m : ℕ) → sum_by w (waves_from waves n k m) ≤ below 0 n
   waves_sum n k m = grind (arith, lists_sum, lists_are)

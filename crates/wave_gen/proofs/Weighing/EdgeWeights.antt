@@ -53,14 +53,7 @@ pub steered_few : (width high : ℕ) (w v : Wants) (p : ℕ → Bool)
     → ((y : ℕ) → p y ≡ false → (w (suc y) ≡ []) × (v (suc y) ≡ []))
     → ((y : ℕ) → high ≤ y → (w (suc y) ≡ []) × (v (suc y) ≡ [])) → length (steered width w v)
     ≤ suc (length (live_from p 0 high))
-steered_few width high w v p none past = or_count (differing w v 0 width) (suc (length (live_from p 0 high)))
-    (omega arith) (few width)
-  where
-    with_pulse : (f : Bool) (xs : List ℕ) (n : ℕ) → length xs ≤ n → length (cond f xs (0 ∷ xs)) ≤ suc n
-    with_pulse f xs n i = grind arith
-
-    few : (width : ℕ) → length (differing w v 0 width) ≤ suc (length (live_from p 0 high))
-    few width = grind (arith, with_pulse, differing_live)
+steered_few width high w v p none past = grind (arith, or_count, differing_live)
 
 pub steers_count : (w v : Wants) (xs : List ℕ) → length (steers w v xs) ≡ length xs
 steers_count w v [] = refl
@@ -72,10 +65,8 @@ sends_count p (x ∷ xs) = ap suc (sends_count (suc p) xs)
 
 -- lists of places that are the same
 same_count : (ps qs : List Target) → same_spots ps qs ≡ true → length ps ≡ length qs
-same_count [] [] e = refl
 same_count (p ∷ ps) (q ∷ qs) e = ap suc (same_count ps qs (and_both (same_spot p q) (same_spots ps qs) e).1)
-same_count [] (q ∷ qs) e = absurd (both_ways false refl e)
-same_count (p ∷ ps) [] e = absurd (both_ways false refl e)
+same_count ps qs e = grind (arith, both_ways)
 
 pub total_least : (w v : Wants) (n : ℕ) → ((x : ℕ) → length (w x) ≤ length (v x)) → total w n ≤ total v n
 total_least w v zero h = omega arith
@@ -86,10 +77,7 @@ total_none zero = omega arith
 total_none (suc n) = let h = total_none n in omega (arith, h)
 
 among_later : (x y : ℕ) (ys : List ℕ) → is_among x ys ≡ true → is_among x (y ∷ ys) ≡ true
-among_later x y ys e = go (eqb x y)
-  where
-    go : (f : Bool) → (f || is_among x ys) ≡ true
-    go f = grind arith
+among_later x y ys e = grind arith
 
 among_here : (x : ℕ) (ys : List ℕ) → is_among x (x ∷ ys) ≡ true
 among_here x ys = ap (λ (f : Bool). f || is_among x ys) (eq-eqb x x refl)
@@ -112,27 +100,20 @@ differing_has w v y x (suc n) l u e = elim (cases_eq y x) [
 
 -- what goes past a branch is wanted at both its arms
 past_one : (xs : List ℕ) (w : Wants) (x : ℕ) → length (past xs w x) ≤ length (w x)
-past_one xs w x = go (is_among x xs)
-  where
-    go : (f : Bool) → length (cond f [] (w x)) ≤ length (w x)
-    go f = grind arith
+past_one xs w x = grind arith
 
 past_other : (width : ℕ) (w v : Wants) → ((y : ℕ) → width ≤ y → w y ≡ []) → (x : ℕ)
     → length (past (steered width w v) w x) ≤ length (v x)
-past_other width w v none x = elim (cases_Bool (same_spots (w x) (v x))) [
-  | inl e ↦ (let a : length (w x) ≡ length (v x) = same_count (w x) (v x) e in
-      let b : length (past (steered width w v) w x) ≤ length (w x) = past_one (steered width w v) w x in
-      omega arith)
-  | inr e ↦ elim (cases_lt x width) [
-    | inl l ↦ (let i : is_among x (steered width w v) ≡ true = or_among (differing w v 0 width) x
-        (differing_has w v x 0 width (omega arith) (omega (arith, l)) e) in
-        let c : length (past (steered width w v) w x) ≡ 0 =
-        ap length (cond-true (is_among x (steered width w v)) [] (w x) i) in omega arith)
-    | inr l ↦ (let a : length (w x) ≡ 0 = ap length (none x l) in
-        let b : length (past (steered width w v) w x) ≤ length (w x) = past_one (steered width w v) w x in
-        omega arith)
-  ]
-]
+past_other width w v none x = grind (
+  arith,
+  cases_Bool,
+  same_count,
+  past_one,
+  cases_lt,
+  or_among,
+  differing_has,
+  cond-true,
+)
 
 module _ (arrays : List Array) (width : ℕ) (ps : List Plan) (Live : ℕ → ℕ → Type 0)
     (plans : PlansAre ps width Live) where
@@ -151,7 +132,7 @@ module _ (arrays : List Array) (width : ℕ) (ps : List Plan) (Live : ℕ → �
   ]
 
   narrow : (c y : ℕ) → Is c → width ≤ y → starts_at width ps c y ≡ []
-  narrow c y h l = unwanted c y h (λ i. (let u : y < width = (plans.each c h).few y i in omega (arith, l, u)))
+  narrow c y h l = unwanted c y h (grind (arith, plans.each))
 
   -- what is wanted past the end of a block is wanted where its edges lead
   pub ends_on : (n b r : ℕ) → Is b → total (end_wants width (starts_at width ps) (plan_at ps b).exit) n

@@ -4,7 +4,7 @@ use Rattle.std.specs.List.{sum_by}
 use Rattle.std.proofs.lemmas.List.Sums.{sum_by-cons}
 use Rattle.ws_isa.specs.declared.instr.Op.TheVariants.{Const, Alu}
 use Rattle.cfg_core.specs.Graph as graph
-use Rattle.cfg_core.specs.Graph.{Term, Number, Var, Cell, Flip, Not, Neg, Binary}
+use Rattle.cfg_core.specs.Graph.{Term, Cell, Flip, Not, Neg, Binary}
 use Rattle.wave_gen.specs.Wire.{Item, Make, Act, Same}
 use Rattle.wave_gen.specs.Gen.{gen_term, gen_op, gen_ops}
 use Rattle.wave_gen.specs.Drawn.{gen_source, gen_terms}
@@ -43,9 +43,6 @@ top_weight k x n = grind (arith, extra_of)
 
 term_lone : (t : Term) (k : ℕ) → 1 ≤ k → heavies (gen_term k t).items + lone (gen_term k t).name
     ≤ term_quarters t
-term_lone (Number zero) k u = omega arith
-term_lone (Number (suc n)) k u = let l = lone_none k u in omega (arith, l)
-term_lone (Var x) k u = omega arith
 term_lone (Cell a t) k u = grind (arith, next_after, lone_none, one_more, term_lone t k u)
 term_lone (Flip t) k u = grind (arith, heavies_append, top_weight, one_more, term_lone t k u)
 term_lone (Not t) k u = grind (arith, next_after, lone_none, one_more, term_lone t k u)
@@ -59,6 +56,7 @@ term_lone (Binary op a b) k u =
     (omega arith) in
     let h = one_more (g.items ++ i.items) (Make i.next (Alu op) (g.name ∷ i.name ∷ []))
     (term_quarters a + term_quarters b) 5 w (omega arith) in omega arith
+term_lone t k u = grind (arith, lone_none)
 
 term_weight : (t : Term) (k : ℕ) → 1 ≤ k → heavies (gen_term k t).items ≤ term_quarters t
 term_weight t k u = let l = term_lone t k u in omega (arith, l)

@@ -10,7 +10,7 @@ use Rattle.ws_isa.specs.Formed.{ConstWithin, RiseFrom, PadsRise}
 use Rattle.ws_isa.specs.Sound.{HasPad}
 use Rattle.ws_isa.specs.Open.{OpenToNotes}
 use Rattle.cfg_core.specs.Graph as graph
-use Rattle.cfg_core.specs.Graph.{Term, Number, Var, Cell, Flip, Not, Neg, Binary, Graph, Spot, no_spot, spots}
+use Rattle.cfg_core.specs.Graph.{Term, Cell, Flip, Not, Neg, Binary, Graph, Spot, no_spot, spots}
 use Rattle.cfg_core.specs.Graph.{spot_at, block_at}
 use Rattle.cfg_core.specs.Rules as rules
 use Rattle.cfg_core.proofs.Pigeons.{pigeons}
@@ -48,14 +48,12 @@ unfolding top_word
 plain_const = grind arith
 
 term_consts : (t : Term) → TermOfWords t → TermHas ConstWithin t
-term_consts (Number zero) h = tt
-term_consts (Number (suc n)) h = h
-term_consts (Var x) h = tt
 term_consts (Cell a t) h = (tt, term_consts t h)
 term_consts (Flip t) h = term_consts t h
 term_consts (Not t) h = term_consts t h
 term_consts (Neg t) h = term_consts t h
 term_consts (Binary op a b) h = (term_consts a h.0, term_consts b h.1)
+term_consts t h = grind arith
 
 terms_consts : (ts : List Term) → AllByRecursion TermOfWords ts → AllByRecursion (TermHas ConstWithin) ts
 terms_consts [] h = tt
@@ -215,9 +213,8 @@ module _ (g : Graph) (live : ℕ → ℕ → Bool) (cut : Cut) (fit : Fits g liv
   there_with : (ss : List Spot) (b c : ℕ) → In c (landings_of (or_else (nth ss b) no_spot).block.exit)
       → b < length ss
   unfolding no_spot
-  there_with [] b c i = absurd i
-  there_with (s ∷ ss) zero c i = omega arith
   there_with (s ∷ ss) (suc b) c i = let l : b < length ss = there_with ss b c i in omega (arith, l)
+  there_with ss b c i = grind arith
 
   some_send : (x : ℕ) → in_some landings_of (spots g) x ≡ true → (b : ℕ) × (b < length (spots g))
       × In x (landings_of (block_at g b).exit)

@@ -1,5 +1,5 @@
 -- Merges are paid for by the spots that they gather.
-use Rattle.std.proofs.Common.{ℕ, zero, suc, ◌+◌, ◌≡◌, ◌<◌, ◌≤◌, ◌⊎◌, ◌&&◌, not, Bool, true, false, cond, ltb}
+use Rattle.std.proofs.Common.{ℕ, zero, suc, ◌+◌, ◌≡◌, ◌<◌, ◌≤◌, ◌⊎◌, ◌&&◌, not, Bool, true, false, cond}
 use Rattle.std.proofs.Common.{List, [], ◌∷◌, ◌++◌, length, refl, ap, ◌∙◌, inl, inr, arith, eq-eqb, ne_eqb}
 use Rattle.std.proofs.lemmas.Bool.{cases_eq, cases_lt, lt-ltb, le-ltb}
 use Rattle.ws_isa.specs.declared.instr.Op.{Op}
@@ -34,11 +34,7 @@ uses_total : (b r q : ℕ) (from : List ℕ) (w : Wants) (n : ℕ) → total (wi
     + length from
 uses_total b r q [] w n = omega arith
 uses_total b r q (x ∷ from) w n =
-    let h : total (with_uses b r (suc q) from (with_wants w x (Back b r q ∷ w x))) n
-    ≤ total (with_wants w x (Back b r q ∷ w x)) n + length from = uses_total b r (suc q) from
-    (with_wants w x (Back b r q ∷ w x)) n in
-    let g : total (with_wants w x (Back b r q ∷ w x)) n ≤ suc (total w n) = add_total w x (Back b r q) n in
-    omega arith
+    grind (arith, add_total, uses_total b r (suc q) from (with_wants w x (Back b r q ∷ w x)) n)
 
 empty_total : (w : Wants) (x n : ℕ) → total (with_wants w x []) n ≤ total w n
 empty_total w x n = grind (arith, cases_lt, total, set_total, set_out)
@@ -58,17 +54,13 @@ pub gather_charge : (n b x : ℕ) (s : Made) → x < n → charge n (gather b x 
 gather_charge n b x s l = grind (arith, total, uses_total, set_total)
 
 room_charge : (n b k x : ℕ) (s : Made) → x < n → k < 4 → charge n (with_room b k x s) ≤ charge n s
-room_charge n b k x s l u = go (cases_lt most (length (s.wants x) + k))
-  where
-    go : (most < length (s.wants x) + k) ⊎ (length (s.wants x) + k ≤ most)
-        → charge n (with_room b k x s) ≤ charge n s
-    go h = grind (arith, lt-ltb, charge, gather_charge, le-ltb)
+room_charge n b k x s l u = grind (arith, cases_lt, s.wants, lt-ltb, gather_charge, le-ltb)
 
 rooms_charge : (n b k : ℕ) (xs : List ℕ) (s : Made) → AllBelow n xs → k < 4
     → charge n (with_rooms b k xs s) ≤ charge n s
 rooms_charge n b k [] s a u = omega arith
 rooms_charge n b k (x ∷ xs) s a u =
-    grind (arith, charge, room_charge, rooms_charge n b k xs (with_room b k x s) a.1 u)
+    grind (arith, room_charge, rooms_charge n b k xs (with_room b k x s) a.1 u)
 
 pub make_charge : (n b x : ℕ) (op : Op) (from : List ℕ) (s : Made) → AllBelow n from → length from < 4
     → charge n (make b x op from s) ≤ charge n s + (4 + length from)
@@ -81,25 +73,25 @@ make_charge n b x op from s a u =
 
 -- what is wanted stays wanted
 room_wanted : (b k x y : ℕ) (s : Made) → 1 ≤ length (s.wants y) → 1 ≤ length ((with_room b k x s).wants y)
-room_wanted b k x y s l = go (ltb most (length (s.wants x) + k)) (cases_eq y x)
-  where
-    go : (f : Bool) → (y ≡ x) ⊎ (y ≡ x → ⊥) → 1 ≤ length ((cond f (gather b x s) s).wants y)
-    go f d = grind arith
+room_wanted b k x y s l = grind (arith, s.wants, cases_eq)
 
 rooms_wanted : (b k : ℕ) (xs : List ℕ) (y : ℕ) (s : Made) → 1 ≤ length (s.wants y)
     → 1 ≤ length ((with_rooms b k xs s).wants y)
 rooms_wanted b k [] y s l = l
-rooms_wanted b k (x ∷ xs) y s l = rooms_wanted b k xs y (with_room b k x s) (room_wanted b k x y s l)
+rooms_wanted b k (x ∷ xs) y s l = grind (
+  arith,
+  room_wanted,
+  rooms_wanted b k xs y (with_room b k x s) (room_wanted b k x y s l),
+)
 
 -- a value that is wanted
 wanted_charge : (n b x : ℕ) (op : Op) (from : List ℕ) (s : Made) → x < n → AllBelow n from → length from < 4
     → 1 ≤ length (s.wants x) → charge n (make b x op from s) ≤ charge n s + (3 + length from)
-wanted_charge n b x op from s l a u w =
-    grind (arith, rooms_wanted, total, uses_total, set_total, charge, rooms_charge)
+wanted_charge n b x op from s l a u w = grind (arith, rooms_wanted, uses_total, set_total, rooms_charge)
 
 app_length : (xs ys : List Target) → length (xs ++ ys) ≡ length xs + length ys
 app_length [] ys = omega arith
-app_length (x ∷ xs) ys = let e : length (xs ++ ys) ≡ length xs + length ys = app_length xs ys in omega arith
+app_length (x ∷ xs) ys = grind (arith, app_length xs ys)
 
 moved_is : (x y : ℕ) (w : Wants) (n : ℕ) → (x ≡ y → ⊥) → total (moved x y w) n
     ≡ total (with_wants (with_wants w x []) y (w x ++ w y)) n

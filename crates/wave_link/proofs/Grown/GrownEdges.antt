@@ -1,7 +1,7 @@
 -- What an edge opens in a draft with no-ops: the draft's slots, and between them some more; the order of
 -- slots doesn't
 -- matter.
-use Rattle.std.proofs.Common.{ℕ, zero, suc, ◌+◌, ◌≡◌, ◌<◌, ◌≤◌, ◌⊎◌, Bool, true, false, cond, eqb, ◌&&◌, List}
+use Rattle.std.proofs.Common.{ℕ, zero, suc, ◌+◌, ◌≡◌, ◌<◌, ◌≤◌, ◌⊎◌, Bool, true, false, eqb, ◌&&◌, List}
 use Rattle.std.proofs.Common.{[], ◌∷◌, ◌++◌, refl, sym, ap, ap₂, ◌∙◌, inl, inr, subst, arith}
 use Rattle.std.proofs.lemmas.Bool.{cases_Bool, cases_eq, eqb-true}
 use Rattle.ws_isa.specs.declared.instr.Dest.{Dest}
@@ -16,7 +16,7 @@ use Rattle.ws_words.proofs.Bools.{and_parts as and_both, no_both}
 lists_swap : (xs ys : List Dest) (o : OpenSlots) → all_opened xs (all_opened ys o) ≡ all_opened ys
     (all_opened xs o)
 lists_swap xs [] o = refl
-lists_swap xs (y ∷ ys) o = lists_swap xs ys (opened y o) ∙ ap (all_opened ys) (all_swap xs y o)
+lists_swap xs (y ∷ ys) o = grind (arith, all_swap, lists_swap xs ys (opened y o))
 
 pub not_true : (v : Bool) → (v ≡ true → ⊥) → v ≡ false
 not_true v h = grind arith
@@ -36,7 +36,7 @@ fresh_opened (b ∷ bs) d o f h = (
   where
     there : opened d o b.instr b.port ≡ true → ((eqb d.instr b.instr && eqb d.port b.port) ≡ true)
         ⊎ ((eqb d.instr b.instr && eqb d.port b.port) ≡ false) → ⊥
-    there e (inr n) = no_both (ap (λ (v : Bool). cond v true (o b.instr b.port)) (sym n) ∙ e) f.0
+    there e (inr n) = grind (arith, no_both, b.instr)
     there e (inl y) = grind (arith, and_both, opened_here, eqb-true, no_both, all_opened_keeps)
 
 pub append_nil : {A : Type 0} (xs : List A) → xs ++ [] ≡ xs

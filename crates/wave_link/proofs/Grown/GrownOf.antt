@@ -116,23 +116,16 @@ nop_at_end draft b l = omega arith
 opens_same : (draft : Image) (b r : ℕ) → IsBlock draft b → opens_at (annotated draft) b r ≡ edge_all
     (annotated draft) b r (first_number draft b + shift draft b) (size_of draft b)
 unfolding opens_at
-opens_same draft b r h = ap₂ (λ (k n : ℕ). edge_all (annotated draft) b r k n) (first_is draft b h)
-    (size_grown draft b h l) ∙ go (cases_Bool (adds draft b))
-  where
-    l : first_number draft b ≤ first_number draft (suc b)
-    l = first_le draft b (suc b) (omega arith)
-
-    go : (adds draft b ≡ true) ⊎ (adds draft b ≡ false) → edge_all (annotated draft) b r
-        (first_number draft b + shift draft b) (one_if (adds draft b) + size_of draft b) ≡ edge_all
-        (annotated draft) b r (first_number draft b + shift draft b) (size_of draft b)
-    go (inl a) = ap (λ (n : ℕ). edge_all (annotated draft) b r (first_number draft b + shift draft b) n)
-        (ap (λ (v : Bool). one_if v + size_of draft b) a ∙ plus (size_of draft b))
-        ∙ edge_all_more (annotated draft) b r (first_number draft b + shift draft b) (size_of draft b)
-        (ap (edge_dests (annotated draft) b r) (nop_at_end draft b l) ∙ nop_edge draft b r h a)
-      where
-        plus : (n : ℕ) → 1 + n ≡ suc n
-        plus n = omega arith
-    go (inr a) = grind (arith, shift, one_if)
+opens_same draft b r h = grind (
+  arith,
+  first_is,
+  size_grown,
+  cases_Bool,
+  first_le,
+  edge_all_more,
+  nop_at_end,
+  nop_edge,
+)
 
 opens_draft : (draft : Image) (b r : ℕ) → opens_at draft b r ≡ edge_all draft b r (first_number draft b)
     (size_of draft b)
@@ -273,10 +266,7 @@ module _ (draft : Image) (ok : FitForNotes draft) where
   own_inside b t h e = elim (trigger_case draft b) [
     | whole a f ↦ absurd (cc)
     | before a g f ↦ absurd (cc)
-    | own a n f ↦ (let i : giver draft b ≡ t = cc in elim (giver_cases draft b h) [
-      | inl x ↦ absurd (n x.zero_is)
-      | inr x ↦ subst (IsIn draft b) i x.inside
-    ])
+    | own a n f ↦ grind (arith, giver_cases)
   ]
 
   opens_real : (b r j q : ℕ) → HasDest (opens_at draft b r) j q → IsInstr draft j
@@ -392,7 +382,7 @@ module _ (draft : Image) (ok : FitForNotes draft) where
     extras = λ b r k. extras_at draft r k;
     each = λ b r k h i. edge_grown draft b r k h i;
     extras_none = extras_hidden;
-    each_real = λ b r k j q h i x. real j (edge_there draft refs b r k j q x).0;
+    each_real = grind (arith, real, edge_there, refs);
     nop_edge = λ b r h x. nop_edge draft b r h (added_if draft b x);
     nop_op = λ b h x. nop_op draft b h (added_if draft b x);
     stop_whole = stop_whole;

@@ -40,7 +40,7 @@ finds draft (suc n) m k l h e u = go (λ b. finds draft n m k l b e (λ j a c g.
   where
     go : (k ≤ n → find draft n m ≡ Some k) → (new draft (suc n) ≡ m) ⊎ (new draft (suc n) ≡ m → ⊥)
         → cond (eqb (new draft (suc n)) m) (Some (suc n)) (find draft n m) ≡ Some k
-    go rest (inl f) = rw (eq-eqb (new draft (suc n)) m f) (ap Some (u (suc n) (omega arith) (omega arith) f))
+    go rest (inl f) = grind (arith, eq-eqb)
     go rest (inr f) = grind (arith, new, cases_eq)
 
 -- an instruction, or the no-op, of one block comes before those of later ones

@@ -71,7 +71,7 @@ placed (b ∷ bs) k l h =
     go : ((m : ℕ) → 1 ≤ m → m ≤ length (flat bs) → Placed bs m) → (length b.instrs < k)
         ⊎ (k ≤ length b.instrs) → first_of bs zero ≡ 1 → length (flat (b ∷ bs)) ≡ length b.instrs + length
         (flat bs) → Placed (b ∷ bs) k
-    go rest (inr a) z e = record { place = 0; within = omega arith; low = l; high = omega arith }
+    go rest (inr a) z e = grind arith
     go rest (inl a) z e =
         let p : Placed bs (k - length b.instrs) = rest (k - length b.instrs) (omega arith) (omega arith) in
         let w = p.within in
@@ -83,7 +83,7 @@ pub located : (image : Image) (k : ℕ) → IsInstr image k → Located image k
 unfolding first_number
 located image k h =
     let p : Placed image.blocks k = placed image.blocks k h.0 h.1 in
-    record { block = suc p.place; there = (omega arith, p.within); inside = (p.low, p.high) }
+    grind arith
 
 pub instr_positive : (image : Image) (b k : ℕ) → IsBlock image b → IsIn image b k → 1 ≤ k
 instr_positive image b k h i = omega (arith, i.0, first_le image 0 b (omega arith), first_zero image)
@@ -98,10 +98,9 @@ is_zero n e = elim (cases_eq n 0) [ inl f ↦ f | inr f ↦ absurd (cc (ne_eqb n
 
 states_idle : (os : List Outline) (b : ℕ) (ways : List Ways) (states : List LastOps) (n : ℕ) (o : Outline)
     → get_or (states_from os b ways states) n false ≡ true → nth os n ≡ Some o → o.ops ≡ 0
-states_idle [] b ways states n o e f = absurd (cc)
-states_idle (x ∷ os) b ways states zero o e f = grind (arith, is_zero, middle)
 states_idle (x ∷ os) b ways states (suc n) o e f =
     grind (arith, states_idle os (suc b) ways (states_step x b ways states) n o e f)
+states_idle os b ways states n o e f = grind (arith, is_zero, middle)
 
 pub outline_there : (xs : List Block) (b : ℕ) (firsts : List Bool) (n m : ℕ) → n < length xs → m ≡ b + n
     → nth (outlines_from xs b firsts) n ≡ Some (outline_of (or_else (nth xs n) no_block) m firsts)
@@ -119,9 +118,8 @@ ops_up (i ∷ is) n = omega (arith, more_up i n, ops_up is (one_more_op i n))
 
 ops_some : (is : List Instr) (i n : ℕ) → i < length is → is_memory_op (or_else (nth is i) no_instr).op ≡ true
     → n < ops_from is n
-ops_some [] i n l e = absurd (omega arith)
-ops_some (x ∷ is) zero n l e = grind (arith, ops_up)
 ops_some (x ∷ is) (suc i) n l e = omega (arith, more_up x n, ops_some is i (one_more_op x n) (omega arith) e)
+ops_some is i n l e = grind (arith, ops_up)
 
 -- a block that gets a no-op has no operation
 pub idle_ops : (draft : Image) (b : ℕ) → IsBlock draft b → adds draft b ≡ true

@@ -40,9 +40,8 @@ instr_cases image zero = inr refl
 instr_cases image (suc k) = go (cases_lt k (length (flat image.blocks)))
   where
     past : (xs : List Instr) (n : ℕ) → length xs ≤ n → or_else (nth xs n) no_instr ≡ no_instr
-    past [] n l = refl
-    past (x ∷ xs) zero l = absurd (omega arith)
     past (x ∷ xs) (suc n) l = past xs n (omega arith)
+    past xs n l = grind arith
 
     go : (k < length (flat image.blocks)) ⊎ (length (flat image.blocks) ≤ k)
         → IsInstr image (suc k) ⊎ (or_else (nth (flat image.blocks) k) no_instr ≡ no_instr)
@@ -66,7 +65,7 @@ edges_kept draft b = grind (arith, exit_kept, edges_grown, tables_in)
 
 only_edge : (draft : Image) (b place c : ℕ) → OnlyEdge draft b place c → OnlyEdge (annotated draft) b place c
 only_edge draft b place c h = record {
-  is = ap (λ (es : List ℕ). nth es place) (edges_kept draft b) ∙ h.is;
+  is = grind (arith, edges_kept);
   only = λ d e i x. h.only d e (block_back draft d i)
       (ap (λ (es : List ℕ). nth es e) (sym (edges_kept draft d)) ∙ x);
 }

@@ -1,6 +1,6 @@
 -- What triggers which no-op: the tables by block and by instruction.
 use Rattle.std.proofs.Common.{ℕ, zero, suc, ◌+◌, ◌≡◌, ◌<◌, ◌≤◌, ◌⊎◌, Bool, true, false, cond, List, [], ◌∷◌}
-use Rattle.std.proofs.Common.{length, length-append, get_or, refl, sym, ap, ap₂, ◌∙◌, inl, inr, subst, arith}
+use Rattle.std.proofs.Common.{length, length-append, get_or, refl, sym, ap, ◌∙◌, inl, inr, subst, arith}
 use Rattle.std.proofs.lemmas.Bool.{cases_Bool, cases_lt}
 use Rattle.std.proofs.lemmas.List.{get_or-set_other, get_or-replicate, length-replicate}
 use Rattle.std.proofs.Math.ListN.{length-set}
@@ -26,11 +26,11 @@ found_from P k (i ∷ is) = cond (P i.op) k (found_from P (k + 1) is)
 
 giving_is : (k : ℕ) (is : List Instr) → giving_from k is ≡ found_from is_giving_op k is
 giving_is k [] = refl
-giving_is k (i ∷ is) = ap (λ (n : ℕ). cond (is_giving_op i.op) k n) (giving_is (k + 1) is)
+giving_is k (i ∷ is) = grind (arith, giving_is (k + 1) is)
 
 steer_is : (k : ℕ) (is : List Instr) → steer_from k is ≡ found_from is_steer_op k is
 steer_is k [] = refl
-steer_is k (i ∷ is) = ap (λ (n : ℕ). cond (is_steer_op i.op) k n) (steer_is (k + 1) is)
+steer_is k (i ∷ is) = grind (arith, steer_is (k + 1) is)
 
 pub record NoneOf (P : Op → Bool) (is : List Instr) (n : ℕ) : Type 0 where
   pub zero_is : n ≡ 0
@@ -44,7 +44,7 @@ pub record OneOf (P : Op → Bool) (k : ℕ) (is : List Instr) (n : ℕ) : Type 
 
 search_cases : (P : Op → Bool) (k : ℕ) (is : List Instr) → NoneOf P is (found_from P k is)
     ⊎ OneOf P k is (found_from P k is)
-search_cases P k [] = inl (record { zero_is = refl; none = λ i l. absurd (omega arith) })
+search_cases P k [] = grind arith
 search_cases P k (x ∷ is) = go (search_cases P (k + 1) is) (cases_Bool (P x.op))
   where
     go : NoneOf P is (found_from P (k + 1) is) ⊎ OneOf P (k + 1) is (found_from P (k + 1) is)
@@ -67,15 +67,13 @@ search_cases P k (x ∷ is) = go (search_cases P (k + 1) is) (cases_Bool (P x.op
 
 giving_there : (xs : List Block) (k n j : ℕ) → n < length xs → suc j ≡ k + first_of xs n
     → get_or (givings_from xs k) n 0 ≡ giving_from j (or_else (nth xs n) no_block).instrs
-giving_there [] k n j l e = absurd (omega arith)
-giving_there (x ∷ xs) k zero j l e = let f : k ≡ j = omega arith in ap (λ (m : ℕ). giving_from m x.instrs) f
 giving_there (x ∷ xs) k (suc n) j l e = giving_there xs (k + length x.instrs) n j (omega arith) (omega arith)
+giving_there xs k n j l e = grind arith
 
 steer_there : (xs : List Block) (k n j : ℕ) → n < length xs → suc j ≡ k + first_of xs n
     → get_or (steers_from xs k) n 0 ≡ steer_from j (or_else (nth xs n) no_block).instrs
-steer_there [] k n j l e = absurd (omega arith)
-steer_there (x ∷ xs) k zero j l e = let f : k ≡ j = omega arith in ap (λ (m : ℕ). steer_from m x.instrs) f
 steer_there (x ∷ xs) k (suc n) j l e = steer_there xs (k + length x.instrs) n j (omega arith) (omega arith)
+steer_there xs k n j l e = grind arith
 
 -- the first giving instruction of block b, and its first steer; 0 if there is none
 unfoldable pub giver : Image → ℕ → ℕ
@@ -228,11 +226,12 @@ numbers_length : (xs : List Block) (b n : ℕ) (added : List Bool) → length (n
     ≡ length (flat xs)
 numbers_length [] b n added = refl
 numbers_length (x ∷ xs) b n added =
-    length-append (count_up n (length x.instrs))
-    (numbers_from xs (b + 1) (with_nop (get_or added b false) (n + length x.instrs)) added)
-    ∙ (ap₂ (λ (p q : ℕ). p + q) (count_up_length n (length x.instrs))
-    (numbers_length xs (b + 1) (with_nop (get_or added b false) (n + length x.instrs)) added)
-    ∙ sym (length-append x.instrs (flat xs)))
+    grind (
+      arith,
+      length-append,
+      count_up_length,
+      numbers_length xs (b + 1) (with_nop (get_or added b false) (n + length x.instrs)) added,
+    )
 
 -- blocks hold no instruction in common
 pub apart_blocks : (draft : Image) (b c k : ℕ) → IsBlock draft b → IsBlock draft c → IsIn draft b k
@@ -283,7 +282,7 @@ numbers_size draft = ap suc (numbers_length draft.blocks 0 1 (added_in draft.blo
 block_exit : (draft : Image) (b : ℕ) → IsBlock draft b → (n : ℕ) × (b ≡ suc n) × (n < length draft.blocks)
     × ((block_at draft b).exit ≡ (or_else (nth draft.blocks n) no_block).exit)
 block_exit draft zero h = absurd (omega (arith, h.0))
-block_exit draft (suc n) h = (n, refl, omega arith, ap (λ (y : Block). y.exit) (block_is draft n))
+block_exit draft (suc n) h = grind (arith, block_is)
 
 -- what is written at an instruction is its own block's
 pub writes : (draft : Image) (b k : ℕ) → IsBlock draft b → IsIn draft b k

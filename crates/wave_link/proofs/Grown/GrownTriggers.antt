@@ -1,6 +1,6 @@
 -- The trigger of each no-op, and the lists of an image's instructions.
-use Rattle.std.proofs.Common.{ℕ, zero, suc, ◌+◌, ◌≡◌, ◌<◌, ◌≤◌, Bool, true, false, cond, eqb, List, [], ◌∷◌}
-use Rattle.std.proofs.Common.{◌++◌, length, map, get_or, set, refl, sym, ap, ap₂, ◌∙◌, inl, inr, arith}
+use Rattle.std.proofs.Common.{ℕ, suc, ◌+◌, ◌≡◌, ◌<◌, ◌≤◌, Bool, true, false, cond, eqb, List, [], ◌∷◌}
+use Rattle.std.proofs.Common.{◌++◌, length, map, get_or, refl, sym, ap, ap₂, ◌∙◌, inl, inr, arith}
 use Rattle.std.proofs.Common.{eq-eqb, ne_eqb}
 use Rattle.std.proofs.lemmas.Bool.{cases_Bool, cases_eq}
 use Rattle.std.proofs.lemmas.List.{get_or-set_same, get_or-set_other}
@@ -107,15 +107,7 @@ pub now_steer : (draft : Image) (b k s x y : ℕ) → IsBlock draft b → IsIn d
 unfolding steer_in steered_by
 now_steer draft b k s x y h i e f =
     let w = writes draft b k h i in
-    let m : ℕ = get_or (givings_in draft) b 0 in
-    let v : ℕ = get_or (nops_in draft) b 0 in
-    ap (λ (l : List ℕ). get_or l k 0) (now_table draft) ∙ (w.now_is
-    ∙ (ap (λ (z : Exit). get_or (extras_step z b (nops_in draft) (givings_in draft) (steers_in draft)
-    w.before).now k 0) e
-    ∙ (ap (λ (j : ℕ). get_or (set (set w.before.now m v) j (steered (nops_in draft) (givings_in draft) x)) k
-    0) f
-    ∙ get_or-set_same (set w.before.now m v) k (steered (nops_in draft) (givings_in draft) x) 0
-    (omega (arith, length-set w.before.now m v, w.blank.now_fits)))))
+    grind (arith, now_table, w.before.now, get_or-set_same, length-set)
 
 pub other_steer : (draft : Image) (b k s x y : ℕ) → IsBlock draft b → IsIn draft b k
     → (block_at draft b).exit ≡ Branch s x y → steer_in draft b ≡ k → get_or (tables_in draft.blocks).other k
@@ -123,11 +115,7 @@ pub other_steer : (draft : Image) (b k s x y : ℕ) → IsBlock draft b → IsIn
 unfolding steer_in steered_by
 other_steer draft b k s x y h i e f =
     let w = writes draft b k h i in
-    ap (λ (l : List ℕ). get_or l k 0) (other_table draft) ∙ (w.other_is
-    ∙ (ap (λ (z : Exit). get_or (extras_step z b (nops_in draft) (givings_in draft) (steers_in draft)
-    w.before).other k 0) e
-    ∙ (ap (λ (j : ℕ). get_or (set w.before.other j (steered (nops_in draft) (givings_in draft) y)) k 0) f
-    ∙ get_or-set_same w.before.other k (steered (nops_in draft) (givings_in draft) y) 0 w.blank.other_fits)))
+    grind (arith, other_table, w.before.other, get_or-set_same)
 
 some_dest : (n : ℕ) → 1 ≤ n → extra_dest n ≡ nop_slot n
 some_dest n l = rw (ne_eqb n 0 (λ e. omega arith)) refl
@@ -138,45 +126,19 @@ no_dest n e = rw e refl
 pub steered_is : (draft : Image) (c : ℕ) → IsBlock draft c → extra_dest (steered_by draft c) ≡ before_slot
     (trigger draft c) (nop draft c)
 unfolding steered_by giver
-steered_is draft c h = elim (trigger_case draft c) [
-  | whole a t ↦ no_dest (steered (nops_in draft) (givings_in draft) c)
-      (zero_both (eqb (get_or (givings_in draft) c 0) 0) (nops_are draft c h
-      ∙ ap (λ (v : Bool). cond v (nop draft c) 0) a))
-      ∙ sym (ap (λ (z : Trigger). before_slot z (nop draft c)) t)
-  | before a g t ↦
-      ap extra_dest (ap (λ (v : Bool). cond v (get_or (nops_in draft) c 0) 0)
-      (eq-eqb (get_or (givings_in draft) c 0) 0 g)
-      ∙ (nops_are draft c h ∙ ap (λ (v : Bool). cond v (nop draft c) 0) a))
-      ∙ (some_dest (nop draft c) (nop_positive draft c)
-      ∙ sym (ap (λ (z : Trigger). before_slot z (nop draft c)) t))
-  | own a g t ↦ no_dest (steered (nops_in draft) (givings_in draft) c)
-      (ap (λ (v : Bool). cond v (get_or (nops_in draft) c 0) 0) (ne_eqb (get_or (givings_in draft) c 0) 0 g))
-      ∙ sym (ap (λ (z : Trigger). before_slot z (nop draft c)) t)
-]
-  where
-    zero_both : (v : Bool) → get_or (nops_in draft) c 0 ≡ 0 → cond v (get_or (nops_in draft) c 0) 0 ≡ 0
-    zero_both v e = grind arith
+steered_is draft c h = grind (arith, trigger_case, no_dest, nops_are, eq-eqb, some_dest, nop_positive, ne_eqb)
 
 -- what an instruction opens for the no-op of its block
 pub own_is : (draft : Image) (b k : ℕ) → 1 ≤ k → giver draft b ≡ k → own_slot (trigger draft b) (nop draft b)
     k ≡ extra_dest (cond (adds draft b) (nop draft b) 0)
-own_is draft b k l g = elim (trigger_case draft b) [
-  | whole a t ↦ ap (λ (z : Trigger). own_slot z (nop draft b) k) t
-      ∙ sym (no_dest (cond (adds draft b) (nop draft b) 0) (ap (λ (v : Bool). cond v (nop draft b) 0) a))
-  | before a f t ↦ absurd (omega arith)
-  | own a f t ↦ ap (λ (z : Trigger). own_slot z (nop draft b) k) t
-      ∙ (ap (λ (v : Bool). cond v (nop_slot (nop draft b)) []) (eq-eqb (giver draft b) k g)
-      ∙ sym (ap extra_dest (ap (λ (v : Bool). cond v (nop draft b) 0) a)
-      ∙ some_dest (nop draft b) (nop_positive draft b)))
-]
+own_is draft b k l g = grind (arith, trigger_case, no_dest, eq-eqb, some_dest, nop_positive)
 
 pub own_else : (draft : Image) (b k : ℕ) → (giver draft b ≡ k → ⊥) → own_slot (trigger draft b) (nop draft b)
     k ≡ []
 own_else draft b k g = elim (trigger_case draft b) [
   | whole a t ↦ ap (λ (z : Trigger). own_slot z (nop draft b) k) t
   | before a f t ↦ ap (λ (z : Trigger). own_slot z (nop draft b) k) t
-  | own a f t ↦ ap (λ (z : Trigger). own_slot z (nop draft b) k) t
-      ∙ ap (λ (v : Bool). cond v (nop_slot (nop draft b)) []) (ne_eqb (giver draft b) k g)
+  | own a f t ↦ grind (arith, ne_eqb)
 ]
 
 -- The kinds of operations.
@@ -269,9 +231,8 @@ pads_there : (t : Tables) (ps : List Passage) (b k : ℕ) (xs : List Block) (n :
     → (or_else (nth (grown_from t ps b k xs) n) no_block).pads ≡ map (grown_pad t)
     (or_else (nth xs n) no_block).pads
 unfolding no_block
-pads_there t ps b k [] n = refl
-pads_there t ps b k (x ∷ xs) zero = refl
 pads_there t ps b k (x ∷ xs) (suc n) = pads_there t ps (b + 1) (k + length x.instrs) xs n
+pads_there t ps b k xs n = grind arith
 
 pub pads_kept : (draft : Image) (b : ℕ) → (block_at (annotated draft) b).pads
     ≡ map (grown_pad (tables_in draft.blocks)) (block_at draft b).pads

@@ -32,16 +32,14 @@ nops_length (x ∷ xs) b added = ap suc (nops_length xs (b + 1) added)
 
 outline_there : (xs : List Block) (b n m : ℕ) (firsts : List Bool) → n < length xs → m ≡ b + n
     → outline_in (outlines_from xs b firsts) n ≡ outline_of (or_else (nth xs n) no_block) m firsts
-outline_there [] b n m firsts l e = absurd (omega arith)
-outline_there (x ∷ xs) b zero m firsts l e = grind arith
 outline_there (x ∷ xs) b (suc n) m firsts l e =
     grind (arith, outline_there xs (b + 1) n m firsts (omega arith) (omega arith))
+outline_there xs b n m firsts l e = grind arith
 
 nop_there : (xs : List Outline) (b n m : ℕ) (added : List Bool) → n < length xs → m ≡ b + n
     → outline_in (with_nops_from xs b added) n ≡ with_nop (outline_in xs n) (get_or added m false)
-nop_there [] b n m added l e = absurd (omega arith)
-nop_there (x ∷ xs) b zero m added l e = grind arith
 nop_there (x ∷ xs) b (suc n) m added l e = nop_there xs (b + 1) n m added (omega arith) (omega arith)
+nop_there xs b n m added l e = grind arith
 
 -- the outlines of a draft, before and after no-ops are added
 abbrev pub bare_of : Image → List Outline
@@ -86,10 +84,8 @@ firsts_length (x ∷ xs) w = ap suc (firsts_length xs x.wave)
 
 first_there : (xs : List Block) (w n : ℕ) → suc n < length xs → get_or (firsts_from xs w) (suc n) false
     ≡ not (eqb (or_else (nth xs (suc n)) no_block).wave (or_else (nth xs n) no_block).wave)
-first_there [] w n l = absurd (omega arith)
-first_there (x ∷ []) w n l = absurd (omega arith)
-first_there (x ∷ y ∷ xs) w zero l = refl
 first_there (x ∷ y ∷ xs) w (suc n) l = first_there (y ∷ xs) x.wave n (omega arith)
+first_there xs w n l = grind arith
 
 first_wave : (xs : List Block) → WavesInOrder xs → get_or (firsts_from xs 0) 0 false ≡ true
 first_wave xs w = grind arith
@@ -112,10 +108,8 @@ first_is draft b w h = ap (λ (o : Outline). o.first) (outline_is draft b h) ∙
 
 wave_next : (xs : List Block) (w n : ℕ) → WavesFrom w xs → suc n < length xs
     → (or_else (nth xs n) no_block).wave ≤ (or_else (nth xs (suc n)) no_block).wave
-wave_next [] w n h l = absurd (omega arith)
-wave_next (x ∷ []) w n h l = absurd (omega arith)
-wave_next (x ∷ y ∷ xs) w zero h l = elim h.1.0 [ inl e ↦ omega arith | inr e ↦ omega arith ]
 wave_next (x ∷ y ∷ xs) w (suc n) h l = wave_next (y ∷ xs) x.wave n h.1 (omega arith)
+wave_next xs w n h l = grind arith
 
 waves_next : (xs : List Block) (n : ℕ) → WavesInOrder xs → suc n < length xs
     → (or_else (nth xs n) no_block).wave ≤ (or_else (nth xs (suc n)) no_block).wave
@@ -137,7 +131,7 @@ waves_rise draft b (suc c) w l h k = go (cases_eq b (suc c)) (λ q. waves_rise d
     go : (b ≡ suc c) ⊎ (b ≡ suc c → ⊥) → (b ≤ c → (block_at draft b).wave ≤ (block_at draft c).wave)
         → (block_at draft b).wave ≤ (block_at draft (suc c)).wave
     go (inl e) rec = rw e (omega arith)
-    go (inr d) rec = omega (arith, rec (omega arith), wave_step draft c w (omega arith) k)
+    go (inr d) rec = grind (arith, wave_step)
 
 not_first : (draft : Image) (b : ℕ) → 2 ≤ b → (block_at draft b).wave ≡ (block_at draft (b - 1)).wave
     → is_first draft b ≡ false
@@ -179,17 +173,13 @@ module _ (draft : Image) (shape : ShapeRules draft) (branches : (b s x y : ℕ) 
   leads_by : (e : Exit) (r : ℕ) → is_stop e ≡ false → is_first draft (leave_to e r) ≡ false
       → IsBlock draft (leave_to e r) → ((s : ℕ) (ls : List ℕ) → e ≡ Landings s ls
       → is_first draft (leave_to e r) ≡ true) → Leads (way_of e firsts) (leave_to e r)
-  leads_by (Goto t) r s f h m = rw (told t h ∙ f) refl
-  leads_by (Branch i p q) r s f h m = grind (arith, Leads, firsts, told)
-  leads_by (Landings i ls) r s f h m = absurd (cc (sym f ∙ m i ls refl))
-  leads_by Stop r s f h m = absurd (cc)
+  leads_by e r s f h m = grind (arith, told)
 
   pub edge_leads : (b r : ℕ) → IsBlock draft b → stops draft b ≡ false → is_first draft (target draft b r)
       ≡ false → Leads (outline_at draft b).way (target draft b r)
   unfolding target stops
   edge_leads b r h s f = subst (λ (w : Way). Leads w (target draft b r)) (sym (way_is draft b h))
-      (leads_by (block_at draft b).exit r s f ((shape.blocks b h).edges.there r s)
-      (λ i ls e. (shape.blocks b h).hang.landing_first i r ls e))
+      (grind (arith, leads_by, shape.blocks))
 
   pub record Back (b c : ℕ) : Type 0 where
     pub goes : stops draft b ≡ false
@@ -261,26 +251,7 @@ module _ (draft : Image) (shape : ShapeRules draft) (branches : (b s x y : ℕ) 
       ⊎ ((stops draft b ≡ false) × ((r : ℕ) × (is_first draft (target draft b r) ≡ true)))
       → way_of e firsts ≡ Out
   unfolding target stops
-  out_by b (Goto t) h e (inl s) = absurd (cc (sym s ∙ ap is_stop e))
-  out_by b (Goto t) h e (inr s) =
-      let at : target draft b s.1.0 ≡ t = ap (λ (x : Exit). leave_to x s.1.0) e in
-      let block : IsBlock draft t = subst (IsBlock draft) at ((shape.blocks b h).edges.there s.1.0 s.0) in
-      ap (λ (v : Bool). cond v Out (On t)) (told t block ∙ (ap (is_first draft) (sym at) ∙ s.1.1))
-  out_by b (Branch i p q) h e (inl s) = absurd (cc (sym s ∙ ap is_stop e))
-  out_by b (Branch i p q) h e (inr s) = go (branches b i p q h e)
-    where
-      there : IsBlock draft p × IsBlock draft q
-      there = branch_in b i p q h e
-
-      arm : (a : IsArm draft b 0 p × IsArm draft b 1 q) (v : Bool) → is_first draft (cond v q p) ≡ true → ⊥
-      arm a true f = cc (sym f ∙ a.1.not_first)
-      arm a false f = cc (sym f ∙ a.0.not_first)
-
-      go : ForksOrEnds draft b p q → way_of (Branch i p q) firsts ≡ Out
-      go (inl a) = grind (arith, arm, s)
-      go (inr o) = out_way i p q there.0 there.1 o.0 o.1
-  out_by b (Landings i ls) h e s = refl
-  out_by b Stop h e s = refl
+  out_by b e h j s = grind (arith, shape.blocks, told, branch_in, out_way)
 
   pub way_out : (b : ℕ) → IsBlock draft b → (stops draft b ≡ true)
       ⊎ ((stops draft b ≡ false) × ((r : ℕ) × (is_first draft (target draft b r) ≡ true)))
@@ -292,21 +263,7 @@ module _ (draft : Image) (shape : ShapeRules draft) (branches : (b s x y : ℕ) 
       → (stops draft b ≡ true)
       ⊎ ((stops draft b ≡ false) × ((r : ℕ) × (is_first draft (target draft b r) ≡ true)))
   unfolding target stops
-  ends_by b (Goto t) h e w = grind (arith, firsts, told)
-  ends_by b (Branch i p q) h e w = go (branches b i p q h e)
-    where
-      there : IsBlock draft p × IsBlock draft q
-      there = branch_in b i p q h e
-
-      forked : Fork p q ≡ Out → ⊥
-      forked x = cc
-
-      go : ForksOrEnds draft b p q → (stops draft b ≡ true)
-          ⊎ ((stops draft b ≡ false) × ((r : ℕ) × (is_first draft (target draft b r) ≡ true)))
-      go (inl a) = absurd (forked (sym (fork_way i p q there.0 there.1 a.0.not_first a.1.not_first) ∙ w))
-      go (inr o) = grind arith
-  ends_by b (Landings i ls) h e w = inr (ap is_stop e, (0, (shape.blocks b h).hang.landing_first i 0 ls e))
-  ends_by b Stop h e w = inl (ap is_stop e)
+  ends_by b e h j w = grind (arith, told, branch_in, fork_way, shape.blocks)
 
   pub out_ends : (b : ℕ) → IsBlock draft b → (outline_at draft b).way ≡ Out
       → (stops draft b ≡ true)

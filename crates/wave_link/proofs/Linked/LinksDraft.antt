@@ -59,9 +59,8 @@ unfolding place_of
 place_is draft b h = grind (arith, place_there, grown_of, heads_in, grown_length)
 
 same_all : {A : Type 0} (x : A) (n i : ℕ) → get_or (replicate n x) i x ≡ x
-same_all x zero i = refl
-same_all x (suc n) zero = refl
 same_all x (suc n) (suc i) = same_all x n i
+same_all x n i = grind arith
 
 pub ways_end : (draft : Image) (n : ℕ) → n ≡ length draft.blocks → ways_at draft (suc n) ≡ ways_in draft
 ways_end draft n e = grind (arith, stepped, bare_of, bare_length, ways_are)
@@ -147,10 +146,7 @@ module _ (draft : Image) (open_to : FitForNotes draft) where
       same : (y : Outline) (s : List LastOps) → adds draft (suc n) ≡ needs_nop y (suc n) (ways_in draft) s
           → states_step y (suc n) (ways_in draft) s ≡ form (ways_in draft) (with_nop y (adds draft (suc n))) s
           n
-      same y s a =
-          ap (λ (v : Bool). cond (reached y (suc n) (ways_in draft))
-          (spread_state y.way v (state_in y (suc n) (ways_in draft) s) s) s)
-          (ap (λ (v : Bool). not (eqb y.ops 0) || v) (sym a) ∙ sym (full_is (adds draft (suc n)) y.ops))
+      same y s a = grind (arith, y.way, y.ops, full_is)
 
   step_ways : (n : ℕ) → n < length draft.blocks → ways_at draft (suc (suc n)) ≡ ways_step
       (outline_at draft (suc n)) (suc n) (ways_at draft (suc n))

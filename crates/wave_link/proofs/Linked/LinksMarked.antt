@@ -25,11 +25,11 @@ use Rattle.wave_link.proofs.Parted.Parts.{tables_in}
 use Rattle.wave_link.proofs.Parted.Edges.{count_kept, wave_kept, target_kept, stops_kept, first_kept}
 use Rattle.wave_link.proofs.Parted.Numbers.{seq_in, writer_in, place_of, block_is_grown, nops_are}
 use Rattle.wave_link.proofs.Parted.Numbers.{nop_positive, nop}
-use Rattle.wave_link.proofs.Linked.LinksTables.{outline_in, Leads}
+use Rattle.wave_link.proofs.Linked.LinksTables.{Leads}
 use Rattle.wave_link.proofs.Linked.LinksPaths.{Marked, link_rules, ripple_rules, exact_ripples}
-use Rattle.wave_link.proofs.Linked.LinksBlocks.{bare_of, bare_is, outline_at, outline_is, first_is, in_wave}
+use Rattle.wave_link.proofs.Linked.LinksBlocks.{bare_is, outline_at, outline_is, first_is, in_wave}
 use Rattle.wave_link.proofs.Linked.LinksBlocks.{edge_leads, Back, back, way_out}
-use Rattle.wave_link.proofs.Linked.LinksDraft.{low_of, heads_in, ways_in, ways_at, states_at, behind_at}
+use Rattle.wave_link.proofs.Linked.LinksDraft.{low_of, heads_in, ways_at, states_at, behind_at}
 use Rattle.wave_link.proofs.Linked.LinksDraft.{place_is, adds_is, writer_below, empty_needs, eqb_zero, run}
 use Rattle.ws_words.specs.Items.{nth, or_else}
 
@@ -45,22 +45,24 @@ writer_start (i ∷ is) s w = refl
 
 pub seq_on : (is : List Instr) (n s : ℕ) → n < length is → seq_in is (suc n) s ≡ seq_next
     (or_else (nth is n) no_instr).op (seq_in is n s)
-seq_on [] n s l = absurd (omega arith)
-seq_on (i ∷ is) zero s l = seq_start is (seq_next i.op s)
 seq_on (i ∷ is) (suc n) s l = seq_on is n (seq_next i.op s) (omega arith)
+seq_on is n s l = grind (arith, seq_start)
 
 pub writer_on : (is : List Instr) (n s w : ℕ) → n < length is → writer_in is (suc n) s w ≡ writer_next
     (or_else (nth is n) no_instr).op (seq_in is n s) (writer_in is n s w)
-writer_on [] n s w l = absurd (omega arith)
-writer_on (i ∷ is) zero s w l = writer_start is (seq_next i.op s) (writer_next i.op s w)
 writer_on (i ∷ is) (suc n) s w l = writer_on is n (seq_next i.op s) (writer_next i.op s w) (omega arith)
+writer_on is n s w l = grind (arith, writer_start)
 
 count_on : (op : Op) (l n s : ℕ) → s ≡ l + n + 1 → seq_next op s ≡ l + cond (is_memory_op op) (n + 1) n + 1
 count_on op l n s e = grind arith
 
 pub seq_end : (is : List Instr) (l n s : ℕ) → s ≡ l + n + 1 → seq_in is (length is) s ≡ l + ops_from is n + 1
 seq_end [] l n s e = e
-seq_end (i ∷ is) l n s e = seq_end is l (one_more_op i n) (seq_next i.op s) (count_on i.op l n s e)
+seq_end (i ∷ is) l n s e = grind (
+  arith,
+  count_on,
+  seq_end is l (one_more_op i n) (seq_next i.op s) (count_on i.op l n s e),
+)
 
 -- the last writing number, from that of the entry and the place of the last writing one here
 abbrev writer_by : ℕ → ℕ → ℕ → ℕ
@@ -68,10 +70,7 @@ writer_by l first w = cond (eqb w 0) first (l + w)
 
 writer_step : (op : Op) (l first n w s v : ℕ) → s ≡ l + n + 1 → v ≡ writer_by l first w
     → writer_next op s v ≡ writer_by l first (cond (is_writing_op op) (n + 1) w)
-writer_step op l first n w s v e f = go (is_writing_op op)
-  where
-    go : (b : Bool) → cond b s v ≡ writer_by l first (cond b (n + 1) w)
-    go b = grind arith
+writer_step op l first n w s v e f = grind arith
 
 pub writer_end : (is : List Instr) (l first n w s v : ℕ) → s ≡ l + n + 1 → v ≡ writer_by l first w
     → writer_in is (length is) s v ≡ writer_by l first (writer_from is n w)
@@ -107,17 +106,7 @@ find_writer (i ∷ is) l n s w e =
         })
     go (inl f) (inr v) = inl (f ∙ ap (λ (b : Bool). cond b (n + 1) w) v)
     go (inl f) (inl v) =
-        let g : writer_from (i ∷ is) n w ≡ n + 1 = f ∙ ap (λ (b : Bool). cond b (n + 1) w) v in
-        inr (record {
-          at = 0;
-          inside = omega arith;
-          writes = v;
-          number = sum s l n (writer_from (i ∷ is) n w)
-              e g;
-        })
-      where
-        sum : (s l n k : ℕ) → s ≡ l + n + 1 → k ≡ n + 1 → s ≡ l + k
-        sum s l n k e g = omega arith
+        grind arith
 
 -- Notes along a list of instructions.
 
@@ -130,10 +119,9 @@ pub noted_at : (p : Passage) (is : List Instr) (n s w : ℕ) → n < length is �
     → is_memory_op (or_else (nth is n) no_instr).op ≡ true →
     (or_else (nth is n) no_instr).note ≡ Some (note_at p (or_else (nth is n) no_instr).op (seq_in is n s)
     (writer_in is n s w))
-noted_at p [] n s w l h m = absurd (omega arith)
-noted_at p (i ∷ is) zero s w l h m = h.0 m
 noted_at p (i ∷ is) (suc n) s w l h m =
     grind (arith, noted_at p is n (seq_next i.op s) (writer_next i.op s w) (omega arith) h.1 m)
+noted_at p is n s w l h m = grind arith
 
 noted_grown : (t : Tables) (p : Passage) (k s w : ℕ) (is rest : List Instr)
     → Noted p (seq_in is (length is) s) (writer_in is (length is) s w) rest
@@ -173,8 +161,7 @@ module _ (draft : Image) where
 
   -- a block with a no-op has no other operation
   pub adds_empty : (b : ℕ) → IsBlock draft b → adds draft b ≡ true → ops_from (block_at draft b).instrs 0 ≡ 0
-  adds_empty b h a =
-      grind (arith, outline_in, bare_of, bare_is, ways_in, states_at, adds_is, eqb_zero, empty_needs)
+  adds_empty b h a = grind (arith, bare_is, adds_is, eqb_zero, empty_needs)
 
   laid_by : (b : ℕ) (x : Block) (p : Passage) (v : Bool) (m : ℕ) (g : Block) → 1 ≤ m
       → g.instrs ≡ grown_instrs (tables_in draft.blocks) p (first_number draft b) (p.low + 1) p.writer
@@ -202,7 +189,7 @@ module _ (draft : Image) where
             p.writer x.instrs rest
             ((λ q. ap₂ (λ (i j : ℕ). Some (note_at p Nop i j)) (sym s) (sym w)), tt)),
       )
-  laid_by b x p false m g l e z = grind (arith, tables_in, ops_grown, writer_grown, noted_grown)
+  laid_by b x p false m g l e z = grind (arith, ops_grown, writer_grown, noted_grown)
 
   pub laid : (b : ℕ) → IsBlock draft b → Laid b
   laid b h =
@@ -304,8 +291,7 @@ module _ (draft : Image) where
 
     writer_step_at : (b k : ℕ) → IsBlock image b → IsIn image b k
         → wr b (suc k) ≡ writer_next (instr_at image k).op (sq b k) (wr b k)
-    writer_step_at b k h i =
-        grind (arith, writer_in, image, low, place, one_on, writer_on, inside, sq, wr, found_in)
+    writer_step_at b k h i = grind (arith, one_on, writer_on, inside, found_in)
 
     low_zero : (b : ℕ) → low b + 1 ≡ low b + 0 + 1
     low_zero b = omega arith
@@ -393,11 +379,8 @@ module _ (draft : Image) where
         (behind_at draft) sq wr
     marked = record {
       count = sym (count_kept draft);
-      sq_first = λ b h. ap (λ (j : ℕ). seq_in (block_at image b).instrs j (low b + 1))
-          (none_past (first_number image b)) ∙ seq_start (block_at image b).instrs (low b + 1);
-      wr_first = λ b h. ap (λ (j : ℕ). writer_in (block_at image b).instrs j (low b + 1) (place b).writer)
-          (none_past (first_number image b)) ∙ writer_start (block_at image b).instrs (low b + 1)
-          (place b).writer;
+      sq_first = grind (arith, none_past, seq_start);
+      wr_first = grind (arith, none_past, writer_start);
       sq_next = seq_step;
       wr_next = writer_step_at;
       sq_end = seq_finish;

@@ -13,7 +13,7 @@ use Rattle.wave_link.specs.Notes.{low_at, lows_from}
 use Rattle.wave_link.specs.Grown.{annotated}
 use Rattle.wave_link.specs.Numbered.{operations_before, NumberedInOrder}
 use Rattle.wave_link.proofs.Parted.Edges.{count_kept, wave_kept}
-use Rattle.wave_link.proofs.Linked.LinksBlocks.{grown_of, outline_at, first_is, waves_rise}
+use Rattle.wave_link.proofs.Linked.LinksBlocks.{outline_at, first_is, waves_rise}
 use Rattle.wave_link.proofs.Linked.LinksDraft.{low_of, run}
 use Rattle.wave_link.proofs.Linked.LinksMarked.{sq, marked}
 use Rattle.ws_words.specs.Items.{nth, or_else}
@@ -96,7 +96,7 @@ module _ (draft : Image) (open_to : FitForNotes draft) where
   -- along a block of another wave, and of this one
   along_other : (w b k : ℕ) → IsBlock image b → (wave b ≡ w → ⊥) → first_number image b ≤ k
       → k ≤ first_number image (suc b) → before w k ≡ before w (first_number image b)
-  along_other w b zero h d l m = let e : zero ≡ first_number image b = omega arith in ap (before w) e
+  along_other w b zero h d l m = grind arith
   along_other w b (suc k) h d l m = go (cases_eq (suc k) (first_number image b))
       (λ q. along_other w b k h d q (omega arith))
     where
@@ -104,7 +104,7 @@ module _ (draft : Image) (open_to : FitForNotes draft) where
           → (first_number image b ≤ k → before w k ≡ before w (first_number image b))
           → before w (suc k) ≡ before w (first_number image b)
       go (inl e) rec = ap (before w) e
-      go (inr n) rec = let q : first_number image b ≤ k = omega arith in other_wave w b k h (q, m) d ∙ rec q
+      go (inr n) rec = grind (arith, other_wave)
 
   seq_step : (b k : ℕ) → IsBlock image b → IsIn image b k → sq draft b (suc k) ≡ sq draft b k + cond
       (is_memory image k) 1 0
@@ -114,9 +114,7 @@ module _ (draft : Image) (open_to : FitForNotes draft) where
   along : (b k : ℕ) → IsBlock image b → before (wave b) (first_number image b) ≡ low_of draft b
       → first_number image b ≤ k → k ≤ first_number image (suc b) → before (wave b) k + 1 ≡ sq draft b k
   along b zero h s l m =
-      let e : zero ≡ first_number image b = omega arith in
-      let f : sq draft b (first_number image b) ≡ low_of draft b + 1 = (marked draft open_to).sq_first b h in
-      ap (λ (n : ℕ). before (wave b) n + 1) e ∙ (ap (λ (n : ℕ). n + 1) s ∙ (sym f ∙ ap (sq draft b) (sym e)))
+      grind (arith, marked)
   along b (suc k) h s l m = go (cases_eq (suc k) (first_number image b)) (λ q. along b k h s q (omega arith))
     where
       f : sq draft b (first_number image b) ≡ low_of draft b + 1
@@ -153,12 +151,6 @@ module _ (draft : Image) (open_to : FitForNotes draft) where
 
   -- each block begins with the number of operations of its wave before it
   lows : (b : ℕ) → 1 ≤ b → b ≤ length draft.blocks → before (wave b) (first_number image b) ≡ low_of draft b
-  lows zero l h = absurd (omega arith)
-  lows (suc zero) l h = ap (before (wave 1)) (number_one image)
-      ∙ (none_first (wave 1) (waves_one 1 l h) ∙ sym low_one)
-    where
-      low_one : low_of draft 1 ≡ 0
-      low_one = low_start (grown_of draft)
   lows (suc (suc b)) l h = go (cases_Bool (is_first draft (suc (suc b))))
       (lows (suc b) (omega arith) (omega arith))
     where
@@ -199,6 +191,7 @@ module _ (draft : Image) (open_to : FitForNotes draft) where
           next ∙ ap (λ (v : Bool). cond v 0 (low_of draft (suc b) + (outline_at draft (suc b)).ops))
           (f ∙ e) in
           ap (λ (v : ℕ). before v (first_number image (suc (suc b)))) w ∙ omega arith
+  lows b l h = grind (arith, number_one, none_first, waves_one, low_start)
 
   pub numbered : NumberedInOrder image
   numbered b k h i m = grind (arith, count_kept, before, wave, sq, along, lows, image, marked)

@@ -17,7 +17,7 @@ use Rattle.wave_link.specs.declared.links.Behind.{Behind}
 use Rattle.wave_link.specs.declared.links.Passage.{Passage}
 use Rattle.wave_link.specs.declared.states.Ways.{Ways}
 use Rattle.wave_link.specs.declared.states.LastOps.{LastOps}
-use Rattle.wave_link.specs.Notes.{head_at, out_link, unreached, place_at, note_at, writer_next}
+use Rattle.wave_link.specs.Notes.{out_link, unreached, place_at, note_at, writer_next}
 use Rattle.wave_link.specs.Grown.{seq_next}
 use Rattle.wave_link.specs.Ripples.{MayPrecede, ExactRipples}
 use Rattle.wave_link.proofs.Linked.LinksTables.{Leads, exact}
@@ -119,9 +119,7 @@ module _ (image : Image) (n : ℕ) (x : ℕ → Outline) (low : ℕ → ℕ) (he
       go : (j ≡ suc k) ⊎ (j ≡ suc k → ⊥) → (j ≤ k → sq b j ≤ sq b k) → sq b j ≤ sq b (suc k)
       go (inl e) rec = rw e (omega arith)
       go (inr d) rec =
-          let q : j ≤ k = omega arith in
-          let s : sq b k ≤ sq b (suc k) = sq_one b k h (omega arith, omega arith) in
-          omega (arith, rec q, s)
+          grind (arith, sq_one)
 
   pub sq_rise : (b j k : ℕ) → IsBlock image b → IsIn image b j → is_memory image j ≡ true → j < k
       → k ≤ first_number image (suc b) → sq b j < sq b k
@@ -198,24 +196,11 @@ module _ (image : Image) (n : ℕ) (x : ℕ → Outline) (low : ℕ → ℕ) (he
 
   below_next : (b k : ℕ) (done : List ℕ) (s : Stands b k done) → k < first_number image (suc b) → (j : ℕ)
       → In j (k ∷ done) → is_writing image j ≡ true → seq image j ≤ wr b (suc k)
-  below_next b k done s l j a w = go (cases_Bool (is_writing image k)) a
-    where
-      i : IsIn image b k
-      i = (s.low_end, l)
-
-      go : (is_writing image k ≡ true) ⊎ (is_writing image k ≡ false) → (j ≡ k) ⊎ In j done
-          → seq image j ≤ wr b (suc k)
-      go h p = grind (arith, wr_step, i, seq_is, writing_memory, wr_stay)
+  below_next b k done s l j a w = grind (arith, cases_Bool, wr_step, seq_is, writing_memory, wr_stay)
 
   under_next : (b k : ℕ) (done : List ℕ) (s : Stands b k done) → k < first_number image (suc b)
       → wr b (suc k) < sq b (suc k)
-  under_next b k done s l = go (cases_Bool (is_writing image k))
-    where
-      i : IsIn image b k
-      i = (s.low_end, l)
-
-      go : (is_writing image k ≡ true) ⊎ (is_writing image k ≡ false) → wr b (suc k) < sq b (suc k)
-      go h = grind (arith, wr_step, i, sq_step, writing_memory, wr_stay, sq_one)
+  under_next b k done s l = grind (arith, cases_Bool, wr_step, sq_step, writing_memory, wr_stay, sq_one)
 
   -- who is last behind one more instruction
   pub last_next : (b a k : ℕ) (done : List ℕ) → IsBlock image b → IsIn image b k
@@ -331,7 +316,7 @@ module _ (image : Image) (n : ℕ) (x : ℕ → Outline) (low : ℕ → ℕ) (he
     path = starts (ready b h).0 (ready b h).1 (marked.first_is b h ∙ f);
     last = entry_none (marked.sq_first b h) refl refl;
     below = λ j a w. absurd a;
-    under = under_entry b 0 h (known_at (starts (ready b h).0 (ready b h).1 (marked.first_is b h ∙ f)));
+    under = grind (arith, under_entry, known_at, ready, marked.first_is);
   }
   stands b k done (turn {b = c} {k = l} {done = d} p w) = stands_on c l d (stands c l d p) w
   stands b k done (edge {b = c} {k = l} {done = d} p e s r f) = stands_out c l r d (stands c l d p) e s f
@@ -352,62 +337,45 @@ module _ (image : Image) (n : ℕ) (x : ℕ → Outline) (low : ℕ → ℕ) (he
   -- the successor of an operation that isn't the last of its block, and of one that is
   succ_inside : (b j : ℕ) → OpAt b j (sq b j) → sq b j < low b + (x b).ops
       → (note_of image j).succ ≡ Is (sq b j + 1)
-  succ_inside b j p l = ap (λ (v : Note). v.succ) (marked.note b j p.block p.inside p.memory)
-      ∙ rw (ne_eqb (sq b j) (low b + (x b).ops) (λ e. absurd (omega arith))) refl
+  succ_inside b j p l = grind (arith, marked.note, p.block, p.inside, ne_eqb)
 
   succ_last : (a j : ℕ) → OpAt a j (low a + (x a).ops) → (note_of image j).succ ≡ out_link (x a).way heads
-  succ_last a j p = ap (λ (v : Note). v.succ) (marked.note a j p.block p.inside p.memory)
-      ∙ rw (eq-eqb (sq a j) (low a + (x a).ops) p.number) refl
+  succ_last a j p = grind (arith, marked.note, p.block, p.inside, eq-eqb)
 
   pred_inside : (b k : ℕ) → IsBlock image b → IsIn image b k → is_memory image k ≡ true → low b + 1 < sq b k
       → (note_of image k).pred ≡ Is (sq b k - 1)
-  pred_inside b k h i m l = ap (λ (v : Note). v.pred) (marked.note b k h i m)
-      ∙ rw (ne_eqb (sq b k) (low b + 1) (λ e. absurd (omega arith))) refl
+  pred_inside b k h i m l = grind (arith, marked.note, ne_eqb)
 
   pred_first : (b k : ℕ) → IsBlock image b → IsIn image b k → is_memory image k ≡ true → sq b k ≡ low b + 1
       → (note_of image k).pred ≡ (place b).pred
-  pred_first b k h i m e = ap (λ (v : Note). v.pred) (marked.note b k h i m)
-      ∙ rw (eq-eqb (sq b k) (low b + 1) e) refl
+  pred_first b k h i m e = grind (arith, marked.note, eq-eqb)
 
   exact_some : (a : ℕ) → 1 ≤ a → 1 ≤ low a + (x a).ops → exact (last_seq a) ≡ Is (low a + (x a).ops)
   exact_some a l w = grind (arith, last_seq, exact)
 
   pair_within : (b k j : ℕ) → IsBlock image b → IsIn image b k → is_memory image k ≡ true → OpAt b j (sq b j)
       → sq b k ≡ sq b j + 1 → Pair j k
-  pair_within b k j h i m p e =
-      let hi : sq b k ≤ low b + (x b).ops = sq_high b k h i m in
-      let jl : j < first_number image (suc b) = p.inside.1 in
-      let lo : low b + 1 ≤ sq b j = sq_low b j h p.inside.0 (omega arith) in
-      let sj : seq image j ≡ sq b j = seq_is b j h p.inside p.memory in
-      let sk : seq image k ≡ sq b k = seq_is b k h i m in
-      let su : (note_of image j).succ ≡ Is (seq image k) = succ_inside b j p (omega arith)
-      ∙ ap Is (omega arith) in
-      let pr : (note_of image k).pred ≡ Is (seq image j) = pred_inside b k h i m (omega arith)
-      ∙ ap Is (omega arith) in
-      record { rises = omega arith; succ = inr su; pred = inr pr; linked = inl su }
+  pair_within b k j h i m p e = grind (arith, sq_high, sq_low, seq_is, p.inside, succ_inside, pred_inside)
 
   pair_entry : (b a k j : ℕ) → IsBlock image b → IsIn image b k → is_memory image k ≡ true → Known b a
       → sq b k ≡ low b + 1 → 1 ≤ a → OpAt a j (low a + (x a).ops) → Pair j k
-  pair_entry b a k j h i m f e o p =
-      let hi : sq b k ≤ low b + (x b).ops = sq_high b k h i m in
-      let ja : j < first_number image (suc a) = p.inside.1 in
-      let lo : low a + 1 ≤ sq a j = sq_low a j p.block p.inside.0 (omega arith) in
-      let num : sq a j ≡ low a + (x a).ops = p.number in
-      let sj : seq image j ≡ low a + (x a).ops = seq_is a j p.block p.inside p.memory ∙ num in
-      let sk : seq image k ≡ low b + 1 = seq_is b k h i m ∙ e in
-      let ex : exact (last_seq a) ≡ Is (seq image j) = exact_some a o (omega arith) ∙ ap Is (sym sj) in
-      let su : (note_of image j).succ ≡ out_link (x a).way heads = succ_last a j p in
-      let pr : (note_of image k).pred ≡ f.y.pred = pred_first b k h i m e ∙ place_pred b a f in
-      let hd : head_at heads b ≡ Is (seq image k) = head_full n x low heads ways states behind run b
-      f.low_block f.high_block (omega arith) ∙ ap Is (sym sk) in
-      let ls : last_seq a ≡ low a + (x a).ops = rw (ne_eqb a 0 (λ d. absurd (omega arith))) refl in
-      record {
-        rises = omega arith;
-        succ = elim (f.next o) [ inl u ↦ inl (su ∙ u) | inr u ↦ inr (su ∙ (u ∙ hd)) ];
-        pred = elim f.agrees [ inl u ↦ inl (pr ∙ u) | inr u ↦ inr (pr ∙ (u ∙ ex)) ];
-        linked = elim (first_linked n x low heads ways states behind run b a f (omega arith))
-            [ inl u ↦ inr (pr ∙ (u ∙ ex)) | inr u ↦ inl (su ∙ (u.1 ∙ ap Is (sym sk))) ];
-      }
+  pair_entry b a k j h i m f e o p = grind (
+    arith,
+    sq_high,
+    sq_low,
+    p.block,
+    seq_is,
+    p.inside,
+    exact_some,
+    succ_last,
+    pred_first,
+    place_pred,
+    head_full,
+    ne_eqb,
+    f.next,
+    f.agrees,
+    first_linked,
+  )
 
   some_same : (i j : ℕ) → Some i ≡ Some j → i ≡ j
   some_same i j e = cc
@@ -517,15 +485,7 @@ module _ (image : Image) (n : ℕ) (x : ℕ → Outline) (low : ℕ → ℕ) (he
   pub apart : (b c j k : ℕ) → IsBlock image b → IsBlock image c → (block_at image b).wave
       ≡ (block_at image c).wave → IsIn image b j → IsIn image c k → is_memory image j ≡ true
       → is_memory image k ≡ true → seq image j ≡ seq image k → j ≡ k
-  apart b c j k hb hc w i o m p e = elim (cases_eq b c) [
-    | inl s ↦ (let o' : IsIn image b k = subst (λ (v : ℕ). IsIn image v k) (sym s) o in
-        apart_in b j k hb i o' m p (sym (seq_is b j hb i m) ∙ (e ∙ seq_is b k hb o' p)))
-    | inr d ↦ absurd (elim (cases_lt b c) [
-      | inl t ↦ (let r : seq image j < seq image k = below_block b c j k t hb hc w i o m p in omega arith)
-      | inr t ↦ (let r : seq image k < seq image j = below_block c b k j (omega arith) hc hb (sym w) o i p
-          m in omega arith)
-    ])
-  ]
+  apart b c j k hb hc w i o m p e = grind (arith, cases_eq, apart_in, seq_is, cases_lt, below_block)
 
   is_same : (m n : ℕ) → Is m ≡ Is n → m ≡ n
   is_same m n f = cc
@@ -544,21 +504,13 @@ module _ (image : Image) (n : ℕ) (x : ℕ → Outline) (low : ℕ → ℕ) (he
     last_succ = λ k e. (let f : Ended (Some k) = finish (Some k) e in ap (λ (v : ℕ). (note_of image v).succ)
         (some_same k f.op f.last_is) ∙ f.none);
     linked = λ j k f. (pair j k f).linked;
-    succ_is = λ j k n e f. elim (pair j k f).succ [
-      | inl u ↦ absurd (cc (sym e ∙ u))
-      | inr u ↦
-          is_same (seq image k) n (sym u ∙ e)
-    ];
+    succ_is = grind (arith, pair, is_same);
     succ_goes_on = λ j n e g. (let f : Ended (Some j) = finish (Some j) g in
         cc (sym e ∙ (ap (λ (v : ℕ). (note_of image v).succ) (some_same j f.op f.last_is) ∙ f.none)));
-    succ_ends = λ j k e f. elim (pair j k f).succ [ inl u ↦ cc (sym e ∙ u) | inr u ↦ cc (sym e ∙ u) ];
-    pred_is = λ j k n e f. elim (pair j k f).pred [
-      | inl u ↦ absurd (cc (sym e ∙ u))
-      | inr u ↦
-          is_same (seq image j) n (sym u ∙ e)
-    ];
+    succ_ends = grind (arith, pair);
+    pred_is = grind (arith, pair, is_same);
     pred_is_some = λ k n e f. cc (sym e ∙ begins k f);
-    pred_none = λ j k e f. elim (pair j k f).pred [ inl u ↦ cc (sym e ∙ u) | inr u ↦ cc (sym e ∙ u) ];
+    pred_none = grind (arith, pair);
   }
 
   -- Ripples.
@@ -578,10 +530,7 @@ module _ (image : Image) (n : ℕ) (x : ℕ → Outline) (low : ℕ → ℕ) (he
     own = λ k last f w. (let s : Stands f.block k f.done = standing k last f in
         ripple_own f.block k s.block (is_in k last f) w
         ∙ sym (seq_is f.block k s.block (is_in k last f) f.memory));
-    above = λ b k j done p l m w a v. (let s : Stands b k done = stands b k done p in
-        let q : seq image j ≤ wr b k = s.below j a v in
-        let r : (note_of image k).ripple ≡ wr b k = ripple_other b k s.block (s.low_end, l) m w in
-        omega arith);
+    above = grind (arith, stands, ripple_other);
   }
 
   -- a path goes on in its block
@@ -608,13 +557,12 @@ module _ (image : Image) (n : ℕ) (x : ℕ → Outline) (low : ℕ → ℕ) (he
   -- a path in a block has come by its instructions
   passed : (b k : ℕ) (done : List ℕ) → InWave image b k done → (j : ℕ) → first_number image b ≤ j → j < k
       → In j done
-  passed b k done (first h f) j l w = absurd (omega arith)
   passed b k done (turn {b = c} {k = i} {done = d} p q) j l w = elim (cases_eq j i) [
     | inl e ↦ inl e
     | inr n ↦
         inr (passed c i d p j l (omega arith))
   ]
-  passed b k done (edge p e s r f) j l w = absurd (omega arith)
+  passed b k done g j l w = grind arith
 
   pub crossed : (b c : ℕ) (done : List ℕ) → IsBlock image b → InWave image b (first_number image (suc b)) done
       → Leads (x b).way c → InWave image c (first_number image c) done

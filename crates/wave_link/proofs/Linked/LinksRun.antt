@@ -13,7 +13,7 @@ use Rattle.wave_link.specs.declared.states.Ways.{Ways}
 use Rattle.wave_link.specs.declared.states.Ways.TheVariants.{Zero, One, Several}
 use Rattle.wave_link.specs.declared.states.LastOps.{LastOps}
 use Rattle.wave_link.specs.declared.states.LastOps.TheVariants.{Shared, Sole, Many}
-use Rattle.wave_link.specs.States.{more, has_way, is_several, reached, enter_way, ways_step, is_shared}
+use Rattle.wave_link.specs.States.{more, has_way, is_several, reached, ways_step, is_shared}
 use Rattle.wave_link.specs.States.{is_many, state_in, is_vain, spread_state}
 use Rattle.wave_link.specs.Notes.{low_at, head_at, out_link, head_link, larger, joined, begin, behind_in}
 use Rattle.wave_link.specs.Notes.{behind_out, hand_all}
@@ -99,43 +99,34 @@ module _ (n : ℕ) (x : ℕ → Outline) (low : ℕ → ℕ) (heads : List Link)
   step_length b v e = grind (arith, ways_length)
 
   ways_len : (b : ℕ) → 1 ≤ b → b ≤ suc n → length (ways b) ≡ suc n
-  ways_len zero l h = absurd (omega arith)
-  ways_len (suc zero) l h = run.ways_size
   ways_len (suc (suc k)) l h = grind (arith, step_length, reach, ways_len (suc k) (omega arith) (omega arith))
+  ways_len b l h = grind arith
 
   spread_length : (b : ℕ) (v : Bool)
       → length (cond v (spread_state (x b).way (full b) (state b) (states b)) (states b)) ≡ length (states b)
   spread_length b v = grind (arith, states_length, full, state)
 
   states_len : (b : ℕ) → 1 ≤ b → b ≤ suc n → length (states b) ≡ suc n
-  states_len zero l h = absurd (omega arith)
-  states_len (suc zero) l h = run.states_size
   states_len (suc (suc k)) l h = grind (arith, spread_length, states_len (suc k) (omega arith) (omega arith))
+  states_len b l h = grind arith
 
   hand_length : (b : ℕ) (y : Option Behind) → length (hand_all (x b) (low b) y (behind b)) ≡ length (behind b)
   hand_length b y = grind (arith, behind_length, out)
 
   behind_len : (b : ℕ) → 1 ≤ b → b ≤ suc n → length (behind b) ≡ suc n
-  behind_len zero l h = absurd (omega arith)
-  behind_len (suc zero) l h = run.behind_size
   behind_len (suc (suc k)) l h =
       grind (arith, hand_length, here, behind_len (suc k) (omega arith) (omega arith))
+  behind_len b l h = grind arith
 
   -- one step at one place
 
   ways_hit : (m c : ℕ) → 1 ≤ m → m ≤ n → c ≤ n → reach m ≡ true → Leads (x m).way c
       → seen (suc m) c ≡ more (seen m c)
-  ways_hit m c l h k r e = ap (λ (t : List Ways). get_or t c Zero) (run.ways_next m l h)
-      ∙ rw r (hit_ways (x m).way c (ways m) (run.parts m l h) e (omega (arith, ways_len m l (omega arith))))
+  ways_hit m c l h k r e = grind (arith, run.ways_next, hit_ways, run.parts, ways_len)
 
   ways_miss : (m c : ℕ) → 1 ≤ m → m ≤ n → (reach m ≡ false) ⊎ (Leads (x m).way c → ⊥)
       → seen (suc m) c ≡ seen m c
-  ways_miss m c l h (inl r) = ap (λ (t : List Ways). get_or t c Zero) (run.ways_next m l h) ∙ rw r refl
-  ways_miss m c l h (inr k) = ap (λ (t : List Ways). get_or t c Zero) (run.ways_next m l h) ∙ go (reach m)
-    where
-      go : (v : Bool) → get_or (cond v (enter_way (x m).way (ways m)) (ways m)) c Zero ≡ seen m c
-      go true = miss_ways (x m).way c (ways m) k
-      go false = refl
+  ways_miss m c l h i = grind (arith, run.ways_next, miss_ways)
 
   -- nothing is added to the ways into a block from itself on
   pub settle : (b m : ℕ) → 1 ≤ b → b ≤ n → b ≤ m → m ≤ suc n → seen m b ≡ seen b b
@@ -143,12 +134,7 @@ module _ (n : ℕ) (x : ℕ → Outline) (low : ℕ → ℕ) (heads : List Link)
   settle b (suc m) l h k w = go (cases_eq b (suc m)) (λ q. settle b m l h q (omega arith))
     where
       go : (b ≡ suc m) ⊎ (b ≡ suc m → ⊥) → (b ≤ m → seen m b ≡ seen b b) → seen (suc m) b ≡ seen b b
-      go (inl e) rec = ap (λ (i : ℕ). seen i b) (sym e)
-      go (inr d) rec =
-          let q : b ≤ m = omega arith in
-          ways_miss m b (omega arith) (omega arith)
-          (inr (λ e. absurd (let lt : m < b = (run.later m b (omega arith) (omega arith) e).0 in
-          omega arith))) ∙ rec q
+      go h rec = grind (arith, ways_miss, run.later)
 
   pub reach_same : (b : ℕ) → 1 ≤ b → b ≤ n → reached (x b) b (ways (suc n)) ≡ reach b
   reach_same b l h = grind (arith, settle)
@@ -159,33 +145,15 @@ module _ (n : ℕ) (x : ℕ → Outline) (low : ℕ → ℕ) (heads : List Link)
 
   states_miss : (m c : ℕ) → 1 ≤ m → m ≤ n → (reach m ≡ false) ⊎ (Leads (x m).way c → ⊥)
       → get_or (states (suc m)) c Shared ≡ get_or (states m) c Shared
-  states_miss m c l h k = ap (λ (t : List LastOps). get_or t c Shared) (run.states_next m l h)
-      ∙ go (reached (x m) m (ways (suc n))) (reach_same m l h) k
-    where
-      go : (v : Bool) → v ≡ reach m → (reach m ≡ false) ⊎ (Leads (x m).way c → ⊥)
-          → get_or (cond v (spread_state (x m).way (full m) (state m) (states m)) (states m)) c Shared
-          ≡ get_or (states m) c Shared
-      go true e (inl r) = absurd (cc (e ∙ r))
-      go true e (inr q) = miss_states (x m).way c (full m) (state m) (states m) q
-      go false e q = refl
+  states_miss m c l h k = grind (arith, run.states_next, reach_same, miss_states)
 
   behind_hit : (m c : ℕ) (y : Behind) → 1 ≤ m → m ≤ n → c ≤ n → here m ≡ Some y → Leads (x m).way c
       → get_or (behind (suc m)) c None ≡ Some (joined (get_or (behind m) c None) (out m y))
-  behind_hit m c y l h k r e = ap (λ (t : List (Option Behind)). get_or t c None) (run.behind_next m l h)
-      ∙ (ap (λ (o : Option Behind). get_or (hand_all (x m) (low m) o (behind m)) c None) r
-      ∙ hit_behind (x m).way c (out m y) (behind m) (run.parts m l h) e
-      (omega (arith, behind_len m l (omega arith))))
+  behind_hit m c y l h k r e = grind (arith, run.behind_next, hit_behind, run.parts, behind_len)
 
   behind_miss : (m c : ℕ) → 1 ≤ m → m ≤ n → (here m ≡ None) ⊎ (Leads (x m).way c → ⊥)
       → get_or (behind (suc m)) c None ≡ get_or (behind m) c None
-  behind_miss m c l h k = ap (λ (t : List (Option Behind)). get_or t c None) (run.behind_next m l h)
-      ∙ go (here m) refl k
-    where
-      go : (o : Option Behind) → here m ≡ o → (here m ≡ None) ⊎ (Leads (x m).way c → ⊥)
-          → get_or (hand_all (x m) (low m) o (behind m)) c None ≡ get_or (behind m) c None
-      go None e q = refl
-      go (Some y) e (inl r) = absurd (cc (sym e ∙ r))
-      go (Some y) e (inr q) = miss_behind (x m).way c (out m y) (behind m) q
+  behind_miss m c l h k = grind (arith, run.behind_next, miss_behind)
 
   -- an edge leads to block c from a block before m that is reached
   pub record Came (a c m : ℕ) : Type 0 where
@@ -233,11 +201,7 @@ module _ (n : ℕ) (x : ℕ → Outline) (low : ℕ → ℕ) (heads : List Link)
       go (inr f) (many_in a y z e k h w g u v) = (z, later None z f g)
 
   not_here : (b : ℕ) → reach b ≡ false → Inv b b → here b ≡ None
-  not_here b r i = go (or_none (x b).first (has_way (seen b b)) r).0
-      (or_none (x b).first (has_way (seen b b)) r).1 i
-    where
-      go : (x b).first ≡ false → has_way (seen b b) ≡ false → Inv b b → here b ≡ None
-      go f w h = grind arith
+  not_here b r i = grind (arith, or_none)
 
   keep_came : (a c m : ℕ) → Came a c m → Came a c (suc m)
   keep_came a c m k = grind arith
@@ -384,8 +348,6 @@ module _ (n : ℕ) (x : ℕ → Outline) (low : ℕ → ℕ) (heads : List Link)
       go (many_in a y z w p f t g u v) = several a y z (sw ∙ ap more w) p f t g u
 
   pub inv : (m c : ℕ) → 1 ≤ m → m ≤ suc n → c ≤ n → Inv m c
-  inv zero c l h k = absurd (omega arith)
-  inv (suc zero) c l h k = grind arith
   inv (suc (suc j)) c l h k = go (cases_Bool (reach (suc j))) (leads (x (suc j)).way c)
       (inv (suc j) (suc j) (omega arith) (omega arith) (omega arith))
       (inv (suc j) c (omega arith) (omega arith) k)
@@ -395,6 +357,7 @@ module _ (n : ℕ) (x : ℕ → Outline) (low : ℕ → ℕ) (heads : List Link)
       go (inl r) (inl e) own i = met (suc j) c (omega arith) (omega arith) k r e own i
       go (inl r) (inr e) own i = missed (suc j) c (omega arith) (omega arith) (inr e) own i
       go (inr r) e own i = missed (suc j) c (omega arith) (omega arith) (inl r) own i
+  inv m c l h k = grind arith
 
   -- a path inside a wave leads to block b, and a is the last block with an operation before it, or 0
   abbrev pub last_of : ℕ → ℕ → ℕ
@@ -509,8 +472,7 @@ module _ (n : ℕ) (x : ℕ → Outline) (low : ℕ → ℕ) (heads : List Link)
       go (cases_eq b c) (λ q. low_rise b c l q (omega arith) (λ m u v. f m u (omega arith)))
     where
       next : 1 ≤ c → low (suc c) ≡ low c + (x c).ops
-      next o = run.low_next c o (omega arith) ∙ ap (λ (v : Bool). cond v 0 (low c + (x c).ops))
-          (f (suc c) h (omega arith))
+      next o = grind (arith, run.low_next)
 
       go : (b ≡ c) ⊎ (b ≡ c → ⊥) → (b < c → low b + (x b).ops ≤ low c) → low b + (x b).ops ≤ low (suc c)
       go (inl e) rec = grind (arith, next)
@@ -599,12 +561,7 @@ module _ (n : ℕ) (x : ℕ → Outline) (low : ℕ → ℕ) (heads : List Link)
       hand_fork p q w = ap (λ (v : Way). handed v (full b) (state b)) w
 
       owned : (x b).way ≡ On c → Owned b a → Owned c a
-      owned w o =
-          record {
-            some = o.some;
-            head = o.head ∙ (head_empty b f.low_block f.high_block e
-                ∙ head_on (x b).way c w);
-          }
+      owned w o = grind (arith, head_empty, head_on)
 
       knows : Kind b c f.y i.z →
           (state b ≡ Many) ⊎ (f.y.pred ≡ exact (last_number a)) → (state c ≡ Many)
@@ -633,11 +590,7 @@ module _ (n : ℕ) (x : ℕ → Outline) (low : ℕ → ℕ) (heads : List Link)
 
       after : 1 ≤ a → (out_link (x a).way heads ≡ Unknown) ⊎ (out_link (x a).way heads ≡ head_at heads b)
           → (out_link (x a).way heads ≡ Unknown) ⊎ (out_link (x a).way heads ≡ head_at heads c)
-      after o (inl u) = inl u
-      after o (inr u) = elim (next_head (x b).way c k) [
-        | inl v ↦ inl (u ∙ (head_empty b f.low_block f.high_block e ∙ v))
-        | inr v ↦ inr (u ∙ (head_empty b f.low_block f.high_block e ∙ v))
-      ]
+      after o h = grind (arith, next_head, head_empty)
 
   -- and through one with operations
   beyond : (b a c : ℕ) (f : Facts b a) → 1 ≤ (x b).ops → Leads (x b).way c → Into b c f.y → Facts c b
@@ -687,13 +640,7 @@ module _ (n : ℕ) (x : ℕ → Outline) (low : ℕ → ℕ) (heads : List Link)
   -- an operation comes first in block b: its predecessor is said there, or by the last one before
   pub first_linked : (b a : ℕ) (f : Facts b a) → 1 ≤ (x b).ops → (f.y.pred ≡ exact (last_number a))
       ⊎ ((1 ≤ a) × (out_link (x a).way heads ≡ Is (low b + 1)))
-  first_linked b a f e = go f.known f.owner
-    where
-      go : (state b ≡ Many) ⊎ (f.y.pred ≡ exact (last_number a)) → (state b ≡ Shared) ⊎ Owned b a
-          → (f.y.pred ≡ exact (last_number a)) ⊎ ((1 ≤ a) × (out_link (x a).way heads ≡ Is (low b + 1)))
-      go (inr k) o = inl k
-      go (inl m) (inl s) = absurd (cc)
-      go (inl m) (inr o) = inr (o.some, o.head ∙ head_full b f.low_block f.high_block e)
+  first_linked b a f e = grind (arith, f.known, head_full)
 
   -- with none before it, nothing precedes
   pub first_alone : (b a : ℕ) (f : Facts b a) → a ≡ 0 → f.y.pred ≡ Nothing
@@ -702,15 +649,7 @@ module _ (n : ℕ) (x : ℕ → Outline) (low : ℕ → ℕ) (heads : List Link)
   -- a wave ends behind an empty block: the last operation says so
   pub end_said : (b a : ℕ) → Facts b a → (x b).ops ≡ 0 → (x b).way ≡ Out
       → (1 ≤ a) × (out_link (x a).way heads ≡ Nothing)
-  end_said b a f e w = go f.owner
-    where
-      vain : is_vain (x b).way (ways (suc n)) (state b) ≡ true
-      vain = run.none_vain b f.low_block f.high_block (reach_same b f.low_block f.high_block ∙ f.reaches) e
-
-      go : (state b ≡ Shared) ⊎ Owned b a → (1 ≤ a) × (out_link (x a).way heads ≡ Nothing)
-      go (inl s) = grind (arith, vain, state)
-      go (inr o) =
-          (o.some, o.head ∙ (head_empty b f.low_block f.high_block e ∙ ap (λ (v : Way). out_link v heads) w))
+  end_said b a f e w = grind (arith, run.none_vain, reach_same, head_empty)
 
   -- Writing operations.
 

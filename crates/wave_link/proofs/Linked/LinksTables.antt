@@ -1,6 +1,6 @@
 -- Tables that are filled block by block, and what a place of one holds.
 use Rattle.std.proofs.Common.{ℕ, zero, suc, ◌+◌, ◌≡◌, ◌<◌, ◌≤◌, ◌⊎◌, Bool, false, cond, List, [], ◌∷◌, length}
-use Rattle.std.proofs.Common.{get_or, Option, Some, None, refl, sym, ap, ◌∙◌, inl, inr, arith, eqb}
+use Rattle.std.proofs.Common.{get_or, Option, Some, None, refl, sym, ap, ◌∙◌, inr, arith, eqb}
 use Rattle.std.specs.Prelude.{set}
 use Rattle.std.proofs.lemmas.Bool.{cases_eq}
 use Rattle.std.proofs.lemmas.List.{length-set, get_or-set_same, get_or-set_other}
@@ -14,7 +14,7 @@ use Rattle.wave_link.specs.declared.states.Ways.{Ways}
 use Rattle.wave_link.specs.declared.states.Ways.TheVariants.{Zero}
 use Rattle.wave_link.specs.declared.states.LastOps.{LastOps}
 use Rattle.wave_link.specs.declared.states.LastOps.TheVariants.{Shared, Sole}
-use Rattle.wave_link.specs.States.{more, enter, enter_way, ways_step, ways_from, needs_nop, spread_state}
+use Rattle.wave_link.specs.States.{more, enter_way, ways_step, ways_from, needs_nop, spread_state}
 use Rattle.wave_link.specs.States.{states_step, states_from}
 use Rattle.wave_link.specs.Notes.{both, low_at, lows_from, head_at, out_link, head_link, heads_from, joined}
 use Rattle.wave_link.specs.Notes.{behind_in, hand_way, hand_all, place_at, places_from}
@@ -35,10 +35,9 @@ stepped f (x ∷ xs) b (suc n) t = stepped f xs (suc b) n (f x b t)
 
 pub stepped_next : {T : Type 0} (f : Outline → ℕ → T → T) (xs : List Outline) (b n m : ℕ) (t : T)
     → n < length xs → m ≡ b + n → stepped f xs b (suc n) t ≡ f (outline_in xs n) m (stepped f xs b n t)
-stepped_next f [] b n m t l e = absurd (omega arith)
-stepped_next f (x ∷ xs) b zero m t l e = let g : b ≡ m = omega arith in ap (λ (k : ℕ). f x k t) g
 stepped_next f (x ∷ xs) b (suc n) m t l e =
     grind (arith, stepped_next f xs (suc b) n m (f x b t) (omega arith) (omega arith))
+stepped_next f xs b n m t l e = grind arith
 
 pub ways_are : (xs : List Outline) (b : ℕ) (t : List Ways) → ways_from xs b t ≡ stepped ways_step xs b
     (length xs) t
@@ -49,11 +48,9 @@ pub nop_at_place : (xs : List Outline) (b n m : ℕ) (ways : List Ways) (t : Lis
     → m ≡ b + n →
     get_or (states_from xs b ways t) n false ≡ needs_nop (outline_in xs n) m ways
     (stepped (λ (x : Outline) (k : ℕ) (s : List LastOps). states_step x k ways s) xs b n t)
-nop_at_place [] b n m ways t l e = absurd (omega arith)
-nop_at_place (x ∷ xs) b zero m ways t l e = let g : b ≡ m = omega arith in
-    ap (λ (k : ℕ). needs_nop x k ways t) g
 nop_at_place (x ∷ xs) b (suc n) m ways t l e = nop_at_place xs (suc b) n m ways (states_step x b ways t)
     (omega arith) (omega arith)
+nop_at_place xs b n m ways t l e = grind arith
 
 -- the step of the table of what came before
 abbrev pub behind_step : List ℕ → Outline → ℕ → List (Option Behind) → List (Option Behind)
@@ -63,17 +60,14 @@ pub place_there : (xs : List Outline) (b n m : ℕ) (lows : List ℕ) (heads : L
     (t : List (Option Behind)) → n < length xs → m ≡ b + n →
     get_or (places_from xs b lows heads t) n no_place ≡ place_at (outline_in xs n) m (get_or lows m 0) heads
     (stepped (behind_step lows) xs b n t)
-place_there [] b n m lows heads t l e = absurd (omega arith)
-place_there (x ∷ xs) b zero m lows heads t l e = grind arith
 place_there (x ∷ xs) b (suc n) m lows heads t l e = place_there xs (suc b) n m lows heads
     (hand_all x (get_or lows b 0) (behind_in x b t) t) (omega arith) (omega arith)
+place_there xs b n m lows heads t l e = grind arith
 
 pub low_next : (xs : List Outline) (n l : ℕ) → suc n < length xs → get_or (lows_from xs l) (suc n) 0
     ≡ low_at (outline_in xs (suc n)) (get_or (lows_from xs l) n 0 + (outline_in xs n).ops)
-low_next [] n l h = absurd (omega arith)
-low_next (x ∷ []) n l h = absurd (omega arith)
-low_next (x ∷ y ∷ xs) zero l h = refl
 low_next (x ∷ y ∷ xs) (suc n) l h = low_next (y ∷ xs) n (low_at x l + x.ops) (omega arith)
+low_next xs n l h = grind arith
 
 -- Where a way leads.
 
@@ -101,10 +95,7 @@ hit_ways w c t p h l = grind (arith, get_or-set_same, get_or-set_other, same_pla
 
 pub miss_ways : (w : Way) (c : ℕ) (t : List Ways) → (Leads w c → ⊥) → get_or (enter_way w t) c Zero ≡ get_or t
     c Zero
-miss_ways Out c t n = refl
-miss_ways (On b) c t n = get_or-set_other t b c (more (get_or t b Zero)) Zero n
-miss_ways (Fork a b) c t n = get_or-set_other (enter a t) b c (more (get_or (enter a t) b Zero)) Zero
-    (λ e. n (inr e)) ∙ get_or-set_other t a c (more (get_or t a Zero)) Zero (λ e. n (inl e))
+miss_ways w c t n = grind (arith, get_or-set_other)
 
 pub ways_length : (w : Way) (t : List Ways) → length (enter_way w t) ≡ length t
 ways_length w t = grind (arith, length-set)
@@ -157,16 +148,6 @@ pub head_there : (xs : List Outline) (lows : List ℕ) (b n m : ℕ) (h : List L
     ((i c : ℕ) → i < length xs → Leads (outline_in xs i).way c → b + i < c) →
     head_at (heads_from xs lows b h) m ≡ head_link (outline_in xs n) (get_or lows m 0)
     (heads_from xs lows b h)
-head_there [] lows b n m h l e w later = absurd (omega arith)
-head_there (x ∷ xs) lows b zero m h l e w later =
-    let r : List Link = heads_from xs lows (suc b) h in
-    let g : m ≡ b = omega arith in
-    let len : length r ≡ length h = heads_length xs lows (suc b) h in
-    rw g (get_or-set_same r b (head_link x (get_or lows b 0) r) Unknown (omega arith)
-    ∙ same_head x (get_or lows b 0) r (set r b (head_link x (get_or lows b 0) r)) (λ c k.
-    (let lt : b + 0 < c = later 0 c (omega arith) k in
-    sym (get_or-set_other r b c (head_link x (get_or lows b 0) r) Unknown
-    (λ e. absurd (omega (arith, lt, e)))))))
 head_there (x ∷ xs) lows b (suc n) m h l e w later =
     let r : List Link = heads_from xs lows (suc b) h in
     let f : List Link = set r b (head_link x (get_or lows b 0) r) in
@@ -178,6 +159,13 @@ head_there (x ∷ xs) lows b (suc n) m h l e w later =
     (let lt : b + suc n < c = later (suc n) c (omega arith) k in
     sym (get_or-set_other r b c (head_link x (get_or lows b 0) r) Unknown
     (λ d. absurd (omega arith))))))
+head_there xs lows b n m h l e w later = grind (
+  arith,
+  heads_length,
+  get_or-set_same,
+  same_head,
+  get_or-set_other,
+)
 
 -- Links.
 

@@ -1,4 +1,5 @@
 -- An image keeps the blocks of its draft.
+use Rattle.std.proofs.Common.{arith}
 use Rattle.std.proofs.Common.{◌≡◌, refl}
 use Rattle.ws_isa.specs.Image.{Image}
 use Rattle.wave_link.specs.Grown.{annotated}
@@ -12,13 +13,14 @@ unfolding annotated
 arrays_kept draft = refl
 
 pub keeps_blocks : (draft : Image) → KeepsBlocks draft (annotated draft)
-keeps_blocks draft = record {
-  arrays = arrays_kept draft;
-  count = count_kept draft;
-  waves = wave_kept draft;
-  stops = stops_kept draft;
-  targets = target_kept draft;
-  firsts = first_kept draft;
-  ops = ops_kept draft;
-  few = few_added draft;
-}
+keeps_blocks draft = grind (
+  arith,
+  arrays_kept,
+  count_kept,
+  wave_kept,
+  stops_kept,
+  target_kept,
+  first_kept,
+  ops_kept,
+  few_added,
+)

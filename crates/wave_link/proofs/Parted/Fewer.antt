@@ -22,8 +22,7 @@ one_at_most : (n : ℕ) → length (extra_dest n) ≤ 1
 one_at_most n = grind arith
 
 few : (t : Tables) (ds : List Dest) (n : ℕ) → length (renamed t ds ++ extra_dest n) ≤ length ds + 1
-few t ds n = let e = length-append (renamed t ds) (extra_dest n) in
-    omega (arith, e, same_length t ds, one_at_most n)
+few t ds n = grind (arith, length-append, same_length, one_at_most)
 
 grows : (t : Tables) (k : ℕ) (n : Option Note) (i : Instr) → GrowsTo i (grown_instr t k n i)
 grows t k n i = grind (arith, few)

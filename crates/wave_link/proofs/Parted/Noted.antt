@@ -1,5 +1,5 @@
 -- The notes of an annotated image keep what notes have to keep by themselves.
-use Rattle.std.proofs.Common.{ℕ, zero, suc, ◌+◌, ◌≡◌, ◌≤◌, Bool, true, false, cond, eqb, List, [], ◌∷◌, ◌++◌}
+use Rattle.std.proofs.Common.{ℕ, zero, suc, ◌+◌, ◌≡◌, ◌≤◌, Bool, true, false, cond, List, [], ◌∷◌, ◌++◌}
 use Rattle.std.proofs.Common.{length, get_or, Some, None, ap, arith}
 use Rattle.ws_isa.specs.declared.instr.Op.{Op}
 use Rattle.ws_isa.specs.Image.{Instr, Block, Image, flat, is_memory_op, is_writing_op}
@@ -7,7 +7,7 @@ use Rattle.wave_link.specs.declared.links.Passage.{Passage}
 use Rattle.wave_link.specs.Notes.{note_at, writer_next}
 use Rattle.wave_link.specs.Layout.{Tables}
 use Rattle.wave_link.proofs.Parted.Parts.{tables_in, places_in}
-use Rattle.wave_link.specs.Grown.{note_for, seq_next, grown_instrs, nop_instr, nop_at, no_place, grown_block}
+use Rattle.wave_link.specs.Grown.{note_for, seq_next, grown_instrs, nop_at, no_place, grown_block}
 use Rattle.wave_link.specs.Grown.{grown_from, annotated}
 use Rattle.wave_link.specs.Good.{GoodNote, AllGood}
 use Rattle.ws_words.specs.Items.{nth}
@@ -48,13 +48,10 @@ in_instrs : (t : Tables) (p : Passage) (k s w : ℕ) (is : List Instr) → 1 ≤
     → Each (grown_instrs t p k s w is)
 in_instrs t p k s w [] l = none
 in_instrs t p k s w (i ∷ is) l = one_more _ _ (good p i.op s w l)
-    (in_instrs t p (k + 1) (seq_next i.op s) (writer_next i.op s w) is (rises i.op s l))
+    (grind (arith, rises, in_instrs t p (k + 1) (seq_next i.op s) (writer_next i.op s w) is (rises i.op s l)))
 
 in_nop : (p : Passage) (n : ℕ) → Each (nop_at p n)
-in_nop p n = go (eqb n 0)
-  where
-    go : (b : Bool) → Each (cond b [] (nop_instr p ∷ []))
-    go b = grind (arith, none, one_more, reads)
+in_nop p n = grind (arith, none, one_more, reads)
 
 in_block : (t : Tables) (p : Passage) (b k : ℕ) (x : Block) → Each (grown_block t p b k x).instrs
 in_block t p b k x = appended _ _ (in_instrs t p k (p.low + 1) p.writer x.instrs (omega arith))

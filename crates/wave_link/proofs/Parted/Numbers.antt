@@ -44,8 +44,6 @@ count_next added b (suc n) = grind (arith, count_from, one_if, count_next added 
 nop_there : (xs : List Block) (b n i j m : ℕ) (added : List Bool) → i < length xs → j ≡ b + i
     → suc m ≡ n + (first_of xs (suc i) + count_from added b i) →
     get_or (nops_from xs b n added) i 0 ≡ cond (get_or added j false) m 0
-nop_there [] b n i j m added l f e = absurd (omega arith)
-nop_there (x ∷ xs) b n zero j m added l f e = grind (arith, first_one)
 nop_there (x ∷ xs) b n (suc i) j m added l f e =
     let w = with_nop_is (get_or added b false) (n + length x.instrs) in
     nop_there xs (b + 1) (with_nop (get_or added b false) (n + length x.instrs)) i j m added (omega arith)
@@ -55,22 +53,19 @@ nop_there (x ∷ xs) b n (suc i) j m added l f e =
   where
     sums : (m n a f o c w : ℕ) → suc m ≡ n + ((a + f) + (o + c)) → w ≡ o + (n + a) → suc m ≡ w + (f + c)
     sums m n a f o c w e h = omega arith
+nop_there xs b n i j m added l f e = grind (arith, first_one)
 
 count_up_length : (n k : ℕ) → length (count_up n k) ≡ k
 count_up_length n zero = refl
 count_up_length n (suc k) = ap suc (count_up_length (n + 1) k)
 
 count_up_at : (n k i : ℕ) → i < k → get_or (count_up n k) i 0 ≡ n + i
-count_up_at n zero i l = absurd (omega arith)
-count_up_at n (suc k) zero l = omega arith
 count_up_at n (suc k) (suc i) l = grind (arith, count_up_at (n + 1) k i (omega arith))
+count_up_at n k i l = grind arith
 
 number_there : (xs : List Block) (b n i j p : ℕ) (added : List Bool) → i < length xs
     → j < length (or_else (nth xs i) no_block).instrs → suc p ≡ first_of xs i + j →
     get_or (numbers_from xs b n added) p 0 ≡ n + p + count_from added b i
-number_there [] b n i j p added l h e = absurd (omega arith)
-number_there (x ∷ xs) b n zero j p added l h e =
-    grind (arith, count_up_length, get_or_append_left, count_up_at)
 number_there (x ∷ xs) b n (suc i) j p added l h e =
     let f : 1 ≤ first_of xs i = positive xs i in
     let g : length x.instrs ≤ p = omega arith in
@@ -87,12 +82,12 @@ number_there (x ∷ xs) b n (suc i) j p added l h e =
     (with_nop (get_or added b false) (n + length x.instrs)) g w)
   where
     positive : (bs : List Block) (n : ℕ) → 1 ≤ first_of bs n
-    positive bs zero = let z : first_of bs zero ≡ 1 = first_one bs in omega arith
-    positive [] (suc n) = omega arith
     positive (b ∷ bs) (suc n) = let h : 1 ≤ first_of bs n = positive bs n in omega arith
+    positive bs n = grind (arith, first_one)
 
     sums : (n p a o c w : ℕ) → a ≤ p → w ≡ o + (n + a) → w + (p - a) + c ≡ n + p + (o + c)
     sums n p a o c w l e = omega arith
+number_there xs b n i j p added l h e = grind (arith, count_up_length, get_or_append_left, count_up_at)
 
 -- Blocks.
 
@@ -120,18 +115,13 @@ nop_length p n = grind arith
 
 block_length : (t : Tables) (p : Passage) (b k : ℕ) (x : Block) → length (grown_block t p b k x).instrs
     ≡ length x.instrs + extra_of (get_or t.nops b 0)
-block_length t p b k x = length-append (grown_instrs t p k (p.low + 1) p.writer x.instrs)
-    (nop_at p (get_or t.nops b 0))
-    ∙ ap₂ (λ (n m : ℕ). n + m) (instrs_length t p k (p.low + 1) p.writer x.instrs)
-    (nop_length p (get_or t.nops b 0))
+block_length t p b k x = grind (arith, length-append, instrs_length, nop_length)
 
 first_there : (t : Tables) (ps : List Passage) (added : List Bool) (b k c : ℕ) (xs : List Block) (n : ℕ)
     → n ≤ length xs →
     ((i j m : ℕ) → i < length xs → j ≡ b + i → m ≡ c + i → extra_of (get_or t.nops j 0)
     ≡ one_if (get_or added m false)) →
     first_of (grown_from t ps b k xs) n ≡ first_of xs n + count_from added c n
-first_there t ps added b k c xs zero l h = grind (arith, first_one)
-first_there t ps added b k c [] (suc n) l h = absurd (omega arith)
 first_there t ps added b k c (x ∷ xs) (suc n) l h =
     let a = block_length t (get_or ps b no_place) b k x in
     let e : extra_of (get_or t.nops b 0) ≡ one_if (get_or added c false) =
@@ -145,6 +135,7 @@ first_there t ps added b k c (x ∷ xs) (suc n) l h =
   where
     sums : (a o f c : ℕ) → (a + o) + (f + c) ≡ (a + f) + (o + c)
     sums a o f c = omega arith
+first_there t ps added b k c xs n l h = grind (arith, first_one)
 
 -- The numbers of a draft.
 
@@ -256,9 +247,8 @@ new_is draft (suc n) (suc p) h i =
 
     next : (bs : List Block) (n : ℕ) → n < length bs → first_of bs (suc n) ≡ first_of bs n + length
         (or_else (nth bs n) no_block).instrs
-    next [] n l = absurd (omega arith)
-    next (b ∷ bs) zero l = let z : first_of bs zero ≡ 1 = first_one bs in omega arith
     next (b ∷ bs) (suc n) l = grind (arith, next bs n (omega arith))
+    next bs n l = grind (arith, first_one)
 
 -- Instructions.
 

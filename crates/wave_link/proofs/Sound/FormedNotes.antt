@@ -16,9 +16,9 @@ use Rattle.wave_link.specs.declared.links.Passage.{Passage}
 use Rattle.wave_link.specs.Notes.{both, low_at, lows_from, out_link, head_link, heads_from, joined, begin}
 use Rattle.wave_link.specs.Notes.{behind_in, behind_out, hand_on, hand_way, hand_all, unreached, places_from}
 use Rattle.wave_link.specs.Notes.{lows_of, heads_of, places_of, writer_next}
-use Rattle.wave_link.specs.Outlines.{one_more_op, ops_from, writer_from, outlines_from, outlines_of, with_nop}
-use Rattle.wave_link.specs.Outlines.{with_nops_from, with_nops}
-use Rattle.wave_link.specs.Grown.{seq_next, no_place, added_in}
+use Rattle.wave_link.specs.Outlines.{one_more_op, ops_from, writer_from, outlines_from, with_nop}
+use Rattle.wave_link.specs.Outlines.{with_nops_from}
+use Rattle.wave_link.specs.Grown.{seq_next, no_place}
 use Rattle.wave_link.proofs.Parted.Numbers.{seq_in, writer_in, place_of}
 use Rattle.ws_isa.proofs.Images.{writing_memory_op as writes_memory}
 use Rattle.ws_words.specs.Items.{nth, or_else}
@@ -61,9 +61,8 @@ LowsFit t xs lows b = (i j : ℕ) (o : Outline) → nth xs i ≡ Some o → j �
 
 lows_fit : (xs : List Outline) (n i : ℕ) (o : Outline) → nth xs i ≡ Some o
     → get_or (lows_from xs n) i 0 + o.ops ≤ n + total_ops xs
-lows_fit [] n i o e = absurd (cc)
-lows_fit (x ∷ xs) n zero o e = grind (arith, low_le)
-lows_fit (x ∷ xs) n (suc i) o e = omega (arith, low_le x n, lows_fit xs (low_at x n + x.ops) i o e)
+lows_fit (x ∷ xs) n (suc i) o e = grind (arith, low_le, lows_fit xs (low_at x n + x.ops) i o e)
+lows_fit xs n i o e = grind (arith, low_le)
 
 lows_in_table : (xs : List Outline) → LowsFit (total_ops xs) xs (lows_of xs) 1
 lows_in_table xs i j o e f = let g : j ≡ suc i = omega arith in rw g (omega (arith, lows_fit xs 0 i o e))
@@ -91,8 +90,11 @@ heads_up : (t : ℕ) (xs : List Outline) (lows : List ℕ) (b : ℕ) (heads : Li
     → LinksUpTo t heads → LinksUpTo t (heads_from xs lows b heads)
 heads_up t [] lows b heads f h = h
 heads_up t (x ∷ xs) lows b heads f h =
-    let r : LinksUpTo t (heads_from xs lows (suc b) heads) = heads_up t xs lows (suc b) heads
-    (fit_rest t x xs lows b f) h in
+    let r : LinksUpTo t (heads_from xs lows (suc b) heads) = grind (
+      arith,
+      fit_rest,
+      heads_up t xs lows (suc b) heads (fit_rest t x xs lows b f) h,
+    ) in
     after_set (UpTo t) (heads_from xs lows (suc b) heads) b
     (head_link x (get_or lows b 0) (heads_from xs lows (suc b) heads)) Unknown
     (head_up t x (get_or lows b 0) (heads_from xs lows (suc b) heads) (f 0 b x refl (omega arith)) r) r
@@ -201,19 +203,13 @@ writer_fits (i ∷ is) n w l = writer_fits is (one_more_op i n) (cond (is_writin
     go h = grind (arith, writes_memory, cond_both)
 
 pub outlines_writers : (xs : List Block) (b : ℕ) (firsts : List Bool) → WritersFit (outlines_from xs b firsts)
-outlines_writers [] b firsts i o e = absurd (cc)
-outlines_writers (x ∷ xs) b firsts zero o e = grind (arith, writer_fits)
 outlines_writers (x ∷ xs) b firsts (suc i) o e = outlines_writers xs (b + 1) firsts i o e
+outlines_writers xs b firsts i o e = grind (arith, writer_fits)
 
 pub outlines_ops : (xs : List Block) (b : ℕ) (firsts : List Bool) → total_ops (outlines_from xs b firsts)
     ≤ length (flat xs)
 outlines_ops [] b firsts = omega arith
-outlines_ops (x ∷ xs) b firsts = omega (
-  arith,
-  few_ops x.instrs 0,
-  outlines_ops xs (b + 1) firsts,
-  length-append x.instrs (flat xs),
-)
+outlines_ops (x ∷ xs) b firsts = grind (arith, few_ops, length-append, outlines_ops xs (b + 1) firsts)
 
 pub outlines_count : (xs : List Block) (b : ℕ) (firsts : List Bool) → length (outlines_from xs b firsts)
     ≡ length xs
@@ -246,17 +242,17 @@ most_ops draft = length (flat draft.blocks) + length draft.blocks
 
 pub place_up : (draft : Image) (b : ℕ) → PlaceUpTo (most_ops draft) (place_of draft b)
 unfolding place_of
-place_up draft zero = record { low = omega arith; pred = tt; succ = tt; writer = omega arith }
-place_up draft (suc n) =
-    let outs : List Outline = outlines_of draft.blocks in
-    let w : WritersFit (with_nops outs (added_in draft.blocks)) = nops_writers outs 0 (added_in draft.blocks)
-    (outlines_writers draft.blocks 1 _) in
-    let a = nops_ops outs 0 (added_in draft.blocks) in
-    let c : total_ops outs ≤ length (flat draft.blocks) = outlines_ops draft.blocks 1 _ in
-    let d : length outs ≡ length draft.blocks = outlines_count draft.blocks 1 _ in
-    place_more (total_ops (with_nops outs (added_in draft.blocks))) (most_ops draft)
-    (get_or (places_of (with_nops outs (added_in draft.blocks))) n no_place) (omega arith)
-    (all_places_up (with_nops outs (added_in draft.blocks)) w n)
+place_up draft b = grind (
+  arith,
+  nops_writers,
+  outlines_writers,
+  draft.blocks,
+  nops_ops,
+  outlines_ops,
+  outlines_count,
+  place_more,
+  all_places_up,
+)
 
 -- Within a block.
 
@@ -264,14 +260,12 @@ seq_step : (op : Op) (s : ℕ) → (s ≤ seq_next op s) × (seq_next op s ≤ s
 seq_step op s = grind arith
 
 pub seq_up : (is : List Instr) (i s : ℕ) → seq_in is i s ≤ s + i
-seq_up [] i s = omega arith
-seq_up (x ∷ is) zero s = omega arith
-seq_up (x ∷ is) (suc i) s = omega (arith, (seq_step x.op s).1, seq_up is i (seq_next x.op s))
+seq_up (x ∷ is) (suc i) s = grind (arith, seq_step, seq_up is i (seq_next x.op s))
+seq_up is i s = grind arith
 
 pub writer_up : (is : List Instr) (i s w t : ℕ) → w ≤ t → s + i ≤ t → writer_in is i s w ≤ t
-writer_up [] i s w t l h = l
-writer_up (x ∷ is) zero s w t l h = l
 writer_up (x ∷ is) (suc i) s w t l h =
     writer_up is i (seq_next x.op s) (writer_next x.op s w) t
     (cond_both (λ (n : ℕ). n ≤ t) (is_writing_op x.op) s w (omega arith) l)
     (omega (arith, (seq_step x.op s).1))
+writer_up is i s w t l h = grind arith

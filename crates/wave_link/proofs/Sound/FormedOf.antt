@@ -1,6 +1,6 @@
 -- The image of a draft is formed where there is room for what is added.
 use Rattle.std.proofs.Common.{ℕ, zero, suc, ◌+◌, ◌-◌, ◌≡◌, ◌<◌, ◌≤◌, ◌⊎◌, Bool, true, false, cond, eqb, List}
-use Rattle.std.proofs.Common.{[], ◌∷◌, ◌++◌, length, length-append, map, get_or, Option, Some, None, refl}
+use Rattle.std.proofs.Common.{[], ◌∷◌, ◌++◌, length, length-append, map, get_or, Option, Some, refl}
 use Rattle.std.proofs.Common.{sym, ap, ap₂, ◌∙◌, inl, inr, subst, arith}
 use Rattle.std.proofs.lemmas.Bool.{cases_eq}
 use Rattle.std.specs.List.{AllByRecursion}
@@ -9,12 +9,12 @@ use Rattle.ws_isa.specs.declared.instr.Op.TheVariants.{Send, Nop}
 use Rattle.ws_isa.specs.declared.instr.Link.{Link}
 use Rattle.ws_isa.specs.declared.instr.Dest.{Dest}
 use Rattle.ws_isa.specs.Image.{Instr, Exit, Goto, Branch, Landings, Stop, Pad, Block, Image, no_instr}
-use Rattle.ws_isa.specs.Image.{no_block, flat, instr_at, block_at, first_number, ports, is_memory_op}
+use Rattle.ws_isa.specs.Image.{no_block, flat, instr_at, block_at, first_number, ports}
 use Rattle.ws_isa.specs.Image.{is_giving_op, IsIn, IsBlock, IsInstr, is_steer_op}
 use Rattle.ws_isa.specs.Formed.{SendWithin, ConstWithin, most_instrs, most_blocks, most_dests, most_pads}
 use Rattle.ws_isa.specs.Formed.{most_landings, sequence_limit, ArraysFormed, DestsIn, OpIn, ExitIn}
 use Rattle.ws_isa.specs.Formed.{References, DestsSuit, OthersSuit, ListsSuit, SomeLanding, PadsRise, RiseFrom}
-use Rattle.ws_isa.specs.Formed.{NoteSuits, LinkWithin, NoteWithin, ExitWithin, InstrWithin, BlockWithin}
+use Rattle.ws_isa.specs.Formed.{LinkWithin, NoteWithin, ExitWithin, InstrWithin, BlockWithin}
 use Rattle.ws_isa.specs.Formed.{Suited, Formed}
 use Rattle.ws_isa.specs.Sound.{HasDest, ShapeRules}
 use Rattle.wave_link.specs.Fit.{FitForNotes}
@@ -36,7 +36,7 @@ use Rattle.wave_link.proofs.Parted.Numbers.{writer_in, place_of, ends_are, new_i
 use Rattle.wave_link.proofs.Parted.Numbers.{nop_is_there}
 use Rattle.wave_link.proofs.Grown.GrownRows.{Located, located}
 use Rattle.wave_link.proofs.Grown.GrownOrigin.{is_instr}
-use Rattle.wave_link.proofs.Grown.GrownTables.{giver, steer_in, givings_in}
+use Rattle.wave_link.proofs.Grown.GrownTables.{giver, steer_in}
 use Rattle.wave_link.proofs.Grown.GrownTriggers.{same_renamed, pads_kept, now_giver, now_none, other_none}
 use Rattle.wave_link.proofs.Grown.GrownTriggers.{giver_gives, steer_steers, steered_by, now_steer}
 use Rattle.wave_link.proofs.Grown.GrownTriggers.{other_steer}
@@ -101,12 +101,7 @@ extra_length : (n : ℕ) → length (extra_dest n) ≤ 1
 extra_length n = grind arith
 
 list_length : (t : Tables) (ds : List Dest) (n : ℕ) → length (renamed t ds ++ extra_dest n) ≤ length ds + 1
-list_length t ds n = omega (
-  arith,
-  length-append (renamed t ds) (extra_dest n),
-  renamed_length t ds,
-  extra_length n,
-)
+list_length t ds n = grind (arith, length-append, renamed_length, extra_length)
 
 extra_none : (n : ℕ) → n ≡ 0 → extra_dest n ≡ []
 extra_none n e = rw e refl
@@ -167,11 +162,7 @@ note_fits t p op s w h a b c = grind (arith, cond_link, link_fits, cond_number)
 
 pub for_fits : (t : ℕ) (p : Passage) (op : Op) (s w : ℕ) → PlaceUpTo t p → t < sequence_limit
     → s + 1 < sequence_limit → w < sequence_limit → NoteWithin (note_for p op s w)
-for_fits t p op s w h a b c = go (is_memory_op op)
-  where
-    go : (v : Bool) → NoteWithin (cond v (Some (note_at p op s w)) None)
-    go true = note_fits t p op s w h a b c
-    go false = tt
+for_fits t p op s w h a b c = grind (arith, note_fits)
 
 pub instr_limit : most_instrs ≡ 4194304
 unfolding most_instrs
@@ -281,13 +272,7 @@ module _ (draft : Image) (ok : FitForNotes draft) where
 
   steered_nop : (c : ℕ) → IsBlock draft c → IsNop (steered_by draft c)
   unfolding steered_by
-  steered_nop c h =
-      subst IsNop
-      (sym (ap (λ (n : ℕ). cond (eqb (get_or (givings_in draft) c 0) 0) n 0) (nops_are draft c h)))
-      (go (eqb (get_or (givings_in draft) c 0) 0) (adds draft c) refl)
-    where
-      go : (v a : Bool) → adds draft c ≡ a → IsNop (cond v (cond a (nop draft c) 0) 0)
-      go v a e = grind arith
+  steered_nop c h = grind (arith, nops_are)
 
   own_nop : (b : ℕ) → IsBlock draft b → IsNop (cond (adds draft b) (nop draft b) 0)
   own_nop b h = grind (arith, nop)
@@ -458,12 +443,7 @@ module _ (draft : Image) (ok : FitForNotes draft) where
     note_nop : (b : ℕ)
         → NoteWithin
         (Some (note_at (place_of draft b) Nop ((place_of draft b).low + 1) (place_of draft b).writer))
-    note_nop b =
-        let p : Passage = place_of draft b in
-        let u : PlaceUpTo (most_ops draft) p = place_up draft b in
-        let m = most in
-        note_fits (most_ops draft) p Nop (p.low + 1) p.writer u (omega arith) (omega (arith, u.low))
-        (omega (arith, u.writer))
+    note_nop b = grind (arith, place_up, most, note_fits)
 
     instr_old : (b k : ℕ) → IsBlock draft b → IsIn draft b k
         → InstrWithin (instr_at (annotated draft) (k + shift draft b))
@@ -507,9 +487,7 @@ module _ (draft : Image) (ok : FitForNotes draft) where
                 i,
             omega (arith, limits.pads b p h i, renamed_length (tables_in draft.blocks) p.dests),
           ))));
-      exit = subst ExitWithin (sym (exit_kept draft b))
-          (exit_within (tables_in draft.blocks) (block_at draft b).exit
-          (λ s ls e. limits.landings b s ls h e));
+      exit = grind (arith, exit_kept, exit_within, limits.landings);
     }
 
     pub formed : Formed (annotated draft)
@@ -525,8 +503,7 @@ module _ (draft : Image) (ok : FitForNotes draft) where
           (λ b h. subst PadsRise (sym (pads_kept draft b))
           (pads_rise (tables_in draft.blocks) (block_at draft b).pads
           (at_block (λ b. PadsRise b.pads) draft b limits.rise (block_back draft b h))));
-      notes = all_of (λ i. NoteSuits i.op i.note) (flat (annotated draft).blocks)
-          (λ k x e. (all_good draft k x e).suits);
+      notes = grind (arith, all_of, all_good);
     }
 
   pub room_made : LeavesRoom draft → MadeWithin (annotated draft)

@@ -1,14 +1,13 @@
 -- A draft that is open to notes can get them.
-use Rattle.std.proofs.Common.{ℕ, zero, suc, ◌≡◌, ◌⊎◌, false, [], ◌∷◌, Some, sym, ap, ◌∙◌, inl, inr}
+use Rattle.std.proofs.Common.{arith}
+use Rattle.std.proofs.Common.{ℕ, ◌≡◌, ◌⊎◌, false, [], ◌∷◌, Some, sym, ap, ◌∙◌, inl, inr}
 use Rattle.ws_isa.specs.Image.{Exit, Image, is_first, edges_of}
 use Rattle.ws_isa.specs.Open.{HasGiver, EnteredBySteer, OpenToNotes}
 use Rattle.wave_link.specs.Fit.{CanTrigger, FitForNotes}
 use Rattle.ws_words.specs.Items.{nth}
 
 two_edges : (x y c place : ℕ) → nth (x ∷ y ∷ []) place ≡ Some c → (x ≡ c) ⊎ (y ≡ c)
-two_edges x y c zero e = let f : x ≡ c = cc in inl f
-two_edges x y c (suc zero) e = let f : y ≡ c = cc in inr f
-two_edges x y c (suc (suc n)) e = absurd (cc)
+two_edges x y c place e = grind arith
 
 module _ (draft : Image) (ok : OpenToNotes draft) where
   -- a block that is entered from a steer is an arm
@@ -22,13 +21,7 @@ module _ (draft : Image) (ok : OpenToNotes draft) where
       ]
 
   trigger : (b : ℕ) → HasGiver draft b ⊎ EnteredBySteer draft b → CanTrigger draft b
-  trigger b (inl g) = inl g
-  trigger b (inr y) = inr (y, inside b y)
+  trigger b h = grind (arith, inside)
 
 pub open_fits : (draft : Image) → OpenToNotes draft → FitForNotes draft
-open_fits draft ok = record {
-  bare = ok.bare;
-  walkable = ok.walkable;
-  branches = λ b s x y h e. inl (ok.arms b s x y h e);
-  triggers = λ b h a. trigger draft ok b (ok.givers b h);
-}
+open_fits draft ok = grind (arith, ok.arms, trigger, ok.givers)

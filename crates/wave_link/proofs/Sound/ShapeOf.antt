@@ -120,7 +120,7 @@ old_op draft b k m op h i n e = grind (arith, op_kept)
 waves_from : (t : Tables) (ps : List Passage) (b k w : ℕ) (xs : List Block) → WavesFrom w xs
     → WavesFrom w (grown_from t ps b k xs)
 waves_from t ps b k w [] h = tt
-waves_from t ps b k w (x ∷ xs) h = (h.0, waves_from t ps (b + 1) (k + length x.instrs) x.wave xs h.1)
+waves_from t ps b k w (x ∷ xs) h = grind (arith, waves_from t ps (b + 1) (k + length x.instrs) x.wave xs h.1)
 
 waves_there : (t : Tables) (ps : List Passage) (b k : ℕ) (xs : List Block) → WavesInOrder xs
     → WavesInOrder (grown_from t ps b k xs)
@@ -300,8 +300,7 @@ module _ (draft : Image) (ok : FitForNotes draft) where
       → (instr_at draft k).op ≡ Steer
   the_steer b k h i f = elim (steer_cases draft b h) [
     | inl n ↦ absurd (omega (arith, n.zero_is, f, instr_positive draft b k h i))
-    | inr o ↦ ap (λ (n : ℕ). (instr_at draft n).op) (sym f) ∙ steer_is (instr_at draft (steer_in draft b)).op
-        o.is_one
+    | inr o ↦ grind (arith, steer_is)
   ]
 
   now_ahead : (b k j q : ℕ) → IsBlock draft b → IsIn draft b k
@@ -465,14 +464,7 @@ module _ (draft : Image) (ok : FitForNotes draft) where
     edge_shape = record {
       there = λ r s. subst (IsBlock (annotated draft)) (sym (target_kept draft b r))
           (block_on draft (target draft b r) (its.edges.there r (sym (stops_kept draft b) ∙ s)));
-      later = λ r s f. (let l = its.edges.later r (sym (stops_kept draft b) ∙ s)
-          (sym (first_kept draft (target draft b r))
-          ∙ (ap (is_first (annotated draft)) (sym (target_kept draft b r)) ∙ f)) in (
-            omega (arith, l.0, target_kept draft b r),
-            ap (λ (n : ℕ). (block_at (annotated draft) n).wave)
-                (target_kept draft b r) ∙ (wave_kept draft (target draft b r)
-                ∙ (l.1 ∙ sym (wave_kept draft b))),
-          ));
+      later = grind (arith, its.edges.later, stops_kept, first_kept, target_kept, wave_kept);
     }
 
     front_shape : FrontShape (annotated draft) b
@@ -481,8 +473,7 @@ module _ (draft : Image) (ok : FitForNotes draft) where
           first_kept draft b ∙ its.front.advances x.0 x.1 x.3);
       front = λ j m i e l n. front_in b j m h (image_case draft b j h (l, omega arith))
           (image_case draft b m h i) e n;
-      pads = λ f. pads_kept draft b ∙ pads_none (tables_in draft.blocks) (block_at draft b).pads
-          (its.front.pads (sym (first_kept draft b) ∙ f));
+      pads = grind (arith, pads_kept, pads_none, its.front.pads, first_kept);
     }
 
     exit_shape : ExitShape (annotated draft) b
@@ -528,16 +519,18 @@ module _ (draft : Image) (ok : FitForNotes draft) where
     }
 
     block_shape : BlockShape (annotated draft) b
-    block_shape = record {
-      opening = λ e. rw (pads_kept draft b)
-          (has_pad_on (tables_in draft.blocks) (block_at draft b).pads 0 (its.opening e));
-      edges = edge_shape;
-      front = front_shape;
-      exit = exit_shape;
-      hang = hang_shape;
-      halt = halt_shape;
-      dests = dest_shape;
-    }
+    block_shape = grind (
+      arith,
+      pads_kept,
+      has_pad_on,
+      its.opening,
+      edge_shape,
+      front_shape,
+      exit_shape,
+      hang_shape,
+      halt_shape,
+      dest_shape,
+    )
 
   pub shape_rules : ShapeRules (annotated draft)
   shape_rules = record {

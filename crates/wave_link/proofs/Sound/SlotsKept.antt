@@ -1,6 +1,6 @@
 -- Paths of a draft with no-ops are paths of the draft.
 use Rattle.std.proofs.Common.{ℕ, suc, ◌+◌, ◌-◌, ◌≡◌, ◌<◌, ◌≤◌, ◌⊎◌, Bool, true, false, List, [], ◌∷◌, ◌++◌}
-use Rattle.std.proofs.Common.{Option, Some, None, refl, sym, ap, ap₂, ◌∙◌, inl, inr, subst, arith, ne_eqb}
+use Rattle.std.proofs.Common.{Option, Some, None, refl, sym, ap, ◌∙◌, inl, inr, subst, arith, ne_eqb}
 use Rattle.std.proofs.Math.Path.{fun_ext}
 use Rattle.std.proofs.lemmas.Bool.{cases_eq, cases_lt, lt-ltb, le-ltb}
 use Rattle.ws_isa.specs.declared.instr.Dest.{Dest}
@@ -28,7 +28,7 @@ swap c d o = grind (arith, fun_ext)
 pub all_swap : (ds : List Dest) (c : Dest) (o : OpenSlots) → all_opened ds (opened c o) ≡ opened c
     (all_opened ds o)
 all_swap [] c o = refl
-all_swap (d ∷ ds) c o = ap (all_opened ds) (swap d c o) ∙ all_swap ds c (opened d o)
+all_swap (d ∷ ds) c o = grind (arith, swap, all_swap ds c (opened d o))
 
 -- the no-op's slot is open too
 abbrev pub held : Bool → ℕ → OpenSlots → OpenSlots
@@ -79,13 +79,7 @@ module _ (draft image : Image) (g : Grown draft image) where
     where
       point : (m q : ℕ) → ((k : ℕ) × (g.origin m ≡ Some k)) ⊎ (g.origin m ≡ None)
           → opened (record { instr = g.new d.instr; port = d.port }) (up o) m q ≡ up (opened d o) m q
-      point m q (inr e) = grind (arith, opened_there, up, up_none)
-      point m q (inl (k, e)) = go (cases_eq d.instr k)
-        where
-          go : (d.instr ≡ k) ⊎ (d.instr ≡ k → ⊥) → opened (record { instr = g.new d.instr; port = d.port })
-              (up o) m q ≡ up (opened d o) m q
-          go (inl f) = grind (arith, up_at)
-          go (inr n) = grind (arith, opened_there, up, some_same, up_at)
+      point m q h = grind (arith, opened_there, up_none, cases_eq, d.instr, up_at, some_same)
 
   up_all : (ds : List Dest) (o : OpenSlots) → ((j q : ℕ) → HasDest ds j q → g.origin (g.new j) ≡ Some j)
       → all_opened (renamed g.new ds) (up o) ≡ up (all_opened ds o)
@@ -241,29 +235,13 @@ module _ (draft image : Image) (g : Grown draft image) where
         low = omega (arith, x.low);
         high = omega arith;
         number = omega (arith, x.number);
-        are = ap₂ (λ (n : ℕ) (s : OpenSlots). all_opened (now_dests image n) (closed n s)) x.number x.are
-            ∙ real_turn b x.next x.slots x.here (x.low, a);
+        are = grind (arith, real_turn, x.next, x.here);
       }
 
       after_nop : (b l : ℕ) (p : OpenSlots) → (x : Real b l p) → x.next ≡ first_number draft (suc b)
           → extra (g.trigger b) ≡ 1 → x.next + g.shift b ≡ g.nop b
           → Passed b (suc l) (all_opened (now_dests image l) (closed l p))
-      after_nop b l p x e y f =
-          let at : l ≡ g.nop b = x.number ∙ f in
-          let pend : is_pending (g.trigger b) x.next ≡ true = ap (is_pending (g.trigger b)) e
-          ∙ end_pending b x.here y in
-          let are : p ≡ held true (g.nop b) (up x.slots) =
-          x.are ∙ ap (λ (t : Bool). held t (g.nop b) (up x.slots)) pend in
-          record {
-            here = x.here;
-            slots = x.slots;
-            path = subst (λ (n : ℕ). Opens draft b n x.slots) e x.path;
-            number = omega (arith, g.ends b x.here, x.number);
-            are = ap₂ (λ (n : ℕ) (s : OpenSlots). all_opened (now_dests image n) (closed n s)) at are
-                ∙ (ap (λ (ds : List Dest).
-                all_opened ds (closed (g.nop b) (held true (g.nop b) (up x.slots)))) (g.nop_now b x.here y)
-                ∙ up_nop (g.nop b) x.slots (g.origin_nop b x.here y));
-          }
+      after_nop b l p x e y f = grind (arith, end_pending, x.here, g.ends, g.nop_now, up_nop, g.origin_nop)
   back b m o (edge {b = c} {k = l} {o = p} path e s r) = inl (after_edge c l p (back c l p path) e s r)
     where
       after_edge : (c l : ℕ) (p : OpenSlots) → Real c l p ⊎ Passed c l p → l ≡ first_number image (suc c)
@@ -296,13 +274,12 @@ module _ (draft image : Image) (g : Grown draft image) where
 
   fresh_held : (ds : List Dest) (p : Bool) (n : ℕ) (o : OpenSlots)
       → (p ≡ true → (j q : ℕ) → HasDest ds j q → n ≡ j → ⊥) → Fresh ds o → Fresh ds (held p n o)
-  fresh_held ds false n o a f = f
-  fresh_held [] true n o a f = tt
   fresh_held (d ∷ ds) true n o a f = (
     held_there true n o d.instr d.port (a refl d.instr d.port (inl (refl, refl))) ∙ f.0,
     subst (Fresh ds) (swap (record { instr = n; port = 0 }) d o)
         (fresh_held ds true n (opened d o) (λ e j q h. a e j q (inr h)) f.1),
   )
+  fresh_held ds p n o a f = grind arith
 
   own_fresh : (t : Trigger) (n k : ℕ) (o : OpenSlots) → (extra t ≡ 1 → o n 0 ≡ false)
       → Fresh (own_slot t n k) (held (is_pending t k) n o)
@@ -482,8 +459,7 @@ module _ (draft image : Image) (g : Grown draft image) where
     pub slot_rules : SlotRules image
     slot_rules = record {
       start =
-          rw g.start (subst (Fresh (renamed g.new (start_dests draft))) up_shut
-          (up_fresh (start_dests draft) none_open (λ j q z. g.start_real j q z) rules.start));
+          grind (arith, g.start, up_shut, up_fresh, g.start_real);
       begins = subst (AdvancesOpen image 1) (sym start_turn)
           (up_advances 1 (all_opened (start_dests draft) none_open) g.first_block rules.begins);
       turns = λ b k o path w. record {

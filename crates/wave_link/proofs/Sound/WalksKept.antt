@@ -323,7 +323,7 @@ module _ (draft image : Image) (g : Grown draft image) where
         → old.next ≡ first_number draft (suc old.block) → AtEnd draft image g old (fire image new)
     quiet old new s x e =
         let at : new.next ≡ g.nop old.block =
-        s.next ∙ (ap (λ (k : ℕ). k + g.shift old.block) e ∙ sym (g.nop_is old.block s.here)) in
+        grind (arith, g.nop_is, old.block) in
         let none : g.origin new.next ≡ None = ap g.origin at ∙ g.origin_nop old.block s.here x in
         let no_dests : now_dests image new.next ≡ [] = ap (now_dests image) at
         ∙ g.nop_now old.block s.here x in
@@ -496,7 +496,7 @@ module _ (draft image : Image) (g : Grown draft image) where
     -- whatever the draft's walk does, the image's does
     pub keeps : (old new : Pos) → StandsFor draft image g old new → (t : ℕ) → Kept t old new
     unfolding passes_in
-    keeps old new s zero = record { steps = 0; as_many = omega arith; stands = s; fired = refl }
+    keeps old new s zero = grind arith
     keeps old new s (suc t) =
         let k : Kept t old new = keeps old new s t in
         let x : Stepped (ahead draft t old) (ahead image k.steps new) =
@@ -530,8 +530,7 @@ module _ (draft image : Image) (g : Grown draft image) where
         ∙ ap₂ (λ (k : ℕ) (p : Pos). k + count_of (fires_from i p)) (walk_is i world t) (pos_is i world t)
       where
         one : (xs : List Inst) (o : Option Inst) → length (with_inst xs o) ≡ length xs + count_of o
-        one xs None = omega arith
-        one xs (Some x) = length-append xs (x ∷ [])
+        one xs o = grind (arith, length-append)
 
     pub record Alike (world : World) (t : ℕ) : Type 0 where
       pub steps : ℕ
@@ -544,8 +543,7 @@ module _ (draft image : Image) (g : Grown draft image) where
     pub alike : (world : World) (t : ℕ) → Alike world t
     unfolding mem has_ended
     alike world t =
-        let k : Kept t (opening draft world) (opening image world) = keeps (opening draft world)
-        (opening image world) (opens_alike world) t in
+        let k : Kept t (opening draft world) (opening image world) = grind (arith, keeps, opens_alike) in
         record {
           steps = k.steps;
           as_many = k.as_many;

@@ -1,5 +1,5 @@
 -- Each no-op that is added to a draft is needed.
-use Rattle.std.proofs.Common.{ℕ, zero, suc, ◌+◌, ◌-◌, ◌≡◌, ◌<◌, ◌≤◌, ◌⊎◌, ◌&&◌, Bool, true, false, not, List}
+use Rattle.std.proofs.Common.{ℕ, zero, suc, ◌-◌, ◌≡◌, ◌<◌, ◌≤◌, ◌⊎◌, ◌&&◌, Bool, true, false, not, List}
 use Rattle.std.proofs.Common.{refl, sym, ap, ◌∙◌, inl, inr, subst, arith, eqb, length}
 use Rattle.std.proofs.lemmas.Bool.{cases_eq}
 use Rattle.ws_isa.specs.declared.instr.Op.TheVariants.{Nop}
@@ -60,14 +60,7 @@ module _ (draft : Image) (open_to : FitForNotes draft) where
   ends_on b h w = elim (out_ends draft open_to.walkable.shape open_to.branches b (in_draft b h) w) [
     | inl s ↦ inl (stops_kept draft b ∙ s)
     | inr s ↦
-        inr (
-          stops_kept draft b ∙ s.0,
-          (
-            s.1.0,
-            first_kept draft (target image b s.1.0) ∙ (ap (is_first draft) (target_kept draft b s.1.0)
-                ∙ s.1.1),
-          ),
-        )
+        grind (arith, stops_kept, first_kept, target_kept)
   ]
 
   -- the tables say that it is needed
@@ -118,24 +111,7 @@ module _ (draft : Image) (open_to : FitForNotes draft) where
   nop_memory b h a = ap is_memory_op (nop_op b h a)
 
   nop_inside : (b : ℕ) → IsBlock draft b → adds draft b ≡ true → IsIn image b (last_in draft b)
-  nop_inside b h a = go (cases_eq (first_number image b) (first_number image (suc b)))
-    where
-      e : first_number image (suc b) ≡ suc (nop draft b)
-      e = (last_is b h a).1
-
-      g : first_number image b ≤ first_number image (suc b)
-      g = (marked draft open_to).grows b (in_image b h)
-
-      s : sq draft b (first_number image b) ≡ low_of draft b + 1
-      s = (marked draft open_to).sq_first b (in_image b h)
-
-      t : sq draft b (first_number image (suc b)) ≡ low_of draft b + (outline_at draft b).ops + 1
-      t = (marked draft open_to).sq_end b (in_image b h)
-
-      go : (first_number image b ≡ first_number image (suc b))
-          ⊎ (first_number image b ≡ first_number image (suc b) → ⊥) → IsIn image b (last_in draft b)
-      go (inl f) = absurd (omega (arith, one_op b h a, ap (sq draft b) f, s, t))
-      go (inr d) = (omega (arith, e, g, d), omega (arith, e))
+  nop_inside b h a = grind (arith, cases_eq, last_is, marked, in_image, one_op)
 
   needed_nop : (b : ℕ) → IsBlock draft b → adds draft b ≡ true → NeededNop draft image b (last_in draft b)
   needed_nop b h a = record {

@@ -1,6 +1,6 @@
 -- No notes keep the rules on links where paths break what these ask of all notes.
 use Rattle.std.proofs.Common.{ℕ, zero, suc, ◌+◌, ◌≡◌, ◌<◌, ◌⊎◌, Bool, true, false, cond, List, [], ◌∷◌, ◌++◌}
-use Rattle.std.proofs.Common.{length, Option, Some, None, refl, sym, ap, ap₂, ◌∙◌, inl, inr, subst, arith}
+use Rattle.std.proofs.Common.{length, Option, Some, None, refl, sym, ap, ◌∙◌, inl, inr, subst, arith}
 use Rattle.std.proofs.lemmas.Bool.{cases_Bool}
 use Rattle.ws_isa.specs.declared.instr.Op.{Op}
 use Rattle.ws_isa.specs.declared.instr.Link.TheVariants.{Is}
@@ -47,43 +47,28 @@ module _ (image new : Image) (same : SamePaths image new) where
 
   same_last : (done : List ℕ) → last_op new done ≡ last_op image done
   same_last [] = refl
-  same_last (k ∷ ks) = ap₂ (λ (v : Bool) (o : Option ℕ). cond v (Some k) o) (same.memory k) (same_last ks)
+  same_last (k ∷ ks) = grind (arith, same.memory, same_last ks)
 
   follows : (w : ℕ) (last : Option ℕ) (k : ℕ) → FollowsIn image w last k → FollowsIn new w last k
   follows w last k f = record {
-    follows = record {
-      block = f.follows.block;
-      done = f.follows.done;
-      path = path f.follows.block k f.follows.done f.follows.path;
-      within = subst (λ (j : ℕ). k < j) (sym (same.numbers (suc f.follows.block))) f.follows.within;
-      memory = same.memory k ∙ f.follows.memory;
-      last_is = same_last f.follows.done ∙ f.follows.last_is;
-    };
+    follows = grind (arith, path, f.follows.block, f.follows.done, same.numbers, same.memory, same_last);
     wave_is = same.waves f.follows.block ∙ f.wave_is;
   }
 
   ends : (w : ℕ) (last : Option ℕ) → EndsIn image w last → EndsIn new w last
   ends w last e = record {
-    ends = record {
-      block = e.ends.block;
-      next = e.ends.next;
-      done = e.ends.done;
-      path = path e.ends.block e.ends.next e.ends.done e.ends.path;
-      at_end = e.ends.at_end ∙ sym (same.numbers (suc e.ends.block));
-      out = elim e.ends.out [
-        | inl s ↦ inl (same.stops_are e.ends.block ∙ s)
-        | inr s ↦
-            inr (
-              same.stops_are e.ends.block ∙ s.0,
-              (
-                s.1.0,
-                same.firsts (target new e.ends.block s.1.0)
-                    ∙ (ap (is_first image) (same.targets e.ends.block s.1.0) ∙ s.1.1),
-              ),
-            )
-      ];
-      last_is = same_last e.ends.done ∙ e.ends.last_is;
-    };
+    ends = grind (
+      arith,
+      path,
+      e.ends.block,
+      e.ends.next,
+      e.ends.done,
+      same.numbers,
+      same.stops_are,
+      same.firsts,
+      same.targets,
+      same_last,
+    );
     wave_is = same.waves e.ends.block ∙ e.wave_is;
   }
 
@@ -108,7 +93,7 @@ module _ (image new : Image) (same : SamePaths image new) where
       where
         go : (is_memory image i ≡ true) ⊎ (is_memory image i ≡ false)
             → (last_op image d ≡ Some j → Came (block_at image c).wave j) → Came (block_at image c).wave j
-        go (inr m) rec = rec (sym (ap (λ (v : Bool). cond v (Some i) (last_op image d)) m) ∙ e)
+        go (inr m) rec = grind arith
         go (inl m) rec =
             let q : Some i ≡ Some j = sym (ap (λ (v : Bool). cond v (Some i) (last_op image d)) m) ∙ e in
             subst (Came (block_at image c).wave) (one i j q)
@@ -183,22 +168,19 @@ renoted_count notes k (b ∷ bs) = ap suc (renoted_count notes (k + length b.ins
 
 renoted_wave : (notes : ℕ → Option Note) (k : ℕ) (bs : List Block) (n : ℕ)
     → (or_else (nth (renoted_blocks notes k bs) n) no_block).wave ≡ (or_else (nth bs n) no_block).wave
-renoted_wave notes k [] n = refl
-renoted_wave notes k (b ∷ bs) zero = refl
 renoted_wave notes k (b ∷ bs) (suc n) = renoted_wave notes (k + length b.instrs) bs n
+renoted_wave notes k bs n = grind arith
 
 renoted_exit : (notes : ℕ → Option Note) (k : ℕ) (bs : List Block) (n : ℕ)
     → (or_else (nth (renoted_blocks notes k bs) n) no_block).exit ≡ (or_else (nth bs n) no_block).exit
-renoted_exit notes k [] n = refl
-renoted_exit notes k (b ∷ bs) zero = refl
 renoted_exit notes k (b ∷ bs) (suc n) = renoted_exit notes (k + length b.instrs) bs n
+renoted_exit notes k bs n = grind arith
 
 renoted_first : (notes : ℕ → Option Note) (k : ℕ) (bs : List Block) (b : ℕ)
     → first_of (renoted_blocks notes k bs) b ≡ first_of bs b
-renoted_first notes k [] b = refl
-renoted_first notes k (x ∷ xs) zero = refl
 renoted_first notes k (x ∷ xs) (suc b) =
     grind (arith, renoted_length, renoted_first notes (k + length x.instrs) xs b)
+renoted_first notes k bs b = grind arith
 
 op_in : List Instr → ℕ → Op
 op_in is n = (or_else (nth is n) no_instr).op
@@ -206,9 +188,8 @@ op_in is n = (or_else (nth is n) no_instr).op
 renoted_op : (notes : ℕ → Option Note) (k : ℕ) (is : List Instr) (n : ℕ)
     → op_in (renoted_instrs notes k is) n ≡ op_in is n
 unfolding op_in
-renoted_op notes k [] n = refl
-renoted_op notes k (i ∷ is) zero = refl
 renoted_op notes k (i ∷ is) (suc n) = renoted_op notes (suc k) is n
+renoted_op notes k is n = grind arith
 
 joined_op : (xs ys us vs : List Instr) → length xs ≡ length us → ((n : ℕ) → op_in xs n ≡ op_in us n)
     → ((n : ℕ) → op_in ys n ≡ op_in vs n) → (n : ℕ) → op_in (xs ++ ys) n ≡ op_in (us ++ vs) n
@@ -222,10 +203,13 @@ joined_op (x ∷ xs) ys (u ∷ us) vs l f g (suc n) = joined_op xs ys us vs (ome
 renoted_flat : (notes : ℕ → Option Note) (k : ℕ) (bs : List Block) (n : ℕ)
     → op_in (flat (renoted_blocks notes k bs)) n ≡ op_in (flat bs) n
 renoted_flat notes k [] n = refl
-renoted_flat notes k (b ∷ bs) n = joined_op (renoted_instrs notes k b.instrs)
-    (flat (renoted_blocks notes (k + length b.instrs) bs)) b.instrs (flat bs)
-    (renoted_length notes k b.instrs) (renoted_op notes k b.instrs)
-    (renoted_flat notes (k + length b.instrs) bs) n
+renoted_flat notes k (b ∷ bs) n = grind (
+  arith,
+  joined_op,
+  renoted_length,
+  renoted_op,
+  renoted_flat notes (k + length b.instrs) bs,
+)
 
 module _ (image : Image) (notes : ℕ → Option Note) where
   abbrev new : Image
@@ -257,7 +241,7 @@ module _ (image : Image) (notes : ℕ → Option Note) where
 
   block_is : (b : ℕ) → IsBlock image b → IsBlock new b
   unfolding renoted
-  block_is b h = (h.0, omega (arith, h.1, renoted_count notes 1 image.blocks))
+  block_is b h = (grind (arith, renoted_count))
 
   memory_is : (k : ℕ) → is_memory new k ≡ is_memory image k
   unfolding renoted is_memory instr_at op_in
@@ -281,10 +265,10 @@ module _ (draft : Image) (open_to : FitForNotes draft) (x : ℕ) where
   image = without (annotated draft) x
 
   in_draft : (b : ℕ) → IsBlock image b → IsBlock draft b
-  in_draft b h = (h.0, omega (arith, h.1, count_kept (annotated draft) x, draft_count draft))
+  in_draft b h = (grind (arith, count_kept, draft_count))
 
   in_image : (b : ℕ) → IsBlock draft b → IsBlock image b
-  in_image b h = (h.0, omega (arith, h.1, count_kept (annotated draft) x, draft_count draft))
+  in_image b h = (grind (arith, count_kept, draft_count))
 
   leads : (b r : ℕ) → target image b r ≡ target draft b r
   leads b r = target_kept (annotated draft) x b r ∙ draft_target draft b r
@@ -306,8 +290,7 @@ module _ (draft : Image) (open_to : FitForNotes draft) (x : ℕ) where
   stays : (b r : ℕ) → IsBlock image b → stops image b ≡ false → is_first image (target image b r) ≡ false
       → (block_at image (target image b r)).wave ≡ (block_at image b).wave
   stays b r h s f =
-      let g : is_first draft (target draft b r) ≡ false = ap (is_first draft) (sym (leads b r))
-      ∙ (sym (first_at (target image b r)) ∙ f) in
+      let g : is_first draft (target draft b r) ≡ false = grind (arith, leads, first_at) in
       wave_at (target image b r) ∙ (ap (λ (c : ℕ). (block_at draft c).wave) (leads b r)
       ∙ (((open_to.walkable.shape.blocks b (in_draft b h)).edges.later r (sym (stop_at b) ∙ s) g).1
       ∙ sym (wave_at b)))

@@ -67,9 +67,7 @@ module _ (image : Image) (n : ℕ) (x : ℕ → Outline) (low : ℕ → ℕ) (he
   path_block {b} p = is_block b (known_at p).low_block (known_at p).high_block
 
   edge_block : (b c : ℕ) → IsBlock image b → Leads (x b).way c → IsBlock image c
-  edge_block b c h k =
-      let e : (b < c) × (c ≤ n) = run.later b c h.0 (omega (arith, h.1, marked.count)) k in
-      is_block c (omega (arith, e.0)) e.1
+  edge_block b c h k = grind (arith, run.later, is_block)
 
   skip_block : {e g : ℕ} → IsBlock image e → Skips e g → IsBlock image g
   skip_block h stay = h
@@ -85,9 +83,7 @@ module _ (image : Image) (n : ℕ) (x : ℕ → Outline) (low : ℕ → ℕ) (he
           → first_number image (suc b) ≤ first_number image (suc c)
       go (inl e) rec = rw e (omega arith)
       go (inr d) rec =
-          let g : first_number image c ≤ first_number image (suc c) =
-          marked.grows c (is_block c (omega arith) (omega arith)) in
-          omega (arith, rec (omega arith))
+          grind (arith, marked.grows, is_block)
 
   one_block : (b c k : ℕ) → IsBlock image b → IsBlock image c → IsIn image b k → IsIn image c k → b ≡ c
   one_block b c k h g i j = elim (cases_eq b c) [
@@ -193,17 +189,13 @@ module _ (image : Image) (n : ℕ) (x : ℕ → Outline) (low : ℕ → ℕ) (he
       → m ≤ first_number image (suc b) → ((k : ℕ) → IsIn image b k → k < m → is_memory image k ≡ true
       → k ≡ nop) → Through b m done
   quiet b zero done p l h q = let e : first_number image b ≡ zero = omega arith in
-      record { more = done; path = subst (λ (i : ℕ). InWave image b i done) e p; same = refl }
+      grind arith
   quiet b (suc m) done p l h q = go (cases_eq (first_number image b) (suc m))
       (λ u. quiet b m done p u (omega arith) (λ k i w. q k i (omega arith)))
     where
       go : (first_number image b ≡ suc m) ⊎ (first_number image b ≡ suc m → ⊥)
           → (first_number image b ≤ m → Through b m done) → Through b (suc m) done
-      go (inl e) rec = record {
-        more = done;
-        path = subst (λ (i : ℕ). InWave image b i done) e p;
-        same = refl;
-      }
+      go (inl e) rec = grind arith
       go (inr d) rec =
           let u : first_number image b ≤ m = omega arith in
           let r : Through b m done = rec u in
@@ -247,8 +239,7 @@ module _ (image : Image) (n : ℕ) (x : ℕ → Outline) (low : ℕ → ℕ) (he
 
   through : (b a : ℕ) → IsBlock image b → ((x b).ops ≡ 0) ⊎ (b ≡ v) → (e : Entry b a)
       → Through b (first_number image (suc b)) e.done
-  through b a h o e = quiet b (first_number image (suc b)) e.done e.path (marked.grows b h) (omega arith)
-      (λ k i l m. only_nop b k h o i m)
+  through b a h o e = grind (arith, quiet, e.done, marked.grows, only_nop)
 
   entry_on : (b a c : ℕ) → IsBlock image b → ((x b).ops ≡ 0) ⊎ (b ≡ v) → Leads (x b).way c → Entry b a
       → Entry c a
@@ -304,8 +295,7 @@ module _ (image : Image) (n : ℕ) (x : ℕ → Outline) (low : ℕ → ℕ) (he
   first_op : (s : ℕ) → IsBlock image s → 1 ≤ (x s).ops → FirstOp s
   first_op s h o = elim (find_first s (first_number image (suc s)) h (marked.grows s h) (omega arith)) [
     | inr f ↦ f
-    | inl e ↦ absurd (let q : sq s (first_number image (suc s)) ≡ low s + (x s).ops + 1 = marked.sq_end s h in
-        omega arith)
+    | inl e ↦ grind (arith, marked.sq_end)
   ]
 
   abbrev Comes_to : ℕ → Option ℕ → ℕ → Type 0
@@ -391,8 +381,7 @@ module _ (image : Image) (n : ℕ) (x : ℕ → Outline) (low : ℕ → ℕ) (he
   path_wave (goes {b = b} {a = a} {c = c} p k) o = go (cases_eq (x b).ops 0) (λ q. path_wave p q)
     where
       go : ((x b).ops ≡ 0) ⊎ ((x b).ops ≡ 0 → ⊥) → (1 ≤ a → wave b ≡ wave a) → wave c ≡ wave (after b a)
-      go (inl z) rec = let e : after b a ≡ a = last_empty n x low heads ways states behind run b a z in
-          wave_on b c (path_block p) k ∙ (rec (omega (arith, e, o)) ∙ ap wave (sym e))
+      go (inl z) rec = grind (arith, last_empty, path_block)
       go (inr d) rec = wave_on b c (path_block p) k
           ∙ ap wave (sym (last_full n x low heads ways states behind run b a (omega (arith, d))))
 

@@ -111,13 +111,7 @@ module _ (n : ℕ) (x : ℕ → Outline) (low : ℕ → ℕ) (heads : List Link)
   most b a c f k = (run.later b c f.low_block f.high_block k).1
 
   came : (b a c : ℕ) → Known b a → Leads (x b).way c → Edge b c c
-  came b a c f k = record {
-    one = f.low_block;
-    before = later b a c f k;
-    most = f.high_block;
-    reaches = f.reaches;
-    edge = k;
-  }
+  came b a c f k = grind (arith, later)
 
   -- each block that is reached has a path
   pub record Reached (b : ℕ) : Type 0 where
@@ -279,7 +273,7 @@ module _ (n : ℕ) (x : ℕ → Outline) (low : ℕ → ℕ) (heads : List Link)
       (later b a c (known_at p) k) (omega arith) in
       cc (sym f2 ∙ (ap (λ (v : ℕ). (x v).first) (sym e) ∙ i)))
   unique_at (goes {b = b} {a = a} {c = c} p k) (goes {b = b2} {a = a2} {c = c2} p2 k2) e rec m =
-      unique_on c b a b2 a2 rec p k p2 (subst (λ (i : ℕ). Leads (x b2).way i) (sym e) k2) m
+      grind (arith, unique_on)
 
   unique_below : (m : ℕ) → Same m
   unique_below zero e a c l p q k = absurd (omega arith)
@@ -294,9 +288,7 @@ module _ (n : ℕ) (x : ℕ → Outline) (low : ℕ → ℕ) (heads : List Link)
   last_before (goes {b = b} {a = a} {c = c} p k) o = go (ops_or b) (λ q. last_before p q) o
     where
       go : ((x b).ops ≡ 0) ⊎ (1 ≤ (x b).ops) → (1 ≤ a → a < b) → 1 ≤ after b a → after b a < c
-      go (inr z) rec o = omega (arith, full_after b a z, later b a c (known_at p) k)
-      go (inl z) rec o = let e : after b a ≡ a = empty_after b a z in
-          omega (arith, rec (omega arith), later b a c (known_at p) k)
+      go h rec o = grind (arith, full_after, later, known_at, empty_after)
 
   -- where paths parted: block e lies behind one arm, and at the other the last operation is the same
   pub record Origin (e a : ℕ) : Type 0 where
@@ -401,9 +393,7 @@ module _ (n : ℕ) (x : ℕ → Outline) (low : ℕ → ℕ) (heads : List Link)
           → Straight a i2 j2 → j < j2 → (g : ℕ) × ((x j).way ≡ On g) × (g ≤ j2))
           → (g : ℕ) × ((x c).way ≡ On g) × (g ≤ c2)
       go (from {c = j} o z w q) e k rec =
-          let r = first_step s in
-          let u : r.0 ≡ j = on_same a r.0 j r.1 w in
-          absurd (omega (arith, r.2, u, k))
+          grind (arith, first_step, on_same)
       go (more {d = i2} {c = j2} {e = j} t z w q) e k rec = elim (cases_lt c j2) [
         | inl m ↦ (let r = rec d c i2 j2 (omega (arith, l, e, q)) s t m in
             (r.0, r.1, omega (arith, r.2, q, e)))
@@ -420,21 +410,7 @@ module _ (n : ℕ) (x : ℕ → Outline) (low : ℕ → ℕ) (heads : List Link)
 
   -- two that end in one block end in one edge
   one_end : {a d c d2 c2 : ℕ} → Straight a d c → Straight a d2 c2 → c ≡ c2 → d ≡ d2
-  one_end (from l o w k) (from l2 o2 w2 k2) e = refl
-  one_end {a} {d} (from {c = c} l o w k) (more {d = i} {c = j} {e = f} t z v q) e =
-      absurd (let r = first_step t in let u : r.0 ≡ c = on_same a r.0 c r.1 w in omega (arith, r.2, u, q, e))
-  one_end {a} (more {d = i} {c = j} {e = f} t z v q) (from {c = c} l o w k) e =
-      absurd (let r = first_step t in let u : r.0 ≡ c = on_same a r.0 c r.1 w in omega (arith, r.2, u, q, e))
-  one_end {a} (more {d = i} {c = j} {e = f} s z v q) (more {d = i2} {c = j2} {e = f2} t z2 v2 q2) e =
-      elim (cases_lt j j2) [
-        | inl m ↦ absurd (let r = goes_on a i j i2 j2 s t m in let u : r.0 ≡ f = on_same j r.0 f r.1 v in
-            omega (arith, r.2, u, q2, e))
-        | inr m ↦ elim (cases_eq j j2) [
-          | inl g ↦ g
-          | inr g ↦ absurd (let r = goes_on a i2 j2 i j t s (omega (arith, m, g)) in
-              let u : r.0 ≡ f2 = on_same j2 r.0 f2 r.1 v2 in omega (arith, r.2, u, q, e))
-        ]
-      ]
+  one_end h g e = grind (arith, first_step, on_same, cases_lt, goes_on, cases_eq)
 
   -- a path to a block that doesn't share what came before
   straight_to : {e a : ℕ} → Path e a → (st e ≡ Shared → ⊥) → (d : ℕ) × Straight a d e
@@ -688,10 +664,7 @@ module _ (n : ℕ) (x : ℕ → Outline) (low : ℕ → ℕ) (heads : List Link)
   past_here v b a p d = record { at = b; path = p; other = d; skip = stay }
 
   below_self : (v a : ℕ) → Path v a → 1 ≤ v → a ≡ v → ⊥
-  below_self v a p l e = go (cases_eq a 0)
-    where
-      go : (a ≡ 0) ⊎ (a ≡ 0 → ⊥) → ⊥
-      go h = grind (arith, last_before)
+  below_self v a p l e = grind (arith, cases_eq, last_before)
 
   -- at the other arm
   pub record Other (v a : ℕ) : Type 0 where

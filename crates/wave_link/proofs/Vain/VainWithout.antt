@@ -21,16 +21,14 @@ count_but x k (b ∷ bs) = ap suc (count_but x (k + length b.instrs) bs)
 
 wave_but : (x k : ℕ) (bs : List Block) (n : ℕ) → (or_else (nth (blocks_but x k bs) n) no_block).wave
     ≡ (or_else (nth bs n) no_block).wave
-wave_but x k [] n = refl
-wave_but x k (b ∷ bs) zero = refl
 wave_but x k (b ∷ bs) (suc n) = wave_but x (k + length b.instrs) bs n
+wave_but x k bs n = grind arith
 
 exit_there : (x k : ℕ) (bs : List Block) (n : ℕ) → (or_else (nth (blocks_but x k bs) n) no_block).exit
     ≡ exit_but x (or_else (nth bs n) no_block).exit
 unfolding no_block
-exit_there x k [] n = refl
-exit_there x k (b ∷ bs) zero = refl
 exit_there x k (b ∷ bs) (suc n) = exit_there x (k + length b.instrs) bs n
+exit_there x k bs n = grind arith
 
 same_target : (x : ℕ) (e : Exit) (r : ℕ) → leave_to (exit_but x e) r ≡ leave_to e r
 same_target x e r = grind arith
@@ -77,14 +75,7 @@ hit_sum : (x k n m : ℕ) → hit x k (n + m) ≡ hit x k n + hit x (k + n) m
 hit_sum x k zero m = grind (arith, hit)
 hit_sum x k (suc n) m =
     let e : suc n + m ≡ suc (n + m) = omega arith in
-    let f : suc k + n ≡ k + suc n = omega arith in
-    ap (hit x k) e
-    ∙ (ap (λ (i : ℕ). cond (eqb k x) 1 0 + i) (hit_sum x (suc k) n m
-    ∙ ap (λ (i : ℕ). hit x (suc k) n + hit x i m) f) ∙ sum (cond (eqb k x) 1 0) (hit x (suc k) n)
-    (hit x (k + suc n) m))
-  where
-    sum : (a b c : ℕ) → a + (b + c) ≡ a + b + c
-    sum a b c = omega arith
+    grind (arith, hit_sum x (suc k) n m)
 
 hit_behind : (x k n : ℕ) → x < k → hit x k n ≡ 0
 hit_behind x k zero l = refl
@@ -97,8 +88,7 @@ hit_ahead x k (suc n) l = grind (arith, hit, hit_ahead x (suc k) n (omega arith)
 hit_once : (x k n : ℕ) → k ≤ x → x < k + n → hit x k n ≡ 1
 hit_once x k zero l h = absurd (omega arith)
 hit_once x k (suc n) l h = elim (cases_eq k x) [
-  | inl e ↦ rw (eq-eqb k x e) (let r : hit x (suc k) n ≡ 0 = hit_behind x (suc k) n (omega arith) in
-      omega arith)
+  | inl e ↦ grind (arith, eq-eqb, hit_behind)
   | inr d ↦ rw (ne_eqb k x d) (let r : hit x (suc k) n ≡ 1 = hit_once x (suc k) n (omega arith)
       (omega arith) in omega arith)
 ]
@@ -109,8 +99,6 @@ length_but x k (i ∷ is) = grind (arith, hit, length_but x (suc k) is)
 
 first_but : (x k : ℕ) (bs : List Block) (b m : ℕ) → suc m ≡ first_of bs b
     → first_of (blocks_but x k bs) b + hit x k m ≡ first_of bs b
-first_but x k bs zero m e = grind (arith, first_one, hit)
-first_but x k [] (suc b) m e = grind (arith, hit)
 first_but x k (y ∷ ys) (suc b) m e =
     let p : 1 ≤ first_of ys b = positive ys b in
     let n : ℕ = first_of ys b - 1 in
@@ -122,9 +110,9 @@ first_but x k (y ∷ ys) (suc b) m e =
     omega (arith, length_but x k y.instrs, r, h)
   where
     positive : (bs : List Block) (n : ℕ) → 1 ≤ first_of bs n
-    positive bs zero = let z : first_of bs zero ≡ 1 = first_one bs in omega arith
-    positive [] (suc n) = omega arith
     positive (b ∷ bs) (suc n) = let h : 1 ≤ first_of bs n = positive bs n in omega arith
+    positive bs n = grind (arith, first_one)
+first_but x k bs b m e = grind (arith, first_one)
 
 moved_below : (x k : ℕ) → k ≤ x → moved x k ≡ k
 moved_below x k l = rw (le-ltb x k l) refl
@@ -187,8 +175,6 @@ hit_most x k (suc n) = grind (arith, hit, hit_most x (suc k) n)
 
 nth_but : (x k : ℕ) (is : List Instr) (n m : ℕ) (i : Instr) → nth is n ≡ Some i → (k + n ≡ x → ⊥)
     → m + hit x k n ≡ n → nth (instrs_but x k is) m ≡ Some (instr_but x i)
-nth_but x k [] n m i e d h = absurd (cc)
-nth_but x k (y ∷ ys) zero m i e d h = grind arith
 nth_but x k (y ∷ ys) (suc n) m i e d h =
     go (cases_eq k x) (λ j q. nth_but x (suc k) ys n j i e (λ r. d (omega arith)) q)
   where
@@ -197,6 +183,7 @@ nth_but x k (y ∷ ys) (suc n) m i e d h =
         → nth (instrs_but x k (y ∷ ys)) m ≡ Some (instr_but x i)
     go (inl q) rec = grind (arith, hit, m)
     go (inr q) rec = grind (arith, hit, m, hit_most)
+nth_but x k is n m i e d h = grind arith
 
 instr_moved : (image : Image) (x j : ℕ) (i : Instr) → 1 ≤ x → nth (flat image.blocks) j ≡ Some i
     → (suc j ≡ x → ⊥) → instr_at (without image x) (moved x (suc j)) ≡ instr_but x i
@@ -231,9 +218,8 @@ first_positive image zero h = omega arith
 first_positive image (suc b) h = positive image.blocks b
   where
     positive : (bs : List Block) (n : ℕ) → 1 ≤ first_of bs n
-    positive bs zero = let z : first_of bs zero ≡ 1 = first_one bs in omega arith
-    positive [] (suc n) = omega arith
     positive (b ∷ bs) (suc n) = let h : 1 ≤ first_of bs n = positive bs n in omega arith
+    positive bs n = grind (arith, first_one)
 
 in_flat : (image : Image) (b k : ℕ) → IsBlock image b → IsIn image b k → InFlat image k
 in_flat image zero k h i = absurd (omega (arith, h.0))
