@@ -59,7 +59,8 @@ fn look_at<J: Job>(
         → RightToken J.image J.world w i p v }
     ensures missing { OnOk result (All (IsMissing (part_of tables.now).held) found.new) }
     ensures reach { OnOk result ((way : List Plain) → Covers found.new way
-        → Covers found.old way × ResultsReach J.image (part_of tables.now).held way (listed fired.operands) (key_of fired)) }
+        → Covers found.old way × ResultsReach J.image (part_of tables.now).held way
+        (listed fired.operands) (key_of fired)) }
 {
     let op = code.program().op(fired.instr);
     if op.is_memory() {

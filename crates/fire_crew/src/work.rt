@@ -17,8 +17,8 @@ const TAKES: u32 = 256;
 
 /// Brings tokens to their tables until none is found, it is the last at work, it has had its turn, the buffer
 /// takes no more requests, or memory runs out. A worker goes on with one result token of a firing, and the
-/// others go into its seat. All workers count together who is at work. What it lets go or leaves in its seat is
-/// found among what is owed. Answers whether memory ran out.
+/// others go into its seat. All workers count together who is at work. What it lets go or leaves in its seat
+/// is found among what is owed. Answers whether memory ran out.
 pub fn work<J: Job, Q: Quotas, P: Port, G: Gate, R: Wait>(
     rt: &R,
     alloc: Global,

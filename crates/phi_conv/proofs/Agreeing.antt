@@ -70,9 +70,6 @@ module _ (g : Graph) (v : ℕ) where
         (loads_same t i.0 (λ x lt m. h x lt (inl m))) ∙ ap (λ (zs : List Act). loads_of t ws cells ++ zs)
         (all_loads_same ts i.1 (λ x lt m. h x lt (inr m)))
 
-  abbrev loaded : Outside → List Act → Outside
-  loaded o l = record { cells = o.cells; input = o.input; left = o.left; acts = o.acts ++ l }
-
   -- states that agree on more agree on less
   pub weaker : (P Q : ℕ → Type 0) (s t : ProcState) → ((x : ℕ) → Q x → P x) → States v P s t → States v Q s t
   weaker P Q s t to h = grind (arith, h.vars)

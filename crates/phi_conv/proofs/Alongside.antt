@@ -144,15 +144,6 @@ module _ (g : Graph) (rules : IsGraph g) (live : List (List ℕ)) (is : AreLive 
       → Follows (step g (At b s fs k)) (step h d)
   one_block b s fs k d a = grind (arith, at_block)
 
-  final : (c d : Config) → IsOver c → Along g rules c d → Match (λ (o p : Outside). o ≡ p) c d
-  final (Over o k) (Over p j) over a = a
-  final (Going o) (Going p) over a = a
-  final (At b s fs k) d over a = absurd over
-  final (Over o k) (At b s fs j) over a = absurd a
-  final (Over o k) (Going p) over a = absurd a
-  final (Going o) (At b s fs j) over a = absurd a
-  final (Going o) (Over p j) over a = absurd a
-
   -- the second walk comes to an answer that goes with this one, in at most m blocks
   abbrev Answers : ℕ → Config → Config → Type 0
   Answers m c d = (n : ℕ) × (n ≤ m) × Match (λ (o p : Outside). o ≡ p) c (walk h n d)

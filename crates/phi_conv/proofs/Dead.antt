@@ -106,9 +106,6 @@ module _ (g : Graph) (v : ℕ) where
     none_copied : (base : ℕ) → NotCopy base [] x
     none_copied base y among e = absurd (cc)
 
-    abbrev others : List Op
-    others = arm (second_base v) [] s.second ++ choices live v s
-
     pub joining_low : ReadsFirst (joining live v s) (Goto j) x → x < v
     joining_low h = grind (
       arith,

@@ -365,9 +365,6 @@ module _ (arrays : List Array) (width : ℕ) (ps : List Plan) (Live : ℕ → �
         (chose : chooses (plan_at ps b).exit ≡ true)
         (made : exit_made width S b (plan_at ps b) (plan_at ps b).exit ≡ make b (plan_at ps b).test op from
         (behind_source width S b (plan_at ps b))) where
-      ts : List Tail
-      ts = tails_of width S (plan_at ps b).exit
-
       room : suc (length (with_rooms b (length from) from (behind_source width S b (plan_at ps b))).code)
           ≤ F (suc b)
       room = grind (arith, size, exit_in_body, body_in_made)

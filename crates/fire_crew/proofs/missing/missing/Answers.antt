@@ -13,7 +13,8 @@ loop-left-init g c = (
   c.in_ok-look_last.ensures.missing,
   λ way k. (let e = c.in_ok-keep.ensures.reach way
       (λ w i p v h. k w i p v (c.in_ok-look_last.ensures.more w i p v h)) in (
-        subst (λ (ts : List Token). AllReach (part_of c.args.tables.now).held way ts) c.in_ok-start.ensures e.1,
+        subst (λ (ts : List Token). AllReach (part_of c.args.tables.now).held way ts)
+            c.in_ok-start.ensures e.1,
         c.begin-places.ensures way,
       )),
 )

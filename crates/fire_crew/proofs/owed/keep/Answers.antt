@@ -8,7 +8,8 @@ use Rattle.fire_crew.proofs.owed.keep.Goals as goal
 
 split_on : (all front rest mid : List Token) (t : Token) → all ≡ front ++ rest → front ≡ mid ++ t ∷ []
     → all ≡ mid ++ t ∷ rest
-split_on all front rest mid t is e = is ∙ ap (λ (l : List Token). l ++ rest) e ∙ append_assoc mid (t ∷ []) rest
+split_on all front rest mid t is e =
+    is ∙ ap (λ (l : List Token). l ++ rest) e ∙ append_assoc mid (t ∷ []) rest
 
 pub loop-token-preserved : goal.loop-token-preserved
 loop-token-preserved g c =

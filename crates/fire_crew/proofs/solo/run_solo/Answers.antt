@@ -13,7 +13,7 @@ pub returns-in_default-clause-grow : goal.returns-in_default-clause-grow
 returns-in_default-clause-grow g c = all_grow_same (contents c.args.tables)
 
 pub go_alone-left-requires-clause-paid : goal.go_alone-left-requires-clause-paid
-go_alone-left-requires-clause-paid g c κs within = come_start g.J.Job.image (part_of c.args.tables) c.args.buffer []
-    c.in-Ok.tokens c.requires.fresh c.requires.none refl
-    (subst (λ (ts : List Token). Covers (start_tokens g.J.Job.image) ts) (sym c.in-Ok.ensures)
-    (covers_self (start_tokens g.J.Job.image)))
+go_alone-left-requires-clause-paid g c κs within =
+    come_start g.J.Job.image (part_of c.args.tables) c.args.buffer [] c.in-Ok.tokens c.requires.fresh
+    c.requires.none refl (subst (λ (ts : List Token). Covers (start_tokens g.J.Job.image) ts)
+    (sym c.in-Ok.ensures) (covers_self (start_tokens g.J.Job.image)))
