@@ -40,15 +40,7 @@ made_as width ps b (q ∷ qs) zero p e =
       is = rw (z, g) refl;
       tail = λ j. (let y : 1 + j ≡ suc j = omega arith in rw y refl);
     }
-made_as width ps b (q ∷ qs) (suc i) p e =
-    let r = made_as width ps (suc b) qs i p e in
-    let z : b + suc i ≡ suc b + i = omega arith in
-    record {
-      later = r.later;
-      is = rw z r.is;
-      tail = λ j. r.tail j
-          ∙ (let y : suc (suc i) + j ≡ suc (suc i + j) = omega arith in rw y refl);
-    }
+made_as width ps b (q ∷ qs) (suc i) p e = grind (arith, made_as width ps (suc b) qs i p e)
 
 numbers_zero : (ms : List Made) → numbers ms zero ≡ 1
 numbers_zero [] = refl
@@ -74,7 +66,7 @@ module _ (width : ℕ) (ps : List Plan) where
 
   pub begins_le : (b c : ℕ) → b ≤ c → begins width ps b ≤ begins width ps c
   begins_le b c l = rw (sym (number_is [] width ps b), sym (number_is [] width ps c))
-      (first_le (Rattle.wave_gen.specs.Plans.draft_of [] width ps) b c l)
+      (grind (arith, first_le))
 
   made_nth : (b : ℕ) → suc b ≤ length ps → nth (mades width ps) b ≡ Some (made_at width ps (suc b))
   unfolding made_at
@@ -99,18 +91,12 @@ module _ (width : ℕ) (ps : List Plan) where
   laid zero h = absurd (omega (arith, h.0))
   laid (suc b) h =
       let r = made_as width ps 1 ps b (plan_at ps (suc b)) (plan_nth b h.1) in
-      let z : 1 + b ≡ suc b = omega arith in
-      record {
-        later = r.later;
-        is = rw r.is (rw z refl);
-        found = λ c l. found r.later r.tail c l;
-      }
+      grind (arith, r.is, found, r.later, r.tail)
     where
       found : (later : List Made) → ((j : ℕ) → nth later j ≡ nth (blocks_from width ps 1 ps) (suc b + j))
           → (c : ℕ) → suc b < c → or_else (nth later (c - suc (suc b))) no_made ≡ made_at width ps c
       found later tail zero l = absurd (omega arith)
-      found later tail (suc c) l = let z : suc b + (suc c - suc (suc b)) ≡ c = omega arith in
-          rw (tail (suc c - suc (suc b)), z) refl
+      found later tail (suc c) l = grind arith
 
   start_same : (b c : ℕ) (l : Laid b) → Inner ps b c ⊎ Outer ps c
       → ◌≡◌ {A = Wants} (start_of ps (suc b) l.later c) (starts_at width ps c)
@@ -152,8 +138,7 @@ module _ (width : ℕ) (ps : List Plan) where
 
   pub made_is : (b : ℕ) → Is b → EdgesAre ps b (plan_at ps b).exit → made_at width ps b ≡ block_made width
       (starts_at width ps) b (plan_at ps b)
-  made_is b h e = let l = laid b h in l.is ∙ block_same (start_of ps (suc b) l.later) (starts_at width ps) b
-      (plan_at ps b) (laid_agree b l (plan_at ps b).exit e)
+  made_is b h e = let l = laid b h in grind (arith, block_same, laid_agree)
 
   pub starts_inner : (c : ℕ) → (plan_at ps c).first ≡ false → ◌≡◌ {A = Wants} (starts_at width ps c)
       (made_at width ps c).wants
@@ -193,11 +178,8 @@ module _ (width : ℕ) (ps : List Plan) where
       go : (same_spots (w x) (v x) ≡ true) ⊎ (same_spots (w x) (v x) ≡ false)
           → (In y (differing w v (suc x) n) → (same_spots (w y) (v y) ≡ false) × (y < suc x + n))
           → (same_spots (w y) (v y) ≡ false) × (y < x + suc n)
-      go (inl e) ih = let r = ih (rw e at h) in (r.0, (let l : y < suc x + n = r.1 in omega arith))
-      go (inr e) ih = elim (rw e at h) [
-        | inl f ↦ (rw f e, omega arith)
-        | inr g ↦ (let r = ih g in (r.0, (let l : y < suc x + n = r.1 in omega arith)))
-      ]
+      go (inl e) ih = grind arith
+      go (inr e) ih = grind arith
 
   pub helds_steers : (w v : Wants) (xs : List ℕ) → helds (steers w v xs) ≡ xs
   helds_steers w v [] = refl
@@ -282,23 +264,9 @@ module _ (width : ℕ) (ps : List Plan) where
       go (Lands op from values ls) q e g =
           elim (make_wanted b p.test op from (behind_source width S b p) x g) [
             | inl i ↦ inl i
-            | inr r ↦ inr (
-              r.0,
-              elim (behind (Lands op from values ls) q r.1) [
-                | inl f ↦ absurd (r.0 f)
-                | inr k ↦ elim k [
-                  | inl m ↦ subst (λ (ys : List ℕ). In x ys) (helds_sends 0 values) m
-                  | inr m ↦
-                      absurd (m refl)
-                ]
-              ],
-            )
+            | inr r ↦ grind (arith, behind, helds_sends)
           ]
-      go Halts q e g = elim (with_uses_wanted b (length (behind_source width S b p).code) 0 (pulse ∷ [])
-          (behind_source width S b p).wants x g) [
-            | inl i ↦ elim i [ inl f ↦ f | inr z ↦ absurd z ]
-            | inr r ↦ absurd (bare Halts q r refl)
-          ]
+      go Halts q e g = grind (arith, with_uses_wanted, bare)
 
   -- behind the front of a block: what the block needs
   body_wanted : (Live : ℕ → ℕ → Type 0) (b : ℕ) (x : ℕ) → PlanIs ps width Live b
@@ -346,7 +314,7 @@ module _ (width : ℕ) (ps : List Plan) where
         subst (λ (w : Wants). Clean F Fine k width w) (sym (starts_outer c o.first))
         (fronts_clean F Fine k width c (plan_at ps c).entries p.entries_apart
         (λ x i. p.few x (p.entries_live o.first x i))
-        (λ i l. record { block = outer_is c o; first = o.first; place = l }))
+        (grind (arith, outer_is)))
 
     outer_live : (c x : ℕ) → Outer ps c → Wanted (S c) x → Live c x
     outer_live c x o h = grind (arith, in_or_not, outer_is, starts_outer, fronts_none)
@@ -367,8 +335,7 @@ module _ (width : ℕ) (ps : List Plan) where
         where
           go : (x : HowLeft) → EdgesAre ps b x → Clean F Fine (F (suc b)) width (end_wants width S x)
           go (Onto c) e = target_clean c e
-          go (Either op from c d) e = past_clean Fine (F (suc b)) (steered width (S c) (S d)) (S c)
-              (target_clean c (inl e.0))
+          go (Either op from c d) e = grind (arith, past_clean, target_clean)
           go (Lands op from values ls) e = none_clean Fine (F (suc b))
           go Halts e = none_clean Fine (F (suc b))
 
@@ -395,9 +362,7 @@ module _ (width : ℕ) (ps : List Plan) where
       -- a block that isn't the first of its wave
       module _ (not_first : (plan_at ps b).first ≡ false) where
         clear : (c i : ℕ) → Fine c i → F b ≤ F c + i → F c + i < F (suc b) → ⊥
-        clear c i f lo hi =
-            elsewhere c i (F c + i) f (λ e. both_ways (plan_at ps b).first not_first
-            (ap (λ (z : ℕ). (plan_at ps z).first) (sym e) ∙ f.first)) lo hi refl
+        clear c i f lo hi = elsewhere c i (F c + i) f (grind (arith, both_ways)) lo hi refl
 
         body_ok : Good F b (O b) Fine (F b) clear (body_made width S b (plan_at ps b))
         body_ok = body_good F b width Fine (F b) clear (E b) end_clean S (plan_at ps b) refl (plans b h).items
@@ -438,8 +403,7 @@ module _ (width : ℕ) (ps : List Plan) where
         clean_inner : (k : ℕ) → k ≤ F b → Clean F Fine k width (S b)
         clean_inner k l = subst (λ (w : Wants). Clean F Fine k width w) (sym (starts_inner b not_first))
             (record {
-              apart = λ x y j q a d. (let e : Some x ≡ Some y = sym (inv_inner.has x j q a)
-                  ∙ inv_inner.has y j q d in cc);
+              apart = grind (arith, inv_inner.has);
               once = inv_inner.once;
               few = λ x w. (plans b h).few x
                   (live_inner x (λ e. w (sym (ap (λ (v : Wants). v x) (starts_inner b not_first)) ∙ e)));
@@ -451,22 +415,15 @@ module _ (width : ℕ) (ps : List Plan) where
           inv = fine_at;
           live = live_inner;
           clean = clean_inner;
-          spare = λ f x n. absurd (both_ways (plan_at ps b).first not_first f);
-          bars = λ f i l u e q a. absurd (both_ways (plan_at ps b).first not_first f);
+          spare = grind (arith, both_ways);
+          bars = grind (arith, both_ways);
         }
           where
             at_spot : (q : Target) → Ahead F Fine (F b) q → Ahead F (FineAt b) (F b) q
             at_spot q a = grind (arith, both_ways)
 
             fine_at : Inv F b (O b) (FineAt b) (F b) (made_at width ps b)
-            fine_at = let v = inv_inner in record {
-              at = v.at;
-              has = v.has;
-              all = v.all;
-              once = v.once;
-              ahead = λ x q a. at_spot q (v.ahead x q a);
-              lines = v.lines;
-            }
+            fine_at = let v = inv_inner in grind (arith, at_spot, v.ahead)
 
       -- the first block of a wave
       module _ (is_first : (plan_at ps b).first ≡ true) where
@@ -479,10 +436,7 @@ module _ (width : ℕ) (ps : List Plan) where
         clear_first : (c i : ℕ) → Fine c i → F b + length (plan_at ps b).entries ≤ F c + i
             → F c + i < F (suc b) → ⊥
         clear_first c i f lo hi = elim (cases_eq c b) [
-          | inl e ↦ (let l : i < length (plan_at ps c).entries = f.place in
-              let l' : i < length (plan_at ps b).entries =
-              subst (λ (z : ℕ). i < length (plan_at ps z).entries) e l in
-              let g : F c ≡ F b = ap F e in omega arith)
+          | inl e ↦ grind arith
           | inr n ↦ elsewhere c i (F c + i) f n (omega arith) hi refl
         ]
 
@@ -520,16 +474,7 @@ module _ (width : ℕ) (ps : List Plan) where
         core_inv =
             let t : F (suc b) ≡ F b + (length (plan_at ps b).entries + length core.code) = total in
             let z : F (suc b) - length core.code ≡ F b + length (plan_at ps b).entries = omega arith in
-            let v : Inv F b (O b) Fine (F b + length (plan_at ps b).entries) core =
-            rw z at (core_good (omega arith)) in
-            record {
-              at = v.at;
-              has = v.has;
-              all = v.all;
-              once = v.once;
-              ahead = λ x q a. at_spot x q a (v.ahead x q a);
-              lines = v.lines;
-            }
+            grind (arith, core_good, at_spot)
           where
             at_spot : (x : ℕ) (q : Target) → In q (core.wants x)
                 → Ahead F Fine (F b + length (plan_at ps b).entries) q
@@ -561,8 +506,8 @@ module _ (width : ℕ) (ps : List Plan) where
           inv = (let z : F b + 0 ≡ F b = omega arith in
               subst (λ (m : Made). Inv F b (O b) (FineAt b) (F b) m) (sym made_outer)
               (rw z at (advances_inv (plan_at ps b).entries 0 (omega arith))));
-          live = λ x w. outer_live b x (record { some = h.0; there = h.1; first = is_first }) w;
-          clean = λ k l. outer_clean b k (record { some = h.0; there = h.1; first = is_first });
+          live = grind (arith, outer_live);
+          clean = grind (arith, outer_clean);
           spare = λ f x n. ap (λ (m : Made). m.wants x) made_outer ∙ advances_other b (plan_at ps b).entries
               core x n ∙ elim (nil_or (core.wants x)) [ inl e ↦ e | inr w ↦ absurd (n (core_wanted x w)) ];
           bars = λ f i l u e q a. bar (plan_at ps b).entries i l u (plans b h).entries_apart

@@ -455,9 +455,7 @@ module _ (arrays : List Array) (width : ℕ) (ps : List Plan) (Live : ℕ → �
             (renew b (plan_at ps b).entries (body_made width S b (plan_at ps b)))
             (renew_body K (F (suc b)) src low b (plan_at ps b).entries (body_made width S b (plan_at ps b))
             body))
-        go (inr f) = subst (λ (s : Made). Body K (F (suc b)) src low s)
-            (sym (made_is width ps b h (plans b h).edges ∙ cond-false (plan_at ps b).first _ _ f))
-            (inner (merges (plan_at ps b) (body_made width S b (plan_at ps b))))
+        go (inr f) = grind (arith, made_is, cond-false, inner)
 
     -- nothing is read where nothing is chosen
     none_read : chooses (plan_at ps b).exit ≡ false → tails_of width S (plan_at ps b).exit ≡ [] → (m i : ℕ)
@@ -476,19 +474,14 @@ module _ (arrays : List Array) (width : ℕ) (ps : List Plan) (Live : ℕ → �
             → exit_made width S b (plan_at ps b) (plan_at ps b).exit ≡ behind_source width S b (plan_at ps b)
             → KeptAt K (F (suc b)) (made_at width ps b)
         bare c t e = whole_body (F (suc b)) (λ m i k. absurd (none_read c t m i k))
-            (subst (λ (s : Made). Body K (F (suc b)) (F (suc b)) (λ m i k. absurd (none_read c t m i k)) s)
-            (sym e) (bare_body c t))
+            (grind (arith, none_read, bare_body))
 
         halting : (c : chooses (plan_at ps b).exit ≡ false) (t : tails_of width S (plan_at ps b).exit ≡ [])
             → exit_made width S b (plan_at ps b) (plan_at ps b).exit ≡ rest b
             (record { op = Halt; dests = []; others = [] }) (pulse ∷ [])
             (behind_source width S b (plan_at ps b)) → KeptAt K (F (suc b)) (made_at width ps b)
         halting c t e = whole_body (F (suc b)) (λ m i k. absurd (none_read c t m i k))
-            (subst (λ (s : Made). Body K (F (suc b)) (F (suc b)) (λ m i k. absurd (none_read c t m i k)) s)
-            (sym e)
-            (act_body K (F (suc b)) (F (suc b)) (λ m i k. absurd (none_read c t m i k)) b
-            (record { op = Halt; dests = []; others = [] }) (pulse ∷ [])
-            (behind_source width S b (plan_at ps b)) (bare_body c t)))
+            (grind (arith, none_read, act_body, bare_body))
 
         go : (e : HowLeft) → (plan_at ps b).exit ≡ e → KeptAt K (F (suc b)) (made_at width ps b)
         go (Onto c) q = bare (ap chooses q) (ap (tails_of width S) q)
@@ -534,9 +527,7 @@ module _ (arrays : List Array) (width : ℕ) (ps : List Plan) (Live : ℕ → �
       where
         away : (s : Target) → (dest_of F s).instr ≡ j → Ahead F (FineAt width ps b)
             (F b + length (plan_at ps b).entries) s → ⊥
-        away (Back c r k) g f = let lt : j < F b + length (plan_at ps b).entries =
-            (advance_front j inn a).1 in let z : F b + length (plan_at ps b).entries ≤ F (suc c) - suc r =
-            f in let y : F (suc c) - suc r ≡ j = g in omega arith
+        away (Back c r k) g f = grind (arith, advance_front)
         away (Front c k) g f = let r = inside j inn in entry_away c k j f.0 (f.1 (advance_front j inn a).0) g
             r.0 r.1
 

@@ -61,9 +61,7 @@ edges_distinct image b r k (suc n) d s = distinct_append (edge_dests image b r k
   where
     apart : (j q : ℕ) → HasDest (edge_dests image b r k) j q → HasDest (edge_all image b r (suc k) n) j q → ⊥
     apart j q g h = let f = Rattle.ws_isa.proofs.Slots.edge_all_from image b r (suc k) n j q h in
-        let lo : suc k ≤ f.source = f.low in let hi : f.source < suc k + n = f.high in
-        let e : k ≡ f.source = s k f.source j q (omega arith) (omega arith) (omega arith) (omega arith) g
-        f.has in omega arith
+        grind (arith, f.source)
 
 -- lists of spots that are told apart
 spot_eq : (p q : Target) → same_spot p q ≡ true → p ≡ q
@@ -509,8 +507,7 @@ module _ (arrays : List Array) (width : ℕ) (ps : List Plan) (Live : ℕ → �
           c = landing_of landings r
 
           at_land : HasDest (dests_of F (S (landing_of landings r) x)) j q
-          at_land = all (landing_of landings r) (land_is r) x j q
-              (subst (λ (t : ℕ). starts I C t j q ≡ Some x) (lands_target r) e)
+          at_land = all (landing_of landings r) (land_is r) x j q (grind (arith, lands_target))
 
           front : FrontIs F (landing_of landings r) (plan_at ps (landing_of landings r)).entries x j q
           front = front_is F (landing_of landings r) (plan_at ps (landing_of landings r)).entries x j q

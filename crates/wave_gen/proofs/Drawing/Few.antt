@@ -106,14 +106,8 @@ copy_few x y s f h = record { wants = λ z. go z (cases_eq x y); lines = f.lines
   where
     moved_most : (x ≡ y → ⊥) → (z : ℕ) → length (moved x y s.wants z) ≤ 7
     moved_most n z = elim (cases_eq z y) [
-      | inl e ↦ rw (eq-eqb z y e) (let a : length (s.wants x ++ s.wants y) ≡ length (s.wants x) + length
-          (s.wants y) = app_length (s.wants x) (s.wants y) in let m : length (s.wants x) + length (s.wants y)
-          ≤ 7 = h n in omega arith)
-      | inr d ↦ elim (cases_eq z x) [
-        | inl e ↦ rw (ne_eqb z y d, eq-eqb z x e) (omega arith)
-        | inr c ↦
-            rw (ne_eqb z y d, ne_eqb z x c) (f.wants z)
-      ]
+      | inl e ↦ grind (arith, eq-eqb, s.wants, app_length)
+      | inr d ↦ grind (arith, cases_eq, ne_eqb, eq-eqb, f.wants)
     ]
 
     go : (z : ℕ) → (x ≡ y) ⊎ (x ≡ y → ⊥) → length ((copy x y s).wants z) ≤ 7
@@ -126,11 +120,8 @@ alias_few b x y s f = go (cases_lt most (length (s.wants x) + length (s.wants y)
     go : (most < length (s.wants x) + length (s.wants y)) ⊎ (length (s.wants x) + length (s.wants y) ≤ most)
         → Few (alias b x y s)
     go (inl u) = rw (lt-ltb most (length (s.wants x) + length (s.wants y)) u)
-        (copy_few x y (gather b y (gather b x s)) (gather_few b y (gather b x s) (gather_few b x s f))
-        (λ n. (let a : length ((gather b y (gather b x s)).wants y) ≡ 1 = gather_one b y (gather b x s) in
-        let c : length ((gather b y (gather b x s)).wants x) ≡ 1 =
-        ap length (gather_other b y x (gather b x s) n) ∙ gather_one b x s in omega arith)))
-    go (inr u) = rw (le-ltb most (length (s.wants x) + length (s.wants y)) u) (copy_few x y s f (λ n. u))
+        (grind (arith, copy_few, gather_few, gather_one, gather_other))
+    go (inr u) = grind (arith, le-ltb, s.wants, copy_few)
 
 pub wire_few : (b : ℕ) (is : List Item) (s : Made) → ItemsAre is → Few s → Few (wire b is s)
 wire_few b [] s h f = f
@@ -281,20 +272,7 @@ module _ (b z : ℕ) (w : Wants) (w_few : (x : ℕ) → length (w x) ≤ 7) (w_n
       → TailsShort ts → Few (hang b 6 z ts w)
   hung_few ts below apart empty short =
       let h = hang_few 6 z ts (omega arith) (omega arith) below apart empty short in
-      record {
-        wants = λ y. elim (cases_order y z) [
-          | inl e ↦ (let k : length ((hang b 6 z ts w).wants z) ≤ 6 = h.here in
-              let j : length ((hang b 6 z ts w).wants y) ≡ length ((hang b 6 z ts w).wants z) =
-              ap (λ (x : ℕ). length ((hang b 6 z ts w).wants x)) e in omega arith)
-          | inr o ↦
-              elim o [
-                | inl l ↦ h.low y l
-                | inr l ↦
-                    (let k : length ((hang b 6 z ts w).wants y) ≤ 6 = h.behind y l in omega arith)
-              ]
-        ];
-        lines = h.lines;
-      }
+      grind (arith, cases_order, h.low, h.behind)
 
 pub chain_are : (z n : ℕ) → ItemsAre (chain z n)
 chain_are z zero = tt

@@ -106,9 +106,9 @@ module _ (arrays : List Array) (width : ℕ) (ps : List Plan) where
     where
       at_place : nth (flat I.blocks) ((first_of I.blocks b + i) - 1) ≡ Some (instr_of (begins width ps) line)
       at_place = flat_nth I.blocks b i (block_of width ps (suc b)) (instr_of (begins width ps) line)
-          (nth_block b h.1) (nth_map (instr_of (begins width ps)) (made_at width ps (suc b)).code i line e)
+          (nth_block b h.1) (grind (arith, nth_map))
 
       go : (k : ℕ) → k ≡ first_number I (suc b) + i → instr_at I k ≡ instr_of (begins width ps) line
       go k f = instr_shown k (first_of I.blocks b + i) (instr_of (begins width ps) line)
-          (let z : 1 ≤ first_of I.blocks b = first_of_pos I.blocks b in omega arith) (f ∙ first_shown b i)
+          (grind (arith, first_of_pos)) (f ∙ first_shown b i)
           at_place

@@ -5,11 +5,11 @@ use Rattle.std.proofs.lemmas.Bool.{false≢true, cases_Bool, cond-true, cond-fal
 use Rattle.std.specs.List.{AllByRecursion}
 use Rattle.ws_isa.specs.declared.instr.Op.TheVariants.{Merge}
 use Rattle.ws_isa.specs.Image as image
-use Rattle.ws_isa.specs.Image.{Image, Instr, Block, Array, flat, block_at, first_number, is_giving}
+use Rattle.ws_isa.specs.Image.{Image, Instr, Array, flat, block_at, first_number, is_giving}
 use Rattle.ws_isa.specs.Image.{is_giving_op, edges_of, IsBlock}
 use Rattle.ws_isa.specs.Formed.{NoNotes}
 use Rattle.ws_isa.specs.Open.{OnlyEdge, IsArm, HasGiver, EnteredBySteer}
-use Rattle.wave_gen.specs.Wire.{WiredInstr, Made, emit}
+use Rattle.wave_gen.specs.Wire.{WiredInstr, Made}
 use Rattle.wave_gen.specs.Plans.{gives, merges, differing, HowLeft, Onto, Either, Lands, Halts, Plan, pulse}
 use Rattle.wave_gen.specs.Plans.{steer_of, tails_of, body_made, renew, plan_at, made_at, starts_at, begins}
 use Rattle.wave_gen.specs.Plans.{instr_of, blocks_of, draft_of, exit_of, source_of}
@@ -83,8 +83,7 @@ module _ (arrays : List Array) (width : ℕ) (ps : List Plan) (Live : ℕ → �
       let hc : Is c = (let l : b < c = i.later in omega (arith, h.0), i.there) in
       record {
         not_first = first_is arrays width ps Live plans c hc ∙ i.not_first;
-        same_wave = ap (λ (k : Block). k.wave) (block_at_is arrays width ps c hc) ∙ i.wave
-            ∙ sym (ap (λ (k : Block). k.wave) (block_at_is arrays width ps b h));
+        same_wave = grind (arith, block_at_is);
         only = only_edge b place c h o;
       }
 
@@ -214,13 +213,7 @@ module _ (arrays : List Array) (width : ℕ) (ps : List Plan) (Live : ℕ → �
           merged g =
               let k : merges (plan_at ps b) (body_made width (starts_at width ps) b (plan_at ps b)) ≡ true =
               rw (j, g) refl in
-              let m : made_at width ps b ≡ emit b pulse Merge (pulse ∷ [])
-              (body_made width (starts_at width ps) b (plan_at ps b)) =
-              made_is width ps b h (plans.each b h).edges ∙ cond-false (plan_at ps b).first _ _ f
-              ∙ cond-true (merges (plan_at ps b) (body_made width (starts_at width ps) b (plan_at ps b)))
-              _ _ k in
-              giver_at b h (rw m (omega arith))
-              (λ l e. merge_gives l (ap (λ (x : Made). nth x.code 0) (sym m) ∙ e))
+              grind (arith, made_is, h, plans.each, cond-false, cond-true, giver_at, merge_gives)
       go (inr f) (inr j) =
           let a = opens.bare b h f j in
           let S = starts_at width ps in

@@ -6,7 +6,7 @@ use Rattle.std.specs.List.{AllByRecursion}
 use Rattle.ws_isa.specs.declared.instr.Op.{Op}
 use Rattle.ws_isa.specs.declared.instr.Op.TheVariants.{Merge, Advance, Steer, Send}
 use Rattle.ws_isa.specs.declared.instr.Dest.{Dest}
-use Rattle.ws_isa.specs.Image.{Image, Instr, Block, Pad, Array, instr_at, block_at, first_number, ports}
+use Rattle.ws_isa.specs.Image.{Image, Instr, Pad, Array, instr_at, block_at, first_number, ports}
 use Rattle.ws_isa.specs.Image.{is_giving_op, is_stop, stops, now_of, now_dests, edge_of, edge_dests, IsIn}
 use Rattle.ws_isa.specs.Image.{IsBlock, IsInstr, is_steer_op}
 use Rattle.ws_isa.specs.Formed.{DestsIn, OpIn, ExitIn, References, DestsSuit, OthersSuit, SomeLanding, Suited}
@@ -111,8 +111,7 @@ module _ (arrays : List Array) (width : ℕ) (ps : List Plan) (Live : ℕ → �
     | inr s ↦ elim s [
       | inl p ↦ absurd (let z : (instr_at I k).dests ≡ [] = (suits_in b k hb i).dests (ap is_giving_op p.1)
           (ap is_steer_op p.1) in rw z at d)
-      | inr n ↦ now_slot I C (shape arrays width ps Live plans) (waits arrays width ps Live plans) b k j q hb
-          i (rw (now_is k n.1) d)
+      | inr n ↦ grind (arith, now_slot, shape, waits, now_is)
     ]
   ]
 
@@ -120,7 +119,7 @@ module _ (arrays : List Array) (width : ℕ) (ps : List Plan) (Live : ℕ → �
       → SlotAt b (suc k) j q
   other_slot b k j q hb i d = elim (sort (instr_at I k).op) [
     | inl e ↦ edge_slot I C (shape arrays width ps Live plans) (waits arrays width ps Live plans) b 0 k j q hb
-        (steer_runs b k hb i e) i (subst (λ (ds : List Dest). HasDest ds j q) (sym (steer_dests b 0 k e)) d)
+        (steer_runs b k hb i e) i (grind (arith, steer_dests))
     | inr s ↦
         absurd (subst (λ (ds : List Dest). HasDest ds j q)
         ((suits_in b k hb i).others (elim s [ inl p ↦ ap is_steer_op p.1 | inr n ↦ n.0 ])) d)
@@ -181,7 +180,7 @@ module _ (arrays : List Array) (width : ℕ) (ps : List Plan) (Live : ℕ → �
 
       f : (x : ℕ) × HasDest (dests_of (begins width ps) (fronts b 0 (plan_at ps b).entries x)) j q
       f = pad_front arrays width ps Live plans gives b 0 (plan_at ps b).entries (plan_at ps b).pads p j q
-          (subst (λ (k : Block). In p k.pads) (block_at_is arrays width ps b h) i) d
+          (grind (arith, block_at_is, h)) d
 
       go : ((plan_at ps b).first ≡ true) ⊎ ((plan_at ps b).first ≡ false) → IsInstr I j × (q < ports I j)
       go (inl e) = slot_there b (first_number I b) j q (starts_slot I C (shape arrays width ps Live plans)

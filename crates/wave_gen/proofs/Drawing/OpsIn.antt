@@ -2,15 +2,14 @@
 use Rattle.std.proofs.Common.{arith, ℕ, zero, suc, List, [], ◌∷◌, ◌++◌}
 use Rattle.std.specs.List.{AllByRecursion}
 use Rattle.ws_words.specs.declared.alu.Alu.{Alu as Operator}
-use Rattle.ws_words.specs.declared.alu.Alu.TheVariants.{Sub, Eq}
+use Rattle.ws_words.specs.declared.alu.Alu.TheVariants.{Sub}
 use Rattle.ws_isa.specs.declared.instr.Op.{Op}
 use Rattle.ws_isa.specs.declared.instr.Op.TheVariants.{Const, Alu, Merge, Steer, Phi, Send, Load, Store}
 use Rattle.ws_isa.specs.declared.instr.Op.TheVariants.{Input, Output, Give, Take, Halt}
 use Rattle.cfg_core.specs.Graph as graph
 use Rattle.cfg_core.specs.Graph.{Term, Number, Var, Cell, Flip, Not, Neg, Binary}
 use Rattle.wave_gen.specs.Wire.{Item, Make, Act, Same}
-use Rattle.wave_gen.specs.Plans.{pulse}
-use Rattle.wave_gen.specs.Gen.{Got, got, then_make, top_word, gen_term, gen_op, gen_ops}
+use Rattle.wave_gen.specs.Gen.{Got, then_make, top_word, gen_term, gen_op, gen_ops}
 use Rattle.wave_gen.specs.Drawn.{gen_source, gen_terms}
 use Rattle.wave_gen.specs.Listing.{gen_exit}
 use Rattle.wave_gen.proofs.OfItems.Lines.{Items}
@@ -69,18 +68,22 @@ module _ (P : Op → Type 0) (plain : Plain P) where
   last g op from e h = both P g.items (Make g.next op from ∷ []) h (e, tt)
 
   term_items : (t : Term) (k : ℕ) → TermHas P t → Items P (gen_term k t).items
-  term_items (Cell a t) k h = let g = gen_term k t in last g (Load a) (g.name ∷ []) h.0 (term_items t k h.1)
+  term_items (Cell a t) k h = grind (arith, last, term_items t k h.1)
   term_items (Flip t) k h = let g = gen_term k t in
       last (then_make g (λ n. Make n (Const top_word) (g.name ∷ []))) (Alu Sub) (g.next ∷ g.name ∷ [])
-      (plain.alu Sub) (last g (Const top_word) (g.name ∷ []) plain.top (term_items t k h))
-  term_items (Not t) k h = let g = gen_term k t in last g (Alu Eq) (g.name ∷ pulse ∷ []) (plain.alu Eq)
-      (term_items t k h)
-  term_items (Neg t) k h = let g = gen_term k t in last g (Alu Sub) (pulse ∷ g.name ∷ []) (plain.alu Sub)
-      (term_items t k h)
+      (plain.alu Sub) (grind (arith, last, term_items t k h))
+  term_items (Not t) k h = grind (arith, last, term_items t k h)
+  term_items (Neg t) k h = grind (arith, last, term_items t k h)
   term_items (Binary op a b) k h =
-      let g = gen_term k a in let i = gen_term g.next b in
-      last (got (g.items ++ i.items) i.name i.next) (Alu op) (g.name ∷ i.name ∷ []) (plain.alu op)
-      (both P g.items i.items (term_items a k h.0) (term_items b g.next h.1))
+      let g = gen_term k a in grind (
+        arith,
+        g.next,
+        last,
+        both,
+        g.items,
+        term_items a k h.0,
+        term_items b g.next h.1,
+      )
   term_items t k h = grind arith
 
   source_items : (t : Term) (k : ℕ) → TermHas P t → Items P (gen_source k t).items
@@ -89,8 +92,7 @@ module _ (P : Op → Type 0) (plain : Plain P) where
   terms_items : (ts : List Term) (k : ℕ) → AllByRecursion (TermHas P) ts → Items P (gen_terms k ts).items
   terms_items [] k h = tt
   terms_items (t ∷ ts) k h = let g = gen_term k t in
-      both P g.items (Same g.next g.name ∷ (gen_terms (suc g.next) ts).items) (term_items t k h.0)
-      (terms_items ts (suc g.next) h.1)
+      grind (arith, both, g.items, g.next, term_items, terms_items ts (suc g.next) h.1)
 
   op_items : (op : graph.Op) (k : ℕ) → OpHas P op → Items P (gen_op k op).items
   op_items op k h = grind (arith, both, term_items)

@@ -1,6 +1,6 @@
 -- A draft of plans keeps the rules on shape.
 use Rattle.std.proofs.Common.{ℕ, zero, suc, ◌+◌, ◌-◌, ◌≡◌, ◌<◌, ◌≤◌, ◌⊎◌, eqb, Bool, true, false, cond, List}
-use Rattle.std.proofs.Common.{[], ◌∷◌, ◌++◌, length, Some, None, refl, sym, ap, ◌∙◌, subst, inl, inr, arith}
+use Rattle.std.proofs.Common.{[], ◌∷◌, ◌++◌, length, Some, None, refl, ap, ◌∙◌, subst, inl, inr, arith}
 use Rattle.std.proofs.lemmas.Bool.{cases_eq, both_ways}
 use Rattle.ws_isa.specs.declared.instr.Op.{Op}
 use Rattle.ws_isa.specs.declared.instr.Op.TheVariants.{Steer, Send}
@@ -59,9 +59,7 @@ module _ (image : Image) (b : ℕ) (Kept : ℕ → ℕ → Type 0) (o : Owner) w
       → is_tail_op (instr_at image m).op ≡ true → BringsResult image b s m
       (selector_port (instr_at image m).op)
   find_carried s z n k (Fires x op from ∷ ss) st sel c m l u t = elim (cases_eq m k) [
-    | inl e ↦
-        absurd (both_ways false refl (ap is_tail_op (sym sel.0) ∙ ap is_tail_op (sym st.0.op_is)
-        ∙ ap (λ (i : ℕ). is_tail_op (instr_at image i).op) (sym e) ∙ t))
+    | inl e ↦ grind (arith, both_ways)
     | inr d ↦ elim sel.1 [
       | inl a ↦ find_carried s z (suc n) (suc k) ss st.1 a.2 c m (omega arith) (omega arith) t
       | inr a ↦ find_carried s z n (suc k) ss st.1 a.1 c m (omega arith) (omega arith) t
@@ -165,18 +163,18 @@ module _ (arrays : List Array) (width : ℕ) (ps : List Plan) (Live : ℕ → �
         → BringsResult I b (source_of width ps b) m (selector_port (instr_at I m).op)
     tail_carried m i t =
         let a = is_tail arrays width ps Live plans.each b h m i t in
-        let n : m + length (tails_of width S (plan_at ps b).exit) ≡ begins width ps (suc b) + a.place =
-        a.number in
-        let w : first_number I (suc b) ≡ begins width ps (suc b) = number_is arrays width ps (suc b) in
-        let s : source_of width ps b ≡ begins width ps (suc b) - suc (length behind.code) = source_is in
-        let c : length (tails_of width S (plan_at ps b).exit) ≤ length behind.code = tails_in in
-        let d : count behind.steps ≡ length behind.code = balanced in
-        let e : source_of width ps b + suc (count behind.steps) ≡ first_number I (suc b) =
-        stands_end I b (KeptOf width ps b) (source_of width ps b)
-        (Fires (plan_at ps b).test op from ∷ behind.steps) O at_source in
-        find_carried I b (KeptOf width ps b) O (source_of width ps b) (plan_at ps b).test (plan_at ps b).test
-        (suc (source_of width ps b)) behind.steps at_source.1 sel_behind all_carried m (omega arith)
-        (omega arith) t
+        grind (
+          arith,
+          number_is,
+          source_is,
+          tails_in,
+          balanced,
+          stands_end,
+          at_source,
+          find_carried,
+          sel_behind,
+          all_carried,
+        )
 
   steer_only : (b : ℕ) → (w v : Wants) (xs : List ℕ) (i : ℕ) (t : Tail) → nth (steers w v xs) i ≡ Some t
       → t.line.op ≡ Steer
@@ -235,11 +233,7 @@ module _ (arrays : List Array) (width : ℕ) (ps : List Plan) (Live : ℕ → �
     where
       go : Inner ps b (target I b r) ⊎ Outer ps (target I b r) → (b < target I b r)
           × ((block_at I (target I b r)).wave ≡ (block_at I b).wave)
-      go (inl i) = (
-        i.later,
-        wave_is (target I b r) (target_there arrays width ps Live plans b (target I b r)
-            (there b h) (inl i)) ∙ i.wave ∙ sym (wave_is b (there b h)),
-      )
+      go (inl i) = grind (arith, wave_is, target_there, there)
       go (inr o) =
           absurd (both_ways (is_first I (target I b r)) f (first_is arrays width ps Live plans (target I b r)
           (o.some, o.there) ∙ o.first))
@@ -371,7 +365,7 @@ module _ (arrays : List Array) (width : ℕ) (ps : List Plan) (Live : ℕ → �
   pub shape : WalkShape I
   shape = record {
     has_block = block_is arrays width ps 1 (one_is arrays width ps Live plans);
-    edges = λ b h. record { there = λ r s. shape_edges b r h s; later = λ r s f. shape_later b r h s f };
+    edges = grind (arith, shape_edges, shape_later);
     advances = λ b k h i a. first_is arrays width ps Live plans b (there b h)
         ∙ (advance_front arrays width ps Live plans.each b (there b h) k i a).0;
   }

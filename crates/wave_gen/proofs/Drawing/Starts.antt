@@ -71,8 +71,7 @@ module _ (arrays : List Array) (width : ℕ) (ps : List Plan) (Live : ℕ → �
       same =
           let t : F (suc b) ≡ F b + length (made_at width ps b).code = begins_next width ps b h in
           let n : length (made_at width ps b).code ≡ length (plan_at ps b).entries + length core.code =
-          ap (λ (m : Made). length m.code) (made_first b h f) ∙ advances_count b (plan_at ps b).entries
-          core in
+          grind (arith, made_first, advances_count) in
           let l : i < length (plan_at ps b).entries = nth_short (plan_at ps b).entries i x e in
           let z : F (suc b) - suc (length core.code + (length (plan_at ps b).entries - suc i))
           ≡ F b + (0 + i) = omega arith in
@@ -145,8 +144,7 @@ module _ (arrays : List Array) (width : ℕ) (ps : List Plan) (Live : ℕ → �
           let t : F (suc b) ≡ F b + length (made_at width ps b).code = begins_next width ps b h in
           let n : length (made_at width ps b).code ≡ length (plan_at ps b).entries + length
           (renew b (plan_at ps b).entries (body_made width S b (plan_at ps b))).code =
-          ap (λ (m : Made). length m.code) (made_first b h g) ∙ advances_count b (plan_at ps b).entries
-          (renew b (plan_at ps b).entries (body_made width S b (plan_at ps b))) in
+          grind (arith, made_first, advances_count) in
           let l : i < length (plan_at ps b).entries = nth_short (plan_at ps b).entries i x e in
           let y : first_number I b ≡ F b = number_is arrays width ps b in
           let w : first_number I (suc b) ≡ F (suc b) = number_is arrays width ps (suc b) in

@@ -122,8 +122,7 @@ lines_suit width ps Live plans gives b h = rw (made_is width ps b h (plans.each 
         → SuitAll
         (cond j (emit b pulse Merge (pulse ∷ []) (body_made width (starts_at width ps) b (plan_at ps b)))
         (body_made width (starts_at width ps) b (plan_at ps b))).code
-    inner true = emit_suits b pulse Merge (pulse ∷ []) (body_made width (starts_at width ps) b (plan_at ps b))
-        refl body
+    inner true = grind (arith, emit_suits, body)
     inner false = body
 
     go : (f : Bool)
@@ -133,7 +132,5 @@ lines_suit width ps Live plans gives b h = rw (made_is width ps b h (plans.each 
         (cond (merges (plan_at ps b) (body_made width (starts_at width ps) b (plan_at ps b)))
         (emit b pulse Merge (pulse ∷ []) (body_made width (starts_at width ps) b (plan_at ps b)))
         (body_made width (starts_at width ps) b (plan_at ps b)))).code
-    go true = advances_suit b (plan_at ps b).entries
-        (renew b (plan_at ps b).entries (body_made width (starts_at width ps) b (plan_at ps b)))
-        (renew_suits b (plan_at ps b).entries (body_made width (starts_at width ps) b (plan_at ps b)) body)
-    go false = inner (merges (plan_at ps b) (body_made width (starts_at width ps) b (plan_at ps b)))
+    go true = grind (arith, advances_suit, renew_suits, body)
+    go false = grind (arith, inner)

@@ -125,8 +125,7 @@ module _ (arrays : List Array) (width : ℕ) (ps : List Plan) (Live : ℕ → �
           → pad_of (pads_of (begins width ps) 1 0 (plan_at ps 1).entries xs) 0 ≡ dests_of (begins width ps)
           (fronts 1 0 (plan_at ps 1).entries pulse)
       pad_zero [] e = absurd (let a : None ≡ Some pulse = e in cc)
-      pad_zero (x ∷ xs) e = let g : x ≡ pulse = cc in
-          ap (λ (n : ℕ). dests_of (begins width ps) (fronts 1 0 (plan_at ps 1).entries n)) g
+      pad_zero (x ∷ xs) e = grind arith
 
   start_pulse : (j q x : ℕ) → starts I C 1 j q ≡ Some x → x ≡ pulse
   start_pulse j q x e =

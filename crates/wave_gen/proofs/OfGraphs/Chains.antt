@@ -129,13 +129,9 @@ module _ (n : ℕ) (waves : ℕ → ℕ) (firsts : ℕ → Bool) (m : ℕ) (h : 
 
       head_of : (x : ℕ) → x < n → (waves x < 1) ⊎ ((waves x ≡ 1) ⊎ (1 < waves x)) → Before waves x b → ⊥
       head_of x u (inl v) q = let p : 1 ≤ waves x = (h.lies x u).0 in omega (arith, p, v)
-      head_of x u (inr (inr v)) q = elim q [
-        | inl w ↦ omega (arith, w, v, e)
-        | inr w ↦
-            (let w0 : waves x ≡ waves b = w.0 in omega (arith, w0, v, e))
-      ]
+      head_of x u (inr (inr v)) q = grind arith
       head_of x u (inr (inl v)) q =
-          let k : 1 ≤ m = (let p : waves b ≤ m = (h.lies b l).1 in omega (arith, p, e)) in
+          let k : 1 ≤ m = grind (arith, h.lies) in
           let hd = h.heads 1 (omega arith) k in
           elim (hd.others b l e) [
             | inr g ↦ both_ways (firsts b) g.1 f

@@ -152,8 +152,7 @@ module _ (g : Graph) (live : ℕ → ℕ → Bool) (cut : Cut) (fit : Fits g liv
   -- the block of which a plan is made
   made_of : (n : ℕ) (h : (1 ≤ n) × (n ≤ length ps)) → (x : ℕ) × (x < length (spots g))
       × (place_of g cut x ≡ n) × (plan_at ps n ≡ planned g live cut fit x)
-  made_of n h = let r = found n h in
-      (r.0, r.1, r.2, ap (plan_at ps) (sym r.2) ∙ at_place g live cut fit r.0 r.1)
+  made_of n h = let r = found n h in grind (arith, at_place)
 
   either : (place : ℕ → ℕ) (k : ℕ) (exit : graph.Exit) (op : Op) (from : List ℕ) (c d : ℕ)
       → (gen_exit place k exit).exit ≡ Either op from c d → (t : Term) × (x : ℕ) × (y : ℕ)
@@ -175,7 +174,7 @@ module _ (g : Graph) (live : ℕ → ℕ → Bool) (cut : Cut) (fit : Fits g liv
   there_with : (ss : List Spot) (b c : ℕ) → In c (arms_of (or_else (nth ss b) no_spot).block.exit)
       → b < length ss
   unfolding no_spot
-  there_with (s ∷ ss) (suc b) c i = let l : b < length ss = there_with ss b c i in omega (arith, l)
+  there_with (s ∷ ss) (suc b) c i = grind (arith, there_with ss b c i)
   there_with ss b c i = grind arith
 
   some_branch : (x : ℕ) → in_some arms_of (spots g) x ≡ true → (b : ℕ) × (b < length (spots g))

@@ -3,8 +3,7 @@ use Rattle.std.proofs.Common.{ℕ, zero, suc, ◌≡◌, ◌<◌, ◌≤◌, Lis
 use Rattle.std.specs.List.{AllByRecursion}
 use Rattle.ws_words.specs.declared.alu.Alu.TheVariants.{Sub, Eq}
 use Rattle.ws_isa.specs.declared.instr.Op.{Op}
-use Rattle.ws_isa.specs.declared.instr.Op.TheVariants.{Const, Alu, Phi, Load, Store, Input, Output, Give}
-use Rattle.ws_isa.specs.declared.instr.Op.TheVariants.{Take}
+use Rattle.ws_isa.specs.declared.instr.Op.TheVariants.{Const, Alu, Phi, Load, Store, Output, Give, Take}
 use Rattle.cfg_core.specs.Graph as graph
 use Rattle.cfg_core.specs.Graph.{Graph, Term, Number, Var, Cell, Flip, Not, Neg, Binary}
 use Rattle.cfg_core.specs.Rules.{OpIn}
@@ -131,7 +130,7 @@ module _ (g : Graph) (vars w : ℕ) (wide : vars < w) where
   op_fresh (graph.Assign x t) k h l =
       let r = gen_term k t in
       fresh_append w k r.next r.next r.items (Same (suc x) r.name ∷ []) l (term_fresh w t k l)
-      (fresh_item w r.next (Same (suc x) r.name) (λ z n e. cc) (λ y u. variable x y h.0 u))
+      (grind (arith, fresh_item, r.next, variable))
   op_fresh (graph.Store a t u) k h l =
       let r = gen_term k t in let q = gen_term r.next u in let f = term_fresh w t k l in
       let v = up w k r.items r.next l f in
@@ -142,15 +141,13 @@ module _ (g : Graph) (vars w : ℕ) (wide : vars < w) where
   op_fresh (graph.Print t) k h l =
       let r = gen_term k t in
       fresh_append w k r.next r.next r.items (Act Output (r.name ∷ []) ∷ []) l (term_fresh w t k l)
-      (fresh_item w r.next (Act Output (r.name ∷ [])) (λ z n e. cc) (λ y b. tt))
-  op_fresh (graph.Read x) k h l = fresh_item w k (Make (suc x) Input (pulse ∷ [])) (λ z n e. cc)
-      (λ y u. variable x y h u)
-  op_fresh (graph.Give p x) k h l = fresh_item w k (Make (suc x) (Give p) (pulse ∷ [])) (λ z n e. cc)
-      (λ y u. variable x y h.1 u)
+      (grind (arith, fresh_item, r.next))
+  op_fresh (graph.Read x) k h l = grind (arith, fresh_item, variable)
+  op_fresh (graph.Give p x) k h l = grind (arith, fresh_item, variable)
   op_fresh (graph.Take p t) k h l =
       let r = gen_term k t in
       fresh_append w k r.next r.next r.items (Act (Take p) (r.name ∷ []) ∷ []) l (term_fresh w t k l)
-      (fresh_item w r.next (Act (Take p) (r.name ∷ [])) (λ z n e. cc) (λ y b. tt))
+      (grind (arith, fresh_item, r.next))
   op_fresh (graph.Choose x t a b) k h l =
       let r = gen_term k t in let q = gen_term r.next a in let j = gen_term q.next b in
       let f = term_fresh w t k l in let v = up w k r.items r.next l f in

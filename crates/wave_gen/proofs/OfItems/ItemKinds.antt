@@ -1,5 +1,5 @@
 -- The items of a block are instructions with as many operands as they have ports.
-use Rattle.std.proofs.Common.{arith, ℕ, suc, ◌≡◌, List, [], ◌∷◌, ◌++◌, length, refl}
+use Rattle.std.proofs.Common.{arith, ℕ, suc, ◌≡◌, List, [], ◌∷◌, ◌++◌, length}
 use Rattle.ws_isa.specs.Image.{ports_of}
 use Rattle.cfg_core.specs.Graph as graph
 use Rattle.cfg_core.specs.Graph.{Term, Cell, Flip, Not, Neg, Binary}
@@ -14,18 +14,11 @@ items_append [] ys h k = k
 items_append (x ∷ xs) ys h k = (h.0, items_append xs ys h.1 k)
 
 pub term_items : (t : Term) (k : ℕ) → ItemsAre (gen_term k t).items
-term_items (Cell a t) k = items_append (gen_term k t).items _ (term_items t k) (
-  ((λ ds. refl, refl), refl),
-  tt,
-)
-term_items (Flip t) k =
-    items_append _ _ (items_append (gen_term k t).items _ (term_items t k) (((λ ds. refl, refl), refl), tt))
-    (((λ ds. refl, refl), refl), tt)
-term_items (Not t) k = items_append (gen_term k t).items _ (term_items t k) (((λ ds. refl, refl), refl), tt)
-term_items (Neg t) k = items_append (gen_term k t).items _ (term_items t k) (((λ ds. refl, refl), refl), tt)
-term_items (Binary op a b) k =
-    items_append _ _ (items_append (gen_term k a).items _ (term_items a k) (term_items b (gen_term k a).next))
-    (((λ ds. refl, refl), refl), tt)
+term_items (Cell a t) k = grind (arith, items_append, term_items t k)
+term_items (Flip t) k = grind (arith, items_append, term_items t k)
+term_items (Not t) k = grind (arith, items_append, term_items t k)
+term_items (Neg t) k = grind (arith, items_append, term_items t k)
+term_items (Binary op a b) k = grind (arith, items_append, term_items a k, term_items b (gen_term k a).next)
 term_items t k = grind arith
 
 pub source_items : (t : Term) (k : ℕ) → ItemsAre (gen_source k t).items

@@ -1,15 +1,14 @@
 -- Each value of a block is made by an instruction that gives one.
 use Rattle.std.proofs.Common.{arith, ℕ, suc, ◌≡◌, true, List, [], ◌∷◌, ◌++◌, refl}
-use Rattle.ws_words.specs.declared.alu.Alu.TheVariants.{Sub, Eq}
+use Rattle.ws_words.specs.declared.alu.Alu.TheVariants.{Sub}
 use Rattle.ws_isa.specs.declared.instr.Op.{Op}
-use Rattle.ws_isa.specs.declared.instr.Op.TheVariants.{Const, Alu, Load}
+use Rattle.ws_isa.specs.declared.instr.Op.TheVariants.{Const, Alu}
 use Rattle.ws_isa.specs.Image.{is_giving_op}
-use Rattle.wave_gen.specs.Plans.{pulse}
 use Rattle.cfg_core.specs.Graph as graph
 use Rattle.cfg_core.specs.Graph.{Term, Cell, Flip, Not, Neg, Binary}
 use Rattle.wave_gen.specs.Wire.{Item, Make, Act, Same}
 use Rattle.wave_gen.proofs.Planning.More.{ItemsGive, SourceGives}
-use Rattle.wave_gen.specs.Gen.{Got, got, then_make, top_word, gen_term, gen_op, gen_ops}
+use Rattle.wave_gen.specs.Gen.{Got, then_make, top_word, gen_term, gen_op, gen_ops}
 use Rattle.wave_gen.specs.Drawn.{gen_source, gen_terms}
 use Rattle.wave_gen.specs.Listing.{gen_exit}
 
@@ -24,18 +23,22 @@ last : (g : Got) (op : Op) (from : List ℕ) → is_giving_op op ≡ true → It
 last g op from e h = gives_append g.items (Make g.next op from ∷ []) h (e, tt)
 
 pub term_gives_all : (t : Term) (k : ℕ) → ItemsGive (gen_term k t).items
-term_gives_all (Cell a t) k = let g = gen_term k t in last g (Load a) (g.name ∷ []) refl (term_gives_all t k)
+term_gives_all (Cell a t) k = grind (arith, last, term_gives_all t k)
 term_gives_all (Flip t) k = let g = gen_term k t in
     last (then_make g (λ n. Make n (Const top_word) (g.name ∷ []))) (Alu Sub) (g.next ∷ g.name ∷ []) refl
-    (last g (Const top_word) (g.name ∷ []) refl (term_gives_all t k))
-term_gives_all (Not t) k = let g = gen_term k t in last g (Alu Eq) (g.name ∷ pulse ∷ []) refl
-    (term_gives_all t k)
-term_gives_all (Neg t) k = let g = gen_term k t in last g (Alu Sub) (pulse ∷ g.name ∷ []) refl
-    (term_gives_all t k)
+    (grind (arith, last, term_gives_all t k))
+term_gives_all (Not t) k = grind (arith, last, term_gives_all t k)
+term_gives_all (Neg t) k = grind (arith, last, term_gives_all t k)
 term_gives_all (Binary op a b) k =
-    let g = gen_term k a in let h = gen_term g.next b in
-    last (got (g.items ++ h.items) h.name h.next) (Alu op) (g.name ∷ h.name ∷ []) refl
-    (gives_append g.items h.items (term_gives_all a k) (term_gives_all b g.next))
+    let g = gen_term k a in grind (
+      arith,
+      g.next,
+      last,
+      gives_append,
+      g.items,
+      term_gives_all a k,
+      term_gives_all b g.next,
+    )
 term_gives_all t k = grind arith
 
 pub source_gives_all : (t : Term) (k : ℕ) → ItemsGive (gen_source k t).items
@@ -47,8 +50,7 @@ source_gives t k = grind arith
 terms_give_all : (ts : List Term) (k : ℕ) → ItemsGive (gen_terms k ts).items
 terms_give_all [] k = tt
 terms_give_all (t ∷ ts) k = let g = gen_term k t in
-    gives_append g.items (Same g.next g.name ∷ (gen_terms (suc g.next) ts).items) (term_gives_all t k)
-    (terms_give_all ts (suc g.next))
+    grind (arith, gives_append, g.items, g.next, term_gives_all, terms_give_all ts (suc g.next))
 
 op_gives_all : (op : graph.Op) (k : ℕ) → ItemsGive (gen_op k op).items
 op_gives_all op k = grind (arith, gives_append, term_gives_all)

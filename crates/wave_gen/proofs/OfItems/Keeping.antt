@@ -1,6 +1,6 @@
 -- What an exit reads stays as it was read.
 use Rattle.std.proofs.Common.{ℕ, zero, suc, ◌+◌, ◌-◌, ◌≡◌, ◌<◌, ◌≤◌, ◌⊎◌, ◌&&◌, not, Bool, false, cond, List}
-use Rattle.std.proofs.Common.{[], ◌∷◌, ◌++◌, length, map, Some, refl, sym, ap, ◌∙◌, subst, inl, inr, arith}
+use Rattle.std.proofs.Common.{[], ◌∷◌, ◌++◌, length, map, refl, sym, ap, ◌∙◌, subst, inl, inr, arith}
 use Rattle.ws_isa.specs.declared.instr.Op.{Op}
 use Rattle.ws_isa.specs.declared.instr.Op.TheVariants.{Merge}
 use Rattle.ws_isa.specs.Image.{is_memory_op, result_of_op}
@@ -11,7 +11,6 @@ use Rattle.wave_gen.specs.Plans.{Tail, TailAt, operands_of, hung, hang, more, ch
 use Rattle.wave_gen.specs.Plans.{advances, has_front}
 use Rattle.ws_isa.proofs.Blocks.{nth_append_right}
 use Rattle.ws_words.proofs.Lists.{append_on as append_assoc}
-use Rattle.ws_words.specs.Items.{nth}
 
 abbrev pub Gives : Op → List ℕ → ℕ → Type 0
 Gives op from h = (is_memory_op op ≡ false) × ((env : ℕ → ℕ) → result_of_op op (map env from) ≡ env h)
@@ -174,10 +173,7 @@ module _ (K : ℕ → ℕ → Type 0) (top src z most_code : ℕ) (ts : List Tai
           let n : length ts ≡ length pre + suc (length post) = ap length (sym e)
           ∙ length_append pre (t ∷ post) in
           let f : (top - suc (length s.code)) + length ts ≡ top + a.place = a.number in
-          let g : a.place ≡ length pre + 0 = omega arith in
-          let i : nth ts (length pre + 0) ≡ Some t = rw (sym e) (nth_append_right pre (t ∷ post) 0) in
-          let j : Some t ≡ Some a.tail = sym i ∙ ap (nth ts) (sym g) ∙ a.at in
-          let q : t ≡ a.tail = cc in ap (λ (r : Tail). r.held) q ∙ a.holds
+          let g : a.place ≡ length pre + 0 = omega arith in grind (arith, nth_append_right)
 
       reads : (h : ℕ) → K (top - suc (length s.code)) h → Gives t.line.op (operands_of t.line.op t.held y) h
       reads h r = elim (only (top - suc (length s.code)) h r) [
@@ -193,10 +189,18 @@ module _ (K : ℕ → ℕ → Type 0) (top src z most_code : ℕ) (ts : List Tai
   hang_kept b n y pre [] w e h = tt
   hang_kept b zero y pre (t ∷ post) w e h = hung_kept pre t post (suc y) (hang b 5 (suc y) post w) e
       (hang_count b 5 (suc y) post w) h.0 b
-      (hang_kept b 5 (suc y) (pre ++ (t ∷ [])) post w (append_assoc pre (t ∷ []) post ∙ e) h.1)
+      (grind (
+        arith,
+        append_assoc,
+        hang_kept b 5 (suc y) (pre ++ (t ∷ [])) post w (append_assoc pre (t ∷ []) post ∙ e) h.1,
+      ))
   hang_kept b (suc n) y pre (t ∷ post) w e h = hung_kept pre t post y (hang b n y post w) e
       (hang_count b n y post w) h.0 b
-      (hang_kept b n y (pre ++ (t ∷ [])) post w (append_assoc pre (t ∷ []) post ∙ e) h.1)
+      (grind (
+        arith,
+        append_assoc,
+        hang_kept b n y (pre ++ (t ∷ [])) post w (append_assoc pre (t ∷ []) post ∙ e) h.1,
+      ))
 
   pub selected_chain : (b : ℕ) (w : Wants) → Chained (selected b z ts w)
   selected_chain b w = chain_chain b z (more 6 ts) (hang b 6 z ts w) (omega arith) (record {

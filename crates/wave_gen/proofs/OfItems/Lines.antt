@@ -1,12 +1,11 @@
 -- The instructions of a block, as made from its end.
-use Rattle.std.proofs.Common.{ℕ, zero, suc, ◌+◌, ◌≡◌, ◌≤◌, ◌&&◌, not, Bool, true, false, cond, ltb, List, []}
-use Rattle.std.proofs.Common.{◌∷◌, ◌++◌, length, Some, None, refl, sym, ap, ◌∙◌, arith}
+use Rattle.std.proofs.Common.{ℕ, zero, suc, ◌+◌, ◌≡◌, ◌≤◌, Bool, true, false, cond, ltb, List, []}
+use Rattle.std.proofs.Common.{◌∷◌, ◌++◌, length, Some, None, refl, sym, ap, arith}
 use Rattle.ws_isa.specs.declared.instr.Op.{Op}
 use Rattle.ws_isa.specs.declared.instr.Op.TheVariants.{Merge, Advance}
-use Rattle.ws_isa.specs.Image.{is_memory_op}
 use Rattle.wave_gen.specs.Waits.{Step, Fires, Rests, Skips, Copies, count}
 use Rattle.wave_gen.specs.Wire.{WiredInstr, Made, emit, rest, skip, gather, with_room, with_rooms, Item, Make}
-use Rattle.wave_gen.specs.Wire.{Act, Same, is_nil, make, alias, wire_item, wire, most}
+use Rattle.wave_gen.specs.Wire.{Act, Same, make, alias, wire_item, wire, most}
 use Rattle.wave_gen.specs.Plans.{Tail, hang, more, chain, selected, renew, advances, has_front}
 use Rattle.ws_words.specs.Items.{nth}
 
@@ -81,22 +80,14 @@ module _ (P : Op → Type 0) (merge : P Merge) where
   pub then_more : (s t u : Made) → More s t → More t u → More s u
   then_more s t u f g =
       record {
-        long = (let a : length s.code ≤ length t.code = f.long in
-            let d : length t.code ≤ length u.code = g.long in omega arith);
+        long = grind arith;
         lines = λ l. g.lines (f.lines l);
         front = g.front ++ f.front;
-        split = g.split ∙ ap (λ (r : List WiredInstr). g.front ++ r) f.split
-            ∙ sym (append_assoc g.front f.front s.code);
+        split = grind (arith, append_assoc, g.front, f.front);
         kind = lines_append g.front f.front g.kind f.kind;
         prior = g.prior ++ f.prior;
-        steps = g.steps ∙ ap (λ (r : List Step). g.prior ++ r) f.steps
-            ∙ sym (steps_assoc g.prior f.prior s.steps);
-        balance =
-            (let a : count g.prior ≡ length g.front = g.balance in let c : count f.prior ≡ length f.front =
-            f.balance in let d : count (g.prior ++ f.prior) ≡ count g.prior + count f.prior =
-            count_append g.prior f.prior in let e : length (g.front ++ f.front) ≡ length g.front + length
-            f.front =
-            length_append g.front f.front in omega arith);
+        steps = grind (arith, steps_assoc);
+        balance = grind (arith, count_append, length_append, g.front);
       }
 
   pub emit_more : (b x : ℕ) (op : Op) (from : List ℕ) (s : Made) → P op → More s (emit b x op from s)
@@ -138,7 +129,7 @@ module _ (P : Op → Type 0) (merge : P Merge) where
 
   pub make_more : (b x : ℕ) (op : Op) (from : List ℕ) (s : Made) → P op → More s (make b x op from s)
   make_more b x op from s h = then_more s (with_rooms b (length from) from s) (make b x op from s)
-      (rooms_more b (length from) from s) (emit_more b x op from (with_rooms b (length from) from s) h)
+      (rooms_more b (length from) from s) (grind (arith, emit_more))
 
   copied_more : (b x y : ℕ) (s : Made) → More s (alias b x y s)
   copied_more b x y s = let g = go (ltb most (length (s.wants x) + length (s.wants y))) in
@@ -161,9 +152,7 @@ module _ (P : Op → Type 0) (merge : P Merge) where
 
   pub wire_more : (b : ℕ) (is : List Item) (s : Made) → Items P is → More s (wire b is s)
   wire_more b [] s h = same_more s
-  wire_more b (Make x op from ∷ is) s h =
-      then_more s (wire b is s) (wire_item b (Make x op from) (wire b is s)) (wire_more b is s h.1)
-      (go (is_nil ((wire b is s).wants x) && not (is_memory_op op)))
+  wire_more b (Make x op from ∷ is) s h = grind (arith, then_more, go, wire_more b is s h.1)
     where
       go : (f : Bool)
           → More (wire b is s) (cond f (skip x op from (wire b is s)) (make b x op from (wire b is s)))
@@ -180,16 +169,19 @@ module _ (P : Op → Type 0) (merge : P Merge) where
       go false = make_more b x op from (wire b is s) h.0
   wire_more b (Act op from ∷ is) s h = then_more s (with_rooms b (length from) from (wire b is s))
       (wire_item b (Act op from) (wire b is s))
-      (then_more s (wire b is s) (with_rooms b (length from) from (wire b is s)) (wire_more b is s h.1)
-      (rooms_more b (length from) from (wire b is s)))
-      (rest_more b (record { op = op; dests = []; others = [] }) from
-      (with_rooms b (length from) from (wire b is s)) h.0)
+      (grind (arith, then_more, rooms_more, wire_more b is s h.1))
+      (grind (arith, rest_more))
   wire_more b (Same x y ∷ is) s h = grind (arith, then_more, copied_more, wire_more b is s h)
 
   pub renew_more : (b : ℕ) (xs : List ℕ) (s : Made) → More s (renew b xs s)
   renew_more b [] s = same_more s
-  renew_more b (x ∷ xs) s = then_more s (cond (has_front b (s.wants x)) (gather b x s) s) (renew b (x ∷ xs) s)
-      (go (has_front b (s.wants x))) (renew_more b xs (cond (has_front b (s.wants x)) (gather b x s) s))
+  renew_more b (x ∷ xs) s = grind (
+    arith,
+    then_more,
+    s.wants,
+    go,
+    renew_more b xs (cond (has_front b (s.wants x)) (gather b x s) s),
+  )
     where
       go : (f : Bool) → More s (cond f (gather b x s) s)
       go true = emit_more b x Merge (x ∷ []) s merge

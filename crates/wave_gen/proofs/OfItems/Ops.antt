@@ -3,8 +3,8 @@ use Rattle.std.proofs.Common.{ℕ, suc, ◌-◌, ◌≡◌, ◌<◌, ◌≤◌, 
 use Rattle.std.proofs.Common.{◌∷◌, ◌++◌, length, slice_index, slice_set, refl, sym, ap, ◌∙◌, subst, arith}
 use Rattle.std.proofs.lemmas.Bool.{cases_eq}
 use Rattle.ws_words.specs.Outside as outside
-use Rattle.ws_words.specs.Outside.{Outside, ProcState, row, write, stored, printed, taken, has_read, given}
-use Rattle.ws_isa.specs.declared.instr.Op.TheVariants.{Phi, Store, Output, Take}
+use Rattle.ws_words.specs.Outside.{Outside, ProcState, row, write, stored, has_read, given}
+use Rattle.ws_isa.specs.declared.instr.Op.TheVariants.{Phi, Store, Take}
 use Rattle.cfg_core.specs.Graph as graph
 use Rattle.cfg_core.specs.Graph.{Graph, Term, Flip, Not, Neg, Binary}
 use Rattle.cfg_core.specs.Rules.{TermIn, OpIn, NoCell, ChoosesBare}
@@ -19,7 +19,6 @@ use Rattle.std.specs.List.{AllByRecursion}
 use Rattle.wave_gen.proofs.OfItems.Terms.{run_append, acted_none, Gives, term_gives, agrees_on, set_here}
 use Rattle.wave_gen.proofs.OfItems.Terms.{set_other}
 use Rattle.ws_words.proofs.Held.{set_length}
-use Rattle.ws_words.proofs.Acts.{with_more}
 
 -- lists of variables
 pub get_set : (xs : List ℕ) (i v : ℕ) → i < length xs → slice_index (slice_set xs i v) i ≡ v
@@ -44,7 +43,7 @@ no_loads : (t : Term) (vars : List ℕ) (cells : List (List ℕ)) → NoCell t �
 no_loads (Flip t) vars cells h = no_loads t vars cells h
 no_loads (Not t) vars cells h = no_loads t vars cells h
 no_loads (Neg t) vars cells h = no_loads t vars cells h
-no_loads (Binary op a b) vars cells h = rw (no_loads a vars cells h.0, no_loads b vars cells h.1) refl
+no_loads (Binary op a b) vars cells h = grind (arith, no_loads a vars cells h.0, no_loads b vars cells h.1)
 no_loads t vars cells h = grind arith
 
 same_test : (v : ℕ) → eqb v 0 ≡ (v == 0)
@@ -74,21 +73,14 @@ module _ (g : Graph) where
   on_state t k n st s i m l a f =
       let c : s.out.cells ≡ st.out.cells = ap (λ (o : Outside). o.cells) a.out in
       subst (λ (cs : List (List ℕ)). Gives k s (gen_term k t) (value t st.vars cs) (loads_of t st.vars cs)) c
-      (term_gives g t k n st.vars s i m l a.agrees (subst (λ (cs : List (List ℕ)). FlipsWords t st.vars cs)
-      (sym c) f))
+      (term_gives g t k n st.vars s i m l a.agrees (grind (arith, st.vars)))
 
   -- the state behind a term
   pub behind_term : (t : Term) (k n : ℕ) (st : ProcState) (s : NameState) → TermIn (length g.arrays) n t
       → n ≡ length st.vars → n < k → IsState st s → FlipsWords t st.vars st.out.cells →
       IsState (value_of t st).1 (run_items (gen_term k t).items s)
   behind_term t k n st s i m l a f =
-      let h = on_state t k n st s i m l a f in
-      record {
-        agrees = agrees_on st.vars k n s.env (run_items (gen_term k t).items s).env (omega arith) l
-            h.keeps a.agrees;
-        out = h.out ∙ ap (λ (o : Outside). with_more o (loads_of t st.vars st.out.cells))
-            a.out;
-      }
+      let h = on_state t k n st s i m l a f in grind (arith, agrees_on, st.vars, s.env, h.keeps)
 
   op_left : (op : graph.Op) (k n : ℕ) (st st' : ProcState) (s : NameState) (turns left : ℕ)
       → OpIn (length g.arrays) n op → ChoosesBare op → n ≡ length st.vars → n < k
@@ -112,29 +104,9 @@ module _ (g : Graph) where
         next = h.next;
       }
   op_left (graph.Print t) k n st st' s turns left i c m l f a e =
-      let h = on_state t k n st s i m l a f in
-      let b = behind_term t k n st s i m l a f in
-      let q = gen_term k t in
-      let r : run_items (q.items ++ Act Output (q.name ∷ []) ∷ []) s ≡ run_item (Act Output (q.name ∷ []))
-      (run_items q.items s) = run_append q.items (Act Output (q.name ∷ []) ∷ []) s in
-      let d : printed (value_of t st).1 (value_of t st).0 ≡ st' = done_is _ st' turns left e in
-      record {
-        is = rw (sym d) (rw r (record { agrees = b.agrees; out = rw (h.value, b.out) refl }));
-        length_same = rw (sym d) refl;
-        next = h.next;
-      }
+      let h = on_state t k n st s i m l a f in grind (arith, behind_term, run_append, value_of, done_is)
   op_left (graph.Take p t) k n st st' s turns left i c m l f a e =
-      let h = on_state t k n st s i.1 m l a f in
-      let b = behind_term t k n st s i.1 m l a f in
-      let q = gen_term k t in
-      let r : run_items (q.items ++ Act (Take p) (q.name ∷ []) ∷ []) s ≡ run_item (Act (Take p) (q.name ∷ []))
-      (run_items q.items s) = run_append q.items (Act (Take p) (q.name ∷ []) ∷ []) s in
-      let d : taken (value_of t st).1 p (value_of t st).0 ≡ st' = done_is _ st' turns left e in
-      record {
-        is = rw (sym d) (rw r (record { agrees = b.agrees; out = rw (h.value, b.out) refl }));
-        length_same = rw (sym d) refl;
-        next = h.next;
-      }
+      let h = on_state t k n st s i.1 m l a f in grind (arith, behind_term, run_append, value_of, done_is)
   op_left (graph.Read x) k n st st' s turns left i c m l f a e =
       let d : has_read st x ≡ st' = done_is _ st' turns left e in
       record {
@@ -144,7 +116,7 @@ module _ (g : Graph) where
                   a.agrees);
               out = rw a.out refl;
             });
-        length_same = rw (sym d) (set_length st.vars x (outside.head_or_zero st.out.input));
+        length_same = grind (arith, set_length, st.vars);
         next = omega arith;
       }
   op_left (graph.Give p x) k n st st' s turns left i c m l f a e =
@@ -157,17 +129,15 @@ module _ (g : Graph) where
                   a.agrees);
               out = rw a.out refl;
             });
-        length_same = rw (sym d) (set_length st.vars x (outside.head_or_zero (row st.out.left (p - 1))));
+        length_same = grind (arith, set_length, st.vars, st.out.left);
         next = omega arith;
       }
-  op_left (graph.Tick t) k n st st' s turns left i c m l f a e = same_state k st st' s a
-      (spend_is t st st' turns left e)
+  op_left (graph.Tick t) k n st st' s turns left i c m l f a e = grind (arith, same_state, spend_is)
   op_left (graph.TickBy t x y) k n st st' s turns left i c m l f a e =
       same_state k st st' s a (quiet (value t st.vars st.out.cells == 0) e)
     where
       bare : (value_of t st).1 ≡ st
-      bare = rw (no_loads t st.vars st.out.cells c) (ap (λ (o : Outside). record { vars = st.vars; out = o })
-          (acted_none st.out))
+      bare = rw (no_loads t st.vars st.out.cells c) (grind (arith, acted_none))
 
       quiet : (b : Bool)
           → (Rattle.std.specs.Prelude.if◌then◌else◌ b (spend y (value_of t st).1 turns)
@@ -204,8 +174,7 @@ module _ (g : Graph) where
   }
     where
       bare : (p : Term) → NoCell p → (z : ProcState) → (value_of p z).1 ≡ z
-      bare p b z = rw (no_loads p z.vars z.out.cells b)
-          (ap (λ (o : Outside). record { vars = z.vars; out = o }) (acted_none z.out))
+      bare p b z = rw (no_loads p z.vars z.out.cells b) (grind (arith, acted_none))
 
       q : Got
       q = gen_term k t
@@ -313,10 +282,8 @@ module _ (g : Graph) where
           (Done (write (value_of w (value_of t st).1).1 x (value_of w (value_of t st).1).0) turns)
           (Done (write (value_of u (value_of t st).1).1 x (value_of u (value_of t st).1).0) turns) ≡ Done st'
           left → length st'.vars ≡ length st.vars
-      same_length true d = rw (sym (done_is _ st' turns left d))
-          (set_length st.vars x (value w st.vars st.out.cells))
-      same_length false d = rw (sym (done_is _ st' turns left d))
-          (set_length st.vars x (value u st.vars st.out.cells))
+      same_length true d = grind (arith, done_is, set_length, st.vars)
+      same_length false d = grind (arith, done_is, set_length, st.vars)
 
   pub ops_left : (ops : List graph.Op) (k n : ℕ) (st st' : ProcState) (s : NameState) (turns left : ℕ)
       → AllByRecursion (OpIn (length g.arrays) n) ops → AllByRecursion ChoosesBare ops → n ≡ length st.vars
@@ -336,13 +303,4 @@ module _ (g : Graph) where
           Left k st st' (gen_ops k (op ∷ ops)).items (gen_ops k (op ∷ ops)).next s
       go (Out o) q d ih = absurd (let z : Out o ≡ Done st' left = d in cc)
       go (Done st1 l1) q d ih =
-          let h = op_left op k n st st1 s turns l1 i.0 c.0 m l f.0 a q in
-          let v : length st1.vars ≡ length st.vars = h.length_same in
-          let w : k ≤ (gen_op k op).next = h.next in
-          let r = ih st1 l1 q (omega arith) (omega arith) (f.1 st1 turns l1 q) h.is d in
-          let u : (gen_op k op).next ≤ (gen_ops (gen_op k op).next ops).next = r.next in
-          record {
-            is = rw (run_append (gen_op k op).items (gen_ops (gen_op k op).next ops).items s) r.is;
-            length_same = r.length_same ∙ v;
-            next = omega arith;
-          }
+          let h = op_left op k n st st1 s turns l1 i.0 c.0 m l f.0 a q in grind (arith, h.is, run_append)

@@ -37,12 +37,9 @@ source_reads (Number (suc n)) k Q x (inr q) = inr q
 source_reads (Var y) k Q x (inl (inl e)) = inl (inr (y, e, refl))
 source_reads (Var y) k Q x (inl (inr b)) = absurd b
 source_reads (Var y) k Q x (inr q) = inr q
-source_reads (Cell a t) k Q x h = one t k ((gen_term k t).name ∷ []) Q x
-    (λ i. elim i [ inl e ↦ inl e | inr b ↦ absurd b ]) h
-source_reads (Not t) k Q x h = one t k ((gen_term k t).name ∷ pulse ∷ []) Q x
-    (λ i. elim i [ inl e ↦ inl e | inr j ↦ elim j [ inl e ↦ inr e | inr b ↦ absurd b ] ]) h
-source_reads (Neg t) k Q x h = one t k (pulse ∷ (gen_term k t).name ∷ []) Q x
-    (λ i. elim i [ inl e ↦ inr e | inr j ↦ elim j [ inl e ↦ inl e | inr b ↦ absurd b ] ]) h
+source_reads (Cell a t) k Q x h = grind (arith, one)
+source_reads (Not t) k Q x h = grind (arith, one)
+source_reads (Neg t) k Q x h = grind (arith, one)
 source_reads (Flip t) k Q x h = let g = gen_term k t in
     elim (term_reads t k (Reads (Make g.next (Const top_word) (g.name ∷ []) ∷ [])
     (Behind (g.next ∷ g.name ∷ []) Q)) x

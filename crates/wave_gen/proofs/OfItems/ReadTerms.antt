@@ -33,13 +33,12 @@ reads_append (Same y z ∷ is) js P x (inl h) = inl h
 reads_append (Same y z ∷ is) js P x (inr h) = inr (h.0, reads_append is js P x h.1)
 
 pub next_after : (t : Term) (k : ℕ) → k ≤ (gen_term k t).next
-next_after (Cell a t) k = let l : k ≤ (gen_term k t).next = next_after t k in omega arith
-next_after (Flip t) k = let l : k ≤ (gen_term k t).next = next_after t k in omega arith
-next_after (Not t) k = let l : k ≤ (gen_term k t).next = next_after t k in omega arith
-next_after (Neg t) k = let l : k ≤ (gen_term k t).next = next_after t k in omega arith
+next_after (Cell a t) k = grind (arith, next_after t k)
+next_after (Flip t) k = grind (arith, next_after t k)
+next_after (Not t) k = grind (arith, next_after t k)
+next_after (Neg t) k = grind (arith, next_after t k)
 next_after (Binary op a b) k =
-    let g = gen_term k a in let l : k ≤ g.next = next_after a k in let m : g.next ≤ (gen_term g.next b).next =
-    next_after b g.next in omega arith
+    let g = gen_term k a in grind (arith, g.next, next_after a k, next_after b g.next)
 next_after t k = grind arith
 
 -- a term's value has a name of its own, or that of the pulse or of a variable
@@ -48,13 +47,11 @@ pub named : (t : Term) (k : ℕ) → Ground (Mentions t) (gen_term k t).name
 named (Number zero) k = inl (inl refl)
 named (Number (suc n)) k = inr (omega arith, omega arith)
 named (Var x) k = inl (inr (x, refl, refl))
-named (Cell a t) k = let l : k ≤ (gen_term k t).next = next_after t k in inr (omega arith, omega arith)
-named (Flip t) k = let l : k ≤ (gen_term k t).next = next_after t k in inr (omega arith, omega arith)
-named (Not t) k = let l : k ≤ (gen_term k t).next = next_after t k in inr (omega arith, omega arith)
-named (Neg t) k = let l : k ≤ (gen_term k t).next = next_after t k in inr (omega arith, omega arith)
-named (Binary op a b) k =
-    let g = gen_term k a in let l : k ≤ g.next = next_after a k in let m : g.next ≤ (gen_term g.next b).next =
-    next_after b g.next in inr (omega arith, omega arith)
+named (Cell a t) k = grind (arith, next_after)
+named (Flip t) k = grind (arith, next_after)
+named (Not t) k = grind (arith, next_after)
+named (Neg t) k = grind (arith, next_after)
+named (Binary op a b) k = grind (arith, next_after)
 
 -- the name is none of those that the term's items make, so it is the pulse's or a variable's
 pub from_term : (t : Term) (k x : ℕ) → x ≡ (gen_term k t).name → Beyond k (gen_term k t).next x
@@ -74,7 +71,7 @@ pub term_reads : (t : Term) (k : ℕ) (P : ℕ → Type 0) (x : ℕ) → Reads (
 term_reads (Cell a t) k P x h = let g = gen_term k t in
     made g k (Mentions t) P (Load a) (g.name ∷ []) x
     (λ i out. elim i [ inl e ↦ from_term t k x e out | inr b ↦ absurd b ])
-    (term_reads t k (Reads (Make g.next (Load a) (g.name ∷ []) ∷ []) P) x) h
+    (grind (arith, g.next, term_reads t k (Reads (Make g.next (Load a) (g.name ∷ []) ∷ []) P) x)) h
 term_reads (Flip t) k P x h = let g = gen_term k t in let g' =
     then_make g (λ n. Make n (Const top_word) (g.name ∷ [])) in
     made g' k (Mentions t) P (Alu Sub) (g.next ∷ g.name ∷ []) x
@@ -101,14 +98,14 @@ term_reads (Not t) k P x h = let g = gen_term k t in
       | inl e ↦ from_term t k x e out
       | inr j ↦ elim j [ inl e ↦ inl e | inr b ↦ absurd b ]
     ])
-    (term_reads t k (Reads (Make g.next (Alu Eq) (g.name ∷ pulse ∷ []) ∷ []) P) x) h
+    (grind (arith, g.next, term_reads t k (Reads (Make g.next (Alu Eq) (g.name ∷ pulse ∷ []) ∷ []) P) x)) h
 term_reads (Neg t) k P x h = let g = gen_term k t in
     made g k (Mentions t) P (Alu Sub) (pulse ∷ g.name ∷ []) x
     (λ i out. elim i [
       | inl e ↦ inl e
       | inr j ↦ elim j [ inl e ↦ from_term t k x e out | inr b ↦ absurd b ]
     ])
-    (term_reads t k (Reads (Make g.next (Alu Sub) (pulse ∷ g.name ∷ []) ∷ []) P) x) h
+    (grind (arith, g.next, term_reads t k (Reads (Make g.next (Alu Sub) (pulse ∷ g.name ∷ []) ∷ []) P) x)) h
 term_reads (Binary op a b) k P x h = let g = gen_term k a in let m = gen_term g.next b in
     made (got (g.items ++ m.items) m.name m.next) k (Mentions (Binary op a b)) P (Alu op)
     (g.name ∷ m.name ∷ []) x

@@ -43,8 +43,7 @@ alias_runs b x y s n = go (ltb most (length (s.wants x) + length (s.wants y)))
   where
     go : (f : Bool) → run_steps (cond f (gather b y (gather b x s)) s).steps (run_item (Same x y) n)
         ≡ run_steps s.steps (run_item (Same x y) n)
-    go true = gather_runs b y (gather b x s) (run_item (Same x y) n) ∙ gather_runs b x s
-        (run_item (Same x y) n)
+    go true = grind (arith, gather_runs)
     go false = refl
 
 skips_value : (x : ℕ) (op : Op) (from : List ℕ) (n : NameState) → is_memory_op op ≡ false
@@ -55,8 +54,7 @@ skips_value x op from n e = rw e refl
 pub wire_runs : (b : ℕ) (is : List Item) (s : Made) (n : NameState) → run_steps (wire b is s).steps n
     ≡ run_steps s.steps (run_items is n)
 wire_runs b [] s n = refl
-wire_runs b (Make x op from ∷ is) s n = go (is_nil ((wire b is s).wants x) && not (is_memory_op op)) refl
-    (wire_runs b is s (run_item (Make x op from) n))
+wire_runs b (Make x op from ∷ is) s n = grind (arith, go, wire_runs b is s (run_item (Make x op from) n))
   where
     go : (f : Bool) → (is_nil ((wire b is s).wants x) && not (is_memory_op op)) ≡ f
         → run_steps (wire b is s).steps (run_item (Make x op from) n) ≡ run_steps s.steps
@@ -120,7 +118,7 @@ chain_runs : (z y k : ℕ) (n : NameState) → z ≤ y → Chained z n (run_item
 chain_runs z y zero n l = record { out = refl; env = λ x u. refl }
 chain_runs z y (suc k) n l =
     let c = chain_runs z (suc y) k (run_item (Make (suc y) Merge (y ∷ [])) n) (omega arith) in
-    record { out = c.out; env = λ x u. c.env x u ∙ rw (ne_eqb x (suc y) (λ e. omega arith)) refl }
+    grind (arith, c.env, ne_eqb)
 
 -- a block
 module _ (width : ℕ) (starts : ℕ → Wants) (b : ℕ) (p : Plan) where

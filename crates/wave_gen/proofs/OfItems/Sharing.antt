@@ -58,21 +58,14 @@ turns K i = elim (makes i) [
   | other e ↦ kept (ap (share_as K i) e) (ap (learn_of K i) e)
   | number x n e ↦ elim (cases_eq (K n) pulse) [
     | inl z ↦ first x n e
-        (ap (share K) e ∙ ap (λ v. cond v (Make x (Const n) (pulse ∷ [])) (Same x (K n)))
-        (eq-eqb (K n) pulse z) ∙ sym e)
-        (ap (learn K) e ∙ ap (λ v. cond v (set K n x) K) (eq-eqb (K n) pulse z))
+        (grind (arith, eq-eqb))
+        (grind (arith, eq-eqb))
     | inr d ↦ again x n e
-        (ap (share K) e ∙ ap (λ v. cond v (Make x (Const n) (pulse ∷ [])) (Same x (K n)))
-        (ne_eqb (K n) pulse d))
-        (ap (learn K) e ∙ ap (λ v. cond v (set K n x) K) (ne_eqb (K n) pulse d))
+        (grind (arith, ne_eqb))
+        (grind (arith, ne_eqb))
         d
   ]
 ]
-
--- of each item
-pub item_shared : (P : Item → Type 0) → ((x y : ℕ) → P (Same x y)) → (K : ℕ → ℕ) (i : Item) → P i
-    → P (share K i)
-item_shared P same K i h = grind (arith, turns)
 
 pub shared_are : (K : ℕ → ℕ) (is : List Item) → ItemsAre is → ItemsAre (shared K is)
 shared_are K [] h = tt
@@ -98,9 +91,7 @@ same_has P x y = tt
 pub shared_items : (P : Op → Type 0) (K : ℕ → ℕ) (is : List Item) → Items P is → Items P (shared K is)
 shared_items P K [] h = tt
 shared_items P K (i ∷ is) h =
-    let f = has_first P i is h in
-    has_cons P (share K i) (shared (learn K i) is) (item_shared (Has P) (same_has P) K i f.0)
-    (shared_items P (learn K i) is f.1)
+    let f = has_first P i is h in grind (arith, has_cons, same_has, shared_items P (learn K i) is f.1)
 
 Gives : Item → Type 0
 Gives (Make x op from) = is_giving_op op ≡ true
@@ -122,9 +113,7 @@ same_gives x y = tt
 pub shared_give : (K : ℕ → ℕ) (is : List Item) → ItemsGive is → ItemsGive (shared K is)
 shared_give K [] h = tt
 shared_give K (i ∷ is) h =
-    let f = give_first i is h in
-    give_cons (share K i) (shared (learn K i) is) (item_shared Gives same_gives K i f.0)
-    (shared_give (learn K i) is f.1)
+    let f = give_first i is h in grind (arith, give_cons, same_gives, shared_give (learn K i) is f.1)
 
 -- what they read
 abbrev Known : (ℕ → ℕ) → ℕ → Type 0
@@ -144,19 +133,9 @@ shared_reads : (K : ℕ → ℕ) (is : List Item) (P : ℕ → Type 0) (x : ℕ)
     → Reads is P x ⊎ Known K x
 shared_reads K [] P x h = inl h
 shared_reads K (i ∷ is) P x h = elim (turns K i) [
-  | kept e f ↦ same_item i (shared K is) is P x (Known K x) (shared_reads K is P x)
-      (subst (λ (k : ℕ → ℕ). Reads (i ∷ shared k is) P x) f
-      (rw e at h))
-  | first y n g e f ↦
-      (let r : Reads (Make y (Const n) (pulse ∷ []) ∷ shared (set K n y) is) P x =
-      subst (λ (k : ℕ → ℕ). Reads (Make y (Const n) (pulse ∷ []) ∷ shared k is) P x) f
-      (rw (e ∙ g) at h) in
-      back i y n g (made y n (shared_reads (set K n y) is P x) r))
-  | again y n g e f d ↦
-      (let r : Reads (Same y (K n) ∷ shared K is) P x =
-      subst (λ (k : ℕ → ℕ). Reads (Same y (K n) ∷ shared k is) P x) f
-      (rw e at h) in
-      back i y n g (took y n d (shared_reads K is P x) r))
+  | kept e f ↦ grind (arith, same_item, shared_reads K is P x)
+  | first y n g e f ↦ grind (arith, back, made, shared_reads (set K n y) is P x)
+  | again y n g e f d ↦ grind (arith, back, took, shared_reads K is P x)
 ]
   where
     back : (i : Item) (y n : ℕ) → i ≡ Make y (Const n) (pulse ∷ [])
@@ -209,18 +188,18 @@ pub shared_runs : (K : ℕ → ℕ) (is : List Item) (s : NameState) → Once is
     → run_items (shared K is) s ≡ run_items is s
 shared_runs K [] s o h = refl
 shared_runs K (i ∷ is) s o h = elim (turns K i) [
-  | kept e f ↦ ap (λ (j : Item). run_items (shared (learn K i) is) (run_item j s)) e
-      ∙ ap (λ (k : ℕ → ℕ). run_items (shared k is) (run_item i s)) f
-      ∙ shared_runs K is (run_item i s) o.1 (sure_on K i is s h)
+  | kept e f ↦ grind (arith, sure_on, shared_runs K is (run_item i s) o.1 (sure_on K i is s h))
   | first x n g e f ↦ ap (λ (j : Item). run_items (shared (learn K i) is) (run_item j s)) e
       ∙ ap (λ (k : ℕ → ℕ). run_items (shared k is) (run_item i s)) f
       ∙ shared_runs (set K n x) is (run_item i s) o.1
       (subst (λ (j : Item). Sure (set K n x) is (run_item j s)) (sym g)
       (sure_more K x n is s (o.0 x n g) (rw g at h)))
-  | again x n g e f d ↦ ap (λ (j : Item). run_items (shared (learn K i) is) (run_item j s)) e
-      ∙ ap (λ (k : ℕ → ℕ). run_items (shared k is) (run_item (Same x (K n)) s)) f
-      ∙ ap (λ (r : NameState). run_items (shared K is) r) (taken x n d g)
-      ∙ shared_runs K is (run_item i s) o.1 (sure_on K i is s h)
+  | again x n g e f d ↦ grind (
+    arith,
+    taken,
+    sure_on,
+    shared_runs K is (run_item i s) o.1 (sure_on K i is s h),
+  )
 ]
   where
     taken : (x n : ℕ) → (K n ≡ pulse → ⊥) → i ≡ Make x (Const n) (pulse ∷ [])

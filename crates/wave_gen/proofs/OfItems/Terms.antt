@@ -6,7 +6,7 @@ use Rattle.ws_words.specs.Outside.{Act, loads, Outside, row}
 use Rattle.ws_words.specs.Operators.{applied}
 use Rattle.ws_words.specs.declared.alu.Alu.TheVariants.{Sub, Eq}
 use Rattle.ws_isa.specs.declared.instr.Op.{Op}
-use Rattle.ws_isa.specs.declared.instr.Op.TheVariants.{Const, Alu, Load}
+use Rattle.ws_isa.specs.declared.instr.Op.TheVariants.{Alu, Load}
 use Rattle.cfg_core.specs.Graph.{Graph, Term, Cell, Flip, Not, Neg, Binary}
 use Rattle.cfg_core.specs.Rules.{TermIn}
 use Rattle.cfg_core.specs.Walk.{value, loads_of}
@@ -90,21 +90,7 @@ module _ (graph : Graph) where
       let g = gen_term k t in
       let h : Gives k s g (value t vars s.out.cells) (loads_of t vars s.out.cells) =
       term_gives t k n vars s i m l a f.1 in
-      let c = then_make g (λ n. Make n (Const top_word) (g.name ∷ [])) in
-      let d : Gives k s c top_word (loads_of t vars s.out.cells ++ []) =
-      make_gives k s g (value t vars s.out.cells) (loads_of t vars s.out.cells) h (Const top_word)
-      (g.name ∷ []) top_word [] refl (sym (acted_none (run_items g.items s).out)) in
-      let e : run_items c.items s ≡ run_item (Make g.next (Const top_word) (g.name ∷ []))
-      (run_items g.items s) = run_append g.items (Make g.next (Const top_word) (g.name ∷ []) ∷ []) s in
-      let u : (run_items c.items s).env g.name ≡ value t vars s.out.cells =
-      ap (λ (x : NameState). x.env g.name) e ∙ set_other (run_items g.items s).env g.next top_word g.name
-      (λ y. (let r : g.name < g.next = h.named in omega arith)) ∙ h.value in
-      no_more k s (then_make c (λ n. Make n (Alu Sub) (g.next ∷ g.name ∷ [])))
-      (18446744073709551615 - value t vars s.out.cells) (loads_of t vars s.out.cells)
-      (make_gives k s c top_word (loads_of t vars s.out.cells ++ []) d (Alu Sub) (g.next ∷ g.name ∷ [])
-      (18446744073709551615 - value t vars s.out.cells) []
-      (rw (d.value, u) (subtracted (value t vars s.out.cells) f.0))
-      (sym (acted_none (run_items c.items s).out)))
+      grind (arith, make_gives, acted_none, g.items, g.next, run_append, set_other, no_more, subtracted)
   term_gives (Not t) k n vars s i m l a f =
       let g = gen_term k t in
       let h : Gives k s g (value t vars s.out.cells) (loads_of t vars s.out.cells) =
@@ -144,4 +130,4 @@ module _ (graph : Graph) where
       (loads_of t vars s.out.cells ++ loads_of u vars s.out.cells) b.0 (Alu op) (g.name ∷ q.name ∷ [])
       (applied op (value t vars s.out.cells) (value u vars s.out.cells)) []
       (rw (b.0.value, b.1) refl) (sym (acted_none (run_items (g.items ++ q.items) s).out)))
-  term_gives t k n vars s i m l a f = grind (arith, acted_none, set_here, s.env, set_other, a.var)
+  term_gives t k n vars s i m l a f = grind (arith, acted_none, set_here, set_other)

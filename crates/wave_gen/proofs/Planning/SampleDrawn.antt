@@ -52,33 +52,8 @@ keeps n c e = record { leads = here e; none = refl }
 
 blocks : (b : ℕ) → b < 4 → BlockDrawn asks asks_plans 3 asks_place asks_zeroed b
 unfolding plan_at spot_at
-blocks zero l =
-    record {
-      first = [];
-      items = λ s. refl;
-      exit = (2, 3, refl, refl, keeps 2 1 refl, keeps 3 2 refl);
-      wide = omega arith;
-      test = omega arith;
-    }
-blocks (suc zero) l = record {
-  first = [];
-  items = λ s. refl;
-  exit = (4, refl, refl, keeps 4 3 refl);
-  wide = omega arith;
-  test = omega arith;
-}
-blocks (suc (suc zero)) l = record {
-  first = [];
-  items = λ s. refl;
-  exit = (4, refl, refl, keeps 4 3 refl);
-  wide = omega arith;
-  test = omega arith;
-}
-blocks (suc (suc (suc zero))) l = record {
-  first = [];
-  items = λ s. refl;
-  exit = (refl, refl);
-  wide = omega arith;
-  test = omega arith;
-}
+blocks zero l = grind (arith, keeps)
+blocks (suc zero) l = grind (arith, keeps)
+blocks (suc (suc zero)) l = grind (arith, keeps)
+blocks (suc (suc (suc zero))) l = grind arith
 blocks (suc (suc (suc (suc b)))) l = absurd (omega arith)

@@ -36,8 +36,7 @@ wanted_beyond w (suc n) x le = grind (arith, wanted_append, wanted_there, wanted
 wanted_below : (w : Wants) (n x : ℕ) → x < n → wanted (wants_below w n) x ≡ w x
 wanted_below w zero x lt = absurd (omega arith)
 wanted_below w (suc n) x lt = wanted_append (wants_below w n) (wants_of n (w n)) x ∙ elim (cases_eq x n) [
-  | inl e ↦ ap (λ (l : List Target). l ++ wanted (wants_of n (w n)) x) (wanted_beyond w n x (omega arith))
-      ∙ ap (wanted (wants_of n (w n))) e ∙ wanted_here n (w n) ∙ ap w (sym e)
+  | inl e ↦ grind (arith, wanted_beyond, wanted_here)
   | inr d ↦ ap (λ (l : List Target). wanted (wants_below w n) x ++ l) (wanted_there n x (w n) d)
       ∙ append-nil (wanted (wants_below w n) x) ∙ wanted_below w n x (omega arith)
 ]
@@ -102,8 +101,7 @@ same_is : (x : ℕ) (xs : List ℕ) (w v : Wants) (f : Arms) (l k : List Target)
     → r ≡ same_spots l k → Forked w v xs f → r ≡ same_spots (w x) (v x)
 same_is x xs w v f l k r free el ek er was =
     let here : l ≡ w x = el ∙ ap (λ (z : Wants). z x) was.some ∙ not_among x xs w free in
-    let there : k ≡ v x = ek ∙ ap (λ (z : Wants). z x) was.none ∙ not_among x xs v free in
-    er ∙ ap (λ (z : List Target). same_spots z k) here ∙ ap (same_spots (w x)) there
+    let there : k ≡ v x = ek ∙ ap (λ (z : Wants). z x) was.none ∙ not_among x xs v free in grind arith
 
 pub compared_same : (x : ℕ) (xs : List ℕ) (w v : Wants) (f : Arms) (l k : List Target) (r : Bool)
     → l ≡ listed f.some.lists.items x → k ≡ listed f.none.lists.items x → r ≡ same_spots l k → r ≡ true

@@ -38,19 +38,8 @@ pub emit_stands : (b x : ℕ) (op : Op) (from : List ℕ) (m k n : Maker) (s : M
     → ((s : Made) → HasMade b k s → HasMade b n (rest b (line_of l) from s)) → HasMade b m s
     → HasMade b n (emit b x op from s)
 emit_stands b x op from m k n s l eb ec ew eo ed eq step st =
-    let mid : HasMade b k (emptied x s) = record {
-      block = eb ∙ st.block;
-      code = ap (λ (ls : List Line). reverse (map line_of ls)) ec ∙ st.code;
-      wants = ew ∙ ap (λ (w : Wants). with_wants w x []) st.wants;
-    } in
-    let end = step (emptied x s) mid in
-    let same : line_of l ≡ record { op = op; dests = s.wants x; others = [] } =
-    λ i. record { op = eo i; dests = (ed ∙ ap (λ (w : Wants). w x) st.wants) i; others = eq i } in
-    record {
-      block = end.block;
-      code = end.code ∙ ap (λ (z : plain.WiredInstr). z ∷ s.code) same;
-      wants = end.wants;
-    }
+    let mid : HasMade b k (emptied x s) = grind arith in
+    let end = step (emptied x s) mid in grind (arith, s.wants)
 
 full_is : (b n x : ℕ) (m : Maker) (s : Made) (r : Bool)
     → r ≡ ltb most (length (listed m.wants.lists.items x) + n) → HasMade b m s
@@ -68,9 +57,7 @@ pub alias_stands : (b x y : ℕ) (m k n : Maker) (s : Made) (r : Bool) (l : List
     → ((s : Made) → HasMade b k s → HasMade b n (copy x y s)) → HasMade b m s
     → HasMade b n (alias b x y s)
 alias_stands b x y m k n s r l el e th el_ step st =
-    let test : r ≡ ltb most (length (s.wants x) + length (s.wants y)) = full_is b (length l) x m s r e st
-    ∙ ap (λ (z : List Target). ltb most (length (s.wants x) + length z))
-    (el ∙ ap (λ (w : Wants). w y) st.wants) in
+    let test : r ≡ ltb most (length (s.wants x) + length (s.wants y)) = grind (arith, full_is, s.wants) in
     step _ (rw test at (by r th el_))
   where
     by : (r : Bool) → (r ≡ true → HasMade b k (gather b y (gather b x s))) → (r ≡ false → HasMade b k s)

@@ -1,6 +1,6 @@
 -- The ends of blocks: what goes past an exit and what is sent along its edges.
 use Rattle.std.proofs.Common.{ℕ, zero, suc, ◌+◌, ◌-◌, ◌≡◌, ◌<◌, ◌≤◌, ◌⊎◌, ◌&&◌, Bool, true, false, cond, eqb}
-use Rattle.std.proofs.Common.{List, [], ◌∷◌, length, Some, None, refl, sym, ap, ◌∙◌, subst, inl, inr, arith}
+use Rattle.std.proofs.Common.{List, [], ◌∷◌, length, Some, None, refl, ap, ◌∙◌, subst, inl, inr, arith}
 use Rattle.std.proofs.Common.{is_some}
 use Rattle.std.proofs.lemmas.Bool.{cases_Bool, cases_eq, both_ways, cond-true, cond-false}
 use Rattle.ws_isa.specs.declared.instr.Op.TheVariants.{Merge, Halt}
@@ -30,15 +30,14 @@ pub record Clean (first : ℕ → ℕ) (Fine : ℕ → ℕ → Type 0) (k width 
 pub has_dest_is : (ds : List Dest) (j q : ℕ) → has_dest ds j q ≡ true → HasDest ds j q
 has_dest_is [] j q e = absurd (both_ways false refl e)
 has_dest_is (d ∷ ds) j q e = elim (or_cases (eqb d.instr j && eqb d.port q) (has_dest ds j q) e) [
-  | inl h ↦ (let b = and_both (eqb d.instr j) (eqb d.port q) h in
-      inl (eqb_is d.instr j b.0, eqb_is d.port q b.1))
+  | inl h ↦ grind (arith, and_both, d.instr, d.port, eqb_is)
   | inr h ↦ inr (has_dest_is ds j q h)
 ]
 
 pub is_dest : (ds : List Dest) (j q : ℕ) → HasDest ds j q → has_dest ds j q ≡ true
 is_dest [] j q h = absurd h
 is_dest (d ∷ ds) j q (inl h) = grind (arith, or_left)
-is_dest (d ∷ ds) j q (inr h) = or_right (eqb d.instr j && eqb d.port q) (has_dest ds j q) (is_dest ds j q h)
+is_dest (d ∷ ds) j q (inr h) = grind (arith, or_right, d.instr, d.port, is_dest ds j q h)
 
 pub owner_from : (first : ℕ → ℕ) (n : ℕ) (w : Wants) (j q x : ℕ) → owner_of first n w j q ≡ Some x
     → HasDest (dests_of first (w x)) j q
@@ -61,9 +60,7 @@ owner_some first (suc n) w j q x l h =
         → (has_dest (dests_of first (w n)) j q ≡ true) ⊎ (has_dest (dests_of first (w n)) j q ≡ false)
         → (x ≡ n) ⊎ (x ≡ n → ⊥) → is_some (owner_of first (suc n) w j q) ≡ true
     go ih (inl e) m = rw e refl
-    go ih (inr e) (inl m) =
-        absurd (both_ways (has_dest (dests_of first (w n)) j q) e
-        (is_dest (dests_of first (w n)) j q (rw (sym m) h)))
+    go ih (inr e) (inl m) = grind (arith, both_ways, is_dest)
     go ih (inr e) (inr m) = rw e (ih (omega arith) h)
 
 wanted_by : (first : ℕ → ℕ) (w : Wants) (x j q : ℕ) → HasDest (dests_of first (w x)) j q → Wanted w x
@@ -74,7 +71,7 @@ module _ (first : ℕ → ℕ) (Fine : ℕ → ℕ → Type 0) (k width : ℕ) (
   pub owner_has : (x j q : ℕ) → HasDest (dests_of first (w x)) j q → owner_of first width w j q ≡ Some x
   owner_has x j q h =
       let s = some_of (owner_of first width w j q)
-      (owner_some first width w j q x (clean.few x (wanted_by first w x j q h)) h) in
+      (grind (arith, owner_some, clean.few, wanted_by)) in
       s.1 ∙ ap Some (clean.apart s.0 x j q (owner_from first width w j q s.0 s.1) h)
 
 -- the tails of an exit

@@ -1,7 +1,7 @@
 -- Which names are wanted before some code: those that it reads before it makes them, and those that are
 -- wanted behind it.
 use Rattle.std.proofs.Common.{ℕ, zero, suc, ◌+◌, ◌≡◌, ◌<◌, ◌≤◌, ◌⊎◌, ◌&&◌, not, Bool, true, false, cond}
-use Rattle.std.proofs.Common.{List, [], ◌∷◌, length, refl, ap, ◌∙◌, inl, inr, arith, eq-eqb, ne_eqb}
+use Rattle.std.proofs.Common.{List, [], ◌∷◌, length, refl, inl, inr, arith, eq-eqb, ne_eqb}
 use Rattle.std.proofs.lemmas.Bool.{cases_eq, cases_lt, both_ways}
 use Rattle.ws_isa.specs.declared.instr.Op.{Op}
 use Rattle.ws_isa.specs.Image.{is_memory_op}
@@ -25,10 +25,7 @@ pub emit_wanted : (b y : ℕ) (op : Op) (from : List ℕ) (s : Made) (x : ℕ) �
 emit_wanted b y op from s x h =
     elim (with_uses_wanted b (length s.code) 0 from (with_wants s.wants y []) x h) [
       | inl g ↦ inl g
-      | inr g ↦ elim (cases_eq x y) [
-        | inl e ↦ absurd (g (rw (eq-eqb x y e) refl))
-        | inr n ↦ inr (n, λ e. g (rw (ne_eqb x y n) e))
-      ]
+      | inr g ↦ grind (arith, cases_eq, eq-eqb, ne_eqb)
     ]
 
 -- merges want only what they merge
@@ -70,11 +67,7 @@ wire_wanted b (Make y op from ∷ is) s x h =
         → (is_nil ((wire b is s).wants y) && not (is_memory_op op)) ≡ f
         → Wanted (cond f (skip y op from (wire b is s)) (make b y op from (wire b is s))).wants x
         → In x from ⊎ ((x ≡ y → ⊥) × Reads is (Wanted s.wants) x)
-    go ih true e g =
-        inr (
-          (λ f. g (ap (wire b is s).wants f ∙ nil_and ((wire b is s).wants y) (not (is_memory_op op)) e)),
-          ih g,
-        )
+    go ih true e g = grind (arith, nil_and)
     go ih false e g = elim (make_wanted b y op from (wire b is s) x g) [
       | inl z ↦ inl z
       | inr z ↦
@@ -136,17 +129,14 @@ hang_wanted b zero z (t ∷ ts) w x h = elim (hung_wanted b t (suc z) (hang b 5 
   | inl e ↦ inl (inl e)
   | inr g ↦ elim g [
     | inl e ↦ inr (inl (omega arith, omega arith))
-    | inr g' ↦ elim (hang_wanted b 5 (suc z) ts w x g') [
-      | inl i ↦ inl (inr i)
-      | inr i ↦ elim i [ inl s ↦ inr (inl (omega (arith, s.0), omega (arith, s.1))) | inr s ↦ inr (inr s) ]
-    ]
+    | inr g' ↦ grind (arith, hang_wanted b 5 (suc z) ts w x g')
   ]
 ]
 hang_wanted b (suc n) z (t ∷ ts) w x h = elim (hung_wanted b t z (hang b n z ts w) x h) [
   | inl e ↦ inl (inl e)
   | inr g ↦ elim g [
     | inl e ↦ inr (inl (omega arith, omega arith))
-    | inr g' ↦ elim (hang_wanted b n z ts w x g') [ inl i ↦ inl (inr i) | inr i ↦ inr i ]
+    | inr g' ↦ grind (arith, hang_wanted b n z ts w x g')
   ]
 ]
 
@@ -155,18 +145,7 @@ pub chain_reads : (z n : ℕ) (P : ℕ → Type 0) (x : ℕ) → Reads (chain z 
 chain_reads z zero P x h = grind (arith, cases_lt)
 chain_reads z (suc n) P x h = elim h [
   | inl g ↦ elim g [ inl e ↦ inl e | inr a ↦ absurd a ]
-  | inr g ↦ elim (chain_reads (suc z) n P x g.1) [
-    | inl e ↦ absurd (g.0 e)
-    | inr a ↦
-        inr (
-          elim a.0 [
-            | inl l ↦ inl (let m : x ≡ suc z → ⊥ = g.0 in omega arith)
-            | inr l ↦
-                inr (omega arith)
-          ],
-          a.1,
-        )
-  ]
+  | inr g ↦ grind (arith, chain_reads (suc z) n P x g.1)
 ]
 
 pub selected_wanted : (b z : ℕ) (ts : List Tail) (w : Wants) (x : ℕ) → Wanted (selected b z ts w).wants x
@@ -177,13 +156,6 @@ selected_wanted b z ts w x h =
       | inl e ↦ inl e
       | inr g ↦ elim (hang_wanted b 6 z ts w x g.1) [
         | inl i ↦ inr (inl i)
-        | inr i ↦ elim i [
-          | inl s ↦ elim g.0 [
-            | inl l ↦ inl (let a : z ≤ x = s.0 in omega arith)
-            | inr l ↦
-                absurd (let a : x ≤ z + more 6 ts = s.1 in omega arith)
-          ]
-          | inr s ↦ inr (inr s)
-        ]
+        | inr i ↦ grind arith
       ]
     ]

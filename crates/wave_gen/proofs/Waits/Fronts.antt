@@ -99,10 +99,12 @@ renew_keeps b (y ∷ xs) s x h = renew_keeps b xs (cond (has_front b (s.wants y)
 pub renewed : (b : ℕ) (xs : List ℕ) (s : Made) (x : ℕ) → In x xs → has_front b ((renew b xs s).wants x)
     ≡ false
 renewed b [] s x h = absurd h
-renewed b (y ∷ xs) s x (inr h) = renewed b xs (cond (has_front b (s.wants y)) (gather b y s) s) x h
-renewed b (y ∷ xs) s x (inl e) = renew_keeps b xs (cond (has_front b (s.wants y)) (gather b y s) s) x
-    (ap (λ (z : ℕ). has_front b ((cond (has_front b (s.wants y)) (gather b y s) s).wants z)) e
-    ∙ go (has_front b (s.wants y)) refl)
+renewed b (y ∷ xs) s x (inr h) = grind (
+  arith,
+  s.wants,
+  renewed b xs (cond (has_front b (s.wants y)) (gather b y s) s) x h,
+)
+renewed b (y ∷ xs) s x (inl e) = grind (arith, renew_keeps, s.wants, go)
   where
     go : (f : Bool) → has_front b (s.wants y) ≡ f → has_front b ((cond f (gather b y s) s).wants y) ≡ false
     go f g = grind (arith, gather_back)
@@ -121,8 +123,7 @@ no_front b l i e h = both_ways (has_front b l) e (go l h)
 
     go : (l : List Target) → In (Front b i) l → has_front b l ≡ true
     go [] h = absurd h
-    go (Front c k ∷ l) (inl f) =
-        left (eqb b c) (has_front b l) (eq-eqb b c (same_block (Front c k) f c k refl))
+    go (Front c k ∷ l) (inl f) = grind (arith, left, eq-eqb, same_block)
     go (Front c k ∷ l) (inr h) = right (eqb b c) (has_front b l) (go l h)
     go (Back c r q ∷ l) (inl f) = absurd (let z : Front b i ≡ Back c r q = f in cc)
     go (Back c r q ∷ l) (inr h) = go l h
@@ -132,10 +133,7 @@ pub renew_wanted : (b : ℕ) (xs : List ℕ) (s : Made) (x : ℕ) → Wanted (re
     → In x xs ⊎ Wanted s.wants x
 renew_wanted b [] s x h = inr h
 renew_wanted b (y ∷ xs) s x h =
-    elim (renew_wanted b xs (cond (has_front b (s.wants y)) (gather b y s) s) x h) [
-      | inl g ↦ inl (inr g)
-      | inr g ↦ go (has_front b (s.wants y)) g
-    ]
+    grind (arith, s.wants, go, renew_wanted b xs (cond (has_front b (s.wants y)) (gather b y s) s) x h)
   where
     go : (f : Bool) → Wanted (cond f (gather b y s) s).wants x → In x (y ∷ xs) ⊎ Wanted s.wants x
     go f g = grind arith

@@ -119,19 +119,20 @@ module _ (image : Image) (world : World) (c : Code) (shape : WalkShape image) (w
             → HasDest
             (edge_all image b r (first_number image b) (first_number image (suc b) - first_number image b)) j
             q → ⊥
-        none g d = let o = opener image c shape waits b r j q d in let z : None ≡ Some x =
-            sym (waits.sent_on b r o.source j q block st o.inside o.has).0 ∙ g in cc
+        none g d = let o = opener image c shape waits b r j q d in grind (
+          arith,
+          waits.sent_on,
+          o.source,
+          o.inside,
+        )
 
         unfired : Unfired image b (first_number image (suc b)) j → ⊥
-        unfired u = let l : first_number image (suc b) ≤ j = u.low in let h : j < first_number image (suc b) =
-            u.high in omega arith
+        unfired u = let l : first_number image (suc b) ≤ j = u.low in grind arith
 
         go : Arrives image c b r j q x
             → with_tokens (edge_tokens image b r p.wave p.results (first_number image b)
             (first_number image (suc b) - first_number image b)) p.sent p.wave j q ≡ Some (c.next b r s.env x)
-        go (went_past g n) = edge_other image b r p.wave p.results (first_number image b)
-            (first_number image (suc b) - first_number image b) p.sent p.wave j q (none g)
-            ∙ m.holds.now j q x g unfired ∙ ap Some (sym (n s.env))
+        go (went_past g n) = grind (arith, edge_other, p.results, p.sent, none, m.holds.now, unfired)
         go (was_sent i h w d k n) =
             let u : first_number image b ≤ first_number image (suc b) = first_up image b in
             edge_lands image b r p.wave p.results (first_number image b)

@@ -74,14 +74,10 @@ at n (Copies x y ∷ ss) o k = cond (ltb n k) (at n ss o k) (own n (Copies x y �
 
 pub at_here : (n : ℕ) (ss : List Step) (o : Owner) (k : ℕ) → k ≤ n → at n ss o k ≡ own n ss o
 at_here n [] o k l = refl
-at_here n (Fires x op from ∷ ss) o k l = cond-false (ltb n k) (at (suc n) ss o k)
-    (own n (Fires x op from ∷ ss) o) (le-ltb n k l)
-at_here n (Rests op from ∷ ss) o k l = cond-false (ltb n k) (at (suc n) ss o k) (own n (Rests op from ∷ ss) o)
-    (le-ltb n k l)
-at_here n (Skips x op from ∷ ss) o k l = cond-false (ltb n k) (at n ss o k) (own n (Skips x op from ∷ ss) o)
-    (le-ltb n k l)
-at_here n (Copies x y ∷ ss) o k l = cond-false (ltb n k) (at n ss o k) (own n (Copies x y ∷ ss) o)
-    (le-ltb n k l)
+at_here n (Fires x op from ∷ ss) o k l = grind (arith, cond-false, le-ltb)
+at_here n (Rests op from ∷ ss) o k l = grind (arith, cond-false, le-ltb)
+at_here n (Skips x op from ∷ ss) o k l = grind (arith, cond-false, le-ltb)
+at_here n (Copies x y ∷ ss) o k l = grind (arith, cond-false, le-ltb)
 
 abbrev pub Alike' : Owner → Owner → Type 0
 Alike' o p = (j q : ℕ) → is_some (o j q) ≡ is_some (p j q)
@@ -130,8 +126,7 @@ module _ (image : Image) (b : ℕ) (Kept : ℕ → ℕ → Type 0) where
         ∙ (nth_there from q (let e : length from ≡ ports_of op = f.ports in
         let e' : ports image n ≡ ports_of op = ap ports_of f.op_is in omega arith)).1);
     lists = λ j q h. ap is_some (f.lists j q h);
-    before = λ j q h n'. ap is_some (ports_other n from (without x p) j q (λ e. n' (sym e))
-        ∙ without_drops x p j q (f.lists j q h));
+    before = grind (arith, is_some, ports_other, without_drops, f.lists);
     other = other;
     fresh = λ q. ap is_some (f.fresh q);
     once = f.once;
@@ -159,7 +154,7 @@ module _ (image : Image) (b : ℕ) (Kept : ℕ → ℕ → Type 0) where
         let e' : ports image n ≡ ports_of op = ap ports_of f.op_is in omega arith)).1);
     lists = λ j q h. absurd (rw f.none at h);
     before = λ j q h n'. absurd (rw f.none at h);
-    other = λ j q no' nj. ap is_some (sym (ports_other n from p j q (λ e. nj (sym e))));
+    other = grind (arith, is_some, ports_other);
     fresh = λ q. ap is_some (f.fresh q);
     once = rw f.none tt;
   }
@@ -197,13 +192,11 @@ module _ (image : Image) (b : ℕ) (Kept : ℕ → ℕ → Type 0) where
         at_here (suc n) ss o (suc n) (omega arith),
       ) (rests_turn n op from (own (suc n) ss o) s.0)
   turn_at n (Skips x op from ∷ ss) o s k l u = elim (cases_lt n k) [
-    | inl m ↦ rw (lt-ltb n k m, lt-ltb n (suc k) (omega arith)) (turn_at n ss o s.2 k l u)
-    | inr m ↦ (let e : n ≡ k = omega arith in rw (le-ltb n k m, lt-ltb n (suc k) (omega arith))
-        (alike_turn (own n ss o) (at n ss o k) (at n ss o (suc k)) k
-        (owner_alike (own n ss o) (at n ss o k) (sym (at_here n ss o k m))) (turn_at n ss o s.2 k l u)))
+    | inl m ↦ grind (arith, lt-ltb, turn_at n ss o s.2 k l u)
+    | inr m ↦ grind (arith, le-ltb, lt-ltb, alike_turn, owner_alike, at_here, turn_at n ss o s.2 k l u)
   ]
   turn_at n (Copies x y ∷ ss) o s k l u = elim (cases_lt n k) [
-    | inl m ↦ rw (lt-ltb n k m, lt-ltb n (suc k) (omega arith)) (turn_at n ss o s.1 k l u)
+    | inl m ↦ grind (arith, lt-ltb, turn_at n ss o s.1 k l u)
     | inr m ↦ (let e : n ≡ k = omega arith in rw (le-ltb n k m, lt-ltb n (suc k) (omega arith))
         (alike_turn (renamed x y (own n ss o)) (at n ss o k) (at n ss o (suc k)) k
         (λ j q. renamed_some x y (own n ss o) j q ∙ owner_alike (own n ss o) (at n ss o k)
@@ -243,7 +236,7 @@ module _ (image : Image) (c : Code) (shape : WalkShape image) (waits : Waits ima
       (at (first_number image b) (c.steps b) (c.ends b) (suc k)) k
   turn b k h i =
       let e : first_number image b + count (c.steps b) ≡ first_number image (suc b) =
-      stands_end image b (c.Kept b) (first_number image b) (c.steps b) (c.ends b) (waits.stands b h) in
+      grind (arith, stands_end, c.ends, waits.stands) in
       turn_at image b (c.Kept b) (first_number image b) (c.steps b) (c.ends b) (waits.stands b h) k i.0
       (omega (arith, i.1))
 
@@ -287,8 +280,7 @@ module _ (image : Image) (c : Code) (shape : WalkShape image) (waits : Waits ima
   edge_open : (b r : ℕ) → IsBlock image b → stops image b ≡ false →
       Alike (all_opened (opens_at image b r) (open_at b (first_number image (suc b))))
       (open_at (target image b r) (first_number image (target image b r)))
-  edge_open b r h s j q = same_bool (all_opened (opens_at image b r) (open_at b (first_number image (suc b)))
-      j q) (open_at (target image b r) (first_number image (target image b r)) j q) into back
+  edge_open b r h s j q = grind (arith, same_bool, into, back)
     where
       into : all_opened (opens_at image b r) (open_at b (first_number image (suc b))) j q ≡ true
           → open_at (target image b r) (first_number image (target image b r)) j q ≡ true
@@ -338,13 +330,12 @@ module _ (image : Image) (c : Code) (shape : WalkShape image) (waits : Waits ima
     turn_open = λ b k h i. turn_open b k (block_from b h) i;
     edge_reached = λ b r h s. block_to (target image b r) ((shape.edges b (block_from b h)).there r s);
     edge_open = λ b r h s. edge_open b r (block_from b h) s;
-    start_fresh = distinct_fresh (start_dests image) none_open waits.start_once (λ j q h. refl);
+    start_fresh = grind (arith, distinct_fresh);
     has_all = λ b k h i. has_all b k (block_from b h) i;
     fresh = λ b k h i. fresh b k (block_from b h) i;
-    edges = λ b r h s. edge_fresh b r (open_at b (first_number image (suc b))) (block_from b h) s
-        (λ j q. open_end b j q (block_from b h));
+    edges = grind (arith, edge_fresh, block_from, open_end);
     first_open = λ b h f. first_open b (block_from b h) f;
-    stop = λ b h s j q. open_end b j q (block_from b h) ∙ ap is_some (waits.stop b j q (block_from b h) s);
+    stop = grind (arith, open_end, block_from, is_some, waits.stop);
   }
 
   -- the slot rules, on all paths

@@ -1,6 +1,6 @@
 -- Where a slot that waits stands: ahead, at a port that is there.
 use Rattle.std.proofs.Common.{ℕ, zero, suc, ◌+◌, ◌≡◌, ◌<◌, ◌≤◌, ◌⊎◌, true, false, List, [], ◌∷◌, length, Some}
-use Rattle.std.proofs.Common.{None, sym, ◌∙◌, inl, inr, arith}
+use Rattle.std.proofs.Common.{◌∙◌, inl, inr, arith}
 use Rattle.std.proofs.lemmas.Bool.{cases_Bool, cases_eq, cond-false}
 use Rattle.ws_isa.specs.declared.instr.Op.{Op}
 use Rattle.ws_isa.specs.Image.{Image, instr_at, block_at, first_number, ports, ports_of, is_advance, is_first}
@@ -61,14 +61,11 @@ module _ (image : Image) (b : ℕ) (Kept : ℕ → ℕ → Type 0) (o : Owner) w
       ⊎ ((y : ℕ) × (o j q ≡ Some y))
   listed k [] m j q s lo l u d = absurd (omega arith)
   listed k (Fires y op from ∷ ss) m j q s lo l u d = elim (cases_eq m k) [
-    | inl e ↦
-        rw e (own_found (suc k) ss j q y s.1 (omega arith)
-        (s.0.lists j q (rw e at d)))
+    | inl e ↦ grind (arith, own_found, s.0.lists)
     | inr n ↦ listed (suc k) ss m j q s.1 (omega arith) (omega arith) (omega arith) d
   ]
   listed k (Rests op from ∷ ss) m j q s lo l u d = elim (cases_eq m k) [
-    | inl e ↦
-        absurd (let h : HasDest (now_dests image k) j q = rw e at d in rw s.0.none at h)
+    | inl e ↦ grind (arith, s.0.none)
     | inr n ↦ listed (suc k) ss m j q s.1 (omega arith) (omega arith) (omega arith) d
   ]
   listed k (Skips y op from ∷ ss) m j q s lo l u d = listed k ss m j q s.2 lo l u d
@@ -106,7 +103,7 @@ module _ (image : Image) (c : Code) (shape : WalkShape image) (waits : Waits ima
     where
       go : (stops image b ≡ true) ⊎ (stops image b ≡ false) → (is_first image (target image b 0) ≡ true)
           ⊎ (is_first image (target image b 0) ≡ false) → Slot b (first_number image (suc b)) j q
-      go (inl s) f = absurd (let z : None ≡ Some x = sym (waits.stop b j q h s) ∙ e in cc)
+      go (inl s) f = grind (arith, waits.stop)
       go (inr s) (inl f) = let r = waits.past_on b 0 j q x h s e in first_here (target image b 0) j q r.0
           ((shape.edges b h).there 0 s) f r.1 b (first_number image (suc b))
       go (inr s) (inr f) =

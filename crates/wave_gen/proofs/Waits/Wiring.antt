@@ -38,11 +38,7 @@ distinct_append : (ds es : List Dest) → DistinctDests ds → DistinctDests es
     → ((j q : ℕ) → HasDest ds j q → HasDest es j q → ⊥) → DistinctDests (ds ++ es)
 distinct_append [] es a b n = b
 distinct_append (d ∷ ds) es a b n = (
-  (λ h. elim (has_append_cases ds es d.instr d.port h) [
-    | inl g ↦ a.0 g
-    | inr g ↦
-        n d.instr d.port (inl (refl, refl)) g
-  ]),
+  grind (arith, has_append_cases, d.instr, d.port),
   distinct_append ds es a.1 b (λ j q g. n j q (inr g)),
 )
 
@@ -65,7 +61,7 @@ pub record SpotOf (first : ℕ → ℕ) (l : List Target) (j q : ℕ) : Type 0 w
 pub spot_of : (first : ℕ → ℕ) (l : List Target) (j q : ℕ) → HasDest (dests_of first l) j q
     → SpotOf first l j q
 spot_of first [] j q h = absurd h
-spot_of first (p ∷ l) j q (inl h) = record { spot = p; inside = inl refl; instr = h.0; port = h.1 }
+spot_of first (p ∷ l) j q (inl h) = grind arith
 spot_of first (p ∷ l) j q (inr h) = grind (arith, spot_of first l j q h)
 
 module _ (first : ℕ → ℕ) (o : Owner) where
@@ -127,9 +123,7 @@ module _ (first : ℕ → ℕ) (b : ℕ) (o : Owner) (IsFront : ℕ → ℕ → 
 
       here : (y ≡ x) ⊎ (y ≡ x → ⊥) → HasDest (dests_of first (with_wants w x (Back b r i ∷ w x) y)) j q
           → Used k i (x ∷ from) y j q ⊎ HasDest (dests_of first (w y)) j q
-      here (inr n) g =
-          inr (subst (λ (l : List Target). HasDest (dests_of first l) j q)
-          (wants_other w x y (Back b r i ∷ w x) n) g)
+      here (inr n) g = grind (arith, wants_other)
       here (inl m) g =
           elim (subst (λ (l : List Target). HasDest (dests_of first l) j q)
           (ap (with_wants w x (Back b r i ∷ w x)) m ∙ wants_here w x (Back b r i ∷ w x)) g) [
@@ -141,12 +135,7 @@ module _ (first : ℕ → ℕ) (b : ℕ) (o : Owner) (IsFront : ℕ → ℕ → 
       → HasDest (dests_of first (with_uses b r i from w y)) j q
   uses_keeps r i [] w y j q h = h
   uses_keeps r i (x ∷ from) w y j q h = uses_keeps r (suc i) from (with_wants w x (Back b r i ∷ w x)) y j q
-      (elim (cases_eq y x) [
-        | inl m ↦ subst (λ (l : List Target). HasDest (dests_of first l) j q)
-            (sym (ap (with_wants w x (Back b r i ∷ w x)) m ∙ wants_here w x (Back b r i ∷ w x)))
-            (inr (rw m at h))
-        | inr n ↦ rw (wants_other w x y (Back b r i ∷ w x) n) h
-      ])
+      (grind (arith, cases_eq, wants_here, wants_other))
 
   uses_has : (r k i : ℕ) (from : List ℕ) (w : Wants) (y t : ℕ) → k ≡ first (suc b) - suc r
       → nth from t ≡ Some y → HasDest (dests_of first (with_uses b r i from w y)) k (i + t)
@@ -218,12 +207,12 @@ module _ (first : ℕ → ℕ) (b : ℕ) (o : Owner) (IsFront : ℕ → ℕ → 
     rest_inv : (line : WiredInstr) (from : List ℕ) → length from ≡ ports_of line.op
         → ((ds : List Dest) → now_of line.op ds ≡ []) ⊎ (line.dests ≡ []) → Inv k (rest b line from s)
     rest_inv line from pt silent = record {
-      at = let e : suc k + length s.code ≡ first (suc b) = inv.at in omega arith;
+      at = grind arith;
       has = λ x j q h. has x j q (uses_from (length s.code) k 0 from s.wants x j q k_is h);
       all = λ x j q e. all x j q e (cases_eq j k);
-      once = uses_once (length s.code) k 0 from s.wants k_is inv.once (λ y q l h. no_dest_k y q h);
+      once = grind (arith, uses_once, s.wants, k_is, inv.once, no_dest_k);
       ahead = ahead_uses from s.wants inv.ahead;
-      lines = (record { op_is = refl; none = quiet silent; ports = pt; fresh = fresh_k }, inv.lines);
+      lines = grind (arith, quiet, fresh_k);
     }
       where
         P : Owner

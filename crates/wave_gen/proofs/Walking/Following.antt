@@ -4,7 +4,7 @@ use Rattle.std.proofs.lemmas.Bool.{cond-true, cond-false}
 use Rattle.ws_isa.specs.Image as image
 use Rattle.ws_isa.specs.Image.{Image, Array, stops, target}
 use Rattle.wave_gen.specs.Waits.{NameState, Code, RunPlace, names_at, pass, chosen, chosen_of}
-use Rattle.wave_gen.specs.Plans.{HowLeft, Onto, Either, Lands, Halts, Plan, plan_at, starts_at, draft_of}
+use Rattle.wave_gen.specs.Plans.{HowLeft, Onto, Either, Lands, Halts, Plan, plan_at, draft_of}
 use Rattle.wave_gen.specs.Plans.{code_of, exit_of, source_of, filled}
 use Rattle.wave_gen.proofs.Planning.Planned.{PlansAre}
 use Rattle.wave_gen.proofs.OfItems.Runs.{run_items, run_choice}
@@ -34,8 +34,7 @@ module _ (arrays : List Array) (width : ℕ) (ps : List Plan) (Live : ℕ → �
 
     pub left : Chained (plan_at ps n).test ending (names_at C p)
     unfolding names_at code_of
-    left = rw b (rw (made_is width ps n h (plans.each n h).edges)
-        (block_runs width (starts_at width ps) n (plan_at ps n) (record { env = p.env; out = p.out })))
+    left = rw b (grind (arith, made_is, plans.each, block_runs))
 
     -- where it stops
     pub stopped : (plan_at ps n).exit ≡ Halts → ((pass I C p).over ≡ true) × ((pass I C p).out ≡ ending.out)
@@ -43,7 +42,7 @@ module _ (arrays : List Array) (width : ℕ) (ps : List Plan) (Live : ℕ → �
     stopped q =
         let s : stops I p.block ≡ true = ap (stops I) b ∙ stops_is arrays width ps Live plans n h
         ∙ ap (λ (l : HowLeft). image.is_stop (exit_of (source_of width ps n) l)) q in (
-          ap (λ (z : RunPlace). z.over) (cond-true (stops I p.block) _ _ s),
+          grind (arith, cond-true),
           ap (λ (z : RunPlace). z.out) (cond-true (stops I p.block) _ _ s) ∙ left.out,
         )
 

@@ -1,7 +1,7 @@
 -- A walk that passes many blocks fires many instructions: each wave fires its first one, and inside a wave
 -- blocks rise.
-use Rattle.std.proofs.Common.{ℕ, zero, suc, ◌+◌, ◌*◌, ◌≡◌, ◌<◌, ◌≤◌, Bool, true, false, cond, length, sym, ap}
-use Rattle.std.proofs.Common.{◌∙◌, subst, inl, inr, arith}
+use Rattle.std.proofs.Common.{ℕ, zero, suc, ◌+◌, ◌*◌, ◌≡◌, ◌<◌, ◌≤◌, Bool, true, false, cond, length, sym}
+use Rattle.std.proofs.Common.{subst, inl, inr, arith}
 use Rattle.std.proofs.lemmas.Bool.{cases_Bool, both_ways, cond-true, cond-false}
 use Rattle.std.proofs.lemmas.Nat.{mul-le}
 use Rattle.std.proofs.Math.Nat.{mul-add}
@@ -39,9 +39,7 @@ module _ (image : Image) (c : Code) (shape : WalkShape image) (busy : (b : ℕ) 
   passes : (m : ℕ) (p : RunPlace) → Grown m p → (pass image c p).over ≡ false → Grown (suc m) (pass image c p)
   unfolding pass
   passes m p g o = elim (cases_Bool (stops image p.block)) [
-    | inl h ↦
-        absurd (both_ways (pass image c p).over o
-        (ap (λ (q : RunPlace). q.over) (cond-true (stops image p.block) stopped gone h)))
+    | inl h ↦ grind (arith, both_ways, cond-true)
     | inr h ↦ subst (Grown (suc m)) (sym (cond-false (stops image p.block) stopped gone h)) (record {
       there = (shape.edges p.block g.there).there r h;
       long = elim (cases_Bool (is_first image (target image p.block r))) [
@@ -91,12 +89,9 @@ module _ (image : Image) (c : Code) (shape : WalkShape image) (busy : (b : ℕ) 
       go : (p : RunPlace) → (p.over ≡ false → Grown m p) → (cond p.over p (pass image c p)).over ≡ false
           → Grown (suc m) (cond p.over p (pass image c p))
       go p ih q = elim (cases_Bool p.over) [
-        | inl h ↦
-            absurd (both_ways p.over
-            (ap (λ (x : RunPlace). x.over) (sym (cond-true p.over p (pass image c p) h)) ∙ q) h)
+        | inl h ↦ grind (arith, both_ways, cond-true)
         | inr h ↦ subst (Grown (suc m)) (sym (cond-false p.over p (pass image c p) h))
-            (passes m p (ih h) (ap (λ (x : RunPlace). x.over) (sym (cond-false p.over p (pass image c p) h))
-            ∙ q))
+            (passes m p (ih h) (grind (arith, cond-false)))
       ]
 
   -- where it isn't over after m blocks, so many instructions have fired

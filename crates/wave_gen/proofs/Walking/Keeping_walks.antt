@@ -90,7 +90,7 @@ pub main_entry : (g : Graph) → IsGraph g → (entry_of g (length g.procs - 1) 
 unfolding entry_of spot_at proc_at
 main_entry g r =
     let e = entry_is 0 0 g.procs (length g.procs - 1) r.numbers.procs
-    (let l : 1 ≤ length g.procs = r.numbers.some_proc in omega arith) in
+    (grind arith) in
     let n : graph.entry_from 0 g.procs (length g.procs - 1) ≡ 0 + e.place = e.number in
     let z : graph.entry_from 0 g.procs (length g.procs - 1) ≡ e.place = omega arith in (
       rw z (nth_low (graph.spots_from 0 g.procs) e.place e.spot e.is),
@@ -172,19 +172,15 @@ module _ (g : Graph) (arrays : List Array) (width : ℕ) (ps : List Plan) (live 
     end_case : (p : RunPlace) (c : Config) → Tied arrays width ps (λ b x. live b x ≡ true) d.plans g d.rules
         place zeroed d.drawn p c → (o : Outside) (left : ℕ) → c ≡ Over o left → (p.over ≡ true) × (p.out ≡ o)
     end_case p c (at_block b st k a) o left e = absurd (let z : At b st [] k ≡ Over o left = e in cc)
-    end_case p c (at_end o' k x y) o left e = let z : Over o' k ≡ Over o left = e in let q : o' ≡ o = cc in
-        (x, y ∙ q)
+    end_case p c (at_end o' k x y) o left e = grind arith
     end_case p c (out_of_turns o') o left e = absurd (let z : Going o' ≡ Over o left = e in cc)
 
     block_case : (p : RunPlace) (c : Config) → Tied arrays width ps (λ b x. live b x ≡ true) d.plans g d.rules
         place zeroed d.drawn p c → (b : ℕ) (st : ProcState) (frames : List Frame) (left : ℕ)
         → c ≡ At b st frames left → (p.over ≡ false) × (p.out ≡ st.out)
-    block_case p c (at_block b' st' k a) b st frames left e = let z : At b' st' [] k ≡ At b st frames left =
-        e in let q : st' ≡ st = cc in (a.stands.over, a.stands.state.out ∙ ap (λ (s : ProcState). s.out) q)
-    block_case p c (at_end o' k x y) b st frames left e =
-        absurd (let z : Over o' k ≡ At b st frames left = e in cc)
-    block_case p c (out_of_turns o') b st frames left e =
-        absurd (let z : Going o' ≡ At b st frames left = e in cc)
+    block_case p c (at_block b' st' k a) b st frames left e = grind arith
+    block_case p c (at_end o' k x y) b st frames left e = grind arith
+    block_case p c (out_of_turns o') b st frames left e = grind arith
 
     ended : (m : ℕ) (o : Outside) (left : ℕ) → walk g m (opening g world turns) ≡ Over o left →
         (t : ℕ) × (has_ended I world t ≡ true) × (mem I world t ≡ o) × CostAtMost I world
@@ -214,15 +210,9 @@ module _ (g : Graph) (arrays : List Array) (width : ℕ) (ps : List Plan) (live 
         place zeroed d.drawn p c → (b : ℕ) (st : ProcState) (frames : List Frame) (left : ℕ)
         → c ≡ At b st frames left → AtBlock arrays width ps (λ b x. live b x ≡ true) d.plans g d.rules place
         zeroed d.drawn b st p
-    tied_block p c (at_block b' st' k a) b st frames left e =
-        let z : At b' st' [] k ≡ At b st frames left = e in let q : st' ≡ st = cc in let r : b' ≡ b = cc in
-        subst (λ n. AtBlock arrays width ps (λ b x. live b x ≡ true) d.plans g d.rules place zeroed d.drawn n
-        st p) r (subst (λ s. AtBlock arrays width ps (λ b x. live b x ≡ true) d.plans g d.rules place
-        zeroed d.drawn b' s p) q a)
-    tied_block p c (at_end o' k x y) b st frames left e =
-        absurd (let z : Over o' k ≡ At b st frames left = e in cc)
-    tied_block p c (out_of_turns o') b st frames left e =
-        absurd (let z : Going o' ≡ At b st frames left = e in cc)
+    tied_block p c (at_block b' st' k a) b st frames left e = grind arith
+    tied_block p c (at_end o' k x y) b st frames left e = grind arith
+    tied_block p c (out_of_turns o') b st frames left e = grind arith
 
     left_out : (p : RunPlace) (c : Config) (k : ℕ) → Tied arrays width ps (λ b x. live b x ≡ true) d.plans g
         d.rules place zeroed d.drawn p c → Leaves c k → p.out ≡ outside c

@@ -48,9 +48,7 @@ module _ (image : Image) (world : World) where
       × (blocks_left image world (d + t) ≤ blocks_left image world t)
   quiet zero t o = let e : 0 + t ≡ t = omega arith in rw e (o, omega arith)
   quiet (suc d) t o =
-      let e : suc d + t ≡ suc (d + t) = omega arith in
-      let i = quiet d t o in let l = none_left (d + t) i.0 in
-      rw e (over_next image world (d + t) i.0, omega (arith, i.1, l))
+      let e : suc d + t ≡ suc (d + t) = omega arith in grind (arith, none_left, over_next, quiet d t o)
 
   -- once the walk is over it leaves no more
   pub most_left : (t : ℕ) → (pos image world t).over ≡ true → (u : ℕ) → blocks_left image world u

@@ -137,17 +137,14 @@ module _ (g : Graph) where
             out = i.out;
             late = omega (arith, a, f, h, d);
           }
-      on t l q h ih (inr (p, w)) =
-          absurd (walk_over g m p o l (subst (λ z. walk g m z ≡ Going o)
-          (ap (λ r. passed g r (block_at g b).exit frames) q ∙ w) e))
+      on t l q h ih (inr (p, w)) = grind (arith, walk_over)
 
       go : (r : OpsOutcome) → run_ops (block_at g b).ops s k ≡ r → Paid (ops_most (block_at g b).ops) k r
           → ((c : ℕ) (u : ProcState) (fr : List Frame) (j : ℕ) → walk g m (At c u fr j) ≡ Going o
           → LastBlock m j (At c u fr j) o) → LastBlock (suc m) k (At b s frames k) o
-      go (Done t l) q h ih = on t l q h ih (exit_leaves g (block_at g b).exit t frames l)
+      go (Done t l) q h ih = grind (arith, on, exit_leaves)
       go (Out p) q h ih =
-          let to : walk g m (step g (At b s frames k)) ≡ Going p =
-          ap (λ r. walk g m (passed g r (block_at g b).exit frames)) q ∙ going m p in
+          let to : walk g m (step g (At b s frames k)) ≡ Going p = grind (arith, going) in
           let z : Going p ≡ Going o = sym to ∙ e in
           let y : p ≡ o = cc in
           let f = few b in

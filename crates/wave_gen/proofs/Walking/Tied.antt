@@ -139,10 +139,10 @@ names_count k [] = refl
 names_count k (t ∷ ts) = ap suc (names_count (suc (gen_term k t).next) ts)
 
 term_next : (k : ℕ) (t : graph.Term) → k ≤ (gen_term k t).next
-term_next k (graph.Cell a t) = let l : k ≤ (gen_term k t).next = term_next k t in omega arith
-term_next k (graph.Flip t) = let l : k ≤ (gen_term k t).next = term_next k t in omega arith
-term_next k (graph.Not t) = let l : k ≤ (gen_term k t).next = term_next k t in omega arith
-term_next k (graph.Neg t) = let l : k ≤ (gen_term k t).next = term_next k t in omega arith
+term_next k (graph.Cell a t) = grind (arith, term_next k t)
+term_next k (graph.Flip t) = grind (arith, term_next k t)
+term_next k (graph.Not t) = grind (arith, term_next k t)
+term_next k (graph.Neg t) = grind (arith, term_next k t)
 term_next k (graph.Binary op a b) = grind (arith, term_next k a, term_next (gen_term k a).next b)
 term_next k t = grind arith
 
@@ -553,8 +553,7 @@ module _ (arrays : List Array) (width : ℕ) (ps : List Plan) (Live : ℕ → �
 
               out_of : Outer ps (image.landing_of ns (value t st'.vars st'.out.cells))
               out_of = let x = target_of (place b) 0 a.stands.there
-                  (Lands Merge (A.name ∷ []) (pulse ∷ M.names) ns) q in
-                  landing_outer ps (pulse ∷ M.names) ns (value t st'.vars st'.out.cells) x.0 x.1
+                  (Lands Merge (A.name ∷ []) (pulse ∷ M.names) ns) q in grind (arith, landing_outer)
 
               pads_are : (plan_at ps (image.landing_of ns (E.env (plan_at ps (place b)).test))).pads ≡ pulse
                   ∷ map suc (graph.block_at g c').named
@@ -579,8 +578,7 @@ module _ (arrays : List Array) (width : ℕ) (ps : List Plan) (Live : ℕ → �
                   omega arith)) ∙ hM.values
 
               pass_zero : (pass I C p).env pulse ≡ 0
-              pass_zero = pass_env pulse ∙ below_test pulse (let x : width ≤ (plan_at ps (place b)).test =
-                  wide_test (place b) a.stands.there in omega arith) ∙ hM.keeps pulse
+              pass_zero = pass_env pulse ∙ below_test pulse (grind (arith, wide_test)) ∙ hM.keeps pulse
                   (let x : K ≤ A.next = hA.next in let y : (spot_at g b).vars < K = high in omega arith)
                   ∙ iA.agrees.zero_pulse
 

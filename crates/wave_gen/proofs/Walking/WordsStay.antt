@@ -57,7 +57,7 @@ applied_word And a b h i = and_lt 64 a b h i
 applied_word Or a b h i = or_lt 64 a b h i
 applied_word Xor a b h i = xor_lt 64 a b h i
 applied_word Shl a b h i = mod_word (a * 2 ^ (b % 64))
-applied_word Shr a b h i = less_word (a / 2 ^ (b % 64)) a (div-le_self a (2 ^ (b % 64))) h
+applied_word Shr a b h i = grind (arith, less_word, div-le_self)
 applied_word Eq a b h i = flag_word (a == b)
 applied_word Ne a b h i = if_word (a == b)
 applied_word Lt a b h i = flag_word _
@@ -102,7 +102,7 @@ cells_words (a ∷ xs) = (zeros_words a.length, cells_words xs)
 -- terms
 module _ (vars : List ℕ) (cells : List (List ℕ)) (v : Words vars) (c : Rows cells) where
   value_word : (t : Term) → TermOfWords t → Word (value t vars cells)
-  value_word (Neg t) h = applied_word Sub 0 (value t vars cells) some (value_word t h)
+  value_word (Neg t) h = grind (arith, applied_word, some, value_word t h)
   value_word (Binary op a b) h = grind (arith, applied_word, value_word a h.0, value_word b h.1)
   value_word t h = grind (arith, index_word, row_words, flag_word)
 
@@ -194,8 +194,12 @@ Holds (Over o k) = Unit {0}
 Holds (Going o) = Unit {0}
 
 landed_words : (xs vs vars : List ℕ) → Words vs → Words vars → Words (landed xs vs vars)
-landed_words (x ∷ xs) (v ∷ vs) vars h i = landed_words xs vs (slice_set vars x v) h.1
-    (set_words vars x v i h.0)
+landed_words (x ∷ xs) (v ∷ vs) vars h i = grind (
+  arith,
+  slice_set,
+  set_words,
+  landed_words xs vs (slice_set vars x v) h.1 (set_words vars x v i h.0),
+)
 landed_words xs vs vars h i = grind arith
 
 result_words : (x : Option ℕ) (v : ℕ) (vars : List ℕ) → Word v → Words vars → Words (with_result x v vars)
@@ -248,13 +252,5 @@ module _ (g : Graph) (words : GraphOfWords g) where
   pub words_fine : (world : World) (turns : ℕ) → WorldOfWords world → WalkFine g (opening g world turns)
   words_fine world turns w m b s frames k e =
       let h = subst Holds e
-      (walk_holds m (opening g world turns) (
-        record {
-          vars = zeros_words _;
-          cells = cells_words g.arrays;
-          input = w.0;
-          left = w.1;
-        },
-        tt,
-      )) in
+      (grind (arith, walk_holds, zeros_words, cells_words)) in
       block_fine b s h.0

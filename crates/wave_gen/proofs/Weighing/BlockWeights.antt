@@ -30,16 +30,12 @@ hang_charge n b zero z (t ∷ ts) w =
     let i : charge n (hang b 5 (suc z) ts w) ≤ total w n + 6 * length ts = hang_charge n b 5 (suc z) ts w in
     let r : charge n (hung b t (suc z) (hang b 5 (suc z) ts w)) ≤ charge n (hang b 5 (suc z) ts w)
     + (4 + length (operands_of t.line.op t.held (suc z))) = rest_charge n b t.line
-    (operands_of t.line.op t.held (suc z)) (hang b 5 (suc z) ts w) in
-    let e : length (operands_of t.line.op t.held (suc z)) ≡ 2 = operands_two t.line.op t.held (suc z) in
-    omega (arith, i, r, e)
+    (operands_of t.line.op t.held (suc z)) (hang b 5 (suc z) ts w) in grind (arith, t.held, operands_two)
 hang_charge n b (suc k) z (t ∷ ts) w =
     let i : charge n (hang b k z ts w) ≤ total w n + 6 * length ts = hang_charge n b k z ts w in
     let r : charge n (hung b t z (hang b k z ts w)) ≤ charge n (hang b k z ts w)
     + (4 + length (operands_of t.line.op t.held z)) = rest_charge n b t.line
-    (operands_of t.line.op t.held z) (hang b k z ts w) in
-    let e : length (operands_of t.line.op t.held z) ≡ 2 = operands_two t.line.op t.held z in
-    omega (arith, i, r, e)
+    (operands_of t.line.op t.held z) (hang b k z ts w) in grind (arith, t.held, operands_two)
 
 more_few : (k : ℕ) (ts : List Tail) → k ≤ 6 → 6 * more k ts + k ≤ length ts + 6
 more_few k [] l = omega (arith, l)
@@ -83,9 +79,7 @@ renew_charge n b (x ∷ xs) s l =
     let i : charge n (renew b xs (cond (has_front b (s.wants x)) (gather b x s) s)) ≤ charge n
     (cond (has_front b (s.wants x)) (gather b x s) s) + 5 * length xs =
     renew_charge n b xs (cond (has_front b (s.wants x)) (gather b x s) s) (omega (arith, l)) in
-    let g : charge n (cond (has_front b (s.wants x)) (gather b x s) s) ≤ charge n s + 5 =
-    go (has_front b (s.wants x)) in
-    omega arith
+    grind (arith, s.wants, go)
   where
     go : (f : Bool) → charge n (cond f (gather b x s) s) ≤ charge n s + 5
     go f = grind (arith, charge, gather_charge)
@@ -168,11 +162,8 @@ module _ (width : ℕ) (ps : List Plan) (Live : ℕ → ℕ → Type 0) (plans :
       let a : charge n (behind_source width S b p) ≤ total (end_wants width S p.exit) n + 7 * length
       (tails_of width S p.exit) = behind_charge width S n b p (omega (arith, high)) in
       let c : charge n (exit_made width S b p p.exit) ≤ charge n (behind_source width S b p) + exit_own
-      p.exit = exit_charge width S n b p p.exit (plans.each b h).source (omega (arith, high)) in
-      let d : charge n (body_made width S b p) ≤ charge n (exit_made width S b p p.exit) + weights p.items =
-      wire_charge n b p.items (exit_made width S b p p.exit)
-      (items_below n p.items (plans.each b h).items (omega (arith, high))) in
-      omega (arith, a, c, d)
+      p.exit = grind (arith, exit_charge, p.exit, plans.each) in
+      grind (arith, wire_charge, p.items, items_below, plans.each)
 
   -- the instructions of a block, and what is wanted at its start
   pub block_charge : 4 * length (made_at width ps b).code + total (starts_at width ps b) n ≤ taken + 11

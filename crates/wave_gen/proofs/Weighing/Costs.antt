@@ -1,6 +1,6 @@
 -- The draft's walk costs what the blocks that the graph's walk leaves weigh.
 use Rattle.std.proofs.Common.{ℕ, zero, suc, ◌+◌, ◌*◌, ◌≡◌, ◌<◌, ◌≤◌, ◌⊎◌, ◌||◌, Bool, true, false, cond, List}
-use Rattle.std.proofs.Common.{[], ◌∷◌, ◌++◌, length, refl, sym, ap, ◌∙◌, subst, inl, inr, arith}
+use Rattle.std.proofs.Common.{[], ◌∷◌, ◌++◌, length, refl, sym, ap, ◌∙◌, inl, inr, arith}
 use Rattle.std.proofs.lemmas.Bool.{cases_Bool, both_ways, cond-true, cond-false}
 use Rattle.std.specs.List.{sum_by}
 use Rattle.std.proofs.lemmas.List.Sums.{sum_by-cons}
@@ -12,8 +12,7 @@ use Rattle.wave_link.specs.Passed.{blocks_left}
 use Rattle.cfg_core.specs.Graph as graph
 use Rattle.cfg_core.specs.Graph.{Term, Graph, spots, spot_at, block_at}
 use Rattle.cfg_core.specs.Rules.{ExitIn}
-use Rattle.cfg_core.specs.Walk.{OpsOutcome, Done, Out, run_ops, Config, At, Over, Going, passed, step, walk}
-use Rattle.cfg_core.specs.Walk.{opening}
+use Rattle.cfg_core.specs.Walk.{OpsOutcome, Done, Out, run_ops, Config, At, Over, Going, step, walk, opening}
 use Rattle.cfg_core.specs.Weights.{block_left, path}
 use Rattle.wave_cut.specs.Cut.{Cut, is_first}
 use Rattle.wave_gen.specs.Waits.{Code, count, RunPlace, pass, places}
@@ -199,11 +198,8 @@ module _ (g : Graph) (arrays : List Array) (width : ℕ) (ps : List Plan) (live 
           weight (path g m (step g (At b st [] j))) →
           4 * (afters (suc m) p).fired + wanted (At b st [] j) ≤ 4 * p.fired + sum_by weight
           (path g (suc m) (At b st [] j))
-      go (Out q) r s i =
-          absurd (walk_going g m q o k (ap (λ z. walk g m (passed g z (block_at g b).exit [])) (sym r) ∙ e))
-      go (Done u l) r s i =
-          on l s (subst (λ z. paced.Leaves (passed g z (block_at g b).exit []) l) (sym r)
-          (exit_leaves g (block_at g b).exit u [] l)) i
+      go (Out q) r s i = absurd (grind (arith, walk_going))
+      go (Done u l) r s i = on l s (grind (arith, paced.Leaves, exit_leaves)) i
 
   module _ (world : World) (turns : ℕ) (fine : WalkFine g (opening g world turns)) where
     starts_tied : Ties (places I C (opening_memory I world) 0) (opening g world turns)

@@ -145,13 +145,8 @@ module _ (arrays : List Array) (width : ℕ) (ps : List Plan) (Live : ℕ → �
       arm : (c d : ℕ) → Inner ps b c × Inner ps b d → (f : Bool)
           → total (past (steered width (starts_at width ps c) (starts_at width ps d)) (starts_at width ps c))
           n ≤ total (starts_at width ps (cond f d c)) n
-      arm c d g true = total_least (past (steered width (starts_at width ps c) (starts_at width ps d))
-          (starts_at width ps c)) (starts_at width ps d) n
-          (past_other width (starts_at width ps c) (starts_at width ps d)
-          (λ y l. narrow c y (let u : b < c = g.0.later in omega (arith, h.0, u), g.0.there) l))
-      arm c d g false = total_least (past (steered width (starts_at width ps c) (starts_at width ps d))
-          (starts_at width ps c)) (starts_at width ps c) n
-          (past_one (steered width (starts_at width ps c) (starts_at width ps d)) (starts_at width ps c))
+      arm c d g true = grind (arith, total_least, past_other, narrow)
+      arm c d g false = grind (arith, total_least, past_one)
 
       to : (e : HowLeft) → (plan_at ps b).exit ≡ e → total (end_wants width (starts_at width ps) e) n
           ≤ total (starts_at width ps (target I b r)) n

@@ -1,9 +1,8 @@
 -- Merges are paid for by the spots that they gather.
 use Rattle.std.proofs.Common.{ℕ, zero, suc, ◌+◌, ◌≡◌, ◌<◌, ◌≤◌, ◌⊎◌, ◌&&◌, not, Bool, true, false, cond}
-use Rattle.std.proofs.Common.{List, [], ◌∷◌, ◌++◌, length, refl, ap, ◌∙◌, inl, inr, arith, eq-eqb, ne_eqb}
+use Rattle.std.proofs.Common.{List, [], ◌∷◌, ◌++◌, length, refl, inl, inr, arith, eq-eqb, ne_eqb}
 use Rattle.std.proofs.lemmas.Bool.{cases_eq, cases_lt, lt-ltb, le-ltb}
 use Rattle.ws_isa.specs.declared.instr.Op.{Op}
-use Rattle.ws_isa.specs.Image.{is_memory_op}
 use Rattle.wave_gen.specs.Wire.{Target, Back, WiredInstr, Wants, Made, with_wants, with_uses, moved, emit}
 use Rattle.wave_gen.specs.Wire.{rest, skip, copy, gather, with_room, with_rooms, Item, Make, Act, Same}
 use Rattle.wave_gen.specs.Wire.{is_nil, make, alias, wire_item, wire, most}
@@ -20,9 +19,7 @@ pub set_total : (w : Wants) (x : ℕ) (l : List Target) (n : ℕ) → x < n → 
     (w x) ≡ total w n + length l
 set_total w x l zero u = absurd (omega arith)
 set_total w x l (suc n) u = elim (cases_eq n x) [
-  | inl e ↦ (let h : total (with_wants w x l) n ≡ total w n = set_out w x l n (omega arith) in
-      let g : length (w n) ≡ length (w x) = ap (λ (m : ℕ). length (w m)) e in
-      rw (eq-eqb n x e) (omega arith))
+  | inl e ↦ grind (arith, set_out, eq-eqb)
   | inr d ↦ (let h : total (with_wants w x l) n + length (w x) ≡ total w n + length l =
       set_total w x l n (omega arith) in rw (ne_eqb n x d) (omega arith))
 ]
@@ -67,9 +64,7 @@ pub make_charge : (n b x : ℕ) (op : Op) (from : List ℕ) (s : Made) → AllBe
 make_charge n b x op from s a u =
     let h : charge n (emit b x op from (with_rooms b (length from) from s)) ≤ charge n
     (with_rooms b (length from) from s) + (4 + length from) = emit_charge n b x op from
-    (with_rooms b (length from) from s) in
-    let g : charge n (with_rooms b (length from) from s) ≤ charge n s =
-    rooms_charge n b (length from) from s a u in omega arith
+    (with_rooms b (length from) from s) in grind (arith, rooms_charge)
 
 -- what is wanted stays wanted
 room_wanted : (b k x y : ℕ) (s : Made) → 1 ≤ length (s.wants y) → 1 ≤ length ((with_room b k x s).wants y)
@@ -113,13 +108,7 @@ alias_charge n b x y s l u = go (cases_lt most (length (s.wants x) + length (s.w
 
     taken : most < length (s.wants x) + length (s.wants y) → 5 ≤ length ((gather b x s).wants y) + length
         (s.wants x)
-    taken v = elim (cases_eq y x) [
-      | inl e ↦ (let g : length ((gather b x s).wants y) ≡ 1 = ap (λ (m : ℕ). length ((gather b x s).wants m))
-          e ∙ one in
-          let k : length (s.wants y) ≡ length (s.wants x) = ap (λ (m : ℕ). length (s.wants m)) e in
-          omega arith)
-      | inr d ↦ (let g : length ((gather b x s).wants y) ≡ length (s.wants y) = other d in omega arith)
-    ]
+    taken v = grind (arith, cases_eq, one, s.wants, other)
       where
         one : length ((gather b x s).wants x) ≡ 1
         one = rw (eq-eqb x x refl) refl
@@ -135,11 +124,7 @@ alias_charge n b x y s l u = go (cases_lt most (length (s.wants x) + length (s.w
 pub wire_charge : (n b : ℕ) (is : List Item) (s : Made) → ItemsBelow n is
     → charge n (wire b is s) ≤ charge n s + weights is
 wire_charge n b [] s h = omega arith
-wire_charge n b (Make x op from ∷ is) s h =
-    let ih : charge n (wire b is s) ≤ charge n s + weights is = wire_charge n b is s h.1 in
-    let g : charge n (wire_item b (Make x op from) (wire b is s)) ≤ charge n (wire b is s) + cond
-    (is_memory_op op) (4 + length from) (3 + length from) = go ((wire b is s).wants x) refl
-    (is_memory_op op) in omega (arith, ih, g)
+wire_charge n b (Make x op from ∷ is) s h = grind (arith, go, wire_charge n b is s h.1)
   where
     go : (l : List Target) → (wire b is s).wants x ≡ l → (m : Bool)
         → charge n (cond (is_nil ((wire b is s).wants x) && not m) (skip x op from (wire b is s))
@@ -155,9 +140,7 @@ wire_charge n b (Act op from ∷ is) s h =
     let g : charge n (wire_item b (Act op from) (wire b is s)) ≤ charge n
     (with_rooms b (length from) from (wire b is s)) + (4 + length from) =
     rest_charge n b (record { op = op; dests = []; others = [] }) from
-    (with_rooms b (length from) from (wire b is s)) in
-    let k : charge n (with_rooms b (length from) from (wire b is s)) ≤ charge n (wire b is s) =
-    rooms_charge n b (length from) from (wire b is s) h.0.0 h.0.1 in omega arith
+    (with_rooms b (length from) from (wire b is s)) in grind (arith, rooms_charge)
 wire_charge n b (Same x y ∷ is) s h =
     let ih : charge n (wire b is s) ≤ charge n s + weights is = wire_charge n b is s h.1 in
     let g : charge n (alias b x y (wire b is s)) ≤ charge n (wire b is s) + 5 =
