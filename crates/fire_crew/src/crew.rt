@@ -113,7 +113,7 @@ impl<'a, G: Gate, R: Threads + Wait + Sync> Crew<'a, G, R> {
         let mut tables = tables;
         let mut tokens = tokens;
         for round in 0..u64::MAX {
-            let Shared { left, is_phase } = self.share(code, tables, buffer, tokens);
+            let Shared { left, is_phase } = self.share(code, tables, buffer, tokens, phases == 0);
             phases = counted(phases, is_phase);
             if let Some(ending) = left.ending {
                 return CrewLeft {

@@ -21,6 +21,9 @@ use std::thread::Threads;
 use store_buf::Buffer;
 use ws_words::NoMemory;
 
+// How many tokens there have to be for each worker where a phase begins, but for the first.
+const EACH: u64 = 8;
+
 /// Where a run has come, and whether there was a phase.
 #[derive(Drop)]
 pub struct Shared<J: Job, P: Port> {
@@ -29,14 +32,15 @@ pub struct Shared<J: Job, P: Port> {
 }
 
 impl<'a, G: Gate, R: Threads + Wait + Sync> Crew<'a, G, R> {
-    /// A phase of all workers with these tokens, where more may fire and the last of them is wanted, and then
-    /// what is owed.
+    /// A phase of all workers with these tokens, if it is the first or there are enough for all, more may fire
+    /// and the last of them is wanted; and then what is owed.
     pub fn share<J: Job + Send + Sync, P: Port + Send>(
         &self,
         code: &Code<'_, J>,
         tables: Tables<J>,
         buffer: Buffer<J, P>,
         tokens: TokenList<J>,
+        is_first: bool,
     ) -> Shared<J, P>
         requires serve { AllServe tables }
         requires within { length (part_of tables).fired ≤ self.now.budget }
@@ -54,7 +58,7 @@ impl<'a, G: Gate, R: Threads + Wait + Sync> Crew<'a, G, R> {
             → BroughtOne (part_of tables).held (part_of result.left.tables).held }
     {
         let mut tokens = tokens;
-        match self.to_share(&tables, &mut tokens) {
+        match self.to_share(&tables, &mut tokens, is_first) {
             Ok(Some(token)) => Shared {
                 left: self.phase_with(code, tables, buffer, &token, tokens),
                 is_phase: true,
@@ -80,11 +84,12 @@ impl<'a, G: Gate, R: Threads + Wait + Sync> Crew<'a, G, R> {
         }
     }
 
-    // The last of these tokens, if no table has had it and more may fire.
+    // The last of these tokens, if there are enough for a phase, no table has had it and more may fire.
     fn to_share<J: Job>(
         &self,
         tables: &Tables<J>,
         tokens: &mut TokenList<J>,
+        is_first: bool,
     ) -> Result<Option<Token<J>>, NoMemory>
         requires within { length (part_of tables.now).fired ≤ self.now.budget }
         ensures same { OnOk result (tokens.new ≡ tokens.old) }
@@ -93,7 +98,8 @@ impl<'a, G: Gate, R: Threads + Wait + Sync> Crew<'a, G, R> {
             (λ t. length (part_of tables.now).fired < self.now.budget)) }
     {
         let budget = self.budget;
-        if fired(tables) >= budget {
+        let is_enough = tokens.len() as u64 / EACH >= self.workers as u64;
+        if !(is_first || is_enough) || fired(tables) >= budget {
             return Ok(None);
         }
         last_missing(tables, tokens)
