@@ -29,9 +29,16 @@ shut_before ds o j q h = not_true (o j q) (λ e. no_both (all_opened_keeps ds o 
 fresh_opened : (bs : List Dest) (d : Dest) (o : OpenSlots) → Fresh bs o
     → all_opened bs o d.instr d.port ≡ false → Fresh bs (opened d o)
 fresh_opened [] d o f h = tt
-fresh_opened (b ∷ bs) d o f h = (
-  not_true (opened d o b.instr b.port) (λ e. there e (cases_Bool (eqb d.instr b.instr && eqb d.port b.port))),
-  subst (Fresh bs) (swap d b o) (fresh_opened bs d (opened b o) f.1 h),
+fresh_opened (b ∷ bs) d o f h = grind (
+  arith,
+  not_true,
+  b.instr,
+  there,
+  cases_Bool,
+  d.instr,
+  d.port,
+  swap,
+  fresh_opened bs d (opened b o) f.1 h,
 )
   where
     there : opened d o b.instr b.port ≡ true → ((eqb d.instr b.instr && eqb d.port b.port) ≡ true)

@@ -82,8 +82,7 @@ placed (b ∷ bs) k l h =
 pub located : (image : Image) (k : ℕ) → IsInstr image k → Located image k
 unfolding first_number
 located image k h =
-    let p : Placed image.blocks k = placed image.blocks k h.0 h.1 in
-    grind arith
+    let p : Placed image.blocks k = placed image.blocks k h.0 h.1 in grind arith
 
 pub instr_positive : (image : Image) (b k : ℕ) → IsBlock image b → IsIn image b k → 1 ≤ k
 instr_positive image b k h i = omega (arith, i.0, first_le image 0 b (omega arith), first_zero image)

@@ -159,13 +159,7 @@ module _ (draft : Image) (ok : FitForNotes draft) where
       ⊎ HasDest (instr_at (annotated draft) (k + shift draft c)).others (nop draft b) q
       → Near b (k + shift draft c)
   near_old b c k q h a i n (inl x) =
-      elim (has_append_cases (by_number (new draft) (instr_at draft k).dests)
-      (extra_dest (get_or (tables_in draft.blocks).now k 0)) (nop draft b) q
-      (subst (λ (ds : List Dest). HasDest ds (nop draft b) q) (dests_grown draft c k i n) x)) [
-        | inl y ↦ absurd (not_old b k (instr_at draft k).dests q h a (dests_there draft refs k) y)
-        | inr y ↦ now_case y (cases_eq (steer_in draft c) k) (cases_eq (giver draft c) k)
-            (cases_Bool (adds draft c))
-      ]
+      grind (arith, has_append_cases, dests_grown, not_old, dests_there, refs, now_case, cases_eq, cases_Bool)
     where
       now_case : HasDest (extra_dest (get_or (tables_in draft.blocks).now k 0)) (nop draft b) q
           → (steer_in draft c ≡ k) ⊎ (steer_in draft c ≡ k → ⊥) → (giver draft c ≡ k)
@@ -191,12 +185,7 @@ module _ (draft : Image) (ok : FitForNotes draft) where
           absurd (no_extra (get_or (tables_in draft.blocks).now k 0) (nop draft b) q
           (now_none draft c k i n g s) y)
   near_old b c k q h a i n (inr x) =
-      elim (has_append_cases (by_number (new draft) (instr_at draft k).others)
-      (extra_dest (get_or (tables_in draft.blocks).other k 0)) (nop draft b) q
-      (subst (λ (ds : List Dest). HasDest ds (nop draft b) q) (others_grown draft c k i n) x)) [
-        | inl y ↦ absurd (not_old b k (instr_at draft k).others q h a (others_there draft refs k) y)
-        | inr y ↦ other_case y (cases_eq (steer_in draft c) k)
-      ]
+      grind (arith, has_append_cases, others_grown, not_old, others_there, refs, other_case, cases_eq)
     where
       other_case : HasDest (extra_dest (get_or (tables_in draft.blocks).other k 0)) (nop draft b) q
           → (steer_in draft c ≡ k) ⊎ (steer_in draft c ≡ k → ⊥) → Near b (k + shift draft c)

@@ -1,7 +1,6 @@
 -- The trigger of each no-op, and the lists of an image's instructions.
-use Rattle.std.proofs.Common.{ℕ, suc, ◌+◌, ◌≡◌, ◌<◌, ◌≤◌, Bool, true, false, cond, eqb, List, [], ◌∷◌}
-use Rattle.std.proofs.Common.{◌++◌, length, map, get_or, refl, sym, ap, ap₂, ◌∙◌, inl, inr, arith}
-use Rattle.std.proofs.Common.{eq-eqb, ne_eqb}
+use Rattle.std.proofs.Common.{ℕ, suc, ◌+◌, ◌≡◌, ◌<◌, ◌≤◌, Bool, true, false, cond, eqb, List, [], ◌∷◌, ◌++◌}
+use Rattle.std.proofs.Common.{length, map, get_or, refl, sym, ap, ap₂, ◌∙◌, inl, inr, arith, eq-eqb, ne_eqb}
 use Rattle.std.proofs.lemmas.Bool.{cases_Bool, cases_eq}
 use Rattle.std.proofs.lemmas.List.{get_or-set_same, get_or-set_other}
 use Rattle.std.proofs.Math.ListN.{length-set}
@@ -10,7 +9,7 @@ use Rattle.ws_isa.specs.declared.instr.Op.TheVariants.{Const, Alu, Merge, Advanc
 use Rattle.ws_isa.specs.declared.instr.Op.TheVariants.{Store, Input, Output, Give, Take, Nop, Halt}
 use Rattle.ws_isa.specs.declared.instr.Dest.{Dest}
 use Rattle.ws_isa.specs.Image.{Instr, Exit, Branch, Pad, Block, Image, no_block, instr_at, block_at, pad_of}
-use Rattle.ws_isa.specs.Image.{is_giving_op, target, leave_to, now_of, now_dests, edge_of, edge_dests}
+use Rattle.ws_isa.specs.Image.{is_giving_op, target, now_of, now_dests, edge_of, edge_dests}
 use Rattle.ws_isa.specs.Image.{start_dests, IsIn, IsBlock, is_steer_op}
 use Rattle.wave_link.specs.declared.links.Passage.{Passage}
 use Rattle.wave_link.specs.Layout.{Tables, Extras, steered, extras_step}
@@ -106,16 +105,14 @@ pub now_steer : (draft : Image) (b k s x y : ℕ) → IsBlock draft b → IsIn d
     ≡ steered_by draft x
 unfolding steer_in steered_by
 now_steer draft b k s x y h i e f =
-    let w = writes draft b k h i in
-    grind (arith, now_table, w.before.now, get_or-set_same, length-set)
+    let w = writes draft b k h i in grind (arith, now_table, w.before.now, get_or-set_same, length-set)
 
 pub other_steer : (draft : Image) (b k s x y : ℕ) → IsBlock draft b → IsIn draft b k
     → (block_at draft b).exit ≡ Branch s x y → steer_in draft b ≡ k → get_or (tables_in draft.blocks).other k
     0 ≡ steered_by draft y
 unfolding steer_in steered_by
 other_steer draft b k s x y h i e f =
-    let w = writes draft b k h i in
-    grind (arith, other_table, w.before.other, get_or-set_same)
+    let w = writes draft b k h i in grind (arith, other_table, w.before.other, get_or-set_same)
 
 some_dest : (n : ℕ) → 1 ≤ n → extra_dest n ≡ nop_slot n
 some_dest n l = rw (ne_eqb n 0 (λ e. omega arith)) refl
@@ -299,15 +296,7 @@ pub extras_steer : (draft : Image) (b r k s x y : ℕ) → IsBlock draft b → I
     → (instr_at draft k).op ≡ Steer → steer_in draft b ≡ k →
     extras_at draft r k ≡ before_slot (trigger draft (target draft b r)) (nop draft (target draft b r))
 unfolding extras_at target
-extras_steer draft b r k s x y h i c e o f =
-    ap (λ (p : Op). cond (is_steer_op p)
-    (cond (eqb r 0) (extra_dest (get_or (tables_in draft.blocks).other k 0))
-    (extra_dest (get_or (tables_in draft.blocks).now k 0))) []) o
-    ∙ (ap₂ (λ (n m : ℕ). cond (eqb r 0) (extra_dest n) (extra_dest m)) (other_steer draft b k s x y h i e f)
-    (now_steer draft b k s x y h i e f)
-    ∙ (pick (eqb r 0)
-    ∙ (ap (λ (z : Exit). extra_dest (steered_by draft (leave_to z r))) (sym e)
-    ∙ steered_is draft (leave_to (block_at draft b).exit r) c)))
+extras_steer draft b r k s x y h i c e o f = grind (arith, other_steer, now_steer, pick, steered_is)
   where
     pick : (v : Bool) → cond v (extra_dest (steered_by draft y)) (extra_dest (steered_by draft x))
         ≡ extra_dest (steered_by draft (cond v y x))

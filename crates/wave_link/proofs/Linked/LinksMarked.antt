@@ -105,8 +105,7 @@ find_writer (i ∷ is) l n s w e =
           number = t.number;
         })
     go (inl f) (inr v) = inl (f ∙ ap (λ (b : Bool). cond b (n + 1) w) v)
-    go (inl f) (inl v) =
-        grind arith
+    go (inl f) (inl v) = grind arith
 
 -- Notes along a list of instructions.
 

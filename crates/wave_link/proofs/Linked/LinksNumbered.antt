@@ -1,6 +1,6 @@
 -- The operations of each wave are numbered in listing order, from 1 on.
 use Rattle.std.proofs.Common.{ℕ, zero, suc, ◌+◌, ◌≡◌, ◌<◌, ◌≤◌, ◌⊎◌, ◌&&◌, Bool, true, false, cond, List, []}
-use Rattle.std.proofs.Common.{◌∷◌, length, get_or, refl, sym, ap, ◌∙◌, inl, inr, arith}
+use Rattle.std.proofs.Common.{◌∷◌, length, get_or, refl, ap, ◌∙◌, inl, inr, arith}
 use Rattle.std.proofs.lemmas.Bool.{cases_eq, cases_Bool, cases_lt}
 use Rattle.ws_isa.specs.Image.{Block, Image, no_block, block_at, block_of, first_number, is_memory, is_first}
 use Rattle.ws_isa.specs.Image.{IsIn, IsBlock}
@@ -113,8 +113,7 @@ module _ (draft : Image) (open_to : FitForNotes draft) where
 
   along : (b k : ℕ) → IsBlock image b → before (wave b) (first_number image b) ≡ low_of draft b
       → first_number image b ≤ k → k ≤ first_number image (suc b) → before (wave b) k + 1 ≡ sq draft b k
-  along b zero h s l m =
-      grind (arith, marked)
+  along b zero h s l m = grind (arith, marked)
   along b (suc k) h s l m = go (cases_eq (suc k) (first_number image b)) (λ q. along b k h s q (omega arith))
     where
       f : sq draft b (first_number image b) ≡ low_of draft b + 1
@@ -167,30 +166,8 @@ module _ (draft : Image) (open_to : FitForNotes draft) where
       go : (is_first draft (suc (suc b)) ≡ true) ⊎ (is_first draft (suc (suc b)) ≡ false)
           → before (wave (suc b)) (first_number image (suc b)) ≡ low_of draft (suc b)
           → before (wave (suc (suc b))) (first_number image (suc (suc b))) ≡ low_of draft (suc (suc b))
-      go (inl e) rec =
-          let u : wave (suc b) ≤ wave (suc (suc b)) = waves_up (suc b) (suc (suc b)) (omega arith)
-          (omega arith) h in
-          let lt : wave (suc b) < wave (suc (suc b)) = elim (cases_lt (wave (suc b)) (wave (suc (suc b)))) [
-            | inl q ↦ q
-            | inr q ↦
-                absurd (first_wave_new draft (suc b) (omega arith) e
-                (omega (arith, u, q, wave_kept draft (suc b), wave_kept draft (suc (suc b)))))
-          ] in
-          none_early (suc b) (wave (suc (suc b))) (omega arith) (omega arith) lt
-          ∙ sym (next ∙ ap (λ (v : Bool). cond v 0 (low_of draft (suc b) + (outline_at draft (suc b)).ops))
-          (f ∙ e))
-      go (inr e) rec =
-          let w : wave (suc (suc b)) ≡ wave (suc b) = wave_kept draft (suc (suc b))
-          ∙ (not_first_wave draft (suc b) (omega arith) e ∙ sym (wave_kept draft (suc b))) in
-          let r : before (wave (suc b)) (first_number image (suc (suc b))) + 1 ≡ sq draft (suc b)
-          (first_number image (suc (suc b))) = along (suc b) (first_number image (suc (suc b))) hb rec
-          ((marked draft open_to).grows (suc b) hb) (omega arith) in
-          let t : sq draft (suc b) (first_number image (suc (suc b))) ≡ low_of draft (suc b)
-          + (outline_at draft (suc b)).ops + 1 = (marked draft open_to).sq_end (suc b) hb in
-          let n : low_of draft (suc (suc b)) ≡ low_of draft (suc b) + (outline_at draft (suc b)).ops =
-          next ∙ ap (λ (v : Bool). cond v 0 (low_of draft (suc b) + (outline_at draft (suc b)).ops))
-          (f ∙ e) in
-          ap (λ (v : ℕ). before v (first_number image (suc (suc b)))) w ∙ omega arith
+      go (inl e) rec = grind (arith, waves_up, cases_lt, first_wave_new, wave_kept, none_early, next, f)
+      go (inr e) rec = grind (arith, wave_kept, not_first_wave, along, hb, marked, next, f)
   lows b l h = grind (arith, number_one, none_first, waves_one, low_start)
 
   pub numbered : NumberedInOrder image

@@ -118,8 +118,7 @@ module _ (image : Image) (n : ℕ) (x : ℕ → Outline) (low : ℕ → ℕ) (he
     where
       go : (j ≡ suc k) ⊎ (j ≡ suc k → ⊥) → (j ≤ k → sq b j ≤ sq b k) → sq b j ≤ sq b (suc k)
       go (inl e) rec = rw e (omega arith)
-      go (inr d) rec =
-          grind (arith, sq_one)
+      go (inr d) rec = grind (arith, sq_one)
 
   pub sq_rise : (b j k : ℕ) → IsBlock image b → IsIn image b j → is_memory image j ≡ true → j < k
       → k ≤ first_number image (suc b) → sq b j < sq b k
@@ -657,24 +656,9 @@ module _ (image : Image) (n : ℕ) (x : ℕ → Outline) (low : ℕ → ℕ) (he
 
           here : (is_writing image k ≡ true) ⊎ (is_writing image k ≡ false) → (wr b k ≡ (place b).writer)
               ⊎ WroteHere b k → (wr b (suc k) ≡ (place b).writer) ⊎ WroteHere b (suc k)
-          here (inl v) o =
-              inr (record {
-                op = k;
-                low_op = i.0;
-                before = omega arith;
-                writes = v;
-                number = sym (wr_step b k h i v);
-              })
+          here (inl v) o = grind (arith, wr_step, i)
           here (inr v) (inl e) = inl (wr_stay b k h i v ∙ e)
-          here (inr v) (inr g) =
-              inr (record {
-                op = g.op;
-                low_op = g.low_op;
-                before = (let s : g.op < k = g.before in omega arith);
-                writes = g.writes;
-                number =
-                    g.number ∙ sym (wr_stay b k h i v);
-              })
+          here (inr v) (inr g) = grind (arith, wr_stay, i)
 
   met_at : (b k : ℕ) (done : List ℕ) → InWave image b k done → k < first_number image (suc b)
       → (wr b k ≡ 0) ⊎ ((j : ℕ) × MayPrecede image j k × (seq image j ≡ wr b k))

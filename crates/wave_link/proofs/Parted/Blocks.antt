@@ -1,6 +1,5 @@
 -- An image keeps the blocks of its draft.
-use Rattle.std.proofs.Common.{arith}
-use Rattle.std.proofs.Common.{◌≡◌, refl}
+use Rattle.std.proofs.Common.{arith, ◌≡◌, refl}
 use Rattle.ws_isa.specs.Image.{Image}
 use Rattle.wave_link.specs.Grown.{annotated}
 use Rattle.wave_link.specs.Kept.{KeepsBlocks}

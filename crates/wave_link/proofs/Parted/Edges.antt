@@ -1,6 +1,5 @@
 -- The image of a draft has its blocks, waves and edges.
-use Rattle.std.proofs.Common.{arith}
-use Rattle.std.proofs.Common.{ℕ, suc, ◌+◌, ◌≡◌, List, [], ◌∷◌, length, refl, ap}
+use Rattle.std.proofs.Common.{arith, ℕ, suc, ◌+◌, ◌≡◌, List, [], ◌∷◌, length, refl, ap}
 use Rattle.ws_isa.specs.Image.{Exit, Block, Image, no_block, block_at, leave_to, is_stop, stops, target}
 use Rattle.ws_isa.specs.Image.{is_first}
 use Rattle.wave_link.specs.declared.links.Passage.{Passage}

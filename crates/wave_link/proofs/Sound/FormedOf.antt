@@ -14,8 +14,7 @@ use Rattle.ws_isa.specs.Image.{is_giving_op, IsIn, IsBlock, IsInstr, is_steer_op
 use Rattle.ws_isa.specs.Formed.{SendWithin, ConstWithin, most_instrs, most_blocks, most_dests, most_pads}
 use Rattle.ws_isa.specs.Formed.{most_landings, sequence_limit, ArraysFormed, DestsIn, OpIn, ExitIn}
 use Rattle.ws_isa.specs.Formed.{References, DestsSuit, OthersSuit, ListsSuit, SomeLanding, PadsRise, RiseFrom}
-use Rattle.ws_isa.specs.Formed.{LinkWithin, NoteWithin, ExitWithin, InstrWithin, BlockWithin}
-use Rattle.ws_isa.specs.Formed.{Suited, Formed}
+use Rattle.ws_isa.specs.Formed.{LinkWithin, NoteWithin, ExitWithin, InstrWithin, BlockWithin, Suited, Formed}
 use Rattle.ws_isa.specs.Sound.{HasDest, ShapeRules}
 use Rattle.wave_link.specs.Fit.{FitForNotes}
 use Rattle.ws_isa.proofs.Blocks.{number_last, at_block}

@@ -1,6 +1,5 @@
 -- A draft that is open to notes can get them.
-use Rattle.std.proofs.Common.{arith}
-use Rattle.std.proofs.Common.{ℕ, ◌≡◌, ◌⊎◌, false, [], ◌∷◌, Some, sym, ap, ◌∙◌, inl, inr}
+use Rattle.std.proofs.Common.{arith, ℕ, ◌≡◌, ◌⊎◌, false, [], ◌∷◌, Some, sym, ap, ◌∙◌, inl, inr}
 use Rattle.ws_isa.specs.Image.{Exit, Image, is_first, edges_of}
 use Rattle.ws_isa.specs.Open.{HasGiver, EnteredBySteer, OpenToNotes}
 use Rattle.wave_link.specs.Fit.{CanTrigger, FitForNotes}

@@ -231,11 +231,17 @@ module _ (draft : Image) (ok : FitForNotes draft) where
           (new draft j)
       go x (inl e) = inl (ap (is_advance (annotated draft)) (new_is draft x.block j x.there x.inside)
           ∙ (advance_kept draft x.block j x.there x.inside ∙ e))
-      go x (inr l) = inr (
-        later (cases_lt b x.block) (cases_eq b x.block),
-        wave_of_block x.block (new draft j) x.there (new_inside draft x.block j x.there x.inside)
-            ∙ (ap (λ (n : ℕ). (block_at draft n).wave) (sym (block_of_is draft x.block j x.there x.inside))
-            ∙ (l.1 ∙ sym (wave_kept draft b))),
+      go x (inr l) = grind (
+        arith,
+        later,
+        cases_lt,
+        cases_eq,
+        wave_of_block,
+        x.block,
+        x.there,
+        new_inside,
+        block_of_is,
+        wave_kept,
       )
         where
           later : (b < x.block) ⊎ (x.block ≤ b) → (b ≡ x.block) ⊎ (b ≡ x.block → ⊥)

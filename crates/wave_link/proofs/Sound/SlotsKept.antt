@@ -188,9 +188,7 @@ module _ (draft image : Image) (g : Grown draft image) where
   edge_turn b r o h s = grind (arith, before_slot, up, all_append, renamed, up_all)
 
   start_turn : all_opened (start_dests image) none_open ≡ up (all_opened (start_dests draft) none_open)
-  start_turn = ap (λ (xs : List Dest). all_opened xs none_open) g.start
-      ∙ (ap (all_opened (renamed g.new (start_dests draft))) none_up ∙ up_all (start_dests draft) none_open
-      (λ j q z. g.start_real j q z))
+  start_turn = grind (arith, none_up, up_all, g.start_real)
     where
       none_up : none_open ≡ up none_open
       none_up = grind (arith, fun_ext, origin_cases, up, up_at, up_none)
@@ -399,7 +397,7 @@ module _ (draft image : Image) (g : Grown draft image) where
             ∙ (held_there (is_pending (g.trigger b) x.next) (g.nop b) (up x.slots) m q
             (λ e. not_nop b x.next x.here a (e ∙ x.number)) ∙ (up_at x.slots m q x.next at
             ∙ (rules.turns b x.next x.slots x.path a).has_all q (omega (arith, n))))
-        go (inr e) = grind (arith, is_pending, end_pending, held, up, opened_here)
+        go (inr e) = grind (arith, end_pending, opened_here)
 
     turn_fresh : (b m : ℕ) (o : OpenSlots) → Real b m o ⊎ Passed b m o → m < first_number image (suc b)
         → Fresh (now_dests image m) (closed m o)
@@ -458,8 +456,7 @@ module _ (draft image : Image) (g : Grown draft image) where
 
     pub slot_rules : SlotRules image
     slot_rules = record {
-      start =
-          grind (arith, g.start, up_shut, up_fresh, g.start_real);
+      start = grind (arith, g.start, up_shut, up_fresh, g.start_real);
       begins = subst (AdvancesOpen image 1) (sym start_turn)
           (up_advances 1 (all_opened (start_dests draft) none_open) g.first_block rules.begins);
       turns = λ b k o path w. record {

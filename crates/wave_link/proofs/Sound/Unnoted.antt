@@ -1,7 +1,5 @@
 -- The rules on shape and slots read no notes.
-use Rattle.std.proofs.Common.{arith}
-use Rattle.std.proofs.Common.{ℕ, zero, suc, ◌≡◌, ◌<◌, List, length}
-use Rattle.std.proofs.Common.{refl, sym, ap, ap₂, ◌∙◌, subst}
+use Rattle.std.proofs.Common.{arith, ℕ, zero, suc, ◌≡◌, ◌<◌, List, length, refl, sym, ap, ap₂, ◌∙◌, subst}
 use Rattle.ws_isa.specs.declared.instr.Dest.{Dest}
 use Rattle.ws_isa.specs.Image.{Exit, Pad, Image, instr_at, block_at, block_of, first_number, size_of, ports}
 use Rattle.ws_isa.specs.Image.{ports_of, is_memory, is_memory_op, is_advance, is_advance_op, is_giving}

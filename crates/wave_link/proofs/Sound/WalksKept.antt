@@ -322,8 +322,7 @@ module _ (draft image : Image) (g : Grown draft image) where
     quiet : (old new : Pos) → StandsFor draft image g old new → extra (g.trigger old.block) ≡ 1
         → old.next ≡ first_number draft (suc old.block) → AtEnd draft image g old (fire image new)
     quiet old new s x e =
-        let at : new.next ≡ g.nop old.block =
-        grind (arith, g.nop_is, old.block) in
+        let at : new.next ≡ g.nop old.block = grind (arith, g.nop_is, old.block) in
         let none : g.origin new.next ≡ None = ap g.origin at ∙ g.origin_nop old.block s.here x in
         let no_dests : now_dests image new.next ≡ [] = ap (now_dests image) at
         ∙ g.nop_now old.block s.here x in
@@ -526,8 +525,7 @@ module _ (draft image : Image) (g : Grown draft image) where
     walk_is : (i : Image) (world : World) (t : ℕ) → length (walk i world t) ≡ fired_in i t (opening i world)
     unfolding walk fires
     walk_is i world zero = refl
-    walk_is i world (suc t) = one (walk i world t) (fires_from i (pos i world t))
-        ∙ ap₂ (λ (k : ℕ) (p : Pos). k + count_of (fires_from i p)) (walk_is i world t) (pos_is i world t)
+    walk_is i world (suc t) = grind (arith, one, pos_is, walk_is i world t)
       where
         one : (xs : List Inst) (o : Option Inst) → length (with_inst xs o) ≡ length xs + count_of o
         one xs o = grind (arith, length-append)
@@ -544,14 +542,4 @@ module _ (draft image : Image) (g : Grown draft image) where
     unfolding mem has_ended
     alike world t =
         let k : Kept t (opening draft world) (opening image world) = grind (arith, keeps, opens_alike) in
-        record {
-          steps = k.steps;
-          as_many = k.as_many;
-          outside = ap (λ (p : Pos). p.memory) (pos_is image world k.steps)
-              ∙ (k.stands.same_memory ∙ sym (ap (λ (p : Pos). p.memory) (pos_is draft world t)));
-          ended = ap (λ (p : Pos). p.over) (pos_is image world k.steps)
-              ∙ (k.stands.over ∙ sym (ap (λ (p : Pos). p.over) (pos_is draft world t)));
-          fired = walk_is image world k.steps
-              ∙ (k.fired ∙ ap (λ (n : ℕ). n + passes_in t (opening draft world))
-              (sym (walk_is draft world t)));
-        }
+        grind (arith, pos_is, walk_is)

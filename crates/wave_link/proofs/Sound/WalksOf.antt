@@ -8,11 +8,10 @@ use Rattle.ws_isa.specs.Sound.{SlotRules}
 use Rattle.ws_isa.proofs.Ending.{goes_up}
 use Rattle.wave_link.specs.Grown.{annotated}
 use Rattle.wave_link.specs.Passed.{where_left, blocks_left, added_left, FollowsFor, WalksFor}
-use Rattle.wave_link.proofs.Grown.GrownOf.{sizes}
+use Rattle.wave_link.proofs.Grown.GrownOf.{sizes, grown, grown_trigger, alike}
 use Rattle.wave_link.proofs.Grown.GrownForm.{extra}
 use Rattle.wave_link.proofs.Sound.SlotsKept.{slot_rules, extra_cases}
 use Rattle.wave_link.proofs.Grown.GrownTriggers.{extra_is}
-use Rattle.wave_link.proofs.Grown.GrownOf.{grown, grown_trigger, alike}
 use Rattle.wave_link.proofs.Sound.WalksKept.{ahead, passes_at, passes_in, pos_is, keeps, opens_alike, Alike}
 use Rattle.wave_link.proofs.Sound.WalksKept.{alike as walks_alike}
 
@@ -43,7 +42,7 @@ pub follows : (draft : Image) (world : World) → FitForNotes draft → (t : ℕ
     → FollowsFor draft (annotated draft) world t
 follows draft world ok t =
     let a : Alike draft (annotated draft) (grown draft ok) (alike draft ok) world t =
-    walks_alike draft (annotated draft) (grown draft ok) (alike draft ok) world t in
+    grind (arith, walks_alike, grown, alike) in
     record {
       steps = a.steps;
       as_many = a.as_many;

@@ -59,8 +59,7 @@ module _ (draft : Image) (open_to : FitForNotes draft) where
       ⊎ ((stops image b ≡ false) × ((r : ℕ) × (is_first image (target image b r) ≡ true)))
   ends_on b h w = elim (out_ends draft open_to.walkable.shape open_to.branches b (in_draft b h) w) [
     | inl s ↦ inl (stops_kept draft b ∙ s)
-    | inr s ↦
-        grind (arith, stops_kept, first_kept, target_kept)
+    | inr s ↦ grind (arith, stops_kept, first_kept, target_kept)
   ]
 
   -- the tables say that it is needed

@@ -82,8 +82,7 @@ module _ (image : Image) (n : ℕ) (x : ℕ → Outline) (low : ℕ → ℕ) (he
       go : (b ≡ c) ⊎ (b ≡ c → ⊥) → (b < c → first_number image (suc b) ≤ first_number image c)
           → first_number image (suc b) ≤ first_number image (suc c)
       go (inl e) rec = rw e (omega arith)
-      go (inr d) rec =
-          grind (arith, marked.grows, is_block)
+      go (inr d) rec = grind (arith, is_block)
 
   one_block : (b c k : ℕ) → IsBlock image b → IsBlock image c → IsIn image b k → IsIn image c k → b ≡ c
   one_block b c k h g i j = elim (cases_eq b c) [
@@ -188,8 +187,7 @@ module _ (image : Image) (n : ℕ) (x : ℕ → Outline) (low : ℕ → ℕ) (he
   quiet : (b m : ℕ) (done : List ℕ) → InWave image b (first_number image b) done → first_number image b ≤ m
       → m ≤ first_number image (suc b) → ((k : ℕ) → IsIn image b k → k < m → is_memory image k ≡ true
       → k ≡ nop) → Through b m done
-  quiet b zero done p l h q = let e : first_number image b ≡ zero = omega arith in
-      grind arith
+  quiet b zero done p l h q = let e : first_number image b ≡ zero = omega arith in grind arith
   quiet b (suc m) done p l h q = go (cases_eq (first_number image b) (suc m))
       (λ u. quiet b m done p u (omega arith) (λ k i w. q k i (omega arith)))
     where

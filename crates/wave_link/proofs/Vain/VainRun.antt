@@ -160,14 +160,8 @@ module _ (n : ℕ) (x : ℕ → Outline) (low : ℕ → ℕ) (heads : List Link)
   arms_apart : (f p q : ℕ) → Edge f p p → Edge f q q → (p ≡ q → ⊥) → {s t : ℕ} → Chain p s → Chain q t → s ≡ t
       → ⊥
   arms_apart f p q ep eq d at at e = d e
-  arms_apart f p q ep eq d at (next {g = g} {h = h} c o v u) e =
-      let i : f ≡ g = u f (subst (λ (j : ℕ). Edge f j j) e ep) in
-      let l : f < q = eq.before in
-      absurd (omega (arith, chain_up c))
-  arms_apart f p q ep eq d (next {g = g} {h = h} c o v u) at e =
-      let i : f ≡ g = u f (subst (λ (j : ℕ). Edge f j j) (sym e) eq) in
-      let l : f < p = ep.before in
-      absurd (omega (arith, chain_up c))
+  arms_apart f p q ep eq d at (next {g = g} {h = h} c o v u) e = grind (arith, chain_up)
+  arms_apart f p q ep eq d (next {g = g} {h = h} c o v u) at e = grind (arith, chain_up)
   arms_apart f p q ep eq d (next {g = g} {h = h} c o v u) (next {g = g2} {h = h2} c2 o2 v2 u2) e =
       grind (arith, arms_apart f p q ep eq d c c2 (sym (u g2 (rw e v2))))
 
@@ -392,8 +386,7 @@ module _ (n : ℕ) (x : ℕ → Outline) (low : ℕ → ℕ) (heads : List Link)
       go : {i j : ℕ} → Straight a i j → j ≡ c2 → c < j → ((i j i2 j2 : ℕ) → j + j2 < fuel → Straight a i j
           → Straight a i2 j2 → j < j2 → (g : ℕ) × ((x j).way ≡ On g) × (g ≤ j2))
           → (g : ℕ) × ((x c).way ≡ On g) × (g ≤ c2)
-      go (from {c = j} o z w q) e k rec =
-          grind (arith, first_step, on_same)
+      go (from {c = j} o z w q) e k rec = grind (arith, first_step, on_same)
       go (more {d = i2} {c = j2} {e = j} t z w q) e k rec = elim (cases_lt c j2) [
         | inl m ↦ (let r = rec d c i2 j2 (omega (arith, l, e, q)) s t m in
             (r.0, r.1, omega (arith, r.2, q, e)))

@@ -74,8 +74,7 @@ hit x k (suc n) = cond (eqb k x) 1 0 + hit x (suc k) n
 hit_sum : (x k n m : ℕ) → hit x k (n + m) ≡ hit x k n + hit x (k + n) m
 hit_sum x k zero m = grind (arith, hit)
 hit_sum x k (suc n) m =
-    let e : suc n + m ≡ suc (n + m) = omega arith in
-    grind (arith, hit_sum x (suc k) n m)
+    let e : suc n + m ≡ suc (n + m) = omega arith in grind (arith, hit_sum x (suc k) n m)
 
 hit_behind : (x k n : ℕ) → x < k → hit x k n ≡ 0
 hit_behind x k zero l = refl
@@ -151,9 +150,7 @@ number_kept image x (suc b) l = go (cases_lt x (first_of image.blocks b))
 but_append : (x k : ℕ) (xs ys : List Instr) → instrs_but x k (xs ++ ys) ≡ instrs_but x k xs ++ instrs_but x
     (k + length xs) ys
 but_append x k [] ys = grind arith
-but_append x k (i ∷ xs) ys =
-    go (eqb k x) (but_append x (suc k) xs ys ∙ ap (λ (j : ℕ). instrs_but x (suc k) xs ++ instrs_but x j ys)
-    (f k (length xs)))
+but_append x k (i ∷ xs) ys = grind (arith, go, f, but_append x (suc k) xs ys)
   where
     f : (k n : ℕ) → suc k + n ≡ k + suc n
     f k n = omega arith
@@ -290,7 +287,7 @@ module _ (image : Image) (x : ℕ) (positive : 1 ≤ x) (edges : (b r : ℕ) →
   kept_turn b k done h i p = go (cases_eq k x)
     where
       go : (k ≡ x) ⊎ (k ≡ x → ⊥) → Kept b (suc k) (k ∷ done)
-      go (inl e) = grind (arith, moved_self, kept_by, map_but, last_but, image')
+      go (inl e) = grind (arith, moved_self, kept_by)
       go (inr d) =
           let lt : moved x k < first_number image' (suc b) =
           rw (number_kept image x (suc b) positive) (moved_less x k (first_number image (suc b)) d i.1) in
