@@ -1,5 +1,5 @@
 -- A token comes to one of the tables.
-use Rattle.std.proofs.Common.{◌≡◌, ◌+◌, ◌≤◌, ◌%◌, ⊎_elim, ℕ, zero, suc, true, List, [], ◌∷◌, Option}
+use Rattle.std.proofs.Common.{◌≡◌, ◌+◌, ◌≤◌, ◌%◌, ⊎_elim, ℕ, zero, suc, true, List, [], ◌∷◌}
 use Rattle.std.proofs.Common.{Some, None, length, length-append, slice_set, sym, refl, ap, ◌∙◌, subst, arith}
 use Rattle.ws_isa.specs.Image.{Image, Token}
 use Rattle.ws_isa.specs.Walk.{Ports}
@@ -8,7 +8,7 @@ use Rattle.df_core.proofs.Keeping.Ports.{has_some, with_at_same}
 use Rattle.match_table.specs.declared.table.Results.{Results}
 use Rattle.match_table.specs.declared.table.Took.{Took}
 use Rattle.match_table.specs.declared.table.Took.TheVariants as took
-use Rattle.match_table.specs.Matching.{TookAs, Arrives, FiresSo, will_fire}
+use Rattle.match_table.specs.Matching.{TookAs, Arrives}
 use Rattle.match_table.specs.Tables.{held, TableContent}
 use Rattle.match_table.specs.Growth.{AllGrow, Grows, content_at}
 use Rattle.match_table.specs.Limits.{Serves}
@@ -18,59 +18,38 @@ use Rattle.match_table.specs.Together.{ServeFrom, all_fired, together}
 use Rattle.match_table.specs.Coming.{BroughtSo, Came, served}
 
 serve_at : (n : ℕ) (cs : List TableContent) (k : ℕ) → ServeFrom n cs → Serves (n + k) (content_at cs k)
-serve_at n [] k s = none_serves (n + k)
-serve_at n (c ∷ cs) zero s = subst (λ (m : ℕ). Serves m c) (let e : n ≡ n + 0 = omega arith in e) s.0
-serve_at n (c ∷ cs) (suc k) s = subst (λ (m : ℕ). Serves m (content_at cs k))
-    (let e : suc n + k ≡ n + suc k = omega arith in e) (serve_at (suc n) cs k s.1)
+serve_at n (c ∷ cs) (suc k) s = grind (arith, serve_at (suc n) cs k s.1)
+serve_at n cs k s = grind (arith, none_serves)
 
 set_serve : (n : ℕ) (cs : List TableContent) (k : ℕ) (c : TableContent) → ServeFrom n cs → Serves (n + k) c
     → ServeFrom n (slice_set cs k c)
-set_serve n [] k c s x = tt
-set_serve n (d ∷ cs) zero c s x = (
-  subst (λ (m : ℕ). Serves m c) (let e : n + 0 ≡ n = omega arith in e) x,
-  s.1,
-)
 set_serve n (d ∷ cs) (suc k) c s x = (
   s.0,
   set_serve (suc n) cs k c s.1
       (subst (λ (m : ℕ). Serves m c) (let e : n + suc k ≡ suc n + k = omega arith in e) x),
 )
+set_serve n cs k c s x = grind arith
 
 set_grow : (cs : List TableContent) (k : ℕ) (c : TableContent) → Grows (content_at cs k) c
     → AllGrow cs (slice_set cs k c)
-set_grow [] k c g = tt
-set_grow (d ∷ cs) zero c g = (g, all_grow_same cs)
 set_grow (d ∷ cs) (suc k) c g = ((all_grow_same (d ∷ cs)).0, set_grow cs k c g)
+set_grow cs k c g = grind (arith, all_grow_same)
 
 set_count : (cs : List TableContent) (k : ℕ) (c : TableContent)
     → length c.fired ≤ length (content_at cs k).fired + 1 → length (all_fired (slice_set cs k c))
     ≤ length (all_fired cs) + 1
-set_count [] k c le = omega arith
-set_count (d ∷ cs) zero c le =
-    let a = length-append c.fired (all_fired cs) in
-    let b = length-append d.fired (all_fired cs) in
-    omega (arith, a, b, le)
-set_count (d ∷ cs) (suc k) c le =
-    let a = length-append d.fired (all_fired (slice_set cs k c)) in
-    let b = length-append d.fired (all_fired cs) in
-    let r = set_count cs k c le in
-    omega (arith, a, b, r)
+set_count (d ∷ cs) (suc k) c le = grind (arith, length-append, d.fired, slice_set, set_count cs k c le)
+set_count cs k c le = grind (arith, length-append, c.fired)
 
 arrives_there : (old new : TableContent) (t : Token) → Arrives old t new
     → has (held new t.wave t.instr t.port) ≡ true
-arrives_there old new t a =
-    ap has (a.more t.wave t.instr t.port ∙ with_at_same t.wave t.instr t.port (Some t.value) (held old))
+arrives_there old new t a = grind (arith, a.more, t.instr, with_at_same, t.port)
 
 module _ {J : Type 0} where
   there : (image : Image) (old new : TableContent) (t : Token) (rs : Results J) (answer : Took)
       → TookAs image old t new rs answer → (answer ≡ took.NoMemory → ⊥)
       → has (held new t.wave t.instr t.port) ≡ true
-  there image old new t rs took.Waits m some = arrives_there old new t m.0.0
-  there image old new t rs took.Fires m some = arrives_there old new t m.0.0
-  there image old new t rs took.Asks m some = arrives_there old new t m.3.0
-  there image old new t rs took.Old m some = ap (λ (c : TableContent). has (held c t.wave t.instr t.port))
-      m.0.1 ∙ m.0.2
-  there image old new t rs took.NoMemory m some = absurd (some refl)
+  there image old new t rs answer m some = grind (arith, arrives_there, t.instr)
 
   module _ (image : Image) (old new : List TableContent) (t : Token)
       (rs : Results J) (answer : Took) (b : BroughtSo image old t new rs answer) where
@@ -78,14 +57,11 @@ module _ {J : Type 0} where
     k = served t
 
     pub brought_grow : AllGrow old new
-    brought_grow = subst (λ (cs : List TableContent). AllGrow old cs) (sym b.0)
-        (set_grow old k (content_at new k) (all_grows image (content_at old k) (content_at new k) t rs answer
-        b.1))
+    brought_grow = grind (arith, set_grow, all_grows)
 
     module _ (s : ServeFrom 0 old) where
       served_old : Serves k (content_at old k)
-      served_old = subst (λ (m : ℕ). Serves m (content_at old k)) (let e : 0 + k ≡ k = omega arith in e)
-          (serve_at 0 old k s)
+      served_old = grind (arith, serve_at)
 
       ok : Serves k (content_at new k) × (length (content_at new k).fired ≤ length (content_at old k).fired
           + 1)
@@ -121,29 +97,13 @@ pub grow_keep : (olds news : List TableContent) → AllGrow olds news
 grow_keep olds news g w i p v e = grow_at olds news ((w + i) % 16) w i p v g e
 
 free_before : (old mid : Ports) (w i p : ℕ) → Keep old mid → mid w i p ≡ None → old w i p ≡ None
-free_before old mid w i p keep free = go (old w i p) refl
-  where
-    go : (o : Option ℕ) → old w i p ≡ o → old w i p ≡ None
-    go None e = e
-    go (Some v) e = absurd (let f : None ≡ Some v = sym free ∙ keep w i p v e in cc)
+free_before old mid w i p keep free = grind arith
 
 pub came_none : (ports : Ports) → Came ports ports 0
-came_none ports = record {
-  tokens = [];
-  count_is = refl;
-  apart = tt;
-  fresh = λ w i p v s. absurd s;
-  there = λ w i p v s. absurd s;
-}
+came_none ports = grind arith
 
 pub came_keep : (old mid new : Ports) (n : ℕ) → Came old mid n → Keep mid new → Came old new n
-came_keep old mid new n c keep = record {
-  tokens = c.tokens;
-  count_is = c.count_is;
-  apart = c.apart;
-  fresh = c.fresh;
-  there = λ w i p v s. keep w i p v (c.there w i p v s);
-}
+came_keep old mid new n c keep = grind (arith, c.there)
 
 pub came_more : (old mid new : Ports) (n : ℕ) → Keep old mid → Came old mid n → Keep mid new → (w i p : ℕ)
     → mid w i p ≡ None → has (new w i p) ≡ true → Came old new (suc n)

@@ -1,9 +1,9 @@
 -- How many tokens can come where the walk has an end.
-use Rattle.std.proofs.Common.{◌≡◌, ◌+◌, ◌*◌, ◌<◌, ◌≤◌, ℕ, zero, suc, Bool, cond, List, [], ◌∷◌, Some, length}
-use Rattle.std.proofs.Common.{eqb, inl, inr, refl, sym, subst, eq-eqb, ne_eqb, ◌⊎◌, arith}
+use Rattle.std.proofs.Common.{◌≡◌, ◌+◌, ◌*◌, ◌<◌, ◌≤◌, ℕ, suc, Bool, cond, List, [], ◌∷◌, Some, length}
+use Rattle.std.proofs.Common.{eqb, inl, inr, refl, subst, eq-eqb, ne_eqb, ◌⊎◌, arith}
 use Rattle.std.proofs.lemmas.Bool.{cases_eq}
 use Rattle.ws_words.specs.Outside.{World}
-use Rattle.ws_isa.specs.Image.{Image, Token, instr_at, ports, ports_of}
+use Rattle.ws_isa.specs.Image.{Image, Token}
 use Rattle.ws_isa.specs.Formed.{Formed}
 use Rattle.ws_isa.specs.Sound.{Sound}
 use Rattle.ws_isa.specs.Walk.{Ports, CostAtMost, walk}
@@ -35,22 +35,12 @@ key_sent p (t ∷ ts) w i h = go (λ k. let r = key_sent p ts w i k in (r.0, inr
           | inl x ↦ (t.value, inl (x.0, x.1, e, refl))
           | inr x ↦ later x
         ]
-    go later (inr n) h =
-        later (subst (λ (b : Bool). HasFired (cond b (key_of_token t ∷ keys_at p ts) (keys_at p ts)) w i)
-        (ne_eqb t.port p n) h)
+    go later (inr n) h = grind (arith, ne_eqb, t.port)
 
 keys_once : (p : ℕ) (ts : List Token) → Apart ts → Once (keys_at p ts)
 keys_once p [] a = tt
-keys_once p (t ∷ ts) a = elim (cases_eq t.port p) [
-  | inl e ↦ subst (λ (b : Bool). Once (cond b (key_of_token t ∷ keys_at p ts) (keys_at p ts)))
-      (sym (eq-eqb t.port p e)) (
-        (λ h. let r = key_sent p ts t.wave t.instr h in
-            a.0 r.0 (subst (λ (q : ℕ). IsSent ts t.wave t.instr q r.0) (sym e) r.1)),
-        keys_once p ts a.1,
-      )
-  | inr n ↦ subst (λ (b : Bool). Once (cond b (key_of_token t ∷ keys_at p ts) (keys_at p ts)))
-      (sym (ne_eqb t.port p n)) (keys_once p ts a.1)
-]
+keys_once p (t ∷ ts) a =
+    grind (arith, cases_eq, t.port, eq-eqb, key_sent, t.instr, ne_eqb, keys_once p ts a.1)
 
 -- how many there are to the ports 0, 1 and 2, if the first of the tokens is to port n
 abbrev with_first : Token → List Token → ℕ → ℕ
@@ -60,10 +50,7 @@ with_first t ts n = length (cond (eqb n 0) (key_of_token t ∷ keys_at 0 ts) (ke
 
 one_more : (t : Token) (ts : List Token) (n : ℕ) → n < 3 → length ts ≤ length (keys_at 0 ts)
     + (length (keys_at 1 ts) + length (keys_at 2 ts)) → length (t ∷ ts) ≤ with_first t ts n
-one_more t ts zero lt r = omega (arith, r)
-one_more t ts (suc zero) lt r = omega (arith, r)
-one_more t ts (suc (suc zero)) lt r = omega (arith, r)
-one_more t ts (suc (suc (suc n))) lt r = absurd (omega (arith, lt))
+one_more t ts n lt r = grind arith
 
 three_ports : (ts : List Token) → ((w i p v : ℕ) → IsSent ts w i p v → p < 3)
     → length ts ≤ length (keys_at 0 ts) + (length (keys_at 1 ts) + length (keys_at 2 ts))
@@ -76,13 +63,7 @@ module _ (image : Image) (world : World) (formed : Formed image) (sound : Sound 
   facts = facts_of image world (ports_there image formed) sound
 
   port_below : (w i p v : ℕ) → RightToken image world w i p v → p < 3
-  port_below w i p v r =
-      let l : p < length r.inst.operands = nth_short r.inst.operands p v r.operand in
-      let n : length r.inst.operands ≡ ports image r.inst.instr = facts.filled r.time r.inst r.at.fires in
-      let e : ports image r.inst.instr ≡ ports_of (instr_at image r.inst.instr).op =
-      ports_is_op image r.inst.instr in
-      let f : ports_of (instr_at image r.inst.instr).op ≤ 3 = few_ports (instr_at image r.inst.instr).op in
-      omega (arith, l, n, e, f)
+  port_below w i p v r = grind (arith, nth_short, r.inst.operands, facts.filled, ports_is_op, few_ports)
 
   in_walk : (w i p v : ℕ) → RightToken image world w i p v → (t : ℕ) × HasFired (keys_of (walk image world t))
       w i

@@ -22,7 +22,7 @@ pub record Place (ks : List Key) (w i : ℕ) : Type 0 where
 
 pub fired_place : (ks : List Key) (w i : ℕ) → HasFired ks w i → Place ks w i
 fired_place [] w i h = absurd h
-fired_place (x ∷ ks) w i (inl h) = record { place = 0; below = omega arith; wave = h.0; instr = h.1 }
+fired_place (x ∷ ks) w i (inl h) = grind arith
 fired_place (x ∷ ks) w i (inr h) = let r = fired_place ks w i h in
     record {
       place = suc r.place;
@@ -41,11 +41,7 @@ module _ (image : Image) where
       go : (b : Bool) → is_memory image k.instr ≡ b → HasFired (k ∷ ks) w i
           → (HasFired ks w i → HasFired (of_memory image ks) w i)
           → HasFired (cond b (k ∷ of_memory image ks) (of_memory image ks)) w i
-      go true e (inl x) ih = inl x
-      go true e (inr x) ih = inr (ih x)
-      go false e (inl x) ih = absurd (let f : is_memory image i ≡ false = ap (is_memory image) (sym x.1)
-          ∙ e in let g : true ≡ false = sym m ∙ f in cc)
-      go false e (inr x) ih = ih x
+      go b e h ih = grind arith
 
   -- and each of these has fired
   pub asked_fired : (ks : List Key) (w i : ℕ) → HasFired (of_memory image ks) w i

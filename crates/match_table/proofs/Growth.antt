@@ -1,8 +1,8 @@
 -- A table grows where it takes a token.
-use Rattle.std.proofs.Common.{◌≡◌, ⊎_elim, ℕ, List, [], ◌∷◌, ◌++◌, Option, Some, None, append-nil}
-use Rattle.std.proofs.Common.{append_assoc, length, refl, suc, sym, ap, ◌∙◌, subst}
+use Rattle.std.proofs.Common.{arith, ◌≡◌, ⊎_elim, ℕ, List, [], ◌∷◌, Option, Some, None, append-nil}
+use Rattle.std.proofs.Common.{append_assoc, length, suc, sym, ap, ◌∙◌, subst}
 use Rattle.ws_isa.specs.Image.{Image, Token}
-use Rattle.df_core.specs.Core.{Key, with_at, key_of_token}
+use Rattle.df_core.specs.Core.{with_at, key_of_token}
 use Rattle.df_core.proofs.Keeping.Ports.{SamePlace, with_at_cases}
 use Rattle.match_table.specs.declared.entry.Page.{Page}
 use Rattle.match_table.specs.declared.table.Results.{Results}
@@ -16,32 +16,19 @@ pub grows_same : (c : TableContent) → Grows c c
 grows_same c = record { keeps = λ w i p v e. e; goes_on = ([], sym (append-nil c.fired)) }
 
 pub grows_on : (a b c : TableContent) → Grows a b → Grows b c → Grows a c
-grows_on a b c g h = record {
-  keeps = λ w i p v e. h.keeps w i p v (g.keeps w i p v e);
-  goes_on = (
-    g.goes_on.0 ++ h.goes_on.0,
-    h.goes_on.1 ∙ ap (λ (xs : List Key). xs ++ h.goes_on.0) g.goes_on.1
-        ∙ append_assoc a.fired g.goes_on.0 h.goes_on.0,
-  );
-}
+grows_on a b c g h = grind (arith, h.keeps, g.keeps, append_assoc, a.fired)
 
 pub all_grow_same : (cs : List TableContent) → AllGrow cs cs
 all_grow_same [] = tt
 all_grow_same (c ∷ cs) = (grows_same c, all_grow_same cs)
 
 pub all_grow_on : (xs ys zs : List TableContent) → AllGrow xs ys → AllGrow ys zs → AllGrow xs zs
-all_grow_on [] [] [] g h = tt
-all_grow_on [] [] (z ∷ zs) g h = absurd h
-all_grow_on [] (y ∷ ys) zs g h = absurd g
-all_grow_on (x ∷ xs) [] zs g h = absurd g
-all_grow_on (x ∷ xs) (y ∷ ys) [] g h = absurd h
 all_grow_on (x ∷ xs) (y ∷ ys) (z ∷ zs) g h = (grows_on x y z g.0 h.0, all_grow_on xs ys zs g.1 h.1)
+all_grow_on xs ys zs g h = grind arith
 
 pub grow_many : (xs ys : List TableContent) → AllGrow xs ys → length ys ≡ length xs
-grow_many [] [] g = refl
-grow_many [] (y ∷ ys) g = absurd g
-grow_many (x ∷ xs) [] g = absurd g
 grow_many (x ∷ xs) (y ∷ ys) g = ap suc (grow_many xs ys g.1)
+grow_many xs ys g = grind arith
 
 arrives_keeps : (old new : TableContent) (t : Token) → Arrives old t new → (w i p v : ℕ)
     → held old w i p ≡ Some v → held new w i p ≡ Some v
@@ -76,7 +63,4 @@ module _ {J : Type 0} where
   }
   all_grows image old new t rs took.Old m = subst (λ (c : TableContent). Grows old c) (sym m.0.1)
       (grows_same old)
-  all_grows image old new t rs took.NoMemory m = record {
-    keeps = same_keeps old new m.0.1;
-    goes_on = ([], m.0.2 ∙ sym (append-nil old.fired));
-  }
+  all_grows image old new t rs took.NoMemory m = grind (arith, same_keeps, append-nil)

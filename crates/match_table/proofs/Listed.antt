@@ -1,7 +1,6 @@
 -- The instances that have fired, as a list.
-use Rattle.std.proofs.Common.{◌≡◌, ◌<◌, ◌⊎◌, ⊎_elim, inl, inr, ℕ, zero, suc, Bool, true, cond, List, [], ◌∷◌}
-use Rattle.std.proofs.Common.{◌++◌, Option, Some, None, length, get_or, filter, sym, refl, ap, ◌∙◌, subst}
-use Rattle.std.proofs.Common.{arith}
+use Rattle.std.proofs.Common.{◌≡◌, ◌<◌, ◌⊎◌, ⊎_elim, inl, inr, ℕ, suc, Bool, true, cond, List, [], ◌∷◌, ◌++◌}
+use Rattle.std.proofs.Common.{Option, Some, length, get_or, filter, sym, refl, subst, arith}
 use Rattle.std.proofs.lemmas.Bool.{cases_Bool}
 use Rattle.std.proofs.lemmas.List.{get_or-map, length-map}
 use Rattle.ws_words.specs.Outside.{World}
@@ -14,7 +13,7 @@ use Rattle.match_table.specs.declared.entry.Arrived.{Arrived}
 use Rattle.match_table.specs.declared.entry.Instance.{Instance}
 use Rattle.match_table.specs.declared.entry.Page.{Page}
 use Rattle.match_table.specs.Pages.{arrived_in}
-use Rattle.match_table.specs.Ports.{held_at, alone}
+use Rattle.match_table.specs.Ports.{alone}
 use Rattle.match_table.specs.Tables.{TableOk, held_in, instance_key, instances, of_memory}
 use Rattle.match_table.proofs.Arrivals.{some_none}
 use Rattle.match_table.proofs.Held.{full_same, gather_same}
@@ -31,7 +30,7 @@ has_new (x ∷ ks) k = inr (has_new ks k)
 
 pub has_from : (ks : List Key) (k : Key) (w i : ℕ) → HasFired (ks ++ k ∷ []) w i
     → HasFired ks w i ⊎ ((k.wave ≡ w) × (k.instr ≡ i))
-has_from [] k w i h = ⊎_elim (λ (e : (k.wave ≡ w) × (k.instr ≡ i)). inr e) (λ r. absurd r) h
+has_from [] k w i h = grind (arith, ⊎_elim)
 has_from (x ∷ ks) k w i h = ⊎_elim (λ (e : (x.wave ≡ w) × (x.instr ≡ i)). inl (inl e))
     (λ (r : HasFired (ks ++ k ∷ []) w i). ⊎_elim (λ (s : HasFired ks w i). inl (inr s))
     (λ (s : (k.wave ≡ w) × (k.instr ≡ i)). inr s) (has_from ks k w i r)) h
@@ -47,9 +46,8 @@ once_append (x ∷ ks) k o new = (
 -- each that is listed has fired
 pub has_at : (ks : List Key) (n : ℕ) (d : Key) → n < length ks → HasFired ks (get_or ks n d).wave
     (get_or ks n d).instr
-has_at [] n d lt = absurd (omega (arith, lt))
-has_at (k ∷ ks) zero d lt = inl (refl, refl)
 has_at (k ∷ ks) (suc n) d lt = inr (has_at ks n d (omega (arith, lt)))
+has_at ks n d lt = grind arith
 
 -- and each of those that pass a test
 pub has_filtered : (test : Key → Bool) (ks : List Key) (w i : ℕ) → HasFired (filter test ks) w i
@@ -68,8 +66,7 @@ has_filtered test (k ∷ ks) w i h = ⊎_elim
 pub listed_at : (fired : List Instance) (ks : List Key) (n : ℕ) (d : Key) (e : Instance) → instances fired ≡
     ks
     → n < length ks → get_or ks n d ≡ instance_key (get_or fired n e)
-listed_at fired ks n d e are lt = ap (λ l. get_or l n d) (sym are) ∙ get_or-map instance_key fired n e d
-    (subst (λ m. n < m) (ap length (sym are) ∙ length-map fired instance_key) lt)
+listed_at fired ks n d e are lt = grind (arith, get_or-map, length-map)
 
 pub listed_has : (fired : List Instance) (ks : List Key) (n : ℕ) (e : Instance) → instances fired ≡ ks
     → n < length ks → HasFired ks (get_or fired n e).wave (get_or fired n e).instr
@@ -93,23 +90,10 @@ pub record FiredAs (image : Image) (entries : List (Option Page)) (w i : ℕ) : 
 
 pub fired_as : (image : Image) (entries : List (Option Page)) (w i : ℕ) → 0 < ports image i
     → is_full (held_in entries) w i (ports image i) ≡ true → FiredAs image entries w i
-fired_as image entries w i some_port full = by_arrival (arrived_in entries w i) refl
-  where
-    by_arrival : (o : Option Arrived) → arrived_in entries w i ≡ o → FiredAs image entries w i
-    by_arrival None is = let u = full_all (held_in entries) w i (ports image i) full 0 some_port in
-        absurd (some_none u.0 (sym u.1 ∙ ap (λ o. held_at o 0) is))
-    by_arrival (Some a) is = record {
-      arrived = a;
-      is = is;
-      full = sym (full_same (held_in entries) (alone a) w i 0 0 (ports image i)
-          (λ q lt. ap (λ o. held_at o q) is)) ∙ full;
-      operands = sym (gather_same (held_in entries) (alone a) w i 0 0 0 (ports image i)
-          (λ q. ap (λ o. held_at o q) is));
-    }
+fired_as image entries w i some_port full = grind (arith, full_all, some_none, full_same, gather_same)
 
 -- what has come to one that a table lists
 pub table_fired : (image : Image) (world : World) (entries : List (Option Page)) (fired asked ks : List Key)
     (w i : ℕ)
     → TableOk image world entries fired asked → fired ≡ ks → HasFired ks w i → FiredAs image entries w i
-table_fired image world entries fired asked ks w i ok same h = fired_as image entries w i (has_port image i)
-    (ok.full w i (subst (λ l. HasFired l w i) (sym same) h))
+table_fired image world entries fired asked ks w i ok same h = grind (arith, fired_as, has_port)

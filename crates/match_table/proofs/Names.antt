@@ -19,11 +19,7 @@ at_rank k = rank k.name
 -- the order of two places
 rises : (order : List PageKey) (i j : ℕ) (d : PageKey) → RisingPages order → i ≤ j → j < length order
     → at_rank (get_or order i d) ≤ at_rank (get_or order j d)
-rises order i j d rising le lt = ⊎_elim
-    (λ (same : i ≡ j). let e = ap (λ k. at_rank (get_or order k d)) same in omega (arith, e))
-    (λ (apart : (i < j) ⊎ (j < i)). ⊎_elim (λ (l : i < j). let r = rising i j d l lt in omega (arith, r))
-    (λ (g : j < i). absurd (omega (arith, g, le))) apart)
-    (cases_order i j)
+rises order i j d rising le lt = grind (arith, ⊎_elim, cases_order)
 
 same_page : (order : List PageKey) (i : ℕ) (d e : PageKey) → i < length order
     → at_rank (get_or order i d) ≡ at_rank (get_or order i e)
@@ -33,13 +29,13 @@ pub below_more : (order : List PageKey) (middle : ℕ) (name : PageName) (e : Pa
     → middle < length order → at_rank (get_or order middle e) < rank name → (i : ℕ) (d : PageKey)
     → i < middle + 1 → at_rank (get_or order i d) < rank name
 below_more order middle name e rising within less i d lt = let r = rises order i middle d rising
-    (omega (arith, lt)) within in let s = same_page order middle d e within in omega (arith, r, s, less)
+    (omega (arith, lt)) within in grind (arith, same_page)
 
 pub above_more : (order : List PageKey) (middle : ℕ) (name : PageName) (e : PageKey) → RisingPages order
     → rank name ≤ at_rank (get_or order middle e) → (i : ℕ) (d : PageKey) → middle ≤ i → i < length order
     → rank name ≤ at_rank (get_or order i d)
 above_more order middle name e rising more i d le lt = let r = rises order middle i d rising le lt in
-    let s = same_page order middle d e (omega (arith, le, lt)) in omega (arith, r, s, more)
+    grind (arith, same_page)
 
 -- a place before which all stand before isn't behind one from which on none does
 pub in_order : (order : List PageKey) (low high : ℕ) (name : PageName) → low ≤ length order
@@ -59,11 +55,7 @@ pub first_at : (order : List PageKey) (low high : ℕ) (name : PageName) → low
     → ((i : ℕ) (d : PageKey) → i < low → at_rank (get_or order i d) < rank name)
     → ((i : ℕ) (d : PageKey) → high ≤ i → i < length order → rank name ≤ at_rank (get_or order i d))
     → IsFirstFrom order low name
-first_at order low high name same bound below above = record {
-  bound = bound;
-  below = below;
-  above = λ i d le. above i d (subst (λ k. k ≤ i) same le);
-}
+first_at order low high name same bound below above = grind arith
 
 -- a key in the list has a place, and what has a place is in it
 pub in_index : (order : List PageKey) (k : PageKey) → In k order → (i : ℕ) × (i < length order)
@@ -73,9 +65,8 @@ in_index (x ∷ order) k (inl same) = (0, omega arith, λ d. sym same)
 in_index (x ∷ order) k (inr m) = let r = in_index order k m in let l = r.1 in (suc r.0, omega (arith, l), r.2)
 
 pub index_in : (order : List PageKey) (i : ℕ) (d : PageKey) → i < length order → In (get_or order i d) order
-index_in [] i d lt = absurd (omega arith)
-index_in (x ∷ order) zero d lt = inl refl
 index_in (x ∷ order) (suc i) d lt = inr (index_in order i d (omega (arith, lt)))
+index_in order i d lt = grind arith
 
 -- the key that stands at a place has its name
 pub named_in : (order : List PageKey) (place : ℕ) (name : PageName) (d : PageKey) → place < length order
@@ -96,8 +87,7 @@ in_back (x ∷ xs) ys k m = inr (in_back xs ys k m)
 in_either : (xs ys : List PageKey) (k : PageKey) → In k (xs ++ ys) → In k xs ⊎ In k ys
 in_either [] ys k m = inr m
 in_either (x ∷ xs) ys k (inl same) = inl (inl same)
-in_either (x ∷ xs) ys k (inr m) = ⊎_elim (λ (f : In k xs). inl (inr f)) (λ (b : In k ys). inr b)
-    (in_either xs ys k m)
+in_either (x ∷ xs) ys k (inr m) = grind (arith, ⊎_elim, in_either xs ys k m)
 
 pub inserted_new : (order : List PageKey) (place : ℕ) (s : PageKey) → In s (insert order place s)
 inserted_new order place s = in_back (take place order) (s ∷ drop place order) s (inl refl)
@@ -137,22 +127,15 @@ listed_once order a b rising m n same = let x = in_index order a m in let y = in
 -- what is in the list isn't of a name that none in it has
 pub none_in : (order : List PageKey) (name : PageName) (k : PageKey) → NoneNamed order name → In k order
     → k.name ≡ name → ⊥
-none_in order name k none m same = let x = in_index order k m in
-    none x.0 k x.1 (ap at_rank (x.2 k) ∙ ap rank same)
+none_in order name k none m same = grind (arith, in_index)
 
 -- all before are smaller, and none behind is
 pub none_named : (order : List PageKey) (place : ℕ) (name : PageName) → RisingPages order
     → IsFirstFrom order place name
     → ((d : PageKey) → place < length order → at_rank (get_or order place d) ≢ rank name) → NoneNamed order
     name
-none_named order place name rising first here i d lt e = ⊎_elim
-    (λ (same : i ≡ place). here d (subst (λ k. k < length order) same lt)
-    (subst (λ k. at_rank (get_or order k d) ≡ rank name) same e))
-    (λ (apart : (i < place) ⊎ (place < i)). ⊎_elim
-    (λ (l : i < place). let b = first.below i d l in absurd (omega (arith, e, b)))
-    (λ (g : place < i). let r = rising place i d g lt in let a = first.above place d (omega arith)
-    (omega (arith, g, lt)) in absurd (omega (arith, e, r, a))) apart)
-    (cases_order i place)
+none_named order place name rising first here i d lt e =
+    grind (arith, ⊎_elim, first.below, first.above, cases_order)
 
 pub other_default : (order : List PageKey) (place : ℕ) (name : PageName) (e : PageKey)
     → (at_rank (get_or order place e) ≡ rank name → ⊥) → (d : PageKey) → place < length order
@@ -161,13 +144,7 @@ other_default order place name e apart d lt is = apart (sym (same_page order pla
 
 above_strict : (order : List PageKey) (place i : ℕ) (name : PageName) (d : PageKey) → NoneNamed order name
     → IsFirstFrom order place name → place ≤ i → i < length order → rank name < at_rank (get_or order i d)
-above_strict order place i name d none first le lt = let apart = none i d lt in
-    let a = first.above i d le lt in ⊎_elim
-    (λ (same : rank name ≡ at_rank (get_or order i d)). absurd (apart (sym same)))
-    (λ (o : (rank name < at_rank (get_or order i d)) ⊎ (at_rank (get_or order i d) < rank name)).
-    ⊎_elim (λ (l : rank name < at_rank (get_or order i d)). l)
-    (λ (g : at_rank (get_or order i d) < rank name). absurd (omega (arith, a, g))) o)
-    (cases_order (rank name) (at_rank (get_or order i d)))
+above_strict order place i name d none first le lt = grind (arith, first.above, ⊎_elim, cases_order)
 
 -- where a place behind the new one stood
 back_of : (place j : ℕ) → place < j → (k : ℕ) × (j ≡ k + 1) × (place ≤ k)

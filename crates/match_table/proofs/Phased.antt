@@ -1,11 +1,11 @@
 -- Tables that leave their list by number, and come back by number.
-use Rattle.std.proofs.Common.{◌≡◌, ◌≢◌, ◌+◌, ◌<◌, ◌≤◌, inl, inr, ℕ, zero, suc, List, [], ◌∷◌, ◌++◌, length}
-use Rattle.std.proofs.Common.{None, slice_index, slice_index_or, slice_set, sym, ap, ◌∙◌, subst, arith}
+use Rattle.std.proofs.Common.{◌≡◌, ◌+◌, ◌<◌, ◌≤◌, ℕ, suc, List, [], ◌∷◌, ◌++◌, length}
+use Rattle.std.proofs.Common.{None, slice_index, slice_index_or, slice_set, ap, subst, arith}
 use Rattle.std.proofs.lemmas.Bool.{cases_lt}
 use Rattle.std.proofs.lemmas.List.{length-set, get_or_read, get_or-set_same, get_or-set_other}
 use Rattle.match_table.specs.Tables.{held, TableContent}
 use Rattle.match_table.specs.Limits.{Serves}
-use Rattle.match_table.specs.Growth.{AllGrow, content_at, no_content}
+use Rattle.match_table.specs.Growth.{AllGrow, content_at}
 use Rattle.match_table.specs.Rows.{FitFrom, InPhase, RestOf}
 use Rattle.match_table.proofs.Growth.{grows_same}
 use Rattle.match_table.proofs.Served.{fresh_serves}
@@ -22,21 +22,14 @@ fresh_more (d ∷ cs) c f none e = (f.0, f.1, fresh_more cs c f.2 none e)
 
 pub fresh_fit : (k : ℕ) (cs : List TableContent) → Fresh cs → (most : List ℕ) → FitFrom k cs most
 fresh_fit k [] f most = tt
-fresh_fit k (c ∷ cs) f most = (
-  fresh_serves k c f.0,
-  (let e = ap length f.1 in omega (arith, e)),
-  fresh_fit (suc k) cs f.2 most,
-)
+fresh_fit k (c ∷ cs) f most = grind (arith, fresh_serves, fresh_fit (suc k) cs f.2 most)
 
 fit_at : (n : ℕ) (cs : List TableContent) (most : List ℕ) (k : ℕ) → FitFrom n cs most → k < length cs
     → Serves (n + k) (content_at cs k) × (length (content_at cs k).fired ≤ slice_index most (n + k))
-fit_at n [] most k f lt = absurd (omega (arith, lt))
-fit_at n (c ∷ cs) most zero f lt =
-    subst (λ (m : ℕ). Serves m c × (length c.fired ≤ slice_index most m))
-    (let e : n ≡ n + 0 = omega arith in e) (f.0, f.1)
 fit_at n (c ∷ cs) most (suc k) f lt = subst
     (λ (m : ℕ). Serves m (content_at cs k) × (length (content_at cs k).fired ≤ slice_index most m))
     (let e : suc n + k ≡ n + suc k = omega arith in e) (fit_at (suc n) cs most k f.2 (omega (arith, lt)))
+fit_at n cs most k f lt = grind (arith, slice_index)
 
 home_from : (most : List ℕ) (n : ℕ) (olds cs : List TableContent) → length cs ≡ length olds
     → ((k : ℕ) → k < length cs → InPhase most (n + k) (content_at olds k) (content_at cs k))
@@ -67,44 +60,17 @@ module _ (began : List TableContent) (most : List ℕ) where
   pub rest_next : (n : ℕ) (old cs : List TableContent) (c now : TableContent) → RestOf began most n old
       → cs ≡ old → n < length began → now ≡ slice_index_or cs n now → c ≡ now
       → InPhase most n (content_at began n) c
-  rest_next n old cs c now s same lt read is =
-      let e = s.count in
-      let l = ap length same in
-      let there : n < length cs = omega (arith, e, l, lt) in
-      let at : c ≡ content_at old n = is ∙ get_or_read cs n now there read no_content
-      ∙ ap (λ (xs : List TableContent). content_at xs n) same in
-      subst (λ (x : TableContent). InPhase most n (content_at began n) x) (sym at)
-      (s.each n (omega arith) (omega (arith, e, lt)))
+  rest_next n old cs c now s same lt read is = grind (arith, get_or_read, s.each)
 
   pub rest_out : (n : ℕ) (cs new : List TableContent) (c : TableContent) → RestOf began most n cs
       → new ≡ slice_set cs n c → RestOf began most (n + 1) new
-  rest_out n cs new c s e = subst (RestOf began most (n + 1)) (sym e) (record {
-    count = length-set cs n c ∙ s.count;
-    each = λ k le lt. (let apart : k ≢ n = λ (f : k ≡ n). absurd (omega (arith, f, le)) in
-        let l = length-set cs n c in
-        subst (λ (x : TableContent). InPhase most k (content_at began k) x)
-        (sym (get_or-set_other cs n k c no_content apart))
-        (s.each k (omega (arith, le)) (omega (arith, l, lt))));
-  })
+  rest_out n cs new c s e = grind (arith, length-set, get_or-set_other, s.each)
 
   pub rest_back : (n : ℕ) (cs new : List TableContent) (c : TableContent) → RestOf began most (n + 1) cs
       → InPhase most n (content_at began n) c → new ≡ slice_set cs n c → RestOf began most n new
-  rest_back n cs new c s h e = subst (RestOf began most n) (sym e) (record {
-    count = length-set cs n c ∙ s.count;
-    each = λ k le lt. (let l = length-set cs n c in elim (cases_lt n k) [
-      | inl x ↦ (let apart : k ≢ n = λ (f : k ≡ n). absurd (omega (arith, f, x)) in
-          subst (λ (y : TableContent). InPhase most k (content_at began k) y)
-          (sym (get_or-set_other cs n k c no_content apart))
-          (s.each k (omega (arith, x)) (omega (arith, l, lt))))
-      | inr x ↦ (let f : n ≡ k = omega (arith, x, le) in
-          subst (λ (j : ℕ). InPhase most j (content_at began j) (content_at (slice_set cs n c) j)) f
-          (subst (λ (y : TableContent). InPhase most n (content_at began n) y)
-          (sym (get_or-set_same cs n c no_content (omega (arith, l, lt, f)))) h))
-    ]);
-  })
+  rest_back n cs new c s h e =
+      grind (arith, length-set, cases_lt, get_or-set_other, s.each, slice_set, get_or-set_same)
 
   pub rest_home : (n : ℕ) (cs : List TableContent) → n ≡ 0 → RestOf began most n cs
       → FitFrom 0 cs most × AllGrow began cs
-  rest_home n cs none s = home_from most 0 began cs s.count (λ k lt.
-      subst (λ (m : ℕ). InPhase most m (content_at began k) (content_at cs k))
-      (let z : k ≡ 0 + k = omega arith in z) (s.each k (omega (arith, none)) lt))
+  rest_home n cs none s = home_from most 0 began cs s.count (grind (arith, s.each))

@@ -1,15 +1,14 @@
 -- A table of a phase keeps its facts where it takes a token.
-use Rattle.std.proofs.Common.{◌≡◌, ◌+◌, ◌<◌, ◌≤◌, ◌%◌, ⊎_elim, ℕ, Bool, true, List, [], ◌∷◌, Option, Some}
-use Rattle.std.proofs.Common.{None, length, length-append, refl, sym, ap, ◌∙◌, subst, arith}
+use Rattle.std.proofs.Common.{◌≡◌, ◌+◌, ◌<◌, ◌≤◌, ◌%◌, ⊎_elim, ℕ, Bool, true, List, Some}
+use Rattle.std.proofs.Common.{None, length, length-append, refl, sym, ◌∙◌, subst, arith}
 use Rattle.ws_isa.specs.Image.{Image, Token}
 use Rattle.df_core.specs.Core.{with_at}
 use Rattle.df_core.proofs.Keeping.Ports.{SamePlace, with_at_cases}
-use Rattle.match_table.specs.declared.entry.Page.{Page}
 use Rattle.match_table.specs.declared.table.Results.{Results}
 use Rattle.match_table.specs.declared.table.Took.{Took}
 use Rattle.match_table.specs.declared.table.Took.TheVariants as took
 use Rattle.match_table.specs.Matching.{Arrives, Full, TookAs, FiresSo, will_fire}
-use Rattle.match_table.specs.Tables.{held, held_in, TableContent}
+use Rattle.match_table.specs.Tables.{held, TableContent}
 use Rattle.match_table.specs.Limits.{Serves}
 use Rattle.match_table.specs.Growth.{no_content}
 
@@ -24,8 +23,7 @@ arrives_serves k old new t s serves a w i p v e = ⊎_elim
     (with_at_cases t.wave t.instr t.port (Some t.value) (held old) w i p)
 
 same_serves : (k : ℕ) (old new : TableContent) → Serves k old → new.entries ≡ old.entries → Serves k new
-same_serves k old new s e w i p v h = s w i p v (ap (λ (x : List (Option Page)). held_in x w i p) (sym e)
-    ∙ h)
+same_serves k old new s e w i p v h = grind arith
 
 -- a table that holds nothing serves any instances
 pub fresh_serves : (k : ℕ) (c : TableContent) → ((w i p : ℕ) → held c w i p ≡ None) → Serves k c
@@ -36,14 +34,12 @@ none_serves k = fresh_serves k no_content (λ w i p. refl)
 
 one_longer : (image : Image) (old new : TableContent) (t : Token) (xs : List ℕ) → Full image old t new xs
     → length new.fired ≡ length old.fired + 1
-one_longer image old new t xs f = ap length f.fired ∙ length-append old.fired
-    (record { wave = t.wave; instr = t.instr } ∷ [])
+one_longer image old new t xs f = grind (arith, length-append, old.fired)
 
 within : (image : Image) (old new : TableContent) (t : Token) (xs : List ℕ) (fires : Bool) (most : ℕ)
     → Full image old t new xs → true ≡ fires → (fires ≡ true → length old.fired < most)
     → length new.fired ≤ most
-within image old new t xs fires most f is less = let l = one_longer image old new t xs f in
-    let m = less (sym is) in omega (arith, l, m)
+within image old new t xs fires most f is less = grind (arith, one_longer)
 
 module _ {J : Type 0} where
   pub all_ok : (image : Image) (old new : TableContent) (t : Token) (rs : Results J) (answer : Took)
@@ -62,9 +58,5 @@ module _ {J : Type 0} where
     within image old new t m.3.1.0 (will_fire image old t) most
         m.3.1.1 (sym h) less,
   )
-  all_ok image old new t rs took.Old k most s le serves less m h = (
-    same_serves k old new s (ap (λ (c : TableContent). c.entries) m.0.1),
-    subst (λ (c : TableContent). length c.fired ≤ most) (sym m.0.1) le,
-  )
-  all_ok image old new t rs took.NoMemory k most s le serves less m h =
-      (same_serves k old new s m.0.1, subst (λ l. length l ≤ most) (sym m.0.2) le)
+  all_ok image old new t rs took.Old k most s le serves less m h = grind (arith, same_serves)
+  all_ok image old new t rs took.NoMemory k most s le serves less m h = grind (arith, same_serves)

@@ -1,7 +1,6 @@
 -- How many instances tables list together, and what limits allow together.
 use Rattle.std.proofs.Common.{◌≡◌, ◌+◌, ◌<◌, ◌≤◌, ℕ, zero, suc, List, [], ◌∷◌, ◌++◌, length, length-append}
-use Rattle.std.proofs.Common.{◌-◌, ◌/◌, inl, inr, take, slice_index, add-one, sym, refl, ap, ◌∙◌, subst}
-use Rattle.std.proofs.Common.{arith}
+use Rattle.std.proofs.Common.{◌-◌, ◌/◌, inl, inr, take, slice_index, add-one, sym, refl, ap, subst, arith}
 use Rattle.std.specs.Prelude.{sum}
 use Rattle.std.proofs.Math.Nat.{div-one, div-lt_self}
 use Rattle.std.proofs.lemmas.Bool.{cases_lt}
@@ -19,7 +18,7 @@ total (c ∷ cs) = length c.fired + total cs
 
 pub all_count : (cs : List TableContent) → length (all_fired cs) ≡ total cs
 all_count [] = refl
-all_count (c ∷ cs) = length-append c.fired (all_fired cs) ∙ ap (λ (n : ℕ). length c.fired + n) (all_count cs)
+all_count (c ∷ cs) = grind (arith, length-append, c.fired, all_count cs)
 
 take_suc : (cs : List TableContent) (k : ℕ) → total (take (suc k) cs) ≡ total (take k cs)
     + length (content_at cs k).fired
@@ -46,14 +45,12 @@ front_below (c ∷ cs) (suc n) = let e = front_below cs n in omega (arith, e)
 
 pub sum_allows : (cs : List TableContent) (most : List ℕ) → length cs ≤ length most
     → ((k : ℕ) → k < length cs → length (content_at cs k).fired ≤ slice_index most k) → total cs ≤ sum most
-sum_allows [] [] e each = omega arith
-sum_allows [] (m ∷ most) e each = omega arith
-sum_allows (c ∷ cs) [] e each = absurd (omega (arith, e))
 sum_allows (c ∷ cs) (m ∷ most) e each =
     let h : length c.fired ≤ m = each 0 (omega arith) in
     let r = sum_allows cs most (omega (arith, e)) (λ k lt. each (suc k) (omega (arith, lt))) in
     let s : sum (m ∷ most) ≡ m + sum most = sum_by-cons (λ x. x) m most in
     omega (arith, h, r, s)
+sum_allows cs most e each = grind arith
 
 sum_push : (xs : List ℕ) (y : ℕ) → sum (xs ++ y ∷ []) ≡ sum xs + y
 sum_push xs y = sum_by_push (λ x. x) xs y
@@ -65,12 +62,10 @@ WithinFrom n (c ∷ cs) most = (length c.fired ≤ slice_index most n) × Within
 
 within_at : (n : ℕ) (cs : List TableContent) (most : List ℕ) → WithinFrom n cs most → (k : ℕ) → k < length cs
     → length (content_at cs k).fired ≤ slice_index most (n + k)
-within_at n [] most w k lt = absurd (omega (arith, lt))
-within_at n (c ∷ cs) most w zero lt = subst (λ (m : ℕ). length c.fired ≤ slice_index most m)
-    (let e : n ≡ n + 0 = omega arith in e) w.0
 within_at n (c ∷ cs) most w (suc k) lt =
     subst (λ (m : ℕ). length (content_at cs k).fired ≤ slice_index most m)
     (let e : suc n + k ≡ n + suc k = omega arith in e) (within_at (suc n) cs most w.1 k (omega (arith, lt)))
+within_at n cs most w k lt = grind (arith, slice_index)
 
 pub all_within : (cs : List TableContent) (most : List ℕ) → length cs ≤ length most → WithinFrom 0 cs most
     → length (all_fired cs) ≤ sum most
@@ -162,10 +157,7 @@ fit_from n (c ∷ cs) most s w = (s.0, w.0, fit_from (suc n) cs most s.1 w.1)
 
 pub fits : (cs : List TableContent) (most : List ℕ) → ServeFrom 0 cs
     → ((k : ℕ) → k < length cs → length (content_at cs k).fired ≤ slice_index most k) → FitFrom 0 cs most
-fits cs most s each =
-    fit_from 0 cs most s
-    (within_from 0 cs most (λ k lt. subst (λ (m : ℕ). length (content_at cs k).fired ≤ slice_index most m)
-    (let z : k ≡ 0 + k = omega arith in z) (each k lt)))
+fits cs most s each = grind (arith, fit_from, within_from, slice_index)
 
 pub fit_serve : (n : ℕ) (cs : List TableContent) (most : List ℕ) → FitFrom n cs most → ServeFrom n cs
 fit_serve n [] most f = tt

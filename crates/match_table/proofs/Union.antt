@@ -1,10 +1,9 @@
 -- Tables that serve apart are one part of the core's state.
-use Rattle.std.proofs.Common.{◌≡◌, ◌+◌, ◌<◌, ◌%◌, ◌⊎◌, inl, inr, ℕ, zero, suc, List, [], ◌∷◌, ◌++◌, All}
-use Rattle.std.proofs.Common.{Some, None}
-use Rattle.std.proofs.Common.{length, slice_index_or, sym, refl, ap, subst, arith}
+use Rattle.std.proofs.Common.{◌≡◌, ◌+◌, ◌<◌, ◌%◌, ◌⊎◌, inl, inr, ℕ, suc, List, [], ◌∷◌, ◌++◌, All}
+use Rattle.std.proofs.Common.{length, slice_index_or, refl, subst, arith}
 use Rattle.std.proofs.lemmas.List.Elements.{All-from_get_or}
 use Rattle.ws_words.specs.Outside.{World}
-use Rattle.ws_isa.specs.Image.{Image, ports}
+use Rattle.ws_isa.specs.Image.{Image}
 use Rattle.df_core.specs.Core.{Key, HasFired, Once, operands_in}
 use Rattle.df_core.specs.Shown.{TablesOk}
 use Rattle.match_table.specs.Tables.{held, part, TableContent}
@@ -27,7 +26,7 @@ fired_right (k ∷ ks) ls w i h = inr (fired_right ks ls w i h)
 pub fired_cases : (ks ls : List Key) (w i : ℕ) → HasFired (ks ++ ls) w i → HasFired ks w i ⊎ HasFired ls w i
 fired_cases [] ls w i h = inr h
 fired_cases (k ∷ ks) ls w i (inl h) = inl (inl h)
-fired_cases (k ∷ ks) ls w i (inr h) = elim (fired_cases ks ls w i h) [ inl x ↦ inl (inr x) | inr x ↦ inr x ]
+fired_cases (k ∷ ks) ls w i (inr h) = grind (arith, fired_cases ks ls w i h)
 
 once_append : (ks ls : List Key) → Once ks → Once ls → ((w i : ℕ) → HasFired ks w i → HasFired ls w i → ⊥)
     → Once (ks ++ ls)
@@ -56,11 +55,7 @@ module _ (image : Image) (world : World) where
       ((s.0, h.0, h.1), parts_from (suc n) cs s.1 (λ k lt. each (suc k) (omega (arith, lt))))
 
   none_ok : TablesOk image world (part no_content)
-  none_ok = record {
-    right = λ w i p v e. absurd (let f : None ≡ Some v = e in cc);
-    fired_full = λ w i f. absurd f;
-    full_fired = λ w i some full. absurd (let h = full 0 some in let f : None ≡ Some h.0 = h.1 in cc);
-  }
+  none_ok = grind arith
 
   number_is : (n : ℕ) (c : TableContent) → Serves n c → TablesOk image world (part c) → (w i : ℕ)
       → HasFired c.fired w i → (w + i) % 16 ≡ n
@@ -89,21 +84,17 @@ module _ (image : Image) (world : World) where
 
   fired_at : (cs : List TableContent) (k w i : ℕ) → HasFired (content_at cs k).fired w i
       → HasFired (all_fired cs) w i
-  fired_at [] k w i h = absurd h
-  fired_at (c ∷ cs) zero w i h = fired_left c.fired (all_fired cs) w i h
-  fired_at (c ∷ cs) (suc k) w i h = fired_right c.fired (all_fired cs) w i (fired_at cs k w i h)
+  fired_at (c ∷ cs) (suc k) w i h = grind (arith, fired_right, c.fired, fired_at cs k w i h)
+  fired_at cs k w i h = grind (arith, fired_left)
 
   part_ok : (n : ℕ) (cs : List TableContent) → PartsOk n cs → (k : ℕ)
       → TablesOk image world (part (content_at cs k))
-  part_ok n [] ok k = none_ok
-  part_ok n (c ∷ cs) ok zero = ok.0.1
   part_ok n (c ∷ cs) ok (suc k) = part_ok (suc n) cs ok.1 k
+  part_ok n cs ok k = grind (arith, none_ok)
 
   serves : (n : ℕ) (cs : List TableContent) → PartsOk n cs → (k : ℕ) → Serves (n + k) (content_at cs k)
-  serves n [] ok k = none_serves (n + k)
-  serves n (c ∷ cs) ok zero = subst (λ (m : ℕ). Serves m c) (let e : n ≡ n + 0 = omega arith in e) ok.0.0
-  serves n (c ∷ cs) ok (suc k) = subst (λ (m : ℕ). Serves m (content_at cs k))
-      (let e : suc n + k ≡ n + suc k = omega arith in e) (serves (suc n) cs ok.1 k)
+  serves n (c ∷ cs) ok (suc k) = grind (arith, serves (suc n) cs ok.1 k)
+  serves n cs ok k = grind (arith, none_serves)
 
   all_once : (n : ℕ) (cs : List TableContent) → PartsOk n cs → Once (all_fired cs)
   all_once n [] ok = tt
@@ -127,8 +118,7 @@ module _ (image : Image) (world : World) where
 
     same_held : (k w i : ℕ) → (w + i) % 16 ≡ k → operands_in image (held (content_at cs k)) w i ≡ operands_in
         image (together cs).held w i
-    same_held k w i e = gather_same (held (content_at cs k)) (together cs).held w i 0 (ports image i)
-        (λ p. ap (λ (n : ℕ). held (content_at cs n) w i p) (sym e))
+    same_held k w i e = grind (arith, gather_same)
 
     -- the operands that a table holds of those that it lists are those that all hold together
     pub union_held : (k : ℕ)
