@@ -32,8 +32,8 @@ pub struct Shared<J: Job, P: Port> {
 }
 
 impl<'a, G: Gate, R: Threads + Wait + Sync> Crew<'a, G, R> {
-    /// A phase of all workers with these tokens, if it is the first or there are enough for all, more may fire
-    /// and the last of them is wanted; and then what is owed.
+    /// A phase of all workers with these tokens, if it is the first or there are enough for all, more may
+    /// fire and the last of them is wanted; and then what is owed.
     pub fn share<J: Job + Send + Sync, P: Port + Send>(
         &self,
         code: &Code<'_, J>,
