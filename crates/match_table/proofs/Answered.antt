@@ -18,7 +18,7 @@ use Rattle.df_core.proofs.Walked.PortsThere.{ports_there}
 use Rattle.df_core.proofs.Parts.Arriving.{ports_is_op, memory_is_op, sends_are, result_is_op}
 use Rattle.df_core.specs.Rights.{IsRight, operands_of}
 use Rattle.match_table.specs.declared.entry.Arrived.{Arrived}
-use Rattle.match_table.specs.declared.entry.Page.{Page}
+use Rattle.match_table.specs.Pages.{PageContent}
 use Rattle.match_table.specs.declared.meeting.Operands.{Operands}
 use Rattle.match_table.specs.declared.meeting.Seen.TheVariants.{Waits, Fills}
 use Rattle.match_table.specs.Pages.{arrived_in}
@@ -94,7 +94,7 @@ pub request_operands : (o : Operands) (n : ℕ) → n ≡ length (listed o) → 
 request_operands o n is le = grind arith
 
 -- what is true of a table, by its fields and by its value
-pub ok_now : (image : Image) (world : World) (entries : List (Option Page)) (fired asked : List Key)
+pub ok_now : (image : Image) (world : World) (entries : List (Option PageContent)) (fired asked : List Key)
     → TableOk image world entries fired asked → (c : TableContent) → entries ≡ c.entries
     → TableOk image world c.entries fired asked
 ok_now image world entries fired asked ok c same = subst (λ l. TableOk image world l fired asked) same ok
@@ -150,8 +150,8 @@ module _ (image : Image) (world : World) (formed : Formed image) (sound : Sound 
     request_right operands is memory = grind (arith, asks_right)
 
 -- a right token comes to a port that has had none, and an entry of its instance is put that has it
-pub record Puts (image : Image) (world : World) (entries : List (Option Page)) (fired asked : List Key)
-    (t : Token) (next : Arrived) (new : List (Option Page)) : Type 0 where
+pub record Puts (image : Image) (world : World) (entries : List (Option PageContent)) (fired asked : List Key)
+    (t : Token) (next : Arrived) (new : List (Option PageContent)) : Type 0 where
   pub facts : WalkFacts image world
   pub ok : TableOk image world entries fired asked
   pub right : IsRight image world t
@@ -162,7 +162,7 @@ pub record Puts (image : Image) (world : World) (entries : List (Option Page)) (
 
 -- the instance is full, and is listed
 pub record Lists (image : Image) (fired asked : List Key) (t : Token) (next : Arrived)
-    (new : List (Option Page)) (fired' asked' : List Key) : Type 0 where
+    (new : List (Option PageContent)) (fired' asked' : List Key) : Type 0 where
   pub full : is_full (alone next) 0 0 (ports image t.instr) ≡ true
   pub one_more : fired' ≡ fired ++ record { wave = t.wave; instr = t.instr } ∷ []
   pub asks_so : asked' ≡ cond (is_memory image t.instr) (asked ++ record { wave = t.wave; instr = t.instr } ∷
@@ -170,11 +170,11 @@ pub record Lists (image : Image) (fired asked : List Key) (t : Token) (next : Ar
       asked
 
 -- what a call of `put` leaves
-pub puts : {image : Image} {world : World} {entries : List (Option Page)} {fired asked : List Key}
+pub puts : {image : Image} {world : World} {entries : List (Option PageContent)} {fired asked : List Key}
     → Formed image → Sound image → TableOk image world entries fired asked → (before : TableContent)
     → entries ≡ before.entries → (t : Token) → IsRight image world t →
     is_taken (arrived_in before.entries t.wave t.instr) t.port ≡ false
-    → (new : List (Option Page)) (w i p v : ℕ) → w ≡ t.wave → i ≡ t.instr → p ≡ t.port → v ≡ t.value →
+    → (new : List (Option PageContent)) (w i p v : ℕ) → w ≡ t.wave → i ≡ t.instr → p ≡ t.port → v ≡ t.value →
     ((a b : ℕ) → arrived_in new a b ≡ cond (same_key w i a b) (Some (with_port (arrived_in entries w i) p v))
     (arrived_in entries a b)) → Puts image world entries fired asked t
     (with_port (arrived_in before.entries t.wave t.instr) t.port
@@ -190,7 +190,7 @@ puts {image} {world} {entries} formed sound ok before same t right free new w i 
     }
 
 -- and what is listed then, if the instance is one of memory or not
-pub lists : {image : Image} {t : Token} {next : Arrived} {new : List (Option Page)}
+pub lists : {image : Image} {t : Token} {next : Arrived} {new : List (Option PageContent)}
     (fired asked fired' asked' : List Instance) (own : Instance) → own.wave ≡ t.wave → own.instr ≡ t.instr
     → is_full (alone next) 0 0 (ports image t.instr) ≡ true → fired' ≡ fired ++ own ∷ [] → (asks : Bool)
     → is_memory image t.instr ≡ asks → asked' ≡ cond asks (asked ++ own ∷ []) asked
@@ -216,16 +216,16 @@ lists {image} {t} fired asked fired' asked' own wave instr full one_more asks is
           (sym is);
     }
 
-module _ {image : Image} {world : World} {entries : List (Option Page)} {fired asked : List Key} {t : Token}
-    {next : Arrived} {new : List (Option Page)} (p : Puts image world entries fired asked t next new) where
+module _ {image : Image} {world : World} {entries : List (Option PageContent)} {fired asked : List Key} {t : Token}
+    {next : Arrived} {new : List (Option PageContent)} (p : Puts image world entries fired asked t next new) where
   pub puts_arrives : {before after : TableContent} → entries ≡ before.entries → new ≡ after.entries
       → Arrives before t after
   puts_arrives was is = record {
     free = grind (arith, t.instr, free_port, p.ok, t.port, t.value, p.right);
-    more = λ a b q. ap (λ (l : List (Option Page)). held_in l a b q) (sym is)
+    more = λ a b q. ap (λ (l : List (Option PageContent)). held_in l a b q) (sym is)
         ∙ new_held image world p.facts entries fired asked p.ok t.wave t.instr t.port t.value p.right p.free
         (few_ports image t.instr) next p.next_is new p.arrived a b q
-        ∙ ap (λ (l : List (Option Page)). with_at t.wave t.instr t.port (Some t.value) (held_in l) a b q)
+        ∙ ap (λ (l : List (Option PageContent)). with_at t.wave t.instr t.port (Some t.value) (held_in l) a b q)
         was;
   }
 

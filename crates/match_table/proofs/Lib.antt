@@ -1,3 +1,4 @@
+pub mod Entries
 pub mod Phased
 pub mod Names
 pub mod Arrivals

@@ -11,7 +11,7 @@ use Rattle.df_core.proofs.Walked.FromSound.{has_port}
 use Rattle.df_core.proofs.Keeping.Ports.{full_all}
 use Rattle.match_table.specs.declared.entry.Arrived.{Arrived}
 use Rattle.match_table.specs.declared.entry.Instance.{Instance}
-use Rattle.match_table.specs.declared.entry.Page.{Page}
+use Rattle.match_table.specs.Pages.{PageContent}
 use Rattle.match_table.specs.Pages.{arrived_in}
 use Rattle.match_table.specs.Ports.{alone}
 use Rattle.match_table.specs.Tables.{TableOk, held_in, instance_key, instances, of_memory}
@@ -82,18 +82,18 @@ asked_has image asked ks n e are lt = has_filtered (λ (k : Key). is_memory imag
     (get_or asked n e).instr (listed_has asked (of_memory image ks) n e are lt)
 
 -- what has come to an instance that has fired
-pub record FiredAs (image : Image) (entries : List (Option Page)) (w i : ℕ) : Type 0 where
+pub record FiredAs (image : Image) (entries : List (Option PageContent)) (w i : ℕ) : Type 0 where
   pub arrived : Arrived
   pub is : arrived_in entries w i ≡ Some arrived
   pub full : is_full (alone arrived) 0 0 (ports image i) ≡ true
   pub operands : gather (alone arrived) 0 0 0 (ports image i) ≡ operands_in image (held_in entries) w i
 
-pub fired_as : (image : Image) (entries : List (Option Page)) (w i : ℕ) → 0 < ports image i
+pub fired_as : (image : Image) (entries : List (Option PageContent)) (w i : ℕ) → 0 < ports image i
     → is_full (held_in entries) w i (ports image i) ≡ true → FiredAs image entries w i
 fired_as image entries w i some_port full = grind (arith, full_all, some_none, full_same, gather_same)
 
 -- what has come to one that a table lists
-pub table_fired : (image : Image) (world : World) (entries : List (Option Page)) (fired asked ks : List Key)
+pub table_fired : (image : Image) (world : World) (entries : List (Option PageContent)) (fired asked ks : List Key)
     (w i : ℕ)
     → TableOk image world entries fired asked → fired ≡ ks → HasFired ks w i → FiredAs image entries w i
 table_fired image world entries fired asked ks w i ok same h = grind (arith, fired_as, has_port)

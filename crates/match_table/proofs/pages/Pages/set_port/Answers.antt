@@ -1,6 +1,6 @@
 use Rattle.std.proofs.Common.{ℕ, ◌≡◌, ◌%◌, ap, ◌∙◌, subst, cond, set, get_or, Some}
 use Rattle.df_core.specs.Core.{same_key}
-use Rattle.match_table.specs.declared.entry.Page.{Page}
+use Rattle.match_table.specs.Pages.{PageContent}
 use Rattle.match_table.specs.Pages.{arrived_in, name_for, PageStore}
 use Rattle.match_table.specs.Ports.{none_arrived, set_port, with_port}
 use Rattle.match_table.proofs.Store.{named_is, port_arrived, set_ok, still_clean, still_four}
@@ -17,13 +17,13 @@ own_entries : (c : goal.After-self-1) → c.put_at.new.page.entries ≡ set c.in
     (c.args.wave % 4) (set_port (get_or c.index_mut.result.now.entries (c.args.wave % 4) none_arrived)
     c.args.port
     c.args.value)
-own_entries c = let u : Page = c.index_mut.result.now in c.put_at.ensures.entries
+own_entries c = let u : PageContent = c.index_mut.result.now in c.put_at.ensures.entries
     ∙ ap (λ (k : ℕ). set u.entries k (set_port (get_or u.entries k none_arrived) c.args.port c.args.value))
     c.slot_of.ensures.place
 
 pub invariant_of-self : goal.invariant_of-self
 invariant_of-self c = let order = c.self.inside.order.items in let slots = c.self.inside.pages.slots in
-    let u : Page = c.index_mut.result.now in let v : Page = c.put_at.new.page in
+    let u : PageContent = c.index_mut.result.now in let v : PageContent = c.put_at.new.page in
     let at = c.index_mut.ensures.value in let name = c.put_at.ensures.name in
     set_ok order slots c.self.invariant c.args.key u v at name
     (still_four order slots c.self.invariant c.args.key c.args.wave c.args.instr c.args.port c.args.value u v

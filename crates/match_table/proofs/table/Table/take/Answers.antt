@@ -3,7 +3,7 @@ use Rattle.ws_isa.specs.Image.{ports}
 use Rattle.ws_isa.specs.Walk.{gather}
 use Rattle.df_core.specs.Core.{is_full}
 use Rattle.df_core.specs.Places.{image_of}
-use Rattle.match_table.specs.declared.entry.Page.{Page}
+use Rattle.match_table.specs.Pages.{PageContent}
 use Rattle.match_table.specs.declared.meeting.Seen.{Seen}
 use Rattle.match_table.specs.Pages.{arrived_in}
 use Rattle.match_table.specs.Ports.{listed, with_port, alone, SeenSo}
@@ -47,7 +47,7 @@ fire-requires-clause-full g c =
     subst (λ (k : ℕ × Seen). SeenSo (arrived_in c.args.self.now.entries c.args.token.now.wave
     c.args.token.now.instr) c.args.token.now.port c.args.token.now.value k.0 k.1)
     (λ j. (count.0 j, c.in-Fills.is j)) c.meet-seen.ensures.seen in
-    subst (λ (l : List (Option Page)).
+    subst (λ (l : List (Option PageContent)).
     is_full (alone (with_port (arrived_in l c.args.token.now.wave c.args.token.now.instr)
     c.args.token.now.port c.args.token.now.value)) 0 0 (ports g.J.Job.image c.args.token.now.instr)
     ≡ true) (sym c.make_room-in-Fills.ensures.entries) seen.1
@@ -66,7 +66,7 @@ returns-else-is_err-2-clause-answer g c =
     (alone (with_port (arrived_in c.make_room-in-Fills.new.self.entries c.args.token.now.wave
     c.args.token.now.instr) c.args.token.now.port c.args.token.now.value)) 0 0 0
     (ports g.J.Job.image c.args.token.now.instr) ≡ listed c.in-Fills.operands =
-    ap (λ (l : List (Option Page)).
+    ap (λ (l : List (Option PageContent)).
     gather (alone (with_port (arrived_in l c.args.token.now.wave c.args.token.now.instr)
     c.args.token.now.port c.args.token.now.value)) 0 0 0 (ports g.J.Job.image c.args.token.now.instr))
     c.make_room-in-Fills.ensures.entries ∙ sym seen.2 in
