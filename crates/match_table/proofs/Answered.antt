@@ -24,7 +24,8 @@ use Rattle.match_table.specs.declared.meeting.Seen.TheVariants.{Waits, Fills}
 use Rattle.match_table.specs.Pages.{arrived_in}
 use Rattle.match_table.specs.Ports.{listed, is_taken, with_port, alone, SeenSo}
 use Rattle.match_table.specs.declared.entry.Instance.{Instance}
-use Rattle.match_table.specs.Tables.{TableOk, held, held_in, instance_key, instances, TableContent}
+use Rattle.match_table.specs.Spots.{instance_key}
+use Rattle.match_table.specs.Tables.{TableOk, held, held_in, TableContent}
 use Rattle.match_table.specs.declared.table.Accept.{Accept}
 use Rattle.match_table.specs.declared.table.Accept.TheVariants as accept
 use Rattle.match_table.specs.declared.table.Results.{Results}
@@ -191,29 +192,19 @@ puts {image} {world} {entries} formed sound ok before same t right free new w i 
 
 -- and what is listed then, if the instance is one of memory or not
 pub lists : {image : Image} {t : Token} {next : Arrived} {new : List (Option PageContent)}
-    (fired asked fired' asked' : List Instance) (own : Instance) → own.wave ≡ t.wave → own.instr ≡ t.instr
-    → is_full (alone next) 0 0 (ports image t.instr) ≡ true → fired' ≡ fired ++ own ∷ [] → (asks : Bool)
-    → is_memory image t.instr ≡ asks → asked' ≡ cond asks (asked ++ own ∷ []) asked
-    → Lists image (instances fired) (instances asked) t next new (instances fired') (instances asked')
+    (fired asked fired' asked' : List Key) (own : Instance) → own.wave ≡ t.wave → own.instr ≡ t.instr
+    → is_full (alone next) 0 0 (ports image t.instr) ≡ true → fired' ≡ fired ++ instance_key own ∷ []
+    → (asks : Bool) → is_memory image t.instr ≡ asks
+    → asked' ≡ cond asks (asked ++ instance_key own ∷ []) asked
+    → Lists image fired asked t next new fired' asked'
 lists {image} {t} fired asked fired' asked' own wave instr full one_more asks is are =
     let key : instance_key own ≡ record { wave = t.wave; instr = t.instr } =
     ap (λ (k : ℕ × ℕ). record { wave = k.0; instr = k.1 }) (λ j. (wave j, instr j)) in
-    let appended : (l : List Instance) → instances (l ++ own ∷ []) ≡ instances l
-    ++ record { wave = t.wave; instr = t.instr } ∷ [] =
-    λ l. map-append instance_key l (own ∷ []) ∙ ap (λ k. instances l ++ k ∷ []) key in
-    let both : (b : Bool) → instances (cond b (asked ++ own ∷ []) asked)
-    ≡ cond b (instances asked ++ record { wave = t.wave; instr = t.instr } ∷ []) (instances asked) =
-    elim [
-      | true ↦ appended asked
-      | false ↦ refl
-    ] in
     record {
       full = full;
-      one_more = ap instances one_more ∙ appended fired;
-      asks_so = ap instances are ∙ both asks
-          ∙ ap (λ b. cond b (instances asked ++ record { wave = t.wave; instr = t.instr } ∷ [])
-          (instances asked))
-          (sym is);
+      one_more = one_more ∙ ap (λ (k : Key). fired ++ k ∷ []) key;
+      asks_so = are ∙ ap (λ (k : Key). cond asks (asked ++ k ∷ []) asked) key
+          ∙ ap (λ b. cond b (asked ++ record { wave = t.wave; instr = t.instr } ∷ []) asked) (sym is);
     }
 
 module _ {image : Image} {world : World} {entries : List (Option PageContent)} {fired asked : List Key} {t : Token}

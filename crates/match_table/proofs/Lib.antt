@@ -3,6 +3,7 @@ pub mod Phased
 pub mod Names
 pub mod Arrivals
 pub mod Store
+pub mod Spots
 pub mod Held
 pub mod Listed
 pub mod Kept

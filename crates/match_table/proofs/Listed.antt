@@ -1,6 +1,6 @@
 -- The instances that have fired, as a list.
 use Rattle.std.proofs.Common.{◌≡◌, ◌<◌, ◌⊎◌, ⊎_elim, inl, inr, ℕ, suc, Bool, true, cond, List, [], ◌∷◌, ◌++◌}
-use Rattle.std.proofs.Common.{Option, Some, length, get_or, filter, sym, refl, subst, arith}
+use Rattle.std.proofs.Common.{Option, Some, length, get_or, filter, sym, refl, ap, ◌∙◌, subst, arith}
 use Rattle.std.proofs.lemmas.Bool.{cases_Bool}
 use Rattle.std.proofs.lemmas.List.{get_or-map, length-map}
 use Rattle.ws_words.specs.Outside.{World}
@@ -10,11 +10,11 @@ use Rattle.df_core.specs.Core.{Key, HasFired, Once, is_full, operands_in}
 use Rattle.df_core.proofs.Walked.FromSound.{has_port}
 use Rattle.df_core.proofs.Keeping.Ports.{full_all}
 use Rattle.match_table.specs.declared.entry.Arrived.{Arrived}
-use Rattle.match_table.specs.declared.entry.Instance.{Instance}
 use Rattle.match_table.specs.Pages.{PageContent}
 use Rattle.match_table.specs.Pages.{arrived_in}
 use Rattle.match_table.specs.Ports.{alone}
-use Rattle.match_table.specs.Tables.{TableOk, held_in, instance_key, instances, of_memory}
+use Rattle.match_table.specs.Spots.{InstanceList, instances}
+use Rattle.match_table.specs.Tables.{TableContent, TableOk, held_in, of_memory}
 use Rattle.match_table.proofs.Arrivals.{some_none}
 use Rattle.match_table.proofs.Held.{full_same, gather_same}
 
@@ -62,25 +62,6 @@ has_filtered test (k ∷ ks) w i h = ⊎_elim
     h)))
     (cases_Bool (test k))
 
--- what stands at a place of a list of instances
-pub listed_at : (fired : List Instance) (ks : List Key) (n : ℕ) (d : Key) (e : Instance) → instances fired ≡
-    ks
-    → n < length ks → get_or ks n d ≡ instance_key (get_or fired n e)
-listed_at fired ks n d e are lt = grind (arith, get_or-map, length-map)
-
-pub listed_has : (fired : List Instance) (ks : List Key) (n : ℕ) (e : Instance) → instances fired ≡ ks
-    → n < length ks → HasFired ks (get_or fired n e).wave (get_or fired n e).instr
-listed_has fired ks n e are lt = subst (λ (k : Key). HasFired ks k.wave k.instr)
-    (listed_at fired ks n (instance_key e) e are lt) (has_at ks n (instance_key e) lt)
-
--- and one of memory has fired too
-pub asked_has : (image : Image) (asked : List Instance) (ks : List Key) (n : ℕ) (e : Instance)
-    → instances asked ≡ of_memory image ks → n < length (of_memory image ks)
-    → HasFired ks (get_or asked n e).wave (get_or asked n e).instr
-asked_has image asked ks n e are lt = has_filtered (λ (k : Key). is_memory image k.instr) ks
-    (get_or asked n e).wave
-    (get_or asked n e).instr (listed_has asked (of_memory image ks) n e are lt)
-
 -- what has come to an instance that has fired
 pub record FiredAs (image : Image) (entries : List (Option PageContent)) (w i : ℕ) : Type 0 where
   pub arrived : Arrived
@@ -97,3 +78,21 @@ pub table_fired : (image : Image) (world : World) (entries : List (Option PageCo
     (w i : ℕ)
     → TableOk image world entries fired asked → fired ≡ ks → HasFired ks w i → FiredAs image entries w i
 table_fired image world entries fired asked ks w i ok same h = grind (arith, fired_as, has_port)
+
+-- what a table lists, where this is what it shows
+module _ (entries : List (Option PageContent)) (f : InstanceList) (spare : ℕ) (now : TableContent)
+    (is : record { entries = entries; fired = instances entries f; spare = spare } ≡ now) where
+  pub fired_now : now.fired ≡ instances now.entries f
+  fired_now = sym (ap (λ (s : TableContent). s.fired) is) ∙ ap (λ (s : TableContent). instances s.entries f) is
+
+  pub asked_now : (image : Image) (a : InstanceList)
+      → instances entries a ≡ of_memory image (instances entries f)
+      → of_memory image now.fired ≡ instances now.entries a
+  asked_now image a are = sym (are ∙ ap (λ (s : TableContent). of_memory image s.fired) is)
+      ∙ ap (λ (s : TableContent). instances s.entries a) is
+
+-- each that stands at a place of a list has fired
+pub place_has : (ks fired : List Key) (n : ℕ) (k : Key) → ((w i : ℕ) → HasFired ks w i → HasFired fired w i)
+    → n < length ks → get_or ks n k ≡ k → HasFired fired k.wave k.instr
+place_has ks fired n k all lt is = subst (λ (x : Key). HasFired fired x.wave x.instr) is
+    (all (get_or ks n k).wave (get_or ks n k).instr (has_at ks n k lt))

@@ -46,7 +46,7 @@ impl<J: Job> Table<J> {
         let port = token.port();
         let value = token.value();
         self.room -= 1;
-        self.pages.put(key, wave, instr, port, value);
+        let _ = self.pages.put(key, wave, instr, port, value);
     }
 
     // The token's instance is full, and fires. `asks` says whether it is one of memory.
@@ -74,10 +74,10 @@ impl<J: Job> Table<J> {
         let value = token.value();
         let instance = Instance { wave, instr };
         self.room -= 1;
-        self.pages.put(key, wave, instr, port, value);
-        self.fired.push_reserved(instance);
+        let key = self.pages.put(key, wave, instr, port, value);
+        self.fired.push(key, instance);
         if asks {
-            self.asked.push_reserved(instance);
+            self.asked.push(key, instance);
         }
     }
 

@@ -38,6 +38,7 @@ mod accepting;
 mod bringing;
 mod course;
 mod entry;
+mod instances;
 mod laws;
 mod lent;
 mod limit;

@@ -9,10 +9,12 @@ ghost use Rattle.match_table.specs.declared.meeting.Seen.TheVariants.{Waits, Fil
 ghost use Rattle.match_table.specs.Matching.{IsOldSo, will_fire};
 ghost use Rattle.match_table.specs.Pages.{arrived_in};
 ghost use Rattle.match_table.specs.Ports.{listed, is_taken, SeenSo};
+ghost use Rattle.match_table.specs.Spots.{instance_key, key_in, PlacedSo};
 ghost use Rattle.match_table.specs.Tables.{held, key_of, of_memory};
 
 use crate::course::Course;
 use crate::entry::{Arrived, Instance};
+use crate::instances::Listed;
 use crate::meeting::{Seen, is_taken, meet, operands_of};
 use crate::table::{Fired, Table};
 use df_core::{Code, Job, Token};
@@ -62,7 +64,7 @@ impl<J: Job> Table<J> {
         ensures { (d : Key) → slice_index_or self.now.fired place d
             ≡ record { wave = result.0; instr = result.1 } }
     {
-        let instance = self.fired[place];
+        let instance = self.listed(self.fired.at(place));
         (instance.wave, instance.instr)
     }
 
@@ -74,7 +76,7 @@ impl<J: Job> Table<J> {
         ensures { (d : Key) → slice_index_or (of_memory J.image self.now.fired) place d
             ≡ record { wave = result.0; instr = result.1 } }
     {
-        let instance = self.asked[place];
+        let instance = self.listed(self.asked.at(place));
         (instance.wave, instance.instr)
     }
 
@@ -98,7 +100,8 @@ impl<J: Job> Table<J> {
         ensures operands { listed result.operands
             ≡ operands_in J.image (held self.now) result.wave result.instr }
     {
-        self.fired_with(course, code, self.fired[place])
+        let instance = self.listed(self.fired.at(place));
+        self.fired_with(course, code, instance)
     }
 
     /// The instance of memory that fired here at this place, from 0, in the order of those.
@@ -111,7 +114,20 @@ impl<J: Job> Table<J> {
             ≡ operands_in J.image (held self.now) result.wave result.instr }
     {
         let mut course = self.course();
-        self.fired_with(&mut course, code, self.asked[place])
+        let instance = self.listed(self.asked.at(place));
+        self.fired_with(&mut course, code, instance)
+    }
+
+    // An instance that is listed so.
+    #[inline(always)]
+    fn listed(&self, listed: Listed) -> Instance
+        requires { PlacedSo self.now.entries listed }
+        ensures { instance_key result ≡ key_in self.now.entries listed }
+    {
+        match listed {
+            Listed::Spot(spot) => self.pages.instance(spot),
+            Listed::Other(instance) => instance,
+        }
     }
 
     // An instance that has fired, with its operands.

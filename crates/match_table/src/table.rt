@@ -8,7 +8,7 @@ ghost use Rattle.match_table.specs.Matching.{NoResults};
 ghost use Rattle.match_table.specs.Ports.{listed};
 ghost use Rattle.match_table.specs.Tables.{held, part, TableContent};
 
-use crate::entry::Instance;
+use crate::instances::Instances;
 use crate::meeting::Operands;
 use crate::pages::Pages;
 use df_core::{Job, Request, Sent, Token, TokenList};
@@ -116,28 +116,25 @@ pub enum AcceptFault<J: Job> {
 #[derive(Drop)]
 pub struct Table<J: Job> {
     pub(crate) pages: Pages,
-    pub(crate) fired: Vec<Instance>,
-    pub(crate) asked: Vec<Instance>,
+    pub(crate) fired: Instances,
+    pub(crate) asked: Instances,
     pub(crate) room: usize,
     pub(crate) of: PhantomData<J>,
 }
 
 impl<J: Job> Model for Table<J> {
-    ghost use Rattle.std.specs.Prelude.{◌+◌, ◌≤◌, vec_len, vec_capacity};
-    ghost use Rattle.match_table.specs.Tables.{TableContent, TableOk, instances};
+    ghost use Rattle.match_table.specs.Spots.{instances};
+    ghost use Rattle.match_table.specs.Tables.{TableContent, TableStands};
 
     ghost Value = { TableContent };
 
     ghost view = { λ t. record {
       entries = t.pages.entries;
-      fired = instances t.fired.items;
+      fired = instances t.pages.entries t.fired;
       spare = t.room;
     } };
 
-    ghost invariant = { λ t. TableOk J.image J.world t.pages.entries (instances t.fired.items)
-        (instances t.asked.items)
-        × (t.room ≤ t.pages.spare) × (vec_len t.fired + t.room ≤ vec_capacity t.fired)
-        × (vec_len t.asked + t.room ≤ vec_capacity t.asked) };
+    ghost invariant = { λ t. TableStands J.image J.world t.pages t.fired t.asked t.room };
 }
 
 impl<J: Job> Table<J> {
@@ -148,8 +145,8 @@ impl<J: Job> Table<J> {
     {
         Table {
             pages: Pages::new(alloc),
-            fired: Vec::new(alloc),
-            asked: Vec::new(alloc),
+            fired: Instances::none(alloc),
+            asked: Instances::none(alloc),
             room: 0,
             of: PhantomData,
         }
@@ -201,7 +198,7 @@ impl<J: Job> Table<J> {
     fn more(&self) -> u32
         ensures { 0 < result }
     {
-        if self.fired.is_empty() { FIRST } else { MORE }
+        if self.fired.len() == 0 { FIRST } else { MORE }
     }
 }
 

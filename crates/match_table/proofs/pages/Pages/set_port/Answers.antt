@@ -1,9 +1,11 @@
-use Rattle.std.proofs.Common.{ℕ, ◌≡◌, ◌%◌, ap, ◌∙◌, subst, cond, set, get_or, Some}
+use Rattle.std.proofs.Common.{ℕ, ◌≡◌, ◌%◌, ap, ◌∙◌, sym, subst, cond, set, get_or, Some}
 use Rattle.df_core.specs.Core.{same_key}
 use Rattle.match_table.specs.Pages.{PageContent}
-use Rattle.match_table.specs.Pages.{arrived_in, name_for, PageStore}
+use Rattle.match_table.specs.Pages.{arrived_in, name_for, NamesStay, PageStore}
 use Rattle.match_table.specs.Ports.{none_arrived, set_port, with_port}
-use Rattle.match_table.proofs.Store.{named_is, port_arrived, set_ok, still_clean, still_four}
+use Rattle.match_table.proofs.Spots.{changed_names}
+use Rattle.match_table.proofs.Store.{named_is, port_arrived, set_changed, set_ok, still_clean, still_four}
+use Rattle.ws_words.proofs.Options.{some_same}
 use Rattle.match_table.proofs.pages.Pages.set_port.Goals as goal
 
 -- the page that is found under the key is the instance's
@@ -42,3 +44,13 @@ returns-clause-arrived c = subst (λ (s : PageStore). (a b : ℕ)
     (port_arrived c.self.inside.order.items c.self.inside.pages.slots c.self.invariant c.args.key c.args.wave
     c.args.instr c.args.port c.args.value c.index_mut.result.now c.put_at.new.page c.index_mut.ensures.value
     (own_name c) c.put_at.ensures.name (own_entries c))
+
+pub returns-clause-stay : goal.returns-clause-stay
+returns-clause-stay c = subst (λ (s : PageStore). NamesStay s.entries
+    (set c.self.inside.pages.slots c.args.key (Some c.put_at.new.page))) c.self.view_is
+    (changed_names c.self.inside.pages.slots (set c.self.inside.pages.slots c.args.key (Some c.put_at.new.page))
+    c.args.key c.put_at.new.page
+    (set_changed c.self.inside.pages.slots c.args.key c.index_mut.result.now c.put_at.new.page
+    c.index_mut.ensures.value)
+    (λ d there. ap (λ (x : PageContent). x.name) (some_same (sym there ∙ c.index_mut.ensures.value))
+    ∙ sym c.put_at.ensures.name))

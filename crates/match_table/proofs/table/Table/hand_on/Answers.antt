@@ -10,13 +10,14 @@ use Rattle.match_table.specs.Ports.{listed}
 use Rattle.match_table.proofs.Answered.{ok_now, fills, memory_is, sent_is, sends_right, asks_right}
 use Rattle.match_table.proofs.Answered.{request_right}
 use Rattle.match_table.proofs.table.Table.hand_on.Goals as goal
-use Rattle.match_table.specs.Tables.{instances, TableContent}
+use Rattle.match_table.specs.Spots.{instances}
+use Rattle.match_table.specs.Tables.{TableContent}
 
 pub right-request-requires : goal.right-request-requires
 right-request-requires g c =
     let ok = ok_now g.J.Job.image g.J.Job.world c.self.inside.pages.entries
-    (instances c.self.inside.fired.items)
-    (instances c.self.inside.asked.items) c.self.invariant.0 c.args.self.now
+    (instances c.self.inside.pages.entries c.self.inside.fired)
+    (instances c.self.inside.pages.entries c.self.inside.asked) c.self.invariant.0 c.args.self.now
     (ap (λ (s : TableContent). s.entries) c.self.view_is) in
     subst (λ (k : ℕ × ℕ × ℕ × ℕ). RightRequest g.J.Job.image g.J.Job.world k.0 k.1
     (operands_of (ports g.J.Job.image k.1) k.2 k.3))
@@ -39,8 +40,8 @@ right-request-requires g c =
 pub returns-then-is_memory-clause-outcome : goal.returns-then-is_memory-clause-outcome
 returns-then-is_memory-clause-outcome g c =
     let ok = ok_now g.J.Job.image g.J.Job.world c.self.inside.pages.entries
-    (instances c.self.inside.fired.items)
-    (instances c.self.inside.asked.items) c.self.invariant.0 c.args.self.now
+    (instances c.self.inside.pages.entries c.self.inside.fired)
+    (instances c.self.inside.pages.entries c.self.inside.asked) c.self.invariant.0 c.args.self.now
     (ap (λ (s : TableContent). s.entries) c.self.view_is) in (
       c.right-request.result,
       c.ask.ensures.request,
@@ -81,8 +82,8 @@ right-requires-clause-few g c = subst (λ ds. length ds ≤ 8) (sym c.dests_of-d
 pub right-requires-clause-right : goal.right-requires-clause-right
 right-requires-clause-right g c =
     let ok = ok_now g.J.Job.image g.J.Job.world c.self.inside.pages.entries
-    (instances c.self.inside.fired.items)
-    (instances c.self.inside.asked.items) c.self.invariant.0 c.args.self.now
+    (instances c.self.inside.pages.entries c.self.inside.fired)
+    (instances c.self.inside.pages.entries c.self.inside.asked) c.self.invariant.0 c.args.self.now
     (ap (λ (s : TableContent). s.entries) c.self.view_is) in
     λ w i p v s. sends_right g.J.Job.image g.J.Job.world c.requires.formed c.requires.sound c.args.self.now _
     _ ok c.args.token.now c.wave-wave.ensures.right (listed c.args.operands)

@@ -1,9 +1,9 @@
-use Rattle.std.proofs.Common.{sym, ap, ◌∙◌}
-use Rattle.match_table.specs.Tables.{TableContent, instance_key}
-use Rattle.match_table.proofs.Listed.{listed_at}
+use Rattle.std.proofs.Common.{List, get_or, sym, ap, ◌∙◌}
+use Rattle.df_core.specs.Core.{Key}
+use Rattle.match_table.proofs.Listed.{fired_now}
 use Rattle.match_table.proofs.table.Table.key_at.Goals as goal
 
 pub returns : goal.returns
-returns g c = λ d. listed_at c.self.inside.fired.items c.args.self.now.fired c.args.place d _
-    (ap (λ (s : TableContent). s.fired) c.self.view_is) c.requires ∙ ap instance_key
-    (sym c.index-instance.ensures)
+returns g c = λ d. ap (λ (l : List Key). get_or l c.args.place d) (fired_now c.self.inside.pages.entries c.self.inside.fired
+    c.self.inside.room c.args.self.now c.self.view_is)
+    ∙ c.at.ensures.at c.args.self.now.entries d ∙ sym c.listed-instance.ensures

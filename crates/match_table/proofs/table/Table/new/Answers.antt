@@ -1,15 +1,16 @@
-use Rattle.std.proofs.Common.{List, sym, subst, arith}
-use Rattle.match_table.specs.declared.entry.Instance.{Instance}
-use Rattle.match_table.specs.Tables.{TableOk, instances}
+use Rattle.std.proofs.Common.{arith}
 use Rattle.match_table.proofs.Kept.{fresh_ok}
+use Rattle.match_table.proofs.Spots.{no_lists}
 use Rattle.match_table.proofs.table.Table.new.Goals as goal
 
 pub invariant_of-result : goal.invariant_of-result
-invariant_of-result g c = (
-  subst (λ (x : List Instance × List Instance). TableOk g.J.Job.image g.J.Job.world c.new.result.entries
-      (instances x.0) (instances x.1)) (λ j. (sym c.new-2.ensures.items j, sym c.new-3.ensures.items j))
-      (fresh_ok g.J.Job.image g.J.Job.world c.new.result.entries c.new.ensures),
-  omega arith,
-  omega arith,
-  omega arith,
-)
+invariant_of-result g c = let lists = no_lists g.J.Job.image g.J.Job.world c.new.result.entries c.none.result
+    c.none-2.result c.none.ensures.spots c.none.ensures.others c.none-2.ensures.spots c.none-2.ensures.others
+    (fresh_ok g.J.Job.image g.J.Job.world c.new.result.entries c.new.ensures) in (
+      lists.0,
+      lists.1,
+      lists.2,
+      omega arith,
+      omega arith,
+      omega arith,
+    )

@@ -5,7 +5,8 @@ use Rattle.match_table.specs.Pages.{arrived_in}
 use Rattle.match_table.specs.Ports.{SeenSo}
 use Rattle.match_table.proofs.Answered.{count_is, ok_now, fills_fires, waits_open}
 use Rattle.match_table.proofs.table.Table.would_fire.Goals as goal
-use Rattle.match_table.specs.Tables.{instances, TableContent}
+use Rattle.match_table.specs.Spots.{instances}
+use Rattle.match_table.specs.Tables.{TableContent}
 
 pub meet-seen-requires-clause-ports : goal.meet-seen-requires-clause-ports
 meet-seen-requires-clause-ports g c = count_is g.J.Job.image (image_of c.program-program.result.now)
@@ -15,8 +16,8 @@ meet-seen-requires-clause-ports g c = count_is g.J.Job.image (image_of c.program
 pub returns-in-Fills : goal.returns-in-Fills
 returns-in-Fills g c =
     let ok = ok_now g.J.Job.image g.J.Job.world c.self.inside.pages.entries
-    (instances c.self.inside.fired.items)
-    (instances c.self.inside.asked.items) c.self.invariant.0 c.args.self.now
+    (instances c.self.inside.pages.entries c.self.inside.fired)
+    (instances c.self.inside.pages.entries c.self.inside.asked) c.self.invariant.0 c.args.self.now
     (ap (λ (s : TableContent). s.entries) c.self.view_is) in
     let count = count_is g.J.Job.image (image_of c.program-program.result.now) c.args.token.now.instr
     c.instr-instr.result c.op.result c.op.ensures c.program-program.ensures.image c.instr-instr.ensures
@@ -30,8 +31,8 @@ returns-in-Fills g c =
 pub returns-in-Waits : goal.returns-in-Waits
 returns-in-Waits g c =
     let ok = ok_now g.J.Job.image g.J.Job.world c.self.inside.pages.entries
-    (instances c.self.inside.fired.items)
-    (instances c.self.inside.asked.items) c.self.invariant.0 c.args.self.now
+    (instances c.self.inside.pages.entries c.self.inside.fired)
+    (instances c.self.inside.pages.entries c.self.inside.asked) c.self.invariant.0 c.args.self.now
     (ap (λ (s : TableContent). s.entries) c.self.view_is) in
     let count = count_is g.J.Job.image (image_of c.program-program.result.now) c.args.token.now.instr
     c.instr-instr.result c.op.result c.op.ensures c.program-program.ensures.image c.instr-instr.ensures
