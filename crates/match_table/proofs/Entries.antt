@@ -1,9 +1,11 @@
 -- The entries of a page, from the ports that have had values and these.
-use Rattle.std.proofs.Common.{◌≡◌, ◌<◌, ℕ, zero, suc, List, [], ◌∷◌, length, get_or, set, refl, ap, arith}
+use Rattle.std.proofs.Common.{◌≡◌, ◌<◌, ℕ, zero, suc, List, [], ◌∷◌, length, get_or, set, refl, ap, ◌∙◌, arith}
 use Rattle.match_table.specs.declared.entry.Arrived.{Arrived}
 use Rattle.match_table.specs.declared.entry.Had.{Had}
 use Rattle.match_table.specs.declared.entry.Values.{Values}
-use Rattle.match_table.specs.Pages.{all_arrived, arrived_of}
+use Rattle.match_table.specs.declared.entry.PageName.{PageName}
+use Rattle.match_table.specs.Pages.{PageContent, all_arrived, arrived_of}
+use Rattle.match_table.specs.Ports.{none_arrived, set_port}
 
 pub entry_of : (hs : List Had) (vs : List Values) (k : ℕ) (h : Had) (v : Values) (d : Arrived) → k < length hs
     → k < length vs → arrived_of (get_or hs k h) (get_or vs k v) ≡ get_or (all_arrived hs vs) k d
@@ -20,3 +22,21 @@ entry_set (x ∷ hs) [] zero h v = refl
 entry_set (x ∷ hs) [] (suc k) h v = refl
 entry_set (x ∷ hs) (y ∷ vs) zero h v = refl
 entry_set (x ∷ hs) (y ∷ vs) (suc k) h v = ap (λ l. arrived_of x y ∷ l) (entry_set hs vs k h v)
+
+-- the entry at a place
+abbrev pub entry : List Had → List Values → ℕ → Arrived
+entry hs vs k = arrived_of (get_or hs k none_arrived.had)
+    (get_or vs k (record { first = 0; second = 0; third = 0 }))
+
+-- a page whose entry has had one value more
+pub value_set : (hs : List Had) (vs : List Values) (k p v : ℕ) (next : Arrived) (name : PageName)
+    (now : PageContent) → record { name = name; entries = all_arrived hs vs } ≡ now → length hs ≡ 4
+    → length vs ≡ 4 → k < 4 → next ≡ set_port (entry hs vs k) p v
+    → all_arrived (set hs k next.had)
+    (set vs k (record { first = next.first; second = next.second; third = next.third }))
+    ≡ set now.entries k (set_port (get_or now.entries k none_arrived) p v)
+value_set hs vs k p v next name now is had values below same =
+    entry_set hs vs k next.had (record { first = next.first; second = next.second; third = next.third })
+    ∙ ap (set (all_arrived hs vs) k) (same ∙ ap (λ a. set_port a p v) (entry_of hs vs k _ _ none_arrived
+    (omega (arith, had, below)) (omega (arith, values, below))))
+    ∙ ap (λ (x : PageContent). set x.entries k (set_port (get_or x.entries k none_arrived) p v)) is
