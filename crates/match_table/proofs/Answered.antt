@@ -27,15 +27,12 @@ use Rattle.match_table.specs.declared.entry.Instance.{Instance}
 use Rattle.match_table.specs.Spots.{instance_key}
 use Rattle.match_table.specs.Tables.{TableOk, held, held_in, TableContent}
 use Rattle.match_table.specs.declared.table.Accept.{Accept}
-use Rattle.match_table.specs.declared.table.Accept.TheVariants as accept
 use Rattle.match_table.specs.declared.table.Results.{Results}
 use Rattle.match_table.specs.declared.table.Took.{Took}
-use Rattle.match_table.specs.declared.table.Took.TheVariants as took
 use Rattle.match_table.specs.Matching.{Arrives, Full, AcceptIs, HandedOn, Accepted, TookAs, will_fire}
 use Rattle.match_table.proofs.Kept.{port_below, full_with, full_operands, free_port, kept_ok, new_held}
 use Rattle.match_table.proofs.Kept.{new_full, new_operands, fired_ok}
 use Rattle.ws_isa.proofs.Delivered.{few_ports}
-use Rattle.std.proofs.lemmas.List.{map-append}
 
 -- the instruction that the code has looked up
 module _ (image im : Image) (k i : ℕ) (op : Op) (looked : op ≡ (instr_at im i).op) (same : im ≡ image)

@@ -8,7 +8,7 @@ use Rattle.df_core.specs.Core.{Key, HasFired, operands_in, with_at}
 use Rattle.df_core.proofs.Keeping.Ports.{with_at_cases}
 use Rattle.df_core.proofs.Parts.StandsMatch.{gather_agree}
 use Rattle.match_table.specs.Matching.{Arrives, Full}
-use Rattle.match_table.specs.Tables.{held, TableContent}
+use Rattle.match_table.specs.Tables.{TableContent}
 use Rattle.match_table.specs.Growth.{content_at, no_content}
 use Rattle.match_table.specs.Together.{all_fired, together}
 use Rattle.match_table.specs.Coming.{served}

@@ -1,4 +1,4 @@
-use Rattle.std.proofs.Common.{sym, arith}
+use Rattle.std.proofs.Common.{arith}
 use Rattle.match_table.proofs.Spots.{other_listed, spot_listed}
 use Rattle.match_table.proofs.instances.Instances.push.Goals as goal
 
