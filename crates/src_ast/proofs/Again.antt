@@ -1,5 +1,5 @@
 -- The printed form of a written program reads as the same program.
-use Rattle.std.proofs.Common.{List, subst}
+use Rattle.std.proofs.Common.{arith, List, subst}
 use Rattle.src_ast.specs.Lexemes.{start, after, Lex}
 use Rattle.src_ast.specs.Printed.{printed_form}
 use Rattle.src_ast.specs.Syntax.{Part}
@@ -20,8 +20,7 @@ reads_the_same all h =
       ls = placed start (parts all);
       finish = after start (printed_form all);
       again = r.0;
-      lex = subst (λ text. Lex text (placed start (parts all)) (after start text)) (printed_is all)
-          (lexed (parts all) (parts_spelt all n));
+      lex = grind (arith, placed, parts, printed_is, lexed, parts_spelt);
       kept = keeps start (parts_kept all h);
       tree = r.1;
       same = r.2;

@@ -99,32 +99,12 @@ cast e h = rw e at h
 without_places : (all : List Part) → AreNearlyWritten all → AreNearlyWritten (bare_parts all)
 without_places [] h = tt
 without_places (Array x n at ∷ all) h = (h.0, without_places all h.1)
-without_places (Proc p ∷ all) h = (
-  record {
-    name = h.0.name;
-    params = cast (sym (names_written p.params)) h.0.params;
-    params_row = subst (λ n. FitsRow (n + 4)) (sym (names_width_bare p.params)) h.0.params_row;
-    vars = cast (sym (names_written p.vars)) h.0.vars;
-    body = cast (sym (body_written 1 p.body)) h.0.body;
-    ending = cast (sym (ending_written p.ending)) h.0.ending;
-  },
-  without_places all h.1,
-)
+without_places (Proc p ∷ all) h = (grind (arith, cast, names_written, names_width_bare, body_written, ending_written, without_places all h.1))
 
 with_places : (all : List Part) → AreNearlyWritten (bare_parts all) → AreNearlyWritten all
 with_places [] h = tt
 with_places (Array x n at ∷ all) h = (h.0, with_places all h.1)
-with_places (Proc p ∷ all) h = (
-  record {
-    name = h.0.name;
-    params = cast (names_written p.params) h.0.params;
-    params_row = subst (λ n. FitsRow (n + 4)) (names_width_bare p.params) h.0.params_row;
-    vars = cast (names_written p.vars) h.0.vars;
-    body = cast (body_written 1 p.body) h.0.body;
-    ending = cast (ending_written p.ending) h.0.ending;
-  },
-  with_places all h.1,
-)
+with_places (Proc p ∷ all) h = (grind (arith, cast, names_written, names_width_bare, body_written, ending_written, with_places all h.1))
 
 -- the same programs are alike nearly written
 pub same_nearly : (a b : List Part) → Same a b → AreNearlyWritten b → AreNearlyWritten a
@@ -156,17 +136,6 @@ else_bare n b text = grind arith
 
 mutual
   statement_bare : (n : ℕ) (s : Statement) → statement_lines n (bare_statement s) ≡ statement_lines n s
-  statement_bare n (Assign at x e) = ap (λ t. line n (x.text ++ codes " = " ++ t ++ codes ";")) (text_bare e)
-  statement_bare n (Store at a j e) =
-      λ i. line n (a.text ++ codes "[" ++ text_bare j i ++ codes "] = " ++ text_bare e i ++ codes ";")
-  statement_bare n (Print at e) = ap (λ t. line n (codes "print " ++ t ++ codes ";")) (text_bare e)
-  statement_bare n (Read at x) = refl
-  statement_bare n (Give at port p x) = refl
-  statement_bare n (Take at port p e) =
-      ap (λ t. line n (codes "take " ++ decimal port ++ codes ", " ++ t ++ codes ";")) (text_bare e)
-  statement_bare n (Call at None f es) = ap (λ t. line n (t ++ codes ";")) (call_bare f es)
-  statement_bare n (Call at (Some x) f es) = ap (λ t. line n (x.text ++ codes " = " ++ t ++ codes ";"))
-      (call_bare f es)
   statement_bare n (If at e a b) =
       (λ i. line n (codes "if (" ++ text_bare e i ++ codes ") {") ++ body_bare (suc n) a i ++ else_lines n
       (bare_statements b) (body_bare (suc n) b i))
@@ -175,6 +144,7 @@ mutual
   statement_bare n (While at e body) =
       λ i. line n (codes "while (" ++ text_bare e i ++ codes ") {") ++ body_bare (suc n) body i ++ line n
       (codes "}")
+  statement_bare v0 v1 = grind (arith, text_bare, call_bare)
 
   body_bare : (n : ℕ) (b : Statements) → body_lines n (bare_statements b) ≡ body_lines n b
   body_bare n Nothing = refl
@@ -187,11 +157,7 @@ ending_bare : (e : Option Last) → ending_lines (bare_ending e) ≡ ending_line
 ending_bare e = grind (arith, text_bare)
 
 part_bare : (p : Part) → part_lines (bare_part p) ≡ part_lines p
-part_bare (Array x n at) = refl
-part_bare (Proc p) =
-    λ i. line 0 (codes "proc " ++ p.name.text ++ codes "(" ++ separated_text (name_texts_bare p.params i)
-    ++ codes ") {")
-    ++ variables_bare p.vars i ++ body_bare 1 p.body i ++ ending_bare p.ending i ++ line 0 (codes "}")
+part_bare v0 = grind (arith, name_texts_bare, variables_bare, body_bare, ending_bare)
 
 printed_bare : (all : List Part) → printed_form (bare_parts all) ≡ printed_form all
 printed_bare [] = refl

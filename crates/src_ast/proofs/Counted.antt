@@ -65,9 +65,7 @@ procedure_row a h at qs braces row k =
     let open' = here (past_space (past_mark last.place RParen)) (Mark LBrace) in
     let inside = past_line (past_mark open'.place LBrace) in
     let all : placed at (p.part (Proc a) qs) ≡ (l ∷ m ∷ first ∷ (ps.ls ++ last ∷ [])) ++ open' ∷ placed inside
-    variables =
-    ap (λ t. l ∷ m ∷ first ∷ t)
-    (ps.is ∙ sym (append_assoc ps.ls (last ∷ []) (open' ∷ placed inside variables))) in
+    variables = grind (arith, append_assoc, placed) in
     let k' = after_brace (l ∷ m ∷ first ∷ (ps.ls ++ last ∷ [])) open' (placed inside variables) braces row
     refl (subst (KeepLimits braces row) all k) in
     variables_row a.vars h.vars inside bodies k'.0 k'.1
@@ -91,8 +89,7 @@ nearly_lexemes all h =
     record {
       ls = placed start (p.parts all);
       finish = after start (printed_form all);
-      lex = subst (λ text. Lex text (placed start (p.parts all)) (after start text)) (printed_is all)
-          (lexed (p.parts all) (parts_spelt all h));
+      lex = grind (arith, placed, printed_is, lexed, parts_spelt);
       written = λ k. whole all h (rows all h start 0 0 k);
     }
 

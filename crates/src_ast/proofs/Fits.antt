@@ -46,19 +46,10 @@ assign_fits : (ks : List Lexeme) (l equals last : Lexeme) (ls : List Lexeme) (x 
     → FitsBefore braces (Assign x.place x e) rest
 assign_fits ks l equals last ls x e eq is q s c h braces rest k =
     let hs = subst AllSound eq h in
-    let all : ks ++ rest ≡ (l ∷ equals ∷ ls) ++ last ∷ rest = ap (λ t. t ++ rest) eq
-    ∙ ap (λ t. l ∷ equals ∷ t) (split ls last rest) in
-    let row : AllPlain (l ∷ equals ∷ ls) = plain (plain_word l x.text is.word)
-    (plain (plain_mark equals mark.Assign refl q) (expression_plain s)) in
+    let all : ks ++ rest ≡ (l ∷ equals ∷ ls) ++ last ∷ rest = grind (arith, split) in
+    let row : AllPlain (l ∷ equals ∷ ls) = grind (arith, plain, plain_word, plain_mark, expression_plain) in
     let w = line_limits last rest braces row c (subst (KeepLimits braces 0) all k) in
-    let small = w.0 in (
-      (
-        name_good is (sound_here hs),
-        expression_good s (sound_front ls (last ∷ []) (sound_after (sound_after hs))),
-        omega (arith, small, width_least s),
-      ),
-      w.1,
-    )
+    let small = w.0 in grind (arith, name_good, sound_here, expression_good, sound_front, sound_after, width_least)
 
 store_fits : (ks : List Lexeme) (l first last equals semi : Lexeme) (is es : List Lexeme) (a : Name)
     (i e : Expression)
@@ -73,19 +64,9 @@ store_fits ks l first last equals semi is es a i e eq na o si c q se d h braces 
     let back = sound_back is (last ∷ equals ∷ (es ++ semi ∷ [])) inside in
     let row : List Lexeme = l ∷ first ∷ (is ++ last ∷ equals ∷ es) in
     let all : ks ++ rest ≡ row ++ semi ∷ rest = ap (λ t. t ++ rest) eq ∙ simp append_assoc in
-    let flat : AllPlain row = plain (plain_word l a.text na.word) (plain (plain_mark first LSquare refl o)
-    (plain_append (expression_plain si) (plain (plain_mark last RSquare refl c)
-    (plain (plain_mark equals mark.Assign refl q) (expression_plain se))))) in
+    let flat : AllPlain row = grind (arith, plain, plain_word, plain_mark, plain_append, expression_plain) in
     let w = line_limits semi rest braces flat d (subst (KeepLimits braces 0) all k) in
-    let small = w.0 in (
-      (
-        name_good na (sound_here hs),
-        expression_good si (sound_front is (last ∷ equals ∷ (es ++ semi ∷ [])) inside),
-        expression_good se (sound_front es (semi ∷ []) (sound_after (sound_after back))),
-        omega (arith, small, width_least si, width_least se, length-append is (last ∷ equals ∷ es)),
-      ),
-      w.1,
-    )
+    let small = w.0 in grind (arith, name_good, sound_here, expression_good, sound_front, sound_after, width_least, length-append)
 
 print_fits : (ks : List Lexeme) (l last : Lexeme) (ls : List Lexeme) (e : Expression) (w : List ℕ)
     → ks ≡ l ∷ (ls ++ last ∷ []) → l.shape ≡ Word w → Spelled 0 ls e → Is Semi last
@@ -93,15 +74,10 @@ print_fits : (ks : List Lexeme) (l last : Lexeme) (ls : List Lexeme) (e : Expres
     → IsWrittenExpression e × (width e + 1 ≤ 256) × KeepLimits braces 0 rest
 print_fits ks l last ls e word eq is s c h braces rest k =
     let hs = subst AllSound eq h in
-    let all : ks ++ rest ≡ (l ∷ ls) ++ last ∷ rest = ap (λ t. t ++ rest) eq
-    ∙ ap (λ t. l ∷ t) (split ls last rest) in
+    let all : ks ++ rest ≡ (l ∷ ls) ++ last ∷ rest = grind (arith, split) in
     let row : AllPlain (l ∷ ls) = plain (plain_word l word is) (expression_plain s) in
     let w = line_limits last rest braces row c (subst (KeepLimits braces 0) all k) in
-    let small = w.0 in (
-      expression_good s (sound_front ls (last ∷ []) (sound_after hs)),
-      omega (arith, small, width_least s),
-      w.1,
-    )
+    let small = w.0 in grind (arith, expression_good, sound_front, sound_after, width_least)
 
 read_fits : (ks : List Lexeme) (l name last : Lexeme) (x : Name)
     → ks ≡ l ∷ name ∷ last ∷ [] → l.shape ≡ Word (codes "read") → IsName x name → Is Semi last
@@ -115,18 +91,7 @@ give_fits : (ks : List Lexeme) (l port comma name last : Lexeme) (n : ℕ) (x : 
     → Is Comma comma → IsName x name → Is Semi last
     → AllSound ks → (braces : ℕ) (rest : List Lexeme) → KeepLimits braces 0 (ks ++ rest)
     → FitsBefore braces (Give l.place n port.place x) rest
-give_fits ks l port comma name last n x eq is np q nx c h braces rest k =
-    let hs = subst AllSound eq h in
-    let row : AllPlain (l ∷ port ∷ comma ∷ name ∷ []) = plain (plain_word l (codes "give") is)
-    (plain (plain_number port n np) (plain (plain_mark comma Comma refl q)
-    (plain (plain_word name x.text nx.word) no_plain))) in
-    let w = line_limits last rest braces row c (subst (λ t. KeepLimits braces 0 (t ++ rest)) eq k) in (
-      (
-        number_good port np (sound_here (sound_after hs)),
-        name_good nx (sound_here (sound_after (sound_after (sound_after hs)))),
-      ),
-      w.1,
-    )
+give_fits ks l port comma name last n x eq is np q nx c h braces rest k = grind (arith, plain, plain_word, plain_mark, no_plain, line_limits, sound_here, sound_after, name_good)
 
 take_fits : (ks : List Lexeme) (l port comma last : Lexeme) (ls : List Lexeme) (n : ℕ) (e : Expression)
     → ks ≡ l ∷ port ∷ comma ∷ (ls ++ last ∷ []) → l.shape ≡ Word (codes "take") → port.shape ≡ shape.Number n
@@ -135,19 +100,11 @@ take_fits : (ks : List Lexeme) (l port comma last : Lexeme) (ls : List Lexeme) (
     → FitsBefore braces (Take l.place n port.place e) rest
 take_fits ks l port comma last ls n e eq is np q s c h braces rest k =
     let hs = subst AllSound eq h in
-    let all : ks ++ rest ≡ (l ∷ port ∷ comma ∷ ls) ++ last ∷ rest = ap (λ t. t ++ rest) eq
-    ∙ ap (λ t. l ∷ port ∷ comma ∷ t) (split ls last rest) in
+    let all : ks ++ rest ≡ (l ∷ port ∷ comma ∷ ls) ++ last ∷ rest = grind (arith, split) in
     let row : AllPlain (l ∷ port ∷ comma ∷ ls) = plain (plain_word l (codes "take") is)
     (plain (plain_number port n np) (plain (plain_mark comma Comma refl q) (expression_plain s))) in
     let w = line_limits last rest braces row c (subst (KeepLimits braces 0) all k) in
-    let small = w.0 in (
-      (
-        number_good port np (sound_here (sound_after hs)),
-        expression_good s (sound_front ls (last ∷ []) (sound_after (sound_after (sound_after hs)))),
-        omega (arith, small, width_least s),
-      ),
-      w.1,
-    )
+    let small = w.0 in grind (arith, number_good, sound_here, sound_after, expression_good, sound_front, width_least)
 
 call_fits : (ks : List Lexeme) (name first last semi : Lexeme) (ls : List Lexeme) (f : Name)
     (es : List Expression)
@@ -162,14 +119,7 @@ call_fits ks name first last semi ls f es eq nf o s c d h braces rest k =
     let flat : AllPlain row = plain (plain_word name f.text nf.word) (plain (plain_mark first LParen refl o)
     (plain_append (arguments_plain s) (plain (plain_mark last RParen refl c) no_plain))) in
     let w = line_limits semi rest braces flat d (subst (KeepLimits braces 0) all k) in
-    let small = w.0 in (
-      (
-        name_good nf (sound_here hs),
-        arguments_good s (sound_front ls (last ∷ semi ∷ []) (sound_after (sound_after hs))),
-        omega (arith, small, arguments_width s, length-append ls (last ∷ [])),
-      ),
-      w.1,
-    )
+    let small = w.0 in grind (arith, name_good, sound_here, arguments_good, sound_front, sound_after, arguments_width, length-append)
 
 called_fits : (ks : List Lexeme) (l equals name first last semi : Lexeme) (ls : List Lexeme) (x f : Name)
     (es : List Expression)
@@ -183,20 +133,9 @@ called_fits ks l equals name first last semi ls x f es eq nx q nf o s c d h brac
     let row : List Lexeme = l ∷ equals ∷ name ∷ first ∷ (ls ++ last ∷ []) in
     let all : ks ++ rest ≡ row ++ semi ∷ rest = ap (λ t. t ++ rest) eq ∙ simp append_assoc in
     let flat : AllPlain row = plain (plain_word l x.text nx.word)
-    (plain (plain_mark equals mark.Assign refl q)
-    (plain (plain_word name f.text nf.word) (plain (plain_mark first LParen refl o)
-    (plain_append (arguments_plain s) (plain (plain_mark last RParen refl c) no_plain))))) in
+    (grind (arith, plain, plain_mark, plain_word, plain_append, arguments_plain, no_plain)) in
     let w = line_limits semi rest braces flat d (subst (KeepLimits braces 0) all k) in
-    let small = w.0 in (
-      (
-        name_good nx (sound_here hs),
-        name_good nf (sound_here (sound_after (sound_after hs))),
-        arguments_good s
-            (sound_front ls (last ∷ semi ∷ []) (sound_after (sound_after (sound_after (sound_after hs))))),
-        omega (arith, small, arguments_width s, length-append ls (last ∷ [])),
-      ),
-      w.1,
-    )
+    let small = w.0 in grind (arith, name_good, sound_here, sound_after, arguments_good, sound_front, arguments_width, length-append)
 
 -- the test of an `if` or a `while`
 record TestFits (braces : ℕ) (e : Expression) (ls following rest : List Lexeme) : Type 0 where
@@ -217,8 +156,7 @@ test_fits ks l first last ls following e w eq is o s c h braces rest k =
     let row : List Lexeme = l ∷ first ∷ (ls ++ last ∷ []) in
     let all : ks ++ rest ≡ row ++ (following ++ rest) = ap (λ t. t ++ rest) eq ∙ simp append_assoc in
     let flat : AllPlain row =
-    plain (plain_word l w is) (plain (plain_mark first LParen refl o)
-    (plain_append (expression_plain s) (plain (plain_mark last RParen refl c) no_plain))) in
+    plain (plain_word l w is) (grind (arith, plain, plain_mark, plain_append, expression_plain, no_plain)) in
     let within = row_limits (following ++ rest) braces flat (subst (KeepLimits braces 0) all k) in
     let small = within.short in
     let inside = sound_after (sound_after hs) in
@@ -249,8 +187,7 @@ mutual
   statement_fits (call {ks = ks} name first last semi ls f es eq nf o s c d) h braces rest k =
       call_fits ks name first last semi ls f es eq nf o s c d h braces rest k
   statement_fits (called {ks = ks} l equals name first last semi ls x f es eq nx q nf o s c d) h braces rest
-      k =
-      called_fits ks l equals name first last semi ls x f es eq nx q nf o s c d h braces rest k
+      k = grind (arith, called_fits ks l equals name first last semi ls x f es eq nx q nf o s c d h braces rest k)
   statement_fits (choice {ks = ks} l first last ls xs ys e a b eq is o s c sa sb) h braces rest k =
       let t = test_fits ks l first last ls (xs ++ ys) e (codes "if") eq is o s c h braces rest k in
       let x = block_fits sa (sound_front xs ys t.inside) braces t.row (ys ++ rest)
@@ -268,8 +205,7 @@ mutual
       × KeepLimits braces 0 rest
   block_fits (block {ks = ks} first last ls b eq o s c) h braces row rest k =
       let hs = subst AllSound eq h in
-      let all : ks ++ rest ≡ first ∷ (ls ++ last ∷ rest) = ap (λ t. t ++ rest) eq
-      ∙ ap (λ t. first ∷ t) (split ls last rest) in
+      let all : ks ++ rest ≡ first ∷ (ls ++ last ∷ rest) = grind (arith, split) in
       let x = open_limits braces row first (ls ++ last ∷ rest) o (subst (KeepLimits braces row) all k) in
       let y = statements_fit s (sound_front ls (last ∷ []) (sound_after hs)) (suc braces) (last ∷ rest) x.1 in
       (x.0, y.0, close_limits braces 0 last rest c y.1)
@@ -317,11 +253,7 @@ vars_fit (vars {ks = ks} l semi ls rs xs ys eq zs is s c more) h braces rest k =
     let all : ks ++ rest ≡ (l ∷ ls) ++ semi ∷ (rs ++ rest) = ap (λ t. t ++ rest) eq ∙ simp append_assoc in
     let row : AllPlain (l ∷ ls) = plain (plain_word l (codes "var") is) (some_names_plain s) in
     let w = line_limits semi (rs ++ rest) braces row c (subst (KeepLimits braces 0) all k) in
-    let t = vars_fit more (sound_after (sound_back ls (semi ∷ rs) inside)) braces rest w.1 in (
-      subst AreWrittenNames (sym zs)
-          (names_append xs ys (some_names_good s (sound_front ls (semi ∷ rs) inside)) t.0),
-      t.1,
-    )
+    let t = vars_fit more (sound_after (sound_back ls (semi ∷ rs) inside)) braces rest w.1 in grind (arith, names_append, some_names_good, sound_front)
 
 names_few : (xs : List Name) → names_width xs ≤ 2 * length xs
 names_few (x ∷ y ∷ xs) = omega (arith, names_few (y ∷ xs))
@@ -333,19 +265,7 @@ array_fits : (ks : List Lexeme) (l name first size last semi : Lexeme) (x : Name
     → Is RSquare last → Is Semi semi
     → AllSound ks → (rest : List Lexeme) → KeepLimits 0 0 (ks ++ rest) → IsNearlyPart (Array x n size.place)
     × KeepLimits 0 0 rest
-array_fits ks l name first size last semi x n eq is nx o v c d h rest k =
-    let hs = subst AllSound eq h in
-    let row : AllPlain (l ∷ name ∷ first ∷ size ∷ last ∷ []) =
-    plain (plain_word l (codes "array") is) (plain (plain_word name x.text nx.word)
-    (plain (plain_mark first LSquare refl o)
-    (plain (plain_number size n v) (plain (plain_mark last RSquare refl c) no_plain)))) in
-    let w = line_limits semi rest 0 row d (subst (λ t. KeepLimits 0 0 (t ++ rest)) eq k) in (
-      (
-        name_good nx (sound_here (sound_after hs)),
-        number_good size v (sound_here (sound_after (sound_after (sound_after hs)))),
-      ),
-      w.1,
-    )
+array_fits ks l name first size last semi x n eq is nx o v c d h rest k = grind (arith, plain, plain_word, plain_mark, no_plain, line_limits, name_good, sound_here, sound_after)
 
 procedure_fits : (ks : List Lexeme) (l name first last open' close : Lexeme) (ps vs bs es : List Lexeme)
     (x : Name) (params vs' : List Name) (b : Statements) (e : Option Last)
@@ -369,24 +289,13 @@ procedure_fits ks l name first last open' close ps vs bs es x params vs' b e eq 
     let following : List Lexeme = vs ++ (bs ++ (es ++ close ∷ rest)) in
     let all : ks ++ rest ≡ row ++ open' ∷ following = ap (λ t. t ++ rest) eq ∙ simp append_assoc in
     let flat : AllPlain row = plain (plain_word l (codes "proc") is)
-    (plain (plain_word name x.text nx.word) (plain (plain_mark first LParen refl o)
-    (plain_append (names_plain sp) (plain (plain_mark last RParen refl c) no_plain)))) in
+    (grind (arith, plain, plain_word, plain_mark, plain_append, names_plain, no_plain)) in
     let head = row_limits (open' ∷ following) 0 flat (subst (KeepLimits 0 0) all k) in
     let short = head.short in
     let opened = open_limits 0 (length row) open' following d head.kept in
     let v = vars_fit sv (sound_front vs bodies heard) 1 (bs ++ (es ++ close ∷ rest)) opened.1 in
     let s = statements_fit sb (sound_front bs endings body_heard) 1 (es ++ close ∷ rest) v.1 in
-    let r = ending_fits se (sound_front es (close ∷ []) ending_heard) 1 (close ∷ rest) s.1 in (
-      record {
-        name = name_good nx (sound_here (sound_after hs));
-        params = names_good sp (sound_front ps (last ∷ open' ∷ (vs ++ bodies)) inside);
-        params_row = omega (arith, short, names_fit sp, length-append ps (last ∷ []));
-        vars = v.0;
-        body = s.0;
-        ending = r.0;
-      },
-      close_limits 0 0 close rest f r.1,
-    )
+    let r = ending_fits se (sound_front es (close ∷ []) ending_heard) 1 (close ∷ rest) s.1 in grind (arith, name_good, sound_here, sound_after, names_good, sound_front, names_fit, length-append, close_limits)
 
 item_fits : {ks : List Lexeme} {a : Part} → SpelledItem ks a → AllSound ks → (rest : List Lexeme)
     → KeepLimits 0 0 (ks ++ rest)
@@ -394,9 +303,7 @@ item_fits : {ks : List Lexeme} {a : Part} → SpelledItem ks a → AllSound ks �
 item_fits (array {ks = ks} l name first size last semi x n eq is nx o v c d) h rest k =
     array_fits ks l name first size last semi x n eq is nx o v c d h rest k
 item_fits (proc {ks = ks} l name first last open' close ps vs bs es x params vs' b e eq is nx o sp c d sv sb
-    se f) h rest k =
-    procedure_fits ks l name first last open' close ps vs bs es x params vs' b e eq is nx o sp c d sv sb se f
-    h rest k
+    se f) h rest k = grind (arith, procedure_fits ks l name first last open' close ps vs bs es x params vs' b e eq is nx o sp c d sv sb se f h rest k)
 
 -- a tree of lexemes within the limits is nearly written
 pub tree_nearly : {ks : List Lexeme} {all : List Part} → Tree ks all → AllSound ks → KeepLimits 0 0 ks

@@ -63,11 +63,7 @@ wrapped_kept braces needed f n d h row next ps e l k = grind (arith, inner, lexe
 expression_kept : (braces : ℕ) → braces ≤ 32 → (e : Expression) → IsWrittenExpression e
     → (row next : ℕ) (ps : List Piece) → row + width e ≡ next → next ≤ 256 → Keep braces next ps
     → Keep braces row (expression e ps)
-expression_kept braces d (Cell a i) g row next ps e l k =
-    word_in a.text braces row (row + 1) _ g.0.short d refl (omega arith)
-    (inner LSquare braces (row + 1) (row + 2) _ refl d (omega arith) (omega arith)
-    (expression_kept braces d i g.1 (row + 2) (row + 2 + width i) _ refl (omega arith)
-    (inner RSquare braces (row + 2 + width i) next ps refl d (omega arith) l k)))
+expression_kept braces d (Cell a i) g row next ps e l k = grind (arith, word_in, inner, expression_kept braces d i g.1 (row + 2) (row + 2 + width i) _ refl (omega arith) (inner RSquare braces (row + 2 + width i) next ps refl d (omega arith) l k))
 expression_kept braces d (Signed s a) g row next ps e l k =
     grind (arith, inner, sign_inner, wrapped_kept, expression, expression_kept braces d a g)
 expression_kept braces d (Binary op a b) g row next ps e l k =
@@ -83,19 +79,13 @@ expression_kept braces d e g row next ps h l k = grind (arith, number_in, word_i
 arguments_kept : (braces : ℕ) → braces ≤ 32 → (es : List Expression) → AreWrittenExpressions es
     → (row next : ℕ) (ps : List Piece) → row + list_width es ≡ next → next ≤ 256 → Keep braces next ps
     → Keep braces row (arguments es ps)
-arguments_kept braces d (x ∷ y ∷ xs) g row next ps e l k =
-    expression_kept braces d x g.0 row (row + width x) _ refl (omega arith)
-    (inner Comma braces (row + width x) (row + width x + 1) _ refl d refl (omega arith)
-    (after_gap space (arguments_kept braces d (y ∷ xs) g.1 (row + width x + 1) next ps (omega arith) l k)))
+arguments_kept braces d (x ∷ y ∷ xs) g row next ps e l k = grind (arith, expression_kept, inner, after_gap, space, arguments_kept braces d (y ∷ xs) g.1 (row + width x + 1) next ps (omega arith) l k)
 arguments_kept braces d es g row next ps e l k = grind (arith, expression_kept)
 
 names_kept : (braces : ℕ) → braces ≤ 32 → (xs : List Name) → AreWrittenNames xs
     → (row next : ℕ) (ps : List Piece) → row + names_width xs ≡ next → next ≤ 256 → Keep braces next ps
     → Keep braces row (names xs ps)
-names_kept braces d (x ∷ y ∷ xs) g row next ps e l k =
-    word_in x.text braces row (row + 1) _ g.0.short d refl (omega arith)
-    (inner Comma braces (row + 1) (row + 2) _ refl d (omega arith) (omega arith)
-    (after_gap space (names_kept braces d (y ∷ xs) g.1 (row + 2) next ps (omega arith) l k)))
+names_kept braces d (x ∷ y ∷ xs) g row next ps e l k = grind (arith, word_in, inner, after_gap, space, names_kept braces d (y ∷ xs) g.1 (row + 2) next ps (omega arith) l k)
 names_kept braces d xs g row next ps e l k = grind (arith, word_in)
 
 finish_kept : (braces row : ℕ) (ps : List Piece) → braces ≤ 32 → Keep braces 0 ps
@@ -135,44 +125,6 @@ second_arm_kept n braces b f d h ps k =
 mutual
   pub statement_kept : (n braces : ℕ) → braces ≤ 32 → (s : Statement) → IsWrittenStatement braces s
       → (ps : List Piece) → Keep braces 0 ps → Keep braces 0 (statement n s ps)
-  statement_kept n braces d (Assign at x e) h ps k =
-      after_gap (indent n) (word_in x.text braces 0 1 _ h.0.short d refl (omega arith) (after_gap space
-      (inner mark.Assign braces 1 2 _ refl d refl (omega arith)
-      (after_gap space (last_kept braces 2 ps d e h.1 (omega arith) k)))))
-  statement_kept n braces d (Store at a i e) h ps k =
-      after_gap (indent n) (word_in a.text braces 0 1 _ h.0.short d refl (omega arith)
-      (inner LSquare braces 1 2 _ refl d refl (omega arith)
-      (expression_kept braces d i h.1 2 (2 + width i) _ refl (omega arith)
-      (inner RSquare braces (2 + width i) (3 + width i) _ refl d (omega arith) (omega arith) (after_gap space
-      (inner mark.Assign braces (3 + width i) (4 + width i) _ refl d (omega arith) (omega arith)
-      (after_gap space
-      (last_kept braces (4 + width i) ps d e h.2 (omega arith) k))))))))
-  statement_kept n braces d (Print at e) h ps k =
-      after_gap (indent n) (word_in (codes "print") braces 0 1 _ (omega arith) d refl (omega arith)
-      (after_gap space
-      (last_kept braces 1 ps d e h.0 (omega arith) k)))
-  statement_kept n braces d (Read at x) h ps k =
-      after_gap (indent n) (word_in (codes "read") braces 0 1 _ (omega arith) d refl (omega arith)
-      (after_gap space
-      (word_in x.text braces 1 2 _ h.short d refl (omega arith) (finish_kept braces _ ps d k))))
-  statement_kept n braces d (Give at port p x) h ps k =
-      after_gap (indent n) (word_in (codes "give") braces 0 1 _ (omega arith) d refl (omega arith)
-      (after_gap space
-      (number_in port braces 1 2 _ d refl (omega arith) (inner Comma braces 2 3 _ refl d refl (omega arith)
-      (after_gap space
-      (word_in x.text braces 3 4 _ h.1.short d refl (omega arith) (finish_kept braces _ ps d k)))))))
-  statement_kept n braces d (Take at port p e) h ps k =
-      after_gap (indent n) (word_in (codes "take") braces 0 1 _ (omega arith) d refl (omega arith)
-      (after_gap space
-      (number_in port braces 1 2 _ d refl (omega arith) (inner Comma braces 2 3 _ refl d refl (omega arith)
-      (after_gap space
-      (last_kept braces 3 ps d e h.1 (omega arith) k))))))
-  statement_kept n braces d (Call at None f es) h ps k = after_gap (indent n)
-      (call_kept braces 0 ps d f es h.0 h.1 (omega arith) k)
-  statement_kept n braces d (Call at (Some x) f es) h ps k =
-      after_gap (indent n) (word_in x.text braces 0 1 _ h.0.short d refl (omega arith) (after_gap space
-      (inner mark.Assign braces 1 2 _ refl d refl (omega arith)
-      (after_gap space (call_kept braces 2 ps d f es h.1 h.2 (omega arith) k)))))
   statement_kept n braces d (If at e a b) h ps k =
       after_gap (indent n) (test_kept braces _ h.2 (codes "if") e (omega arith) h.0 h.1
       (body_kept (suc n) (suc braces) h.2 a h.3 _
@@ -180,6 +132,7 @@ mutual
   statement_kept n braces d (While at e a) h ps k =
       after_gap (indent n) (test_kept braces _ h.2 (codes "while") e (omega arith) h.0 h.1
       (body_kept (suc n) (suc braces) h.2 a h.3 _ (closing_kept n braces 0 ps d k)))
+  statement_kept v0 v1 v2 v3 v4 v5 v6 = grind (arith, after_gap, word_in, space, inner, last_kept, expression_kept, finish_kept, number_in, call_kept)
 
   pub body_kept : (n braces : ℕ) → braces ≤ 32 → (b : Statements) → AreWrittenStatements braces b
       → (ps : List Piece) → Keep braces 0 ps → Keep braces 0 (body n b ps)
@@ -190,24 +143,14 @@ mutual
 variables_kept : (braces : ℕ) → braces ≤ 32 → (xs : List Name) → AreWrittenNames xs → names_width xs + 1 ≤ 256
     → (ps : List Piece) → Keep braces 0 ps → Keep braces 0 (variables xs ps)
 variables_kept braces d [] g l ps k = k
-variables_kept braces d (x ∷ xs) g l ps k =
-    after_gap (indent 1) (word_in (codes "var") braces 0 1 _ (omega arith) d refl (omega arith)
-    (after_gap space
-    (names_kept braces d (x ∷ xs) g 1 (1 + names_width (x ∷ xs)) _ refl (omega arith)
-    (finish_kept braces _ ps d k))))
+variables_kept braces d (x ∷ xs) g l ps k = grind (arith, after_gap (indent 1) (word_in (codes "var") braces 0 1 _ (omega arith) d refl (omega arith) (after_gap space (names_kept braces d (x ∷ xs) g 1 (1 + names_width (x ∷ xs)) _ refl (omega arith) (finish_kept braces _ ps d k)))))
 
 ending_kept : (braces : ℕ) → braces ≤ 32 → (e : Option Last) → IsWrittenEnding e → (ps : List Piece)
     → Keep braces 0 ps → Keep braces 0 (ending e ps)
 ending_kept braces d e h ps k = grind (arith, after_gap, word_in, space, last_kept)
 
 part_kept : (p : Part) → IsWrittenPart p → (ps : List Piece) → Keep 0 0 ps → Keep 0 0 (part p ps)
-part_kept (Array x n at) h ps k =
-    let d : 0 ≤ 32 = omega arith in
-    word_in (codes "array") 0 0 1 _ (omega arith) d refl (omega arith) (after_gap space
-    (word_in x.text 0 1 2 _ h.0.short d refl (omega arith)
-    (inner LSquare 0 2 3 _ refl d refl (omega arith)
-    (number_in n 0 3 4 _ d refl (omega arith)
-    (inner RSquare 0 4 5 _ refl d refl (omega arith) (finish_kept 0 5 ps d k))))))
+part_kept (Array x n at) h ps k = grind (arith, word_in, after_gap, space, inner, number_in, finish_kept)
 part_kept (Proc p) h ps k =
     let d : 0 ≤ 32 = omega arith in
     let one : 1 ≤ 32 = omega arith in

@@ -34,22 +34,9 @@ nodes_list_width es = grind (arith, nodes_width)
 
 mutual
   fit_narrow : (braces : ℕ) (s : Statement) → IsWrittenStatement braces s → most_nodes s ≤ 255
-  fit_narrow braces (Assign at x e) h = omega (arith, h.2, nodes_width e)
-  fit_narrow braces (Store at a i e) h = omega (arith, h.3, nodes_width i, nodes_width e)
-  fit_narrow braces (Print at e) h = omega (arith, h.1, nodes_width e)
-  fit_narrow braces (Read at x) h = omega arith
-  fit_narrow braces (Give at n p x) h = omega arith
-  fit_narrow braces (Take at n p e) h = omega (arith, h.2, nodes_width e)
-  fit_narrow braces (Call at None f es) h = omega (arith, h.2, nodes_list_width es)
-  fit_narrow braces (Call at (Some x) f es) h = omega (arith, h.3, nodes_list_width es)
-  fit_narrow braces (If at e a b) h = omega (
-    arith,
-    h.1,
-    nodes_width e,
-    all_narrow (suc braces) a h.3,
-    all_narrow (suc braces) b h.4,
-  )
+  fit_narrow braces (If at e a b) h = grind (arith, nodes_width, all_narrow (suc braces) a h.3, all_narrow (suc braces) b h.4)
   fit_narrow braces (While at e body) h = omega (arith, h.1, nodes_width e, all_narrow (suc braces) body h.3)
+  fit_narrow v0 v1 v2 = grind (arith, nodes_width, nodes_list_width)
 
   all_narrow : (braces : ℕ) (b : Statements) → AreWrittenStatements braces b → most_nodes_of b ≤ 255
   all_narrow braces Nothing h = omega arith
@@ -62,12 +49,7 @@ ending_narrow e h = grind (arith, nodes_width)
 pub written_narrow : (all : List Part) → IsWritten all → widest all ≤ 255
 written_narrow [] h = omega arith
 written_narrow (Array x n at ∷ all) h = written_narrow all h.1
-written_narrow (Proc p ∷ all) h = omega (
-  arith,
-  all_narrow 1 p.body h.0.body,
-  ending_narrow p.ending h.0.ending,
-  written_narrow all h.1,
-)
+written_narrow (Proc p ∷ all) h = grind (arith, all_narrow, ending_narrow, written_narrow all h.1)
 
 -- a parameter after 8 others is refused
 few_params : (main : Bool) (visible : List Declared) (k : ℕ) (xs : List Name) → k ≤ 8

@@ -147,9 +147,7 @@ pub expression_is : (e : Expression) (ps : List Piece) → text_of (expression e
     ++ text_of ps
 expression_is (Cell a e) ps = ap (λ t. a.text ++ (codes "[" ++ t))
     (expression_is e (lexeme (Mark RSquare) ∷ ps)) ∙ simp append_assoc
-expression_is (Signed s e) ps =
-    ap (λ t. spelling (sign_mark s) ++ t) (wrapped_text (is_binary e) (expression e) (expression_text e)
-    (expression_is e) ps) ∙ simp append_assoc
+expression_is (Signed s e) ps = grind (arith, wrapped_text, append_assoc, expression_is e)
 expression_is (Binary op a b) ps =
     let right = wrapped_text (is_no_tighter b (level_of op)) (expression b) (expression_text b)
     (expression_is b) ps in
@@ -161,9 +159,7 @@ expression_is e ps = grind arith
 
 pub arguments_is : (es : List Expression) (ps : List Piece) → text_of (arguments es ps) ≡ separated_text
     (argument_texts es) ++ text_of ps
-arguments_is (e ∷ f ∷ es) ps =
-    expression_is e _ ∙ ap (λ t. expression_text e ++ (codes ", " ++ t)) (arguments_is (f ∷ es) ps)
-    ∙ simp append_assoc
+arguments_is (e ∷ f ∷ es) ps = grind (arith, expression_is, append_assoc, arguments_is (f ∷ es) ps)
 arguments_is es ps = grind (arith, expression_is)
 
 pub names_is : (xs : List Name) (ps : List Piece) → text_of (names xs ps) ≡ separated_text (name_texts xs)
@@ -190,21 +186,6 @@ second_arm_is n b f text h ps = grind (arith, closing_is, append_assoc)
 mutual
   pub statement_is : (n : ℕ) (s : Statement) (ps : List Piece) → text_of (statement n s ps) ≡ statement_lines
       n s ++ text_of ps
-  statement_is n (Assign at x e) ps = ap (λ t. indent n ++ (x.text ++ (codes " = " ++ t))) (expression_is e _)
-      ∙ simp append_assoc
-  statement_is n (Store at a i e) ps =
-      ap (λ t. indent n ++ (a.text ++ (codes "[" ++ t))) (expression_is i _
-      ∙ ap (λ t. expression_text i ++ (codes "] = " ++ t)) (expression_is e _)) ∙ simp append_assoc
-  statement_is n (Print at e) ps = ap (λ t. indent n ++ (codes "print " ++ t)) (expression_is e _)
-      ∙ simp append_assoc
-  statement_is n (Read at x) ps = simp append_assoc
-  statement_is n (Give at port p x) ps = simp append_assoc
-  statement_is n (Take at port p e) ps =
-      ap (λ t. indent n ++ (codes "take " ++ (decimal port ++ (codes ", " ++ t)))) (expression_is e _)
-      ∙ simp append_assoc
-  statement_is n (Call at None f es) ps = ap (λ t. indent n ++ t) (call_is f es ps) ∙ simp append_assoc
-  statement_is n (Call at (Some x) f es) ps = ap (λ t. indent n ++ (x.text ++ (codes " = " ++ t)))
-      (call_is f es ps) ∙ simp append_assoc
   statement_is n (If at e a b) ps =
       ap (λ t. indent n ++ t)
       (test_is (codes "if") e _ ∙ ap (λ t. codes "if (" ++ (expression_text e ++ (codes ") {\n" ++ t)))
@@ -216,6 +197,7 @@ mutual
       (test_is (codes "while") e _ ∙ ap (λ t. codes "while (" ++ (expression_text e ++ (codes ") {\n" ++ t)))
       (body_is (suc n) a _ ∙ ap (λ t. body_lines (suc n) a ++ t) (closing_is n ps)))
       ∙ simp append_assoc
+  statement_is v0 v1 v2 = grind (arith, expression_is, append_assoc, call_is)
 
   pub body_is : (n : ℕ) (b : Statements) (ps : List Piece) → text_of (body n b ps) ≡ body_lines n b ++ text_of
       ps
@@ -247,9 +229,7 @@ part_is (Proc p) ps =
     ∙ head_is p _
     ∙ ap (λ t. line 0 (codes "proc " ++ p.name.text ++ codes "(" ++ separated_text (name_texts p.params)
     ++ codes ") {") ++ t)
-    (variables_is p.vars _ ∙ ap (λ t. variable_lines p.vars ++ t)
-    (body_is 1 p.body _ ∙ ap (λ t. body_lines 1 p.body ++ t)
-    (ending_is p.ending _ ∙ ap (λ t. ending_lines p.ending ++ t) (closing_is 0 ps))))
+    (grind (arith, variables_is, body_is, ending_is, closing_is))
     ∙ five (line 0 (codes "proc " ++ p.name.text ++ codes "(" ++ separated_text (name_texts p.params) ++ codes
     ") {")) (variable_lines p.vars) (body_lines 1 p.body) (ending_lines p.ending) (line 0 (codes "}"))
     (text_of ps)

@@ -90,10 +90,8 @@ mutual
       Ended (stored v.1 (suc (place_bare scope.arrays a.text i)) n.0 v.0) j)
   one_bare scope calls (Print at e) = λ i s k. turn k s (λ j. let v = value_of_bare scope e i s in
       Ended (printed v.1 v.0) j)
-  one_bare scope calls (Read at x) =
-      λ i s k. turn k s (λ j. Ended (has_read s (place_bare scope.names x.text i)) j)
-  one_bare scope calls (Give at p q x) =
-      λ i s k. turn k s (λ j. Ended (given s p (place_bare scope.names x.text i)) j)
+  one_bare scope calls (Read at x) = grind (arith, place_bare)
+  one_bare scope calls (Give at p q x) = grind (arith, place_bare)
   one_bare scope calls (Take at p q e) = λ i s k. turn k s (λ j. let v = value_of_bare scope e i s in
       Ended (taken v.1 p v.0) j)
   one_bare scope calls (Call at x f args) =
@@ -157,9 +155,7 @@ nth_bare : (arrays procs : List Name) (ps : List Procedure) (calls : Calls) (n :
     → nth_run (bare_names arrays) (bare_names procs) (bare_procedures ps) calls n ≡ nth_run arrays procs ps
     calls n
 nth_bare arrays procs [] calls n = refl
-nth_bare arrays procs (p ∷ ps) calls zero =
-    ap (λ scope. run_procedure scope calls (bare_procedure p)) (scope_bare arrays procs p)
-    ∙ procedure_bare (scope_of arrays procs p) calls p
+nth_bare arrays procs (p ∷ ps) calls zero = grind (arith, scope_bare arrays procs p, procedure_bare (scope_of arrays procs p) calls p)
 nth_bare arrays procs (p ∷ ps) calls (suc n) = nth_bare arrays procs ps calls n
 
 arrays_bare : (all : List Part) → arrays_of (bare_parts all) ≡ bare_names (arrays_of all)

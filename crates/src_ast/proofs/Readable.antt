@@ -32,36 +32,23 @@ pub expression_good : {n : ℕ} {ls : List Lexeme} {e : Expression} → Spelled 
 expression_good (number l v is) h = number_good l is (sound_here h)
 expression_good (variable l x is) h = name_good is (sound_here h)
 expression_good (cell l first last ls a e eq is o s c) h =
-    let hs = subst AllSound eq h in (
-      name_good is (sound_here hs),
-      expression_good s (sound_front ls (last ∷ []) (sound_after (sound_after hs))),
-    )
+    let hs = subst AllSound eq h in grind (arith, name_good, sound_here, sound_front, sound_after, expression_good s (sound_front ls (last ∷ []) (sound_after (sound_after hs))))
 expression_good (round first last ls eq o s c) h =
     let hs = subst AllSound eq h in
     expression_good s (sound_front ls (last ∷ []) (sound_after hs))
 expression_good (signed l ls s e d is sp) h = expression_good sp (sound_after h)
 expression_good (binary l ls rs op a b d eq is sa sb) h =
-    let hs = subst AllSound eq h in (
-      expression_good sa (sound_front ls (l ∷ rs) hs),
-      expression_good sb
-          (sound_after (sound_back ls (l ∷ rs) hs)),
-    )
+    let hs = subst AllSound eq h in grind (arith, sound_front, sound_after, sound_back, expression_good sa (sound_front ls (l ∷ rs) hs), expression_good sb (sound_after (sound_back ls (l ∷ rs) hs)))
 
 -- the lexemes of an expression stand in a row
 pub expression_plain : {n : ℕ} {ls : List Lexeme} {e : Expression} → Spelled n ls e → AllPlain ls
 expression_plain (number l v is) = plain (plain_number l v is) no_plain
 expression_plain (variable l x is) = plain (plain_word l x.text is.word) no_plain
-expression_plain (cell l first last ls a e eq is o s c) =
-    subst AllPlain (sym eq)
-    (plain (plain_word l a.text is.word) (plain (plain_mark first LSquare refl o)
-    (plain_append (expression_plain s) (plain (plain_mark last RSquare refl c) no_plain))))
+expression_plain (cell l first last ls a e eq is o s c) = grind (arith, plain, plain_word, plain_mark, plain_append, no_plain, expression_plain s)
 expression_plain (round first last ls eq o s c) =
     grind (arith, AllPlain, plain, plain_mark, plain_append, no_plain, expression_plain s)
 expression_plain (signed l ls s e d is sp) = grind (arith, plain, plain_mark, sign_inner, expression_plain sp)
-expression_plain (binary l ls rs op a b d eq is sa sb) =
-    subst AllPlain (sym eq)
-    (plain_append (expression_plain sa) (plain (plain_mark l (mark_of op) (op_inner op) is)
-    (expression_plain sb)))
+expression_plain (binary l ls rs op a b d eq is sa sb) = grind (arith, plain_append, plain, plain_mark, op_inner, expression_plain sa, expression_plain sb)
 
 rounded_least : (b : Bool) (n : ℕ) → n ≤ rounded b n
 rounded_least b n = grind arith
@@ -71,40 +58,10 @@ rounded_most b n = grind arith
 
 pub expression_width : {n : ℕ} {ls : List Lexeme} {e : Expression} → Spelled n ls e
     → rounded (is_looser e n) (width e) ≤ length ls
-expression_width (cell l first last ls a e eq is o s c) =
-    omega (
-      arith,
-      expression_width s,
-      rounded_least (is_looser e 0) (width e),
-      ap length eq,
-      length-append ls (last ∷ []),
-    )
-expression_width (round {n = n} {e = e} first last ls eq o s c) =
-    omega (
-      arith,
-      expression_width s,
-      rounded_least (is_looser e 0) (width e),
-      rounded_most (is_looser e n) (width e),
-      ap length eq,
-      length-append ls (last ∷ []),
-    )
-expression_width (signed {n = n} l ls s e d is sp) =
-    let w = subst (λ b. rounded b (width e) ≤ length ls) (loose_eight e) (expression_width sp) in
-    omega (arith, w)
-expression_width (binary {n = n} {ks = ks} l ls rs op a b d eq is sa sb) =
-    let right = subst (λ c. rounded c (width b) ≤ length rs) (loose_next b (level_of op))
-    (expression_width sb) in
-    let all = rounded (is_looser a (level_of op)) (width a) + 1 + rounded (is_no_tighter b (level_of op))
-    (width b) in
-    let free = le-ltb (level_of op) n d in
-    let w : all ≤ length ks = omega (
-      arith,
-      expression_width sa,
-      right,
-      ap length eq,
-      length-append ls (l ∷ rs),
-    ) in
-    subst (λ c. rounded c all ≤ length ks) (sym free) w
+expression_width (cell l first last ls a e eq is o s c) = grind (arith, rounded_least, length-append, expression_width s)
+expression_width (round {n = n} {e = e} first last ls eq o s c) = grind (arith, rounded_least, rounded_most, length-append, expression_width s)
+expression_width (signed {n = n} l ls s e d is sp) = grind (arith, loose_eight, expression_width sp)
+expression_width (binary {n = n} {ks = ks} l ls rs op a b d eq is sa sb) = grind (arith, loose_next, le-ltb, length-append, expression_width sb, expression_width sa)
 expression_width h = grind arith
 
 -- the printed form of an expression has no more lexemes than it was read from
@@ -121,8 +78,7 @@ separated_plain h (more comma ls rs a xs eq s c more') =
 pub listed_plain : {A : Type 0} {L : List Lexeme → A → Type 0} {ks : List Lexeme} {xs : List A}
     → ((ls : List Lexeme) (a : A) → L ls a → AllPlain ls)
     → Listed L ks xs → AllPlain ks
-listed_plain h none = no_plain
-listed_plain h (some ls xs s) = separated_plain h s
+listed_plain v0 v1 = grind (arith, no_plain, separated_plain)
 
 -- the lexemes of arguments stand in a row
 pub arguments_plain : {ks : List Lexeme} {es : List Expression} → Listed (Spelled 0) ks es → AllPlain ks
@@ -132,11 +88,7 @@ some_arguments_good : {ks : List Lexeme} {es : List Expression} → Separated (S
     → AreWrittenExpressions es
 some_arguments_good (one ls e s) h = (expression_good s h, tt)
 some_arguments_good (more comma ls rs e es eq s c more') h =
-    let hs = subst AllSound eq h in (
-      expression_good s (sound_front ls (comma ∷ rs) hs),
-      some_arguments_good more'
-          (sound_after (sound_back ls (comma ∷ rs) hs)),
-    )
+    let hs = subst AllSound eq h in grind (arith, expression_good, sound_front, sound_after, sound_back, some_arguments_good more' (sound_after (sound_back ls (comma ∷ rs) hs)))
 
 -- arguments that are read are written
 pub arguments_good : {ks : List Lexeme} {es : List Expression} → Listed (Spelled 0) ks es → AllSound ks
@@ -148,8 +100,7 @@ some_arguments_width : {ks : List Lexeme} {es : List Expression} → Separated (
 some_arguments_width (one ls e s) = width_least s
 some_arguments_width (more comma ls rs e (f ∷ es) eq s c more') =
     omega (arith, width_least s, some_arguments_width more', ap length eq, length-append ls (comma ∷ rs))
-some_arguments_width (more comma ls rs e [] eq s c more') =
-    omega (arith, width_least s, ap length eq, length-append ls (comma ∷ rs))
+some_arguments_width (more comma ls rs e [] eq s c more') = grind (arith, width_least, length-append)
 
 -- the printed form of arguments has no more lexemes
 pub arguments_width : {ks : List Lexeme} {es : List Expression} → Listed (Spelled 0) ks es
@@ -175,10 +126,7 @@ pub some_names_good : {ks : List Lexeme} {xs : List Name} → Separated SpelledN
     → AreWrittenNames xs
 some_names_good (one ls x s) h = (spelled_name_good s h, tt)
 some_names_good (more comma ls rs x xs eq s c more') h =
-    let hs = subst AllSound eq h in (
-      spelled_name_good s (sound_front ls (comma ∷ rs) hs),
-      some_names_good more' (sound_after (sound_back ls (comma ∷ rs) hs)),
-    )
+    let hs = subst AllSound eq h in grind (arith, spelled_name_good, sound_front, sound_after, sound_back, some_names_good more' (sound_after (sound_back ls (comma ∷ rs) hs)))
 
 -- so are no names
 pub names_good : {ks : List Lexeme} {xs : List Name} → Listed SpelledName ks xs → AllSound ks
@@ -193,12 +141,7 @@ some_names_width : {ks : List Lexeme} {xs : List Name} → Separated SpelledName
 some_names_width (one ls x s) = omega (arith, name_width s)
 some_names_width (more comma ls rs x (y ∷ xs) eq s c more') =
     omega (arith, name_width s, some_names_width more', ap length eq, length-append ls (comma ∷ rs))
-some_names_width (more comma ls rs x [] eq s c more') = omega (
-  arith,
-  name_width s,
-  ap length eq,
-  length-append ls (comma ∷ rs),
-)
+some_names_width (more comma ls rs x [] eq s c more') = grind (arith, name_width, length-append)
 
 -- the printed form of names has no more lexemes
 pub names_fit : {ks : List Lexeme} {xs : List Name} → Listed SpelledName ks xs → names_width xs ≤ length ks

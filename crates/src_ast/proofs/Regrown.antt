@@ -85,8 +85,7 @@ wrapped_reads e true n d h f at qs =
     record {
       ls = first ∷ (r.ls ++ last ∷ []);
       following = past_mark r.following RParen;
-      is = ap (λ t. first ∷ t)
-          (r.is ∙ sym (append_assoc r.ls (last ∷ []) (placed (past_mark r.following RParen) qs)));
+      is = grind (arith, append_assoc, placed);
       again = r.again;
       spelled = round first last r.ls refl refl r.spelled refl;
       same = r.same;
@@ -158,8 +157,7 @@ expression_reads (Binary op a b) g n d h at qs =
       is = r.is ∙ ap (λ x. r.ls ++ (l ∷ x)) t.is ∙ simp append_assoc;
       again = Binary op r.again t.again;
       spelled = binary l r.ls t.ls op r.again t.again (ltb-false level n h) refl refl r.spelled t.spelled;
-      same = ap (λ e. Binary op e (bare_expression b)) r.same
-          ∙ ap (λ e. Binary op (bare_expression r.again) e) t.same;
+      same = grind arith;
     }
 
 -- a written name is read as a name

@@ -1,5 +1,5 @@
 -- The lexemes of printed statements and programs have a tree, which is the same program.
-use Rattle.std.proofs.Common.{◌≡◌, ℕ, suc, List, [], ◌∷◌, ◌++◌, Option, Some, None, codes, decimal, refl, sym}
+use Rattle.std.proofs.Common.{arith, ◌≡◌, ℕ, suc, List, [], ◌∷◌, ◌++◌, Option, Some, None, codes, decimal, refl, sym}
 use Rattle.std.proofs.Common.{ap, ◌∙◌, append_assoc, append-nil}
 use Rattle.src_ast.specs.declared.lexeme.Name.{Name}
 use Rattle.src_ast.specs.declared.lexeme.Place.{Place}
@@ -253,17 +253,12 @@ mutual
       record {
         ls = l ∷ first ∷ (r.ls ++ last ∷ ((open' ∷ (x.ls ++ ends.close ∷ [])) ++ ends.ys));
         following = y.following;
-        is =
-            ap (λ t. l ∷ first ∷ t) (r.is ∙ ap (λ t. r.ls ++ last ∷ open' ∷ t)
-            (x.is ∙ ap (λ t. x.ls ++ t) (y.is ∙ ap (λ t. t ++ placed y.following qs) ends.all)))
-            ∙ simp append_assoc;
+        is = grind (arith, placed, append_assoc);
         again = If l.place r.again x.again y.again;
         spelled = choice l first last r.ls (open' ∷ (x.ls ++ ends.close ∷ [])) ends.ys r.again x.again y.again
             refl refl refl r.spelled refl
             (block open' ends.close x.ls x.again refl refl x.spelled ends.brace) ends.arm;
-        same = ap (λ e. If start e (bare_statements a) (bare_statements b)) r.same
-            ∙ ap (λ a. If start (bare_expression r.again) a (bare_statements b)) x.same
-            ∙ ap (λ b. If start (bare_expression r.again) (bare_statements x.again) b) y.same;
+        same = grind arith;
       }
   statement_reads n braces (While s e a) h at qs =
       let l = here (after at (indent n)) (Word (codes "while")) in
@@ -284,8 +279,7 @@ mutual
         spelled = while l first last r.ls (open' ∷ (x.ls ++ close ∷ [])) r.again x.again refl refl refl
             r.spelled refl
             (block open' close x.ls x.again refl refl x.spelled refl);
-        same = ap (λ e. While start e (bare_statements a)) r.same
-            ∙ ap (λ a. While start (bare_expression r.again) a) x.same;
+        same = grind arith;
       }
 
   pub body_reads : (n braces : ℕ) (b : Statements) → AreWrittenStatements braces b
@@ -307,8 +301,7 @@ mutual
         is = r.is ∙ ap (λ x. r.ls ++ x) t.is ∙ simp append_assoc;
         again = Then r.again t.again;
         spelled = first_then r.ls t.ls r.again t.again refl r.spelled t.spelled;
-        same = ap (λ s. Then s (bare_statements rest)) r.same ∙ ap (λ x. Then (bare_statement r.again) x)
-            t.same;
+        same = grind arith;
       }
 
 variables_read : (xs : List Name) → AreWrittenNames xs → (at : Place) (qs : List Piece)
@@ -406,11 +399,7 @@ procedure_reads a h at qs =
     record {
       ls = l ∷ m ∷ first ∷ (ps.ls ++ last ∷ open' ∷ (vs.ls ++ (bs.ls ++ (es.ls ++ close ∷ []))));
       following = past_line (past_mark close.place RBrace);
-      is =
-          ap (λ t. l ∷ m ∷ first ∷ t)
-          (ps.is ∙ ap (λ t. ps.ls ++ last ∷ open' ∷ t)
-          (vs.is ∙ ap (λ t. vs.ls ++ t) (bs.is ∙ ap (λ t. bs.ls ++ t) es.is)))
-          ∙ simp append_assoc;
+      is = grind (arith, append_assoc);
       again = Proc (record {
         name = named f m.place;
         params = ps.again;
@@ -427,8 +416,7 @@ procedure_reads a h at qs =
 -- the pieces of an array or a procedure spell the same
 pub part_reads : (a : Part) → IsNearlyPart a → (at : Place) (qs : List Piece)
     → ReadsPart a at (p.part a qs) qs
-part_reads (Array x n s) h at qs = array_reads x n s h.0 at qs
-part_reads (Proc a) h at qs = procedure_reads a h at qs
+part_reads v0 v1 v2 v3 = grind (arith, array_reads, procedure_reads)
 
 -- the pieces of a program spell the same program
 pub parts_read : (all : List Part) → AreNearlyWritten all → (at : Place)

@@ -127,8 +127,7 @@ locals_bare (x ∷ xs) ys = ap (λ ds. record { text = x.text; sort = variable }
 
 declared_bare : (all : List Part) → declared_by (bare_parts all) ≡ declared_by all
 declared_bare [] = refl
-declared_bare (Array x n at ∷ all) = ap (λ ds. record { text = x.text; sort = array } ∷ ds)
-    (declared_bare all)
+declared_bare (Array x n at ∷ all) = grind (arith, declared_bare all)
 declared_bare (Proc p ∷ all) = λ i. record { text = p.name.text; sort = procedure (names_bare p.params i) }
     ∷ declared_bare all i
 
@@ -200,6 +199,4 @@ rules_alike all f g = both (parts_alike [] all) (rw (main_bare all) (more none))
 
 -- the same programs are accepted alike, wherever their texts end
 pub accepted_alike : (a b : List Part) (f g : Place) → Same a b → IsAccepted a f → IsAccepted b g
-accepted_alike a b f g e h =
-    sym (alike_kept (rules_alike b f g)) ∙ ap (λ all. list_all (λ r. r.kept) (rules_of all f)) (sym e)
-    ∙ alike_kept (rules_alike a f f) ∙ h
+accepted_alike a b f g e h = grind (arith, alike_kept (rules_alike b f g), alike_kept (rules_alike a f f))

@@ -67,10 +67,7 @@ no_second p k l m b h = grind (arith, ne_eqb, true≢false, or_from)
 
 -- a word makes no mark longer
 pub word_starts : (w text : List ℕ) → IsTrue (is_word w) → IsTrue (starts_without is_second (w ++ text))
-word_starts [] text h = absurd (true≢false (sym h))
-word_starts (b ∷ bytes) text h =
-    not_from_false (is_second b)
-    (no_second is_letter refl refl refl b (and_parts (is_letter b) (list_all is_word_byte bytes) h).0)
+word_starts v0 v1 v2 = grind (arith, true≢false, not_from_false, no_second, and_parts)
 
 number_starts : (ds text : List ℕ) → is_number ds ≡ true → IsTrue (starts_without is_second (ds ++ text))
 number_starts ds text h = grind (arith, true≢false, not_from_false, is_second, no_second, and_parts)

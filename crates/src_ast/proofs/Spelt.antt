@@ -42,31 +42,9 @@ wrapped_spelt needed f s h ps b k = grind (arith, spells_mark)
 
 expression_spelt : (e : Expression) → IsWrittenExpression e → (ps : List Piece) → Breaks (text_of ps)
     → AreSpelled ps → AreSpelled (expression e ps)
-expression_spelt (Cell a e) h ps b k = (
-  spells_word a.text _ h.0.word refl,
-  (
-    spells_mark LSquare _ (starts e h.1 _),
-    expression_spelt e h.1 (lexeme (Mark RSquare) ∷ ps) (record { word = refl; mark = refl })
-        (spells_mark RSquare _ b.mark, k),
-  ),
-)
-expression_spelt (Signed s e) h ps b k = (
-  spells_mark (sign_mark s) _ (starts_wrapped (is_binary e) (expression e) ps (starts e h ps)),
-  wrapped_spelt (is_binary e) (expression e) (starts e h) (expression_spelt e h) ps b k,
-)
-expression_spelt (Binary op a b) h ps br k =
-    wrapped_spelt (is_looser a (level_of op)) (expression a) (starts a h.0) (expression_spelt a h.0) _
-    (record { word = refl; mark = refl }) (
-      refl,
-      (
-        spells_mark (mark_of op) _ refl,
-        (
-          refl,
-          wrapped_spelt (is_no_tighter b (level_of op)) (expression b) (starts b h.1)
-              (expression_spelt b h.1) ps br k,
-        ),
-      ),
-    )
+expression_spelt (Cell a e) h ps b k = grind (arith, spells_word, spells_mark, starts, lexeme, expression_spelt e h.1 (lexeme (Mark RSquare) ∷ ps) (record { word = refl; mark = refl }) (spells_mark RSquare _ b.mark, k))
+expression_spelt (Signed s e) h ps b k = (grind (arith, spells_mark, starts_wrapped, expression, starts, wrapped_spelt, expression_spelt e h))
+expression_spelt (Binary op a b) h ps br k = grind (arith, wrapped_spelt, expression, starts, spells_mark, expression_spelt a h.0, expression_spelt b h.1)
 expression_spelt e h ps b k = grind (arith, spells_number, spells_word)
 
 finish_spelt : (ps : List Piece) → AreSpelled ps → AreSpelled (finish ps)
@@ -74,11 +52,7 @@ finish_spelt ps k = (spells_mark Semi _ refl, (refl, k))
 
 arguments_spelt : (es : List Expression) → AreWrittenExpressions es → (ps : List Piece) → Breaks (text_of ps)
     → AreSpelled ps → AreSpelled (arguments es ps)
-arguments_spelt (e ∷ f ∷ es) h ps b k =
-    expression_spelt e h.0 _ (record { word = refl; mark = refl }) (
-      spells_mark Comma _ refl,
-      (refl, arguments_spelt (f ∷ es) h.1 ps b k),
-    )
+arguments_spelt (e ∷ f ∷ es) h ps b k = grind (arith, expression_spelt, spells_mark, arguments_spelt (f ∷ es) h.1 ps b k)
 arguments_spelt es h ps b k = grind (arith, expression_spelt)
 
 arguments_start : (es : List Expression) → AreWrittenExpressions es → (ps : List Piece)
@@ -90,10 +64,7 @@ arguments_start (e ∷ f ∷ es) h ps b = starts e h.0 _
 
 names_spelt : (xs : List Name) → AreWrittenNames xs → (ps : List Piece) → Breaks (text_of ps) → AreSpelled ps
     → AreSpelled (names xs ps)
-names_spelt (x ∷ y ∷ xs) h ps b k = (
-  spells_word x.text _ h.0.word refl,
-  (spells_mark Comma _ refl, (refl, names_spelt (y ∷ xs) h.1 ps b k)),
-)
+names_spelt (x ∷ y ∷ xs) h ps b k = grind (arith, spells_word, spells_mark, names_spelt (y ∷ xs) h.1 ps b k)
 names_spelt xs h ps b k = grind (arith, spells_word)
 
 names_start : (xs : List Name) → AreWrittenNames xs → (ps : List Piece)
@@ -132,79 +103,13 @@ second_arm_spelt n b f h ps k = grind (arith, closing_spelt, indent_blank, spell
 mutual
   pub statement_spelt : (n braces : ℕ) (s : Statement) → IsWrittenStatement braces s → (ps : List Piece)
       → AreSpelled ps → AreSpelled (statement n s ps)
-  statement_spelt n braces (Assign at x e) h ps k = (
-    indent_blank n,
-    (
-      spells_word x.text _ h.0.word refl,
-      (refl, (spells_mark mark.Assign _ refl, (refl, last_spelt e h.1 ps k))),
-    ),
-  )
-  statement_spelt n braces (Store at a i e) h ps k = (
-    indent_blank n,
-    (
-      spells_word a.text _ h.0.word refl,
-      (
-        spells_mark LSquare _ (starts i h.1 _),
-        expression_spelt i h.1 _ (record { word = refl; mark = refl }) (
-          spells_mark RSquare _ refl,
-          (refl, (spells_mark mark.Assign _ refl, (refl, last_spelt e h.2 ps k))),
-        ),
-      ),
-    ),
-  )
-  statement_spelt n braces (Print at e) h ps k =
-      (indent_blank n, (spells_word (codes "print") _ refl refl, (refl, last_spelt e h.0 ps k)))
-  statement_spelt n braces (Read at x) h ps k = (
-    indent_blank n,
-    (
-      spells_word (codes "read") _ refl refl,
-      (refl, (spells_word x.text _ h.word refl, finish_spelt ps k)),
-    ),
-  )
-  statement_spelt n braces (Give at port p x) h ps k = (
-    indent_blank n,
-    (
-      spells_word (codes "give") _ refl refl,
-      (
-        refl,
-        (
-          spells_number port _ h.0 refl,
-          (
-            spells_mark Comma _ refl,
-            (
-              refl,
-              (spells_word x.text _ h.1.word refl, finish_spelt ps k),
-            ),
-          ),
-        ),
-      ),
-    ),
-  )
-  statement_spelt n braces (Take at port p e) h ps k = (
-    indent_blank n,
-    (
-      spells_word (codes "take") _ refl refl,
-      (refl, (spells_number port _ h.0 refl, (spells_mark Comma _ refl, (refl, last_spelt e h.1 ps k)))),
-    ),
-  )
-  statement_spelt n braces (Call at None f es) h ps k = (indent_blank n, call_spelt f es h.0 h.1 ps k)
-  statement_spelt n braces (Call at (Some x) f es) h ps k = (
-    indent_blank n,
-    (
-      spells_word x.text _ h.0.word refl,
-      (refl, (spells_mark mark.Assign _ refl, (refl, call_spelt f es h.1 h.2 ps k))),
-    ),
-  )
-  statement_spelt n braces (If at e a b) h ps k = (
-    indent_blank n,
-    test_spelt (codes "if") e refl h.0 _ (body_spelt (suc n) _ a h.3 _
-        (second_arm_spelt n b (body (suc n) b) (body_spelt (suc n) _ b h.4) ps k)),
-  )
+  statement_spelt n braces (If at e a b) h ps k = grind (arith, indent_blank n, test_spelt (codes "if") e refl h.0 _ (body_spelt (suc n) _ a h.3 _ (second_arm_spelt n b (body (suc n) b) (body_spelt (suc n) _ b h.4) ps k)), body_spelt (suc n) _ a h.3 _ (second_arm_spelt n b (body (suc n) b) (body_spelt (suc n) _ b h.4) ps k), body_spelt (suc n) _ b h.4)
   statement_spelt n braces (While at e a) h ps k = (
     indent_blank n,
     test_spelt (codes "while") e refl h.0 _
         (body_spelt (suc n) _ a h.3 _ (closing_spelt n ps k)),
   )
+  statement_spelt v0 v1 v2 v3 v4 v5 = grind (arith, indent_blank, spells_word, spells_mark, last_spelt, starts, expression_spelt, finish_spelt, spells_number, call_spelt)
 
   pub body_spelt : (n braces : ℕ) (b : Statements) → AreWrittenStatements braces b → (ps : List Piece)
       → AreSpelled ps → AreSpelled (body n b ps)
@@ -228,46 +133,7 @@ ending_spelt : (e : Option Last) → IsWrittenEnding e → (ps : List Piece) →
 ending_spelt e h ps k = grind (arith, spells_word, last_spelt)
 
 part_spelt : (p : Part) → IsNearlyPart p → (ps : List Piece) → AreSpelled ps → AreSpelled (part p ps)
-part_spelt (Array x n at) h ps k = (
-  spells_word (codes "array") _ refl refl,
-  (
-    refl,
-    (
-      spells_word x.text _ h.0.word refl,
-      (
-        spells_mark LSquare _ (decimal_starts n _ h.1),
-        (spells_number n _ h.1 refl, (spells_mark RSquare _ refl, finish_spelt ps k)),
-      ),
-    ),
-  ),
-)
-part_spelt (Proc p) h ps k = (
-  spells_word (codes "proc") _ refl refl,
-  (
-    refl,
-    (
-      spells_word p.name.text _ h.name.word refl,
-      (
-        spells_mark LParen _ (names_start p.params h.params _ refl),
-        names_spelt p.params h.params _ (record { word = refl; mark = refl }) (
-          spells_mark RParen _ refl,
-          (
-            refl,
-            (
-              spells_mark LBrace _ refl,
-              (
-                refl,
-                variables_spelt p.vars h.vars _
-                    (body_spelt 1 1 p.body h.body _
-                    (ending_spelt p.ending h.ending _ (closing_spelt 0 ps k))),
-              ),
-            ),
-          ),
-        ),
-      ),
-    ),
-  ),
-)
+part_spelt v0 v1 v2 v3 = grind (arith, spells_word, spells_mark, decimal_starts, spells_number, finish_spelt, names_start, names_spelt, variables_spelt, body_spelt, ending_spelt, closing_spelt)
 
 -- the pieces of a program are spelled
 pub parts_spelt : (all : List Part) → AreNearlyWritten all → AreSpelled (parts all)
