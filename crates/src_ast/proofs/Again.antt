@@ -1,6 +1,6 @@
 -- The printed form of a written program reads as the same program.
-use Rattle.std.proofs.Common.{arith, List, subst}
-use Rattle.src_ast.specs.Lexemes.{start, after, Lex}
+use Rattle.std.proofs.Common.{arith, List}
+use Rattle.src_ast.specs.Lexemes.{start, after}
 use Rattle.src_ast.specs.Printed.{printed_form}
 use Rattle.src_ast.specs.Syntax.{Part}
 use Rattle.src_ast.specs.Written.{IsWritten, ReadsTheSame}

@@ -1,6 +1,6 @@
 -- What does not see the places of a program: how it is written and how it is printed.
-use Rattle.std.proofs.Common.{arith, ◌≡◌, ℕ, suc, ◌+◌, ◌≤◌, List, [], ◌∷◌, ◌++◌, Option, Some, None, codes}
-use Rattle.std.proofs.Common.{decimal, refl, sym, ap, ◌∙◌, subst}
+use Rattle.std.proofs.Common.{arith, ◌≡◌, ℕ, suc, ◌+◌, ◌≤◌, List, ◌∷◌, ◌++◌, Option, Some, None, codes, refl}
+use Rattle.std.proofs.Common.{sym, ap, ◌∙◌, subst, []}
 use Rattle.src_ast.specs.declared.lexeme.Name.{Name}
 use Rattle.src_ast.specs.LanguageLimits.{most_braces}
 use Rattle.src_ast.specs.Lexemes.{spelling}
@@ -99,12 +99,14 @@ cast e h = rw e at h
 without_places : (all : List Part) → AreNearlyWritten all → AreNearlyWritten (bare_parts all)
 without_places [] h = tt
 without_places (Array x n at ∷ all) h = (h.0, without_places all h.1)
-without_places (Proc p ∷ all) h = (grind (arith, cast, names_written, names_width_bare, body_written, ending_written, without_places all h.1))
+without_places (Proc p ∷ all) h =
+    grind (arith, cast, names_written, names_width_bare, body_written, ending_written, without_places all h.1)
 
 with_places : (all : List Part) → AreNearlyWritten (bare_parts all) → AreNearlyWritten all
 with_places [] h = tt
 with_places (Array x n at ∷ all) h = (h.0, with_places all h.1)
-with_places (Proc p ∷ all) h = (grind (arith, cast, names_written, names_width_bare, body_written, ending_written, with_places all h.1))
+with_places (Proc p ∷ all) h =
+    grind (arith, cast, names_written, names_width_bare, body_written, ending_written, with_places all h.1)
 
 -- the same programs are alike nearly written
 pub same_nearly : (a b : List Part) → Same a b → AreNearlyWritten b → AreNearlyWritten a

@@ -1,6 +1,6 @@
 -- Statements and programs that are read from lexemes within the limits are written.
-use Rattle.std.proofs.Common.{◌≡◌, ℕ, suc, ◌+◌, ◌*◌, ◌≤◌, length, List, [], ◌∷◌, ◌++◌, Option, Some, None}
-use Rattle.std.proofs.Common.{codes, refl, sym, ap, ◌∙◌, subst, arith, length-append, append_assoc}
+use Rattle.std.proofs.Common.{◌≡◌, ℕ, suc, ◌+◌, ◌*◌, ◌≤◌, length, List, ◌∷◌, ◌++◌, Option, Some, None, codes}
+use Rattle.std.proofs.Common.{refl, ap, ◌∙◌, subst, arith, length-append, append_assoc, []}
 use Rattle.src_ast.specs.declared.lexeme.Name.{Name}
 use Rattle.src_ast.specs.declared.lexeme.Place.{Place}
 use Rattle.src_ast.specs.declared.lexeme.Lexeme.{Lexeme}
@@ -40,6 +40,8 @@ split : (ls : List Lexeme) (last : Lexeme) (rest : List Lexeme) → (ls ++ last 
     ∷ rest
 split ls last rest = append_assoc ls (last ∷ []) rest
 
+ruleset sounds = (sound_here, sound_after, sound_front)
+
 assign_fits : (ks : List Lexeme) (l equals last : Lexeme) (ls : List Lexeme) (x : Name) (e : Expression)
     → ks ≡ l ∷ equals ∷ (ls ++ last ∷ []) → IsName x l → Is mark.Assign equals → Spelled 0 ls e → Is Semi last
     → AllSound ks → (braces : ℕ) (rest : List Lexeme) → KeepLimits braces 0 (ks ++ rest)
@@ -49,7 +51,8 @@ assign_fits ks l equals last ls x e eq is q s c h braces rest k =
     let all : ks ++ rest ≡ (l ∷ equals ∷ ls) ++ last ∷ rest = grind (arith, split) in
     let row : AllPlain (l ∷ equals ∷ ls) = grind (arith, plain, plain_word, plain_mark, expression_plain) in
     let w = line_limits last rest braces row c (subst (KeepLimits braces 0) all k) in
-    let small = w.0 in grind (arith, name_good, sound_here, expression_good, sound_front, sound_after, width_least)
+    let small = w.0 in
+    grind (arith, name_good, sounds, expression_good, width_least)
 
 store_fits : (ks : List Lexeme) (l first last equals semi : Lexeme) (is es : List Lexeme) (a : Name)
     (i e : Expression)
@@ -66,7 +69,8 @@ store_fits ks l first last equals semi is es a i e eq na o si c q se d h braces 
     let all : ks ++ rest ≡ row ++ semi ∷ rest = ap (λ t. t ++ rest) eq ∙ simp append_assoc in
     let flat : AllPlain row = grind (arith, plain, plain_word, plain_mark, plain_append, expression_plain) in
     let w = line_limits semi rest braces flat d (subst (KeepLimits braces 0) all k) in
-    let small = w.0 in grind (arith, name_good, sound_here, expression_good, sound_front, sound_after, width_least, length-append)
+    let small = w.0 in
+    grind (arith, name_good, sounds, expression_good, width_least, length-append)
 
 print_fits : (ks : List Lexeme) (l last : Lexeme) (ls : List Lexeme) (e : Expression) (w : List ℕ)
     → ks ≡ l ∷ (ls ++ last ∷ []) → l.shape ≡ Word w → Spelled 0 ls e → Is Semi last
@@ -91,7 +95,8 @@ give_fits : (ks : List Lexeme) (l port comma name last : Lexeme) (n : ℕ) (x : 
     → Is Comma comma → IsName x name → Is Semi last
     → AllSound ks → (braces : ℕ) (rest : List Lexeme) → KeepLimits braces 0 (ks ++ rest)
     → FitsBefore braces (Give l.place n port.place x) rest
-give_fits ks l port comma name last n x eq is np q nx c h braces rest k = grind (arith, plain, plain_word, plain_mark, no_plain, line_limits, sound_here, sound_after, name_good)
+give_fits ks l port comma name last n x eq is np q nx c h braces rest k =
+    grind (arith, plain, plain_word, plain_mark, no_plain, line_limits, sound_here, sound_after, name_good)
 
 take_fits : (ks : List Lexeme) (l port comma last : Lexeme) (ls : List Lexeme) (n : ℕ) (e : Expression)
     → ks ≡ l ∷ port ∷ comma ∷ (ls ++ last ∷ []) → l.shape ≡ Word (codes "take") → port.shape ≡ shape.Number n
@@ -104,7 +109,8 @@ take_fits ks l port comma last ls n e eq is np q s c h braces rest k =
     let row : AllPlain (l ∷ port ∷ comma ∷ ls) = plain (plain_word l (codes "take") is)
     (plain (plain_number port n np) (plain (plain_mark comma Comma refl q) (expression_plain s))) in
     let w = line_limits last rest braces row c (subst (KeepLimits braces 0) all k) in
-    let small = w.0 in grind (arith, number_good, sound_here, sound_after, expression_good, sound_front, width_least)
+    let small = w.0 in
+    grind (arith, number_good, sound_here, sound_after, expression_good, sound_front, width_least)
 
 call_fits : (ks : List Lexeme) (name first last semi : Lexeme) (ls : List Lexeme) (f : Name)
     (es : List Expression)
@@ -119,7 +125,8 @@ call_fits ks name first last semi ls f es eq nf o s c d h braces rest k =
     let flat : AllPlain row = plain (plain_word name f.text nf.word) (plain (plain_mark first LParen refl o)
     (plain_append (arguments_plain s) (plain (plain_mark last RParen refl c) no_plain))) in
     let w = line_limits semi rest braces flat d (subst (KeepLimits braces 0) all k) in
-    let small = w.0 in grind (arith, name_good, sound_here, arguments_good, sound_front, sound_after, arguments_width, length-append)
+    let small = w.0 in
+    grind (arith, name_good, sounds, arguments_good, arguments_width, length-append)
 
 called_fits : (ks : List Lexeme) (l equals name first last semi : Lexeme) (ls : List Lexeme) (x f : Name)
     (es : List Expression)
@@ -135,7 +142,8 @@ called_fits ks l equals name first last semi ls x f es eq nx q nf o s c d h brac
     let flat : AllPlain row = plain (plain_word l x.text nx.word)
     (grind (arith, plain, plain_mark, plain_word, plain_append, arguments_plain, no_plain)) in
     let w = line_limits semi rest braces flat d (subst (KeepLimits braces 0) all k) in
-    let small = w.0 in grind (arith, name_good, sound_here, sound_after, arguments_good, sound_front, arguments_width, length-append)
+    let small = w.0 in
+    grind (arith, name_good, sounds, arguments_good, arguments_width, length-append)
 
 -- the test of an `if` or a `while`
 record TestFits (braces : ℕ) (e : Expression) (ls following rest : List Lexeme) : Type 0 where
@@ -187,7 +195,8 @@ mutual
   statement_fits (call {ks = ks} name first last semi ls f es eq nf o s c d) h braces rest k =
       call_fits ks name first last semi ls f es eq nf o s c d h braces rest k
   statement_fits (called {ks = ks} l equals name first last semi ls x f es eq nx q nf o s c d) h braces rest
-      k = grind (arith, called_fits ks l equals name first last semi ls x f es eq nx q nf o s c d h braces rest k)
+      k =
+      grind (arith, called_fits ks l equals name first last semi ls x f es eq nx q nf o s c d h braces rest k)
   statement_fits (choice {ks = ks} l first last ls xs ys e a b eq is o s c sa sb) h braces rest k =
       let t = test_fits ks l first last ls (xs ++ ys) e (codes "if") eq is o s c h braces rest k in
       let x = block_fits sa (sound_front xs ys t.inside) braces t.row (ys ++ rest)
@@ -253,7 +262,8 @@ vars_fit (vars {ks = ks} l semi ls rs xs ys eq zs is s c more) h braces rest k =
     let all : ks ++ rest ≡ (l ∷ ls) ++ semi ∷ (rs ++ rest) = ap (λ t. t ++ rest) eq ∙ simp append_assoc in
     let row : AllPlain (l ∷ ls) = plain (plain_word l (codes "var") is) (some_names_plain s) in
     let w = line_limits semi (rs ++ rest) braces row c (subst (KeepLimits braces 0) all k) in
-    let t = vars_fit more (sound_after (sound_back ls (semi ∷ rs) inside)) braces rest w.1 in grind (arith, names_append, some_names_good, sound_front)
+    let t = vars_fit more (sound_after (sound_back ls (semi ∷ rs) inside)) braces rest w.1 in
+    grind (arith, names_append, some_names_good, sound_front)
 
 names_few : (xs : List Name) → names_width xs ≤ 2 * length xs
 names_few (x ∷ y ∷ xs) = omega (arith, names_few (y ∷ xs))
@@ -265,7 +275,8 @@ array_fits : (ks : List Lexeme) (l name first size last semi : Lexeme) (x : Name
     → Is RSquare last → Is Semi semi
     → AllSound ks → (rest : List Lexeme) → KeepLimits 0 0 (ks ++ rest) → IsNearlyPart (Array x n size.place)
     × KeepLimits 0 0 rest
-array_fits ks l name first size last semi x n eq is nx o v c d h rest k = grind (arith, plain, plain_word, plain_mark, no_plain, line_limits, name_good, sound_here, sound_after)
+array_fits ks l name first size last semi x n eq is nx o v c d h rest k =
+    grind (arith, plain, plain_word, plain_mark, no_plain, line_limits, name_good, sound_here, sound_after)
 
 procedure_fits : (ks : List Lexeme) (l name first last open' close : Lexeme) (ps vs bs es : List Lexeme)
     (x : Name) (params vs' : List Name) (b : Statements) (e : Option Last)
@@ -295,7 +306,8 @@ procedure_fits ks l name first last open' close ps vs bs es x params vs' b e eq 
     let opened = open_limits 0 (length row) open' following d head.kept in
     let v = vars_fit sv (sound_front vs bodies heard) 1 (bs ++ (es ++ close ∷ rest)) opened.1 in
     let s = statements_fit sb (sound_front bs endings body_heard) 1 (es ++ close ∷ rest) v.1 in
-    let r = ending_fits se (sound_front es (close ∷ []) ending_heard) 1 (close ∷ rest) s.1 in grind (arith, name_good, sound_here, sound_after, names_good, sound_front, names_fit, length-append, close_limits)
+    let r = ending_fits se (sound_front es (close ∷ []) ending_heard) 1 (close ∷ rest) s.1 in
+    grind (arith, name_good, sounds, names_good, names_fit, length-append, close_limits)
 
 item_fits : {ks : List Lexeme} {a : Part} → SpelledItem ks a → AllSound ks → (rest : List Lexeme)
     → KeepLimits 0 0 (ks ++ rest)
@@ -303,7 +315,9 @@ item_fits : {ks : List Lexeme} {a : Part} → SpelledItem ks a → AllSound ks �
 item_fits (array {ks = ks} l name first size last semi x n eq is nx o v c d) h rest k =
     array_fits ks l name first size last semi x n eq is nx o v c d h rest k
 item_fits (proc {ks = ks} l name first last open' close ps vs bs es x params vs' b e eq is nx o sp c d sv sb
-    se f) h rest k = grind (arith, procedure_fits ks l name first last open' close ps vs bs es x params vs' b e eq is nx o sp c d sv sb se f h rest k)
+    se f) h rest k =
+    procedure_fits ks l name first last open' close ps vs bs es x params vs' b e eq is nx o sp c d sv sb se f
+    h rest k
 
 -- a tree of lexemes within the limits is nearly written
 pub tree_nearly : {ks : List Lexeme} {all : List Part} → Tree ks all → AllSound ks → KeepLimits 0 0 ks

@@ -1,6 +1,6 @@
 -- The printed form keeps the limits.
-use Rattle.std.proofs.Common.{◌≡◌, ℕ, suc, ◌+◌, ◌≤◌, Bool, true, false, length, List, [], ◌∷◌, Option, Some}
-use Rattle.std.proofs.Common.{None, codes, refl, arith}
+use Rattle.std.proofs.Common.{◌≡◌, ℕ, suc, ◌+◌, ◌≤◌, Bool, true, false, length, List, ◌∷◌, Option, codes, []}
+use Rattle.std.proofs.Common.{refl, arith}
 use Rattle.ws_words.specs.declared.alu.Alu.{Alu}
 use Rattle.src_ast.specs.declared.lexeme.Name.{Name}
 use Rattle.src_ast.specs.declared.lexeme.Shape.TheVariants.{Word, Mark}
@@ -8,12 +8,11 @@ use Rattle.src_ast.specs.declared.lexeme.Shape.TheVariants as shape
 use Rattle.src_ast.specs.declared.lexeme.Mark.{Mark as AnyMark}
 use Rattle.src_ast.specs.declared.lexeme.Mark.TheVariants as mark
 use Rattle.src_ast.specs.declared.lexeme.Mark.TheVariants.{LParen, RParen, LBrace, RBrace, LSquare, RSquare}
-use Rattle.src_ast.specs.declared.lexeme.Mark.TheVariants.{Comma, Semi}
+use Rattle.src_ast.specs.declared.lexeme.Mark.TheVariants.{Semi}
 use Rattle.src_ast.specs.declared.tree.Unary.{Unary}
 use Rattle.src_ast.specs.Grammar.{level_of, mark_of, sign_mark}
-use Rattle.src_ast.specs.Syntax.{Expression, Number, Cell, Signed, Binary, Statement, Assign, Store}
-use Rattle.src_ast.specs.Syntax.{Print, Read, Give, Take, Call, If, While, Statements, Nothing, Then, Last}
-use Rattle.src_ast.specs.Syntax.{Part, Array, Proc}
+use Rattle.src_ast.specs.Syntax.{Expression, Cell, Signed, Binary, Statement, If, While, Statements, Nothing}
+use Rattle.src_ast.specs.Syntax.{Then, Last, Part, Array, Proc}
 use Rattle.src_ast.specs.Printed.{is_looser, is_no_tighter, indent}
 use Rattle.src_ast.specs.Written.{IsWrittenName, AreWrittenNames, IsWrittenExpression, AreWrittenExpressions}
 use Rattle.src_ast.specs.Written.{rounded, width, list_width, names_width, IsWrittenStatement}
@@ -63,7 +62,11 @@ wrapped_kept braces needed f n d h row next ps e l k = grind (arith, inner, lexe
 expression_kept : (braces : ℕ) → braces ≤ 32 → (e : Expression) → IsWrittenExpression e
     → (row next : ℕ) (ps : List Piece) → row + width e ≡ next → next ≤ 256 → Keep braces next ps
     → Keep braces row (expression e ps)
-expression_kept braces d (Cell a i) g row next ps e l k = grind (arith, word_in, inner, expression_kept braces d i g.1 (row + 2) (row + 2 + width i) _ refl (omega arith) (inner RSquare braces (row + 2 + width i) next ps refl d (omega arith) l k))
+expression_kept braces d (Cell a i) g row next ps e l k =
+    word_in a.text braces row (row + 1) _ g.0.short d refl (omega arith)
+    (inner LSquare braces (row + 1) (row + 2) _ refl d (omega arith) (omega arith)
+    (expression_kept braces d i g.1 (row + 2) (row + 2 + width i) _ refl (omega arith)
+    (inner RSquare braces (row + 2 + width i) next ps refl d (omega arith) l k)))
 expression_kept braces d (Signed s a) g row next ps e l k =
     grind (arith, inner, sign_inner, wrapped_kept, expression, expression_kept braces d a g)
 expression_kept braces d (Binary op a b) g row next ps e l k =
@@ -79,13 +82,17 @@ expression_kept braces d e g row next ps h l k = grind (arith, number_in, word_i
 arguments_kept : (braces : ℕ) → braces ≤ 32 → (es : List Expression) → AreWrittenExpressions es
     → (row next : ℕ) (ps : List Piece) → row + list_width es ≡ next → next ≤ 256 → Keep braces next ps
     → Keep braces row (arguments es ps)
-arguments_kept braces d (x ∷ y ∷ xs) g row next ps e l k = grind (arith, expression_kept, inner, after_gap, space, arguments_kept braces d (y ∷ xs) g.1 (row + width x + 1) next ps (omega arith) l k)
+arguments_kept braces d (x ∷ y ∷ xs) g row next ps e l k =
+    let ih1 = arguments_kept braces d (y ∷ xs) g.1 (row + width x + 1) next ps (omega arith) l k in
+    grind (arith, expression_kept, inner, after_gap, space)
 arguments_kept braces d es g row next ps e l k = grind (arith, expression_kept)
 
 names_kept : (braces : ℕ) → braces ≤ 32 → (xs : List Name) → AreWrittenNames xs
     → (row next : ℕ) (ps : List Piece) → row + names_width xs ≡ next → next ≤ 256 → Keep braces next ps
     → Keep braces row (names xs ps)
-names_kept braces d (x ∷ y ∷ xs) g row next ps e l k = grind (arith, word_in, inner, after_gap, space, names_kept braces d (y ∷ xs) g.1 (row + 2) next ps (omega arith) l k)
+names_kept braces d (x ∷ y ∷ xs) g row next ps e l k =
+    let ih1 = names_kept braces d (y ∷ xs) g.1 (row + 2) next ps (omega arith) l k in
+    grind (arith, word_in, inner, after_gap, space)
 names_kept braces d xs g row next ps e l k = grind (arith, word_in)
 
 finish_kept : (braces row : ℕ) (ps : List Piece) → braces ≤ 32 → Keep braces 0 ps
@@ -122,6 +129,8 @@ second_arm_kept : (n braces : ℕ) (b : Statements) (f : List Piece → List Pie
 second_arm_kept n braces b f d h ps k =
     grind (arith, closing_kept, after_gap, following, space, word_in, opens)
 
+ruleset gaps = (after_gap, word_in, space)
+
 mutual
   pub statement_kept : (n braces : ℕ) → braces ≤ 32 → (s : Statement) → IsWrittenStatement braces s
       → (ps : List Piece) → Keep braces 0 ps → Keep braces 0 (statement n s ps)
@@ -132,7 +141,8 @@ mutual
   statement_kept n braces d (While at e a) h ps k =
       after_gap (indent n) (test_kept braces _ h.2 (codes "while") e (omega arith) h.0 h.1
       (body_kept (suc n) (suc braces) h.2 a h.3 _ (closing_kept n braces 0 ps d k)))
-  statement_kept v0 v1 v2 v3 v4 v5 v6 = grind (arith, after_gap, word_in, space, inner, last_kept, expression_kept, finish_kept, number_in, call_kept)
+  statement_kept v0 v1 v2 v3 v4 v5 v6 =
+      grind (arith, gaps, inner, last_kept, expression_kept, finish_kept, number_in, call_kept)
 
   pub body_kept : (n braces : ℕ) → braces ≤ 32 → (b : Statements) → AreWrittenStatements braces b
       → (ps : List Piece) → Keep braces 0 ps → Keep braces 0 (body n b ps)
@@ -143,7 +153,11 @@ mutual
 variables_kept : (braces : ℕ) → braces ≤ 32 → (xs : List Name) → AreWrittenNames xs → names_width xs + 1 ≤ 256
     → (ps : List Piece) → Keep braces 0 ps → Keep braces 0 (variables xs ps)
 variables_kept braces d [] g l ps k = k
-variables_kept braces d (x ∷ xs) g l ps k = grind (arith, after_gap (indent 1) (word_in (codes "var") braces 0 1 _ (omega arith) d refl (omega arith) (after_gap space (names_kept braces d (x ∷ xs) g 1 (1 + names_width (x ∷ xs)) _ refl (omega arith) (finish_kept braces _ ps d k)))))
+variables_kept braces d (x ∷ xs) g l ps k =
+    after_gap (indent 1) (word_in (codes "var") braces 0 1 _ (omega arith) d refl (omega arith)
+    (after_gap space
+    (names_kept braces d (x ∷ xs) g 1 (1 + names_width (x ∷ xs)) _ refl (omega arith)
+    (finish_kept braces _ ps d k))))
 
 ending_kept : (braces : ℕ) → braces ≤ 32 → (e : Option Last) → IsWrittenEnding e → (ps : List Piece)
     → Keep braces 0 ps → Keep braces 0 (ending e ps)

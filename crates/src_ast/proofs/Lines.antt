@@ -1,6 +1,6 @@
 -- Texts with commas, and lines of a level.
-use Rattle.std.proofs.Common.{◌≡◌, ℕ, zero, suc, ◌+◌, ◌<◌, List, [], ◌∷◌, ◌++◌, length, get_or, drop, map}
-use Rattle.std.proofs.Common.{codes, refl, sym, arith, append_assoc, append-nil, add-one}
+use Rattle.std.proofs.Common.{◌≡◌, ℕ, zero, suc, ◌+◌, ◌<◌, List, ◌∷◌, ◌++◌, length, get_or, drop, map, codes}
+use Rattle.std.proofs.Common.{refl, sym, arith, append_assoc, append-nil, add-one, []}
 use Rattle.src_ast.specs.declared.lexeme.Name.{Name}
 use Rattle.src_ast.specs.declared.tree.Expr.{Expr}
 use Rattle.src_ast.specs.declared.tree.Stmt.{Stmt}

@@ -1,15 +1,14 @@
 -- A written program has narrow statements, and the procedures of an accepted one have few parameters and
 -- variables.
-use Rattle.std.proofs.Common.{◌≡◌, ℕ, suc, ◌+◌, ◌≤◌, nat_lt, ◌==◌, Bool, true, not, ◌&&◌, length, List, []}
-use Rattle.std.proofs.Common.{◌∷◌, ◌++◌, Option, Some, None, sym, ◌∙◌, arith}
+use Rattle.std.proofs.Common.{◌≡◌, ℕ, suc, ◌+◌, ◌≤◌, nat_lt, ◌==◌, Bool, true, not, ◌&&◌, length, List, ◌∷◌}
+use Rattle.std.proofs.Common.{◌++◌, Option, sym, ◌∙◌, arith, []}
 use Rattle.std.specs.List.{list_all}
 use Rattle.std.proofs.lemmas.Bool.{and_parts, ltb-true}
 use Rattle.std.proofs.lemmas.List.Folds.{list_all-append}
 use Rattle.src_ast.specs.declared.lexeme.Name.{Name}
 use Rattle.src_ast.specs.declared.lexeme.Place.{Place}
-use Rattle.src_ast.specs.Syntax.{Expression, Cell, Signed, Binary, Statement, Assign, Store}
-use Rattle.src_ast.specs.Syntax.{Print, Read, Give, Take, Call, If, While, Statements, Nothing, Then, Last}
-use Rattle.src_ast.specs.Syntax.{Procedure, Part, Array, Proc}
+use Rattle.src_ast.specs.Syntax.{Expression, Cell, Signed, Binary, Statement, If, While, Statements, Nothing}
+use Rattle.src_ast.specs.Syntax.{Then, Last, Procedure, Part, Array, Proc}
 use Rattle.src_ast.specs.Written.{rounded, width, list_width, IsWrittenStatement, AreWrittenStatements}
 use Rattle.src_ast.specs.Written.{IsWrittenEnding, IsWritten}
 use Rattle.src_ast.specs.Bound.{nodes, nodes_of, most_nodes, most_nodes_of, ending_nodes, widest}
@@ -34,7 +33,8 @@ nodes_list_width es = grind (arith, nodes_width)
 
 mutual
   fit_narrow : (braces : ℕ) (s : Statement) → IsWrittenStatement braces s → most_nodes s ≤ 255
-  fit_narrow braces (If at e a b) h = grind (arith, nodes_width, all_narrow (suc braces) a h.3, all_narrow (suc braces) b h.4)
+  fit_narrow braces (If at e a b) h =
+      grind (arith, nodes_width, all_narrow (suc braces) a h.3, all_narrow (suc braces) b h.4)
   fit_narrow braces (While at e body) h = omega (arith, h.1, nodes_width e, all_narrow (suc braces) body h.3)
   fit_narrow v0 v1 v2 = grind (arith, nodes_width, nodes_list_width)
 

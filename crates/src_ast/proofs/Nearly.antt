@@ -1,5 +1,5 @@
 -- Programs that are written, but for the rows of variables.
-use Rattle.std.proofs.Common.{arith, ◌+◌, List, [], ◌∷◌}
+use Rattle.std.proofs.Common.{arith, ◌+◌, List, ◌∷◌, []}
 use Rattle.src_ast.specs.Syntax.{Procedure, Part, Array, Proc}
 use Rattle.src_ast.specs.Written.{IsWrittenName, AreWrittenNames, IsWrittenNumber, names_width, FitsRow}
 use Rattle.src_ast.specs.Written.{AreWrittenStatements, IsWrittenEnding, IsWrittenProcedure, IsWritten}

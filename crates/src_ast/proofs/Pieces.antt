@@ -1,5 +1,5 @@
 -- A text as gaps and lexemes in turn, and the lexemes of such a text.
-use Rattle.std.proofs.Common.{arith, ◌≡◌, ℕ, ◌≤◌, ◌&&◌, ◌==◌, IsTrue, List, [], ◌∷◌, ◌++◌, refl, ◌∙◌, subst, decimal}
+use Rattle.std.proofs.Common.{arith, ◌≡◌, ℕ, ◌≤◌, ◌&&◌, ◌==◌, IsTrue, List, ◌∷◌, ◌++◌, refl, ◌∙◌, decimal, []}
 use Rattle.std.proofs.Common.{append_assoc}
 use Rattle.std.specs.List.{list_all}
 use Rattle.std.proofs.lemmas.Bool.{and_parts, and_from, cond-true}
@@ -80,7 +80,9 @@ record Led (at : Place) (text : List ℕ) (ls : List Lexeme) : Type 0 where
 led : (ps : List Piece) (at : Place) (pre : List ℕ) → IsTrue (list_all is_blank pre) → AreSpelled ps
     → Led at (pre ++ text_of ps) (placed (after at pre) ps)
 led [] at pre blank h = record { place = after at pre; leads = stop pre refl (blank_gap pre blank) refl }
-led (gap bytes ∷ ps) at pre blank h = grind (arith, blank-append, append_assoc, after-append, led ps at (pre ++ bytes) (blank-append pre bytes blank h.0) h.1)
+led (gap bytes ∷ ps) at pre blank h =
+    let ih1 = led ps at (pre ++ bytes) (blank-append pre bytes blank h.0) h.1 in
+    grind (arith, blank-append, append_assoc, after-append)
 led (lexeme s ∷ ps) at pre blank h =
     let following = led ps (after (after at pre) (spelled s)) [] refl h.1 in
     record {

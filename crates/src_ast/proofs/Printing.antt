@@ -1,6 +1,6 @@
 -- The printed form as gaps and lexemes. Each function gives the pieces of what it prints, in front of others.
-use Rattle.std.proofs.Common.{arith, ◌≡◌, ℕ, suc, Bool, true, false, List, [], ◌∷◌, ◌++◌, Option, Some, None}
-use Rattle.std.proofs.Common.{codes, decimal, refl, ap, ◌∙◌, append_assoc}
+use Rattle.std.proofs.Common.{arith, ◌≡◌, ℕ, suc, Bool, true, false, List, ◌∷◌, ◌++◌, Option, Some, None, []}
+use Rattle.std.proofs.Common.{codes, refl, ap, ◌∙◌, append_assoc}
 use Rattle.src_ast.specs.declared.lexeme.Name.{Name}
 use Rattle.src_ast.specs.declared.lexeme.Shape.TheVariants.{Word, Mark}
 use Rattle.src_ast.specs.declared.lexeme.Shape.TheVariants as shape

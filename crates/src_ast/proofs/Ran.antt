@@ -1,10 +1,10 @@
 -- What does not see the places of a program: how it runs.
-use Rattle.std.proofs.Common.{arith, ◌≡◌, ℕ, zero, suc, ◌-◌, ◌==◌, length, List, [], ◌∷◌, ◌++◌, Option, Some}
+use Rattle.std.proofs.Common.{arith, ◌≡◌, ℕ, zero, suc, ◌-◌, ◌==◌, length, List, ◌∷◌, ◌++◌, Option, Some, []}
 use Rattle.std.proofs.Common.{None, if◌then◌else◌, slice_index, nat_eq, refl, sym, ap, ◌∙◌, subst}
 use lib.Pointwise.{pointwise}
 use Rattle.ws_words.specs.Operators.{applied}
 use Rattle.ws_words.specs.Outside.{Outside, ProcState, write, with_acts, row, loads, stored, printed, taken}
-use Rattle.ws_words.specs.Outside.{has_read, given, zeros, opening_out}
+use Rattle.ws_words.specs.Outside.{zeros, opening_out}
 use Rattle.src_ast.specs.declared.lexeme.Name.{Name}
 use Rattle.src_ast.specs.Syntax.{Expression, Cell, Signed, Binary, Statement, Assign, Store}
 use Rattle.src_ast.specs.Syntax.{Print, Read, Give, Take, Call, If, While, Statements, Nothing, Then, Last}
@@ -155,7 +155,8 @@ nth_bare : (arrays procs : List Name) (ps : List Procedure) (calls : Calls) (n :
     → nth_run (bare_names arrays) (bare_names procs) (bare_procedures ps) calls n ≡ nth_run arrays procs ps
     calls n
 nth_bare arrays procs [] calls n = refl
-nth_bare arrays procs (p ∷ ps) calls zero = grind (arith, scope_bare arrays procs p, procedure_bare (scope_of arrays procs p) calls p)
+nth_bare arrays procs (p ∷ ps) calls zero =
+    grind (arith, scope_bare arrays procs p, procedure_bare (scope_of arrays procs p) calls p)
 nth_bare arrays procs (p ∷ ps) calls (suc n) = nth_bare arrays procs ps calls n
 
 arrays_bare : (all : List Part) → arrays_of (bare_parts all) ≡ bare_names (arrays_of all)

@@ -1,15 +1,14 @@
 -- Expressions that are read from lexemes are good, and their printed form has no more lexemes.
-use Rattle.std.proofs.Common.{◌≡◌, ℕ, ◌+◌, ◌^◌, ◌<◌, ◌≤◌, Bool, length, List, [], ◌∷◌, refl, sym, ap, subst}
-use Rattle.std.proofs.Common.{arith, length-append}
+use Rattle.std.proofs.Common.{◌≡◌, ℕ, ◌+◌, ◌^◌, ◌<◌, ◌≤◌, Bool, length, List, ◌∷◌, refl, ap, subst, arith, []}
+use Rattle.std.proofs.Common.{length-append}
 use Rattle.std.proofs.lemmas.Bool.{le-ltb}
 use Rattle.src_ast.specs.declared.lexeme.Name.{Name}
 use Rattle.src_ast.specs.declared.lexeme.Lexeme.{Lexeme}
 use Rattle.src_ast.specs.declared.lexeme.Shape.TheVariants as shape
-use Rattle.src_ast.specs.declared.lexeme.Mark.TheVariants.{LSquare, RSquare}
-use Rattle.src_ast.specs.Grammar.{level_of, mark_of, IsName, Spelled, number, variable, cell, round, signed}
-use Rattle.src_ast.specs.Grammar.{binary, Separated, one, more, Listed, none, some, SpelledName, name}
+use Rattle.src_ast.specs.Grammar.{IsName, Spelled, number, variable, cell, round, signed, binary, Separated}
+use Rattle.src_ast.specs.Grammar.{one, more, Listed, SpelledName, name}
 use Rattle.src_ast.specs.Syntax.{Expression}
-use Rattle.src_ast.specs.Printed.{is_looser, is_no_tighter}
+use Rattle.src_ast.specs.Printed.{is_looser}
 use Rattle.src_ast.specs.Written.{IsWrittenName, AreWrittenNames, IsWrittenExpression, AreWrittenExpressions}
 use Rattle.src_ast.specs.Written.{rounded, width, list_width, names_width}
 use Rattle.src_ast.proofs.Kept.{op_inner, sign_inner}
@@ -32,23 +31,29 @@ pub expression_good : {n : ℕ} {ls : List Lexeme} {e : Expression} → Spelled 
 expression_good (number l v is) h = number_good l is (sound_here h)
 expression_good (variable l x is) h = name_good is (sound_here h)
 expression_good (cell l first last ls a e eq is o s c) h =
-    let hs = subst AllSound eq h in grind (arith, name_good, sound_here, sound_front, sound_after, expression_good s (sound_front ls (last ∷ []) (sound_after (sound_after hs))))
+    let hs = subst AllSound eq h in
+    let ih1 = expression_good s (sound_front ls (last ∷ []) (sound_after (sound_after hs))) in
+    grind (arith, name_good, sound_here, sound_front, sound_after)
 expression_good (round first last ls eq o s c) h =
     let hs = subst AllSound eq h in
     expression_good s (sound_front ls (last ∷ []) (sound_after hs))
 expression_good (signed l ls s e d is sp) h = expression_good sp (sound_after h)
 expression_good (binary l ls rs op a b d eq is sa sb) h =
-    let hs = subst AllSound eq h in grind (arith, sound_front, sound_after, sound_back, expression_good sa (sound_front ls (l ∷ rs) hs), expression_good sb (sound_after (sound_back ls (l ∷ rs) hs)))
+    let hs = subst AllSound eq h in
+    let ih1 = expression_good sb (sound_after (sound_back ls (l ∷ rs) hs)) in
+    grind (arith, sound_front, sound_after, sound_back, expression_good sa (sound_front ls (l ∷ rs) hs))
 
 -- the lexemes of an expression stand in a row
 pub expression_plain : {n : ℕ} {ls : List Lexeme} {e : Expression} → Spelled n ls e → AllPlain ls
 expression_plain (number l v is) = plain (plain_number l v is) no_plain
 expression_plain (variable l x is) = plain (plain_word l x.text is.word) no_plain
-expression_plain (cell l first last ls a e eq is o s c) = grind (arith, plain, plain_word, plain_mark, plain_append, no_plain, expression_plain s)
+expression_plain (cell l first last ls a e eq is o s c) =
+    grind (arith, plain, plain_word, plain_mark, plain_append, no_plain, expression_plain s)
 expression_plain (round first last ls eq o s c) =
     grind (arith, AllPlain, plain, plain_mark, plain_append, no_plain, expression_plain s)
 expression_plain (signed l ls s e d is sp) = grind (arith, plain, plain_mark, sign_inner, expression_plain sp)
-expression_plain (binary l ls rs op a b d eq is sa sb) = grind (arith, plain_append, plain, plain_mark, op_inner, expression_plain sa, expression_plain sb)
+expression_plain (binary l ls rs op a b d eq is sa sb) =
+    grind (arith, plain_append, plain, plain_mark, op_inner, expression_plain sa, expression_plain sb)
 
 rounded_least : (b : Bool) (n : ℕ) → n ≤ rounded b n
 rounded_least b n = grind arith
@@ -58,10 +63,13 @@ rounded_most b n = grind arith
 
 pub expression_width : {n : ℕ} {ls : List Lexeme} {e : Expression} → Spelled n ls e
     → rounded (is_looser e n) (width e) ≤ length ls
-expression_width (cell l first last ls a e eq is o s c) = grind (arith, rounded_least, length-append, expression_width s)
-expression_width (round {n = n} {e = e} first last ls eq o s c) = grind (arith, rounded_least, rounded_most, length-append, expression_width s)
+expression_width (cell l first last ls a e eq is o s c) =
+    grind (arith, rounded_least, length-append, expression_width s)
+expression_width (round {n = n} {e = e} first last ls eq o s c) =
+    grind (arith, rounded_least, rounded_most, length-append, expression_width s)
 expression_width (signed {n = n} l ls s e d is sp) = grind (arith, loose_eight, expression_width sp)
-expression_width (binary {n = n} {ks = ks} l ls rs op a b d eq is sa sb) = grind (arith, loose_next, le-ltb, length-append, expression_width sb, expression_width sa)
+expression_width (binary {n = n} {ks = ks} l ls rs op a b d eq is sa sb) =
+    grind (arith, loose_next, le-ltb, length-append, expression_width sb, expression_width sa)
 expression_width h = grind arith
 
 -- the printed form of an expression has no more lexemes than it was read from
@@ -88,7 +96,9 @@ some_arguments_good : {ks : List Lexeme} {es : List Expression} → Separated (S
     → AreWrittenExpressions es
 some_arguments_good (one ls e s) h = (expression_good s h, tt)
 some_arguments_good (more comma ls rs e es eq s c more') h =
-    let hs = subst AllSound eq h in grind (arith, expression_good, sound_front, sound_after, sound_back, some_arguments_good more' (sound_after (sound_back ls (comma ∷ rs) hs)))
+    let hs = subst AllSound eq h in
+    let ih1 = some_arguments_good more' (sound_after (sound_back ls (comma ∷ rs) hs)) in
+    grind (arith, expression_good, sound_front, sound_after, sound_back)
 
 -- arguments that are read are written
 pub arguments_good : {ks : List Lexeme} {es : List Expression} → Listed (Spelled 0) ks es → AllSound ks
@@ -126,7 +136,9 @@ pub some_names_good : {ks : List Lexeme} {xs : List Name} → Separated SpelledN
     → AreWrittenNames xs
 some_names_good (one ls x s) h = (spelled_name_good s h, tt)
 some_names_good (more comma ls rs x xs eq s c more') h =
-    let hs = subst AllSound eq h in grind (arith, spelled_name_good, sound_front, sound_after, sound_back, some_names_good more' (sound_after (sound_back ls (comma ∷ rs) hs)))
+    let hs = subst AllSound eq h in
+    let ih1 = some_names_good more' (sound_after (sound_back ls (comma ∷ rs) hs)) in
+    grind (arith, spelled_name_good, sound_front, sound_after, sound_back)
 
 -- so are no names
 pub names_good : {ks : List Lexeme} {xs : List Name} → Listed SpelledName ks xs → AllSound ks

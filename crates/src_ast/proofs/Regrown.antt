@@ -1,6 +1,6 @@
 -- The lexemes of the printed form have a tree, which is the same program.
-use Rattle.std.proofs.Common.{◌≡◌, ℕ, ◌+◌, ◌<◌, ◌≤◌, nat_lt, nat_le, Bool, true, false, List, [], ◌∷◌, ◌++◌}
-use Rattle.std.proofs.Common.{decimal, refl, sym, ap, ◌∙◌, arith, append_assoc}
+use Rattle.std.proofs.Common.{◌≡◌, ℕ, ◌+◌, ◌<◌, ◌≤◌, nat_lt, nat_le, Bool, true, false, List, ◌∷◌, ◌++◌, []}
+use Rattle.std.proofs.Common.{decimal, refl, ap, ◌∙◌, arith, append_assoc}
 use Rattle.std.proofs.lemmas.Bool.{cases_lt, lt-ltb, le-ltb, le-leb, lt-leb, ltb-false}
 use Rattle.ws_words.specs.declared.alu.Alu.{Alu}
 use Rattle.src_ast.specs.declared.lexeme.Name.{Name}

@@ -1,6 +1,6 @@
 -- The lexemes of printed statements and programs have a tree, which is the same program.
-use Rattle.std.proofs.Common.{arith, ◌≡◌, ℕ, suc, List, [], ◌∷◌, ◌++◌, Option, Some, None, codes, decimal, refl, sym}
-use Rattle.std.proofs.Common.{ap, ◌∙◌, append_assoc, append-nil}
+use Rattle.std.proofs.Common.{arith, ◌≡◌, ℕ, suc, List, ◌∷◌, ◌++◌, Option, Some, None, codes, decimal, refl}
+use Rattle.std.proofs.Common.{sym, ap, ◌∙◌, append_assoc, append-nil, []}
 use Rattle.src_ast.specs.declared.lexeme.Name.{Name}
 use Rattle.src_ast.specs.declared.lexeme.Place.{Place}
 use Rattle.src_ast.specs.declared.lexeme.Lexeme.{Lexeme}

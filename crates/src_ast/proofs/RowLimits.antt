@@ -1,6 +1,6 @@
 -- What lexemes that keep the limits say of a row of them.
-use Rattle.std.proofs.Common.{◌≡◌, ℕ, suc, ◌+◌, ◌^◌, ◌<◌, ◌≤◌, Bool, true, IsTrue, length, List, [], ◌∷◌}
-use Rattle.std.proofs.Common.{◌++◌, ap, ◌∙◌, subst, arith}
+use Rattle.std.proofs.Common.{◌≡◌, ℕ, suc, ◌+◌, ◌^◌, ◌<◌, ◌≤◌, Bool, true, IsTrue, length, List, ◌∷◌, ◌++◌}
+use Rattle.std.proofs.Common.{ap, ◌∙◌, subst, arith, []}
 use Rattle.src_ast.specs.declared.lexeme.Place.{Place}
 use Rattle.src_ast.specs.declared.lexeme.Lexeme.{Lexeme}
 use Rattle.src_ast.specs.declared.lexeme.Shape.{Shape}

@@ -1,6 +1,6 @@
 -- Worked runs: what the sequential meaning gives for small programs, by computing.
-use Rattle.std.proofs.Common.{◌≡◌, ℕ, ◌<◌, List, [], ◌∷◌, codes, refl, Some, None, Option, if◌then◌else◌}
-use Rattle.std.proofs.Common.{arith}
+use Rattle.std.proofs.Common.{◌≡◌, ℕ, ◌<◌, List, ◌∷◌, codes, refl, Some, None, Option, if◌then◌else◌, arith}
+use Rattle.std.proofs.Common.{[]}
 use Rattle.ws_words.specs.declared.alu.Alu.TheVariants.{Add, Sub, Mul, Div, Rem, Shl, Le}
 use Rattle.ws_words.specs.Outside.{with_input, Outside, Act, prints, loads, stores, reads}
 use Rattle.ws_words.specs.Past.{AreWithin}

@@ -1,13 +1,12 @@
 -- When what follows a lexeme can't be part of it.
-use Rattle.std.proofs.Common.{◌≡◌, ℕ, ◌^◌, ◌<◌, ◌≤◌, Bool, true, false, ◌||◌, ◌==◌, IsTrue, List, [], ◌∷◌}
-use Rattle.std.proofs.Common.{◌++◌, length, refl, sym, decimal, arith}
-use Rattle.std.specs.List.{list_all}
+use Rattle.std.proofs.Common.{◌≡◌, ℕ, ◌^◌, ◌<◌, ◌≤◌, Bool, true, false, ◌||◌, ◌==◌, IsTrue, List, ◌∷◌, ◌++◌}
+use Rattle.std.proofs.Common.{length, refl, decimal, arith, []}
 use Rattle.std.proofs.lemmas.Bool.{and_parts, or_parts, or_from, not-true, not_from_false, true≢false, ne_eqb}
 use Rattle.ws_words.specs.Digits.{is_digit, is_number}
 use Rattle.src_ast.specs.declared.lexeme.Shape.TheVariants as shape
 use Rattle.src_ast.specs.declared.lexeme.Mark.{Mark}
 use Rattle.src_ast.specs.Lexemes.{spelling, IsLongest, Spells, word, number, mark}
-use Rattle.ws_words.specs.Letters.{is_letter, is_word_byte, is_word, starts_without}
+use Rattle.ws_words.specs.Letters.{is_word_byte, is_word, starts_without}
 use Rattle.ws_words.proofs.Decimals.{decimal_digits}
 
 -- the second bytes of marks: `<`, `=` and `>`

@@ -1,18 +1,15 @@
 -- Each lexeme of the printed form is spelled as far as it goes.
-use Rattle.std.proofs.Common.{arith, ℕ, zero, suc, Bool, IsTrue, List, [], ◌∷◌, Option, Some, None, codes}
-use Rattle.std.proofs.Common.{refl}
+use Rattle.std.proofs.Common.{arith, ℕ, zero, suc, Bool, IsTrue, List, ◌∷◌, Option, codes, refl, []}
 use Rattle.std.specs.List.{list_all}
 use Rattle.src_ast.specs.declared.lexeme.Name.{Name}
 use Rattle.src_ast.specs.declared.lexeme.Shape.TheVariants.{Mark}
 use Rattle.src_ast.specs.declared.lexeme.Mark.TheVariants as mark
-use Rattle.src_ast.specs.declared.lexeme.Mark.TheVariants.{LParen, RParen, LBrace, RBrace, LSquare, RSquare}
-use Rattle.src_ast.specs.declared.lexeme.Mark.TheVariants.{Comma, Semi}
+use Rattle.src_ast.specs.declared.lexeme.Mark.TheVariants.{RBrace, RSquare, Semi}
 use Rattle.src_ast.specs.Lexemes.{is_blank}
-use Rattle.src_ast.specs.Grammar.{level_of, mark_of, sign_mark}
-use Rattle.src_ast.specs.Syntax.{Expression, Cell, Signed, Binary, Statement, Assign, Store}
-use Rattle.src_ast.specs.Syntax.{Print, Read, Give, Take, Call, If, While, Statements, Nothing, Then, Last}
-use Rattle.src_ast.specs.Syntax.{Part, Array, Proc}
-use Rattle.src_ast.specs.Printed.{is_looser, is_no_tighter, is_binary, indent}
+use Rattle.src_ast.specs.Grammar.{level_of}
+use Rattle.src_ast.specs.Syntax.{Expression, Cell, Signed, Binary, Statement, If, While, Statements, Nothing}
+use Rattle.src_ast.specs.Syntax.{Then, Last, Part}
+use Rattle.src_ast.specs.Printed.{is_looser, indent}
 use Rattle.src_ast.specs.Written.{IsWrittenName, AreWrittenNames, IsWrittenExpression, AreWrittenExpressions}
 use Rattle.src_ast.specs.Written.{IsWrittenStatement, AreWrittenStatements, IsWrittenEnding}
 use Rattle.src_ast.proofs.Nearly.{IsNearlyPart, AreNearlyWritten}
@@ -42,9 +39,14 @@ wrapped_spelt needed f s h ps b k = grind (arith, spells_mark)
 
 expression_spelt : (e : Expression) → IsWrittenExpression e → (ps : List Piece) → Breaks (text_of ps)
     → AreSpelled ps → AreSpelled (expression e ps)
-expression_spelt (Cell a e) h ps b k = grind (arith, spells_word, spells_mark, starts, lexeme, expression_spelt e h.1 (lexeme (Mark RSquare) ∷ ps) (record { word = refl; mark = refl }) (spells_mark RSquare _ b.mark, k))
-expression_spelt (Signed s e) h ps b k = (grind (arith, spells_mark, starts_wrapped, expression, starts, wrapped_spelt, expression_spelt e h))
-expression_spelt (Binary op a b) h ps br k = grind (arith, wrapped_spelt, expression, starts, spells_mark, expression_spelt a h.0, expression_spelt b h.1)
+expression_spelt (Cell a e) h ps b k =
+    let ih = expression_spelt e h.1 (lexeme (Mark RSquare) ∷ ps) (record { word = refl; mark = refl })
+    (spells_mark RSquare _ b.mark, k) in grind (arith, spells_word, spells_mark, starts)
+expression_spelt (Signed s e) h ps b k =
+    grind (arith, spells_mark, starts_wrapped, expression, starts, wrapped_spelt, expression_spelt e h)
+expression_spelt (Binary op a b) h ps br k =
+    let ih1 = expression_spelt a h.0 in
+    grind (arith, wrapped_spelt, expression, starts, spells_mark, expression_spelt b h.1)
 expression_spelt e h ps b k = grind (arith, spells_number, spells_word)
 
 finish_spelt : (ps : List Piece) → AreSpelled ps → AreSpelled (finish ps)
@@ -52,7 +54,8 @@ finish_spelt ps k = (spells_mark Semi _ refl, (refl, k))
 
 arguments_spelt : (es : List Expression) → AreWrittenExpressions es → (ps : List Piece) → Breaks (text_of ps)
     → AreSpelled ps → AreSpelled (arguments es ps)
-arguments_spelt (e ∷ f ∷ es) h ps b k = grind (arith, expression_spelt, spells_mark, arguments_spelt (f ∷ es) h.1 ps b k)
+arguments_spelt (e ∷ f ∷ es) h ps b k =
+    grind (arith, expression_spelt, spells_mark, arguments_spelt (f ∷ es) h.1 ps b k)
 arguments_spelt es h ps b k = grind (arith, expression_spelt)
 
 arguments_start : (es : List Expression) → AreWrittenExpressions es → (ps : List Piece)
@@ -100,16 +103,22 @@ second_arm_spelt : (n : ℕ) (b : Statements) (f : List Piece → List Piece)
     → (ps : List Piece) → AreSpelled ps → AreSpelled (second_arm n b f ps)
 second_arm_spelt n b f h ps k = grind (arith, closing_spelt, indent_blank, spells_mark, spells_word)
 
+ruleset spells = (spells_word, spells_mark, spells_number, finish_spelt)
+
 mutual
   pub statement_spelt : (n braces : ℕ) (s : Statement) → IsWrittenStatement braces s → (ps : List Piece)
       → AreSpelled ps → AreSpelled (statement n s ps)
-  statement_spelt n braces (If at e a b) h ps k = grind (arith, indent_blank n, test_spelt (codes "if") e refl h.0 _ (body_spelt (suc n) _ a h.3 _ (second_arm_spelt n b (body (suc n) b) (body_spelt (suc n) _ b h.4) ps k)), body_spelt (suc n) _ a h.3 _ (second_arm_spelt n b (body (suc n) b) (body_spelt (suc n) _ b h.4) ps k), body_spelt (suc n) _ b h.4)
+  statement_spelt n braces (If at e a b) h ps k =
+      let x = body_spelt (suc n) _ b h.4 in
+      let y = body_spelt (suc n) _ a h.3 _ (second_arm_spelt n b _ x ps k) in
+      (indent_blank n, test_spelt (codes "if") e refl h.0 _ y)
   statement_spelt n braces (While at e a) h ps k = (
     indent_blank n,
     test_spelt (codes "while") e refl h.0 _
         (body_spelt (suc n) _ a h.3 _ (closing_spelt n ps k)),
   )
-  statement_spelt v0 v1 v2 v3 v4 v5 = grind (arith, indent_blank, spells_word, spells_mark, last_spelt, starts, expression_spelt, finish_spelt, spells_number, call_spelt)
+  statement_spelt v0 v1 v2 v3 v4 v5 =
+      grind (arith, spells, indent_blank, last_spelt, starts, expression_spelt, call_spelt)
 
   pub body_spelt : (n braces : ℕ) (b : Statements) → AreWrittenStatements braces b → (ps : List Piece)
       → AreSpelled ps → AreSpelled (body n b ps)
@@ -132,8 +141,11 @@ ending_spelt : (e : Option Last) → IsWrittenEnding e → (ps : List Piece) →
     → AreSpelled (ending e ps)
 ending_spelt e h ps k = grind (arith, spells_word, last_spelt)
 
+ruleset lists_spelt = (names_spelt, variables_spelt)
+
 part_spelt : (p : Part) → IsNearlyPart p → (ps : List Piece) → AreSpelled ps → AreSpelled (part p ps)
-part_spelt v0 v1 v2 v3 = grind (arith, spells_word, spells_mark, decimal_starts, spells_number, finish_spelt, names_start, names_spelt, variables_spelt, body_spelt, ending_spelt, closing_spelt)
+part_spelt v0 v1 v2 v3 =
+    grind (arith, spells, decimal_starts, names_start, lists_spelt, body_spelt, ending_spelt, closing_spelt)
 
 -- the pieces of a program are spelled
 pub parts_spelt : (all : List Part) → AreNearlyWritten all → AreSpelled (parts all)
