@@ -11,14 +11,13 @@ use Rattle.ws_isa.specs.Sound.{Sound}
 use Rattle.df_core.specs.Core.{has}
 use Rattle.df_core.specs.Began.{Began}
 use Rattle.df_core.specs.Rights.{IsAsked}
-use Rattle.store_buf.specs.Earlies.{early_ops}
 use Rattle.store_buf.specs.Stores.{asked_of}
 use Rattle.df_core.specs.Chains.{chain_of}
 use Rattle.df_core.specs.Stands.{HasEarly, EarlyIssued}
 use Rattle.store_buf.specs.declared.kept.Kept.{Kept}
 use Rattle.store_buf.specs.Requests.{entry_of, issued_in}
 use Rattle.store_buf.specs.Ordering.{AllFiled, Room, IsForemost, NoneEarly, WaitsHere, kept_at}
-use Rattle.store_buf.specs.Ordering.{ready_flag, MayAt}
+use Rattle.store_buf.specs.Ordering.{ready_flag, MayAt, SameEarly, early_of}
 use Rattle.store_buf.specs.declared.fault.BufFault.{BufFault}
 use Rattle.store_buf.specs.declared.fault.BufFault.TheVariants as fault
 use Rattle.store_buf.specs.declared.fault.Silent.{Silent}
@@ -74,9 +73,9 @@ module _ {P : Type 0} where
       (s : Parts P) : Type 0 where
     pub parting : Parting image world began (content_of s)
     pub early_issued : EarlyIssued (issued_in s.order.kept.items) (chain_of s.order.chain)
-        (early_ops s.order.early)
+        (early_of s.order)
     pub early_all : HasEarly image world (issued_in s.order.kept.items) (chain_of s.order.chain)
-        (early_ops s.order.early)
+        (early_of s.order)
 
   -- and each queue's first entry is a store without data
   abbrev pub Calm : Image → World → List (Option Began) → Parts P → Type 0
@@ -146,7 +145,7 @@ module _ {P : Type 0} where
   pub record PartsKeep (old : Parts P) (kept : List Kept) (new : Parts P) : Type 0 where
     pub kept_are : new.order.kept.items ≡ kept
     pub chain : new.order.chain ≡ old.order.chain
-    pub early : (early_ops new.order.early) ≡ (early_ops old.order.early)
+    pub early : early_of new.order ≡ early_of old.order
     pub outer : holding new.outer ≡ holding old.outer
     pub queued : new.queues.entries.items ≡ old.queues.entries.items
     pub fault : new.fault ≡ old.fault
@@ -180,7 +179,7 @@ module _ {P : Type 0} where
   -- the chain, the ports and what is kept in mind are as before, and as many wait
   pub record Beside (old new : Parts P) : Type 0 where
     pub chain : new.order.chain ≡ old.order.chain
-    pub early : new.order.early ≡ old.order.early
+    pub early : SameEarly old.order new.order
     pub waiting : new.order.waiting ≡ old.order.waiting
     pub bare : new.bare ≡ old.bare
     pub ports : new.outer.ports ≡ old.outer.ports
@@ -221,7 +220,7 @@ module _ {P : Type 0} where
   pub record Filled (old : Parts P) (k : Kept) (new : Parts P) : Type 0 where
     pub fills : Fills (content_of old) k (content_of new)
     pub same_chain : new.order.chain ≡ old.order.chain
-    pub early : new.order.early ≡ old.order.early
+    pub early : SameEarly old.order new.order
     pub waiting : new.order.waiting ≡ old.order.waiting
     pub queues : new.queues ≡ old.queues
     pub outer : new.outer ≡ old.outer

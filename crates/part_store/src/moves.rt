@@ -8,8 +8,7 @@ ghost use Rattle.df_core.specs.Core.{has};
 ghost use Rattle.df_core.specs.Chains.{PassedOn, chain_of};
 ghost use Rattle.df_core.specs.Places.{image_of};
 ghost use Rattle.df_core.specs.Rights.{tokens_of};
-ghost use Rattle.store_buf.specs.Earlies.{early_ops};
-ghost use Rattle.store_buf.specs.Ordering.{MayAt, kept_at};
+ghost use Rattle.store_buf.specs.Ordering.{MayAt, early_of, kept_at, with_near};
 ghost use Rattle.store_buf.specs.Outdoors.{FaultsGrow};
 ghost use Rattle.part_store.specs.Bares.{is_in};
 ghost use Rattle.part_store.specs.Queues.{joined};
@@ -110,7 +109,7 @@ impl<P: Port> Parts<P> {
         ensures ok { PartsOk self.new }
         ensures filed { PartsFiled (image_of program.now) self.new }
         ensures same { self.new ≡ record self.old
-            { order = record self.old.order { near = self.new.order.near } } }
+            { order = with_near self.old.order self.new.order } }
         ensures goes { MatchOption result (NoneSought (image_of program.now) self.new)
             (GoesAt (image_of program.now) self.new) }
     {
@@ -239,8 +238,8 @@ impl<P: Port> Parts<P> {
         ensures kept { self.new.order.kept.items ≡ slice_set self.old.order.kept.items place
             (record (kept_at self.old.order place) { answer = Some 0 }) }
         ensures passed { PassedOn (image_of program.now) (chain_of self.old.order.chain)
-            (kept_at self.old.order place).instr (early_ops self.old.order.early)
-            (chain_of self.new.order.chain) (early_ops self.new.order.early) }
+            (kept_at self.old.order place).instr (early_of self.old.order)
+            (chain_of self.new.order.chain) (early_of self.new.order) }
         ensures queued { self.new.queues.entries.items ≡ joined
             (entry_at (image_of program.now) (kept_at self.old.order place))
             self.old.queues.entries.items }

@@ -1,10 +1,23 @@
 -- Issued operations of a wave that the chain hasn't passed.
 use Rattle.std.specs.Prelude.{ℕ, ◌≡◌, ◌<◌, ◌≤◌, List, map, slice_index_or}
 use Rattle.std.specs.List.{Contains}
-use Rattle.std.specs.BinaryHeap.{heap_items, heap_len}
+use Rattle.std.specs.BinaryHeap.{heap_items, heap_len, heap_capacity}
+use Rattle.std.specs.declared.cmp.Reverse.{Reverse}
 use Rattle.ws_isa.specs.Image.{Image, note_of}
 use Rattle.store_buf.specs.Ranks.{under}
 use Rattle.store_buf.specs.declared.early.Early.{Early}
+
+-- the operations with their numbers
+abbrev pub early_items : Early → List (Reverse (ℕ × ℕ))
+early_items early = heap_items early.heap
+
+-- how many there are
+abbrev pub early_len : Early → ℕ
+early_len early = heap_len early.heap
+
+-- how many there is room for
+abbrev pub early_capacity : Early → ℕ
+early_capacity early = heap_capacity early.heap
 
 -- the operations
 abbrev pub early_ops : Early → List ℕ

@@ -9,6 +9,10 @@ use Rattle.store_buf.specs.declared.wave_places.WavePlaces.{WavePlaces}
 abbrev pub under : ℕ → ℕ → Reverse (ℕ × ℕ)
 under n p = record { 0 = (n, p) }
 
+-- how many there are
+abbrev pub places_len : Places → ℕ
+places_len places = heap_len places.heap
+
 -- the place is there, under this number
 abbrev pub HasPlace : Places → ℕ → ℕ → Type 0
 HasPlace places n p = Contains (heap_items places.heap) (under n p)

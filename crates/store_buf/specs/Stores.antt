@@ -11,7 +11,6 @@ use Rattle.df_core.specs.Began.{Began}
 use Rattle.df_core.specs.Rights.{Asked, IsAsked}
 use Rattle.df_core.specs.Chains.{chain_of}
 use Rattle.df_core.specs.Stands.{HasEarly, EarlyIssued}
-use Rattle.store_buf.specs.Earlies.{early_ops}
 use Rattle.store_buf.specs.declared.fault.BufFault.{BufFault}
 use Rattle.store_buf.specs.declared.fault.BufFault.TheVariants as fault
 use Rattle.store_buf.specs.declared.fault.Silent.{Silent}
@@ -23,7 +22,7 @@ use Rattle.store_buf.specs.Outdoors.{RoseAt}
 use Rattle.store_buf.specs.Contents.{Content, FailedSo, FaultIs, IsBuffer, Idle, PortWaits, RightTokens}
 use Rattle.store_buf.specs.Contents.{SubmitSo, with_tokens}
 use Rattle.store_buf.specs.Holds.{Holds, Issued, Stopped, Issues, part}
-use Rattle.store_buf.specs.Ordering.{AllFiled, Room, NoneMay}
+use Rattle.store_buf.specs.Ordering.{AllFiled, Room, NoneMay, early_of}
 use Rattle.store_buf.specs.Outers.{holding}
 
 abbrev pub asked_of : Kept → Asked
@@ -57,7 +56,7 @@ module _ {P : Type 0} where
   pub record StoreKeeps (old : Store P) (kept : List Kept) (new : Store P) : Type 0 where
     pub kept_are : new.order.kept.items ≡ kept
     pub chain : new.order.chain ≡ old.order.chain
-    pub early : early_ops new.order.early ≡ early_ops old.order.early
+    pub early : early_of new.order ≡ early_of old.order
     pub outer : holding new.outer ≡ holding old.outer
     pub fault : new.fault ≡ old.fault
     pub failed : new.failed ≡ old.failed
@@ -134,9 +133,9 @@ module _ {P : Type 0} where
       (s : Store P) : Type 0 where
     pub ok : StoreOk image s
     pub early_issued : EarlyIssued (issued_in s.order.kept.items) (chain_of s.order.chain)
-        (early_ops s.order.early)
+        (early_of s.order)
     pub early_all : HasEarly image world (issued_in s.order.kept.items)
-        (chain_of s.order.chain) (early_ops s.order.early)
+        (chain_of s.order.chain) (early_of s.order)
     pub memory : Outside
     pub is : IsBuffer image world began (content_of s) memory
     pub idle : s.failed ≡ None → s.starved ≡ false → Idle image (content_of s)

@@ -1,7 +1,7 @@
 //! Issued loads that the chain hasn't passed.
 
 ghost use Rattle.std.specs.Prelude.{◌≡◌, ◌<◌, ◌+◌, ◌⊎◌, ℕ, [], MatchOption, OnOk, OnErr};
-ghost use Rattle.std.specs.BinaryHeap.{IsHeap, heap_items, heap_len, heap_capacity};
+ghost use Rattle.std.specs.BinaryHeap.{IsHeap, heap_items};
 ghost use Rattle.std.specs.Ordering.{nat_cmp, ordering_then};
 ghost use Rattle.std.proofs.Props.{props};
 ghost use Rattle.ws_isa.specs.Image.{Image, note_of};
@@ -23,7 +23,8 @@ pub struct Early {
 
 impl Early {
     ghost use Rattle.std.specs.Prelude.{◌≤◌};
-    ghost use Rattle.store_buf.specs.Earlies.{IsFirst, Numbered, StandsUnder, early_ops};
+    ghost use Rattle.store_buf.specs.Earlies.{IsFirst, Numbered, StandsUnder, early_capacity};
+    ghost use Rattle.store_buf.specs.Earlies.{early_items, early_len, early_ops};
 
     /// No operations.
     pub fn new(alloc: Global) -> Early
@@ -36,10 +37,10 @@ impl Early {
 
     /// Makes room for so many more.
     pub fn reserve(&mut self, more: usize) -> Result<(), NoMemory>
-        ensures items { heap_items self.new.heap ≡ heap_items self.old.heap }
-        ensures room { OnOk result (heap_len self.new.heap + more ≤ heap_capacity self.new.heap) }
-        ensures len { heap_len self.new.heap ≡ heap_len self.old.heap }
-        ensures grown { heap_capacity self.old.heap ≤ heap_capacity self.new.heap }
+        ensures items { early_items self.new ≡ early_items self.old }
+        ensures room { OnOk result (early_len self.new + more ≤ early_capacity self.new) }
+        ensures len { early_len self.new ≡ early_len self.old }
+        ensures grown { early_capacity self.old ≤ early_capacity self.new }
     {
         self.heap.reserve(more)?;
         Ok(())
@@ -48,12 +49,12 @@ impl Early {
     /// Puts an operation under its number, for which there is room.
     #[inline(always)]
     pub fn push(&mut self, number: u32, instr: u32)
-        requires room { heap_len self.old.heap < heap_capacity self.old.heap }
+        requires room { early_len self.old < early_capacity self.old }
         ensures more { HasOneMore instr (early_ops self.old) (early_ops self.new) }
         ensures numbered { (image : Image) → number ≡ (note_of image instr).seq
             → Numbered image self.old → Numbered image self.new }
-        ensures len { heap_len self.new.heap ≡ heap_len self.old.heap + 1 }
-        ensures grown { heap_capacity self.old.heap ≤ heap_capacity self.new.heap }
+        ensures len { early_len self.new ≡ early_len self.old + 1 }
+        ensures grown { early_capacity self.old ≤ early_capacity self.new }
     {
         let _ = self.heap.push(Reverse((number, instr)));
     }
@@ -75,8 +76,8 @@ impl Early {
         ensures others { (a b n i : ℕ) → IsFirst self.old a b → StandsUnder self.old n i
             → ((a ≡ n) × (b ≡ i)) ⊎ StandsUnder self.new n i }
         ensures back { (n i : ℕ) → StandsUnder self.new n i → StandsUnder self.old n i }
-        ensures fewer { (a b : ℕ) → IsFirst self.old a b → heap_len self.new.heap < heap_len self.old.heap }
-        ensures room { heap_capacity self.new.heap ≡ heap_capacity self.old.heap }
+        ensures fewer { (a b : ℕ) → IsFirst self.old a b → early_len self.new < early_len self.old }
+        ensures room { early_capacity self.new ≡ early_capacity self.old }
     {
         let _ = self.heap.pop();
     }
@@ -84,8 +85,8 @@ impl Early {
     /// Takes all away.
     pub fn clear(&mut self)
         ensures none { early_ops self.new ≡ [] }
-        ensures len { heap_len self.new.heap ≡ 0 }
-        ensures room { heap_capacity self.new.heap ≡ heap_capacity self.old.heap }
+        ensures len { early_len self.new ≡ 0 }
+        ensures room { early_capacity self.new ≡ early_capacity self.old }
     {
         self.heap.clear();
     }

@@ -5,7 +5,7 @@ ghost use Rattle.ws_isa.specs.Image.{is_load_op};
 ghost use Rattle.df_core.specs.Places.{image_of};
 ghost use Rattle.df_core.specs.Chains.{chain_of, may_flag};
 ghost use Rattle.store_buf.specs.Ordering.{AllFiled, MayAt, NoneFound, NoneEarly, IsForemost, GoesEarly};
-ghost use Rattle.store_buf.specs.Ordering.{WaitsHere, kept_at, ready_flag, number_of, ripple_of};
+ghost use Rattle.store_buf.specs.Ordering.{SameButNear, WaitsHere, kept_at, ready_flag, number_of, ripple_of};
 
 use crate::kept::Kept;
 use crate::order::Order;
@@ -19,7 +19,7 @@ impl Order {
     pub fn issuable(&mut self, program: &Program<'_>) -> Option<usize>
         requires filed { AllFiled (image_of program.now) self.old }
         ensures filed { AllFiled (image_of program.now) self.new }
-        ensures same { self.new ≡ record self.old { near = self.new.near } }
+        ensures same { SameButNear self.old self.new }
         ensures may { MatchOption result (NoneFound (image_of program.now) self.new)
             (MayAt (image_of program.now) self.new) }
     {
@@ -39,7 +39,7 @@ impl Order {
         requires filed { AllFiled (image_of program.now) self.old }
         requires this { IfSome this (MayAt (image_of program.now) self.old) }
         ensures filed { AllFiled (image_of program.now) self.new }
-        ensures same { self.new ≡ record self.old { near = self.new.near } }
+        ensures same { SameButNear self.old self.new }
         ensures may { MatchOption result (NoneFound (image_of program.now) self.new)
             (MayAt (image_of program.now) self.new) }
     {
@@ -54,7 +54,7 @@ impl Order {
     pub fn first(&mut self, program: &Program<'_>) -> Option<usize>
         requires filed { AllFiled (image_of program.now) self.old }
         ensures filed { AllFiled (image_of program.now) self.new }
-        ensures same { self.new ≡ record self.old { near = self.new.near } }
+        ensures same { SameButNear self.old self.new }
         ensures first { MatchOption result ((p : ℕ) → WaitsHere self.new p → ⊥)
             (IsForemost (image_of program.now) self.new) }
     {
@@ -72,7 +72,7 @@ impl Order {
     pub fn early(&mut self, program: &Program<'_>) -> Option<usize>
         requires filed { AllFiled (image_of program.now) self.old }
         ensures filed { AllFiled (image_of program.now) self.new }
-        ensures same { self.new ≡ record self.old { near = self.new.near } }
+        ensures same { SameButNear self.old self.new }
         ensures early { MatchOption result (NoneEarly (image_of program.now) self.new)
             (GoesEarly (image_of program.now) self.new) }
         ensures may { IfSome result (MayAt (image_of program.now) self.new) }

@@ -36,7 +36,7 @@ impl Node {
 
     /// Whether it is of an instance.
     #[inline(always)]
-    pub fn is_of(&self, wave: u64, instr: u32) -> bool
+    pub(crate) fn is_of(&self, wave: u64, instr: u32) -> bool
         ensures { result ≡ same_key self.now.wave self.now.instr wave instr }
     {
         self.wave == wave && self.instr == instr

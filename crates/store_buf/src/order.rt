@@ -2,16 +2,14 @@
 
 ghost use Rattle.std.specs.Prelude.{◌≡◌, ◌∷◌, ◌++◌, [], ℕ, ◌+◌, ◌<◌, ◌≤◌, Option, None, Some, length};
 ghost use Rattle.std.specs.Prelude.{slice_set, OnOk, OnErr};
-ghost use Rattle.std.specs.BinaryHeap.{heap_capacity};
 ghost use Rattle.ws_isa.specs.Image.{Image};
 ghost use Rattle.df_core.specs.Places.{image_of};
 ghost use Rattle.df_core.specs.Chains.{chain_of, PassedOn};
 ghost use Rattle.store_buf.specs.Requests.{entry_of};
-ghost use Rattle.store_buf.specs.Finding.{HookIn, place_in};
+ghost use Rattle.store_buf.specs.Finding.{HookIn};
 ghost use Rattle.store_buf.specs.Indexed.{Indexed};
 ghost use Rattle.store_buf.specs.Ranks.{IsFiled};
 ghost use Rattle.store_buf.specs.Laters.{IsFiledIn};
-ghost use Rattle.store_buf.specs.Earlies.{early_ops};
 
 use crate::early::Early;
 use crate::index::{Hook, Index};
@@ -40,13 +38,14 @@ pub struct Order {
 }
 
 impl Order {
-    ghost use Rattle.store_buf.specs.Ordering.{AllFiled, Room, MayAt, kept_at, number_of, ripple_of};
+    ghost use Rattle.store_buf.specs.Ordering.{AllFiled, Room, MayAt, early_of, early_room, kept_at};
+    ghost use Rattle.store_buf.specs.Ordering.{number_of, place_of_instance, ripple_of};
 
     /// No requests; the chain is at its start.
     pub fn new(alloc: Global) -> Order
         ensures filed { (image : Image) → AllFiled image result }
         ensures kept { result.kept.items ≡ [] }
-        ensures early { early_ops result.early ≡ [] }
+        ensures early { early_of result ≡ [] }
         ensures wave { result.chain.wave ≡ 1 }
         ensures last { result.chain.last ≡ None }
     {
@@ -94,14 +93,14 @@ impl Order {
     /// The place where the request of an instance is, or none.
     #[inline(always)]
     pub fn place(&self, wave: u64, instr: u32) -> Option<usize>
-        ensures { result ≡ place_in self.now.index wave instr }
+        ensures { result ≡ place_of_instance self.now wave instr }
     {
         self.index.find(wave, instr)
     }
 
     // The request at a place, if it is of this instance.
     fn entry_at(&self, place: usize, wave: u64, instr: u32) -> Option<Kept>
-        requires { place_in self.now.index wave instr ≡ Some place }
+        requires { place_of_instance self.now wave instr ≡ Some place }
         ensures { result ≡ entry_of self.now.kept.items wave instr }
     {
         if place >= self.kept.len() {
@@ -126,11 +125,11 @@ impl Order {
         ensures kept { OnOk result (self.new.kept.items ≡ self.old.kept.items ++ kept ∷ []) }
         ensures room { OnOk result (Room self.new) }
         ensures unchanged { OnErr result (self.new.kept.items ≡ self.old.kept.items) }
-        ensures early { early_ops self.new.early ≡ early_ops self.old.early }
+        ensures early { early_of self.new ≡ early_of self.old }
         ensures chain { self.new.chain ≡ self.old.chain }
         ensures waiting { OnOk result (self.new.waiting ≡ self.old.waiting + 1) }
         ensures still { OnErr result (self.new.waiting ≡ self.old.waiting) }
-        ensures grown { heap_capacity self.old.early.heap ≤ heap_capacity self.new.early.heap }
+        ensures grown { early_room self.old ≤ early_room self.new }
     {
         let hook = self.hook(kept.wave, kept.instr);
         self.add_at(program, kept, hook)
@@ -152,11 +151,11 @@ impl Order {
         ensures kept { OnOk result (self.new.kept.items ≡ self.old.kept.items ++ kept ∷ []) }
         ensures room { OnOk result (Room self.new) }
         ensures unchanged { OnErr result (self.new.kept.items ≡ self.old.kept.items) }
-        ensures early { early_ops self.new.early ≡ early_ops self.old.early }
+        ensures early { early_of self.new ≡ early_of self.old }
         ensures chain { self.new.chain ≡ self.old.chain }
         ensures waiting { OnOk result (self.new.waiting ≡ self.old.waiting + 1) }
         ensures still { OnErr result (self.new.waiting ≡ self.old.waiting) }
-        ensures grown { heap_capacity self.old.early.heap ≤ heap_capacity self.new.early.heap }
+        ensures grown { early_room self.old ≤ early_room self.new }
     {
         if self.waiting >= usize::MAX - 1 {
             return Err(NoMemory);
@@ -217,8 +216,8 @@ impl Order {
         ensures kept { self.new.kept.items ≡ slice_set self.old.kept.items place
             (record (kept_at self.old place) { answer = Some word }) }
         ensures passed { PassedOn (image_of program.now) (chain_of self.old.chain)
-            (kept_at self.old place).instr (early_ops self.old.early)
-            (chain_of self.new.chain) (early_ops self.new.early) }
+            (kept_at self.old place).instr (early_of self.old)
+            (chain_of self.new.chain) (early_of self.new) }
         ensures fewer { self.new.waiting < self.old.waiting }
     {
         let kept = self.kept[place];

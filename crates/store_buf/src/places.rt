@@ -1,7 +1,7 @@
 //! Places by number.
 
 ghost use Rattle.std.specs.Prelude.{◌≡◌, ◌<◌, ◌⊎◌, ℕ, MatchOption, OnOk};
-ghost use Rattle.std.specs.BinaryHeap.{IsHeap, heap_items, heap_len};
+ghost use Rattle.std.specs.BinaryHeap.{IsHeap, heap_items};
 ghost use Rattle.std.specs.Ordering.{nat_cmp, ordering_then};
 ghost use Rattle.std.proofs.Props.{props};
 
@@ -19,7 +19,7 @@ pub struct Places {
 }
 
 impl Places {
-    ghost use Rattle.store_buf.specs.Ranks.{HasPlace, IsTop};
+    ghost use Rattle.store_buf.specs.Ranks.{HasPlace, IsTop, places_len};
 
     /// No places.
     pub fn new(alloc: Global) -> Places {
@@ -55,7 +55,7 @@ impl Places {
     pub fn drop_top(&mut self)
         ensures others { (a b n p : ℕ) → IsTop self.old a b → HasPlace self.old n p
             → ((a ≡ n) × (b ≡ p)) ⊎ HasPlace self.new n p }
-        ensures fewer { (a b : ℕ) → IsTop self.old a b → heap_len self.new.heap < heap_len self.old.heap }
+        ensures fewer { (a b : ℕ) → IsTop self.old a b → places_len self.new < places_len self.old }
     {
         let _ = self.heap.pop();
     }

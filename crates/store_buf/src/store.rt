@@ -205,7 +205,7 @@ impl<P: Port> Store<P> {
 
     /// Issues the request at a place, which may be issued; at one past the end the chain stops. Where
     /// a port doesn't answer, the request still waits.
-    pub fn issue(
+    pub(crate) fn issue(
         &mut self,
         program: &Program<'_>,
         place: usize,
@@ -245,7 +245,7 @@ impl<P: Port> Store<P> {
 
     /// Issues requests, first this one, until none may be issued, or the chain is stopped, or a port
     /// doesn't answer.
-    pub fn issue_all(
+    pub(crate) fn issue_all(
         &mut self,
         program: &Program<'_>,
         first: Option<usize>,
