@@ -204,8 +204,9 @@ lists {image} {t} fired asked fired' asked' own wave instr full one_more asks is
           ∙ ap (λ b. cond b (asked ++ record { wave = t.wave; instr = t.instr } ∷ []) asked) (sym is);
     }
 
-module _ {image : Image} {world : World} {entries : List (Option PageContent)} {fired asked : List Key} {t : Token}
-    {next : Arrived} {new : List (Option PageContent)} (p : Puts image world entries fired asked t next new) where
+module _ {image : Image} {world : World} {entries : List (Option PageContent)} {fired asked : List Key}
+    {t : Token} {next : Arrived} {new : List (Option PageContent)}
+    (p : Puts image world entries fired asked t next new) where
   pub puts_arrives : {before after : TableContent} → entries ≡ before.entries → new ≡ after.entries
       → Arrives before t after
   puts_arrives was is = record {
@@ -213,7 +214,8 @@ module _ {image : Image} {world : World} {entries : List (Option PageContent)} {
     more = λ a b q. ap (λ (l : List (Option PageContent)). held_in l a b q) (sym is)
         ∙ new_held image world p.facts entries fired asked p.ok t.wave t.instr t.port t.value p.right p.free
         (few_ports image t.instr) next p.next_is new p.arrived a b q
-        ∙ ap (λ (l : List (Option PageContent)). with_at t.wave t.instr t.port (Some t.value) (held_in l) a b q)
+        ∙ ap (λ (l : List (Option PageContent)). with_at t.wave t.instr t.port (Some t.value)
+        (held_in l) a b q)
         was;
   }
 

@@ -1,5 +1,6 @@
 -- The entries of a page, from the ports that have had values and these.
-use Rattle.std.proofs.Common.{◌≡◌, ◌<◌, ℕ, zero, suc, List, [], ◌∷◌, length, get_or, set, refl, ap, ◌∙◌, arith}
+use Rattle.std.proofs.Common.{◌≡◌, ◌<◌, ℕ, zero, suc, List, [], ◌∷◌, length, get_or, set, refl, ap, ◌∙◌}
+use Rattle.std.proofs.Common.{arith}
 use Rattle.match_table.specs.declared.entry.Arrived.{Arrived}
 use Rattle.match_table.specs.declared.entry.Had.{Had}
 use Rattle.match_table.specs.declared.entry.Values.{Values}

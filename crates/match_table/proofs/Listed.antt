@@ -73,7 +73,8 @@ pub fired_as : (image : Image) (entries : List (Option PageContent)) (w i : ℕ)
 fired_as image entries w i some_port full = grind (arith, full_all, some_none, full_same, gather_same)
 
 -- what has come to one that a table lists
-pub table_fired : (image : Image) (world : World) (entries : List (Option PageContent)) (fired asked ks : List Key)
+pub table_fired : (image : Image) (world : World) (entries : List (Option PageContent))
+    (fired asked ks : List Key)
     (w i : ℕ)
     → TableOk image world entries fired asked → fired ≡ ks → HasFired ks w i → FiredAs image entries w i
 table_fired image world entries fired asked ks w i ok same h = grind (arith, fired_as, has_port)
@@ -82,7 +83,8 @@ table_fired image world entries fired asked ks w i ok same h = grind (arith, fir
 module _ (entries : List (Option PageContent)) (f : InstanceList) (spare : ℕ) (now : TableContent)
     (is : record { entries = entries; fired = instances entries f; spare = spare } ≡ now) where
   pub fired_now : now.fired ≡ instances now.entries f
-  fired_now = sym (ap (λ (s : TableContent). s.fired) is) ∙ ap (λ (s : TableContent). instances s.entries f) is
+  fired_now = sym (ap (λ (s : TableContent). s.fired) is)
+      ∙ ap (λ (s : TableContent). instances s.entries f) is
 
   pub asked_now : (image : Image) (a : InstanceList)
       → instances entries a ≡ of_memory image (instances entries f)

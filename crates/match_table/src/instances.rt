@@ -10,8 +10,8 @@ use crate::entry::Instance;
 use std::alloc::{AllocError, Global};
 use std::marker::Model;
 
-/// Instances in the order in which they were listed. Each is listed by its spot, a number of 32 bits; from the
-/// first on whose page has a key that is too large for that, by wave number and instruction.
+/// Instances in the order in which they were listed. Each is listed by its spot, a number of 32 bits; from
+/// the first on whose page has a key too large for that, by wave number and instruction.
 #[derive(Drop)]
 pub struct Instances {
     spots: Vec<u32>,

@@ -12,7 +12,8 @@
 //! `accept` isn't want of memory below the last wave number, and takes room for one at most. A table keeps
 //! pages in a slab, each with the entries of four instances, of four waves in a row: of each wave the
 //! instruction before that of the wave before it. As facts of its type a list of the pages' names rises and
-//! has the key of each page, under which the page with that name stands. What it holds is right, and an
+//! has the key of each page, under which the page with that name stands. Its lists name an instance by where
+//! it stands in a page, in a number of 32 bits as long as keys allow that. What it holds is right, and an
 //! instance fires once, exactly when it is full (`facts`).
 //!
 //! `Limited` is a table that serves the instances whose wave number plus instruction is its number modulo 16,

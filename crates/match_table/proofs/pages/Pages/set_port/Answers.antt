@@ -48,7 +48,8 @@ returns-clause-arrived c = subst (λ (s : PageStore). (a b : ℕ)
 pub returns-clause-stay : goal.returns-clause-stay
 returns-clause-stay c = subst (λ (s : PageStore). NamesStay s.entries
     (set c.self.inside.pages.slots c.args.key (Some c.put_at.new.page))) c.self.view_is
-    (changed_names c.self.inside.pages.slots (set c.self.inside.pages.slots c.args.key (Some c.put_at.new.page))
+    (changed_names c.self.inside.pages.slots (set c.self.inside.pages.slots c.args.key
+    (Some c.put_at.new.page))
     c.args.key c.put_at.new.page
     (set_changed c.self.inside.pages.slots c.args.key c.index_mut.result.now c.put_at.new.page
     c.index_mut.ensures.value)

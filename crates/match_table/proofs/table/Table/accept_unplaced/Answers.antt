@@ -17,5 +17,6 @@ returns-clause-answer g c =
     c.take.ensures.answer
 
 pub invariant_of-self : goal.invariant_of-self
-invariant_of-self g c = subst (λ (p : PageStore). TableStands g.J.Job.image g.J.Job.world p c.self.inside.fired
+invariant_of-self g c = subst (λ (p : PageStore). TableStands g.J.Job.image g.J.Job.world p
+    c.self.inside.fired
     c.self.inside.asked c.self.inside.room) (sym c.find-key.ensures.same) c.self.invariant

@@ -15,7 +15,8 @@ use Rattle.ws_words.proofs.Options.{some_same}
 pub unreachable-requires : goal.unreachable-requires
 unreachable-requires g c =
     let fired = (table_fired g.J.Job.image g.J.Job.world c.self.inside.pages.entries
-    (instances c.self.inside.pages.entries c.self.inside.fired) (instances c.self.inside.pages.entries c.self.inside.asked) c.args.self.now.fired
+    (instances c.self.inside.pages.entries c.self.inside.fired)
+    (instances c.self.inside.pages.entries c.self.inside.asked) c.args.self.now.fired
     c.args.instance.wave c.args.instance.instr c.self.invariant.0
     (ap (λ (s : TableContent). s.fired) c.self.view_is) c.requires) in
     c.in_default.not-Some fired.arrived (c.look_on.ensures ∙ fired.is)
@@ -23,7 +24,8 @@ unreachable-requires g c =
 pub unreachable-requires-in-None : goal.unreachable-requires-in-None
 unreachable-requires-in-None g c =
     let fired = (table_fired g.J.Job.image g.J.Job.world c.self.inside.pages.entries
-    (instances c.self.inside.pages.entries c.self.inside.fired) (instances c.self.inside.pages.entries c.self.inside.asked) c.args.self.now.fired
+    (instances c.self.inside.pages.entries c.self.inside.fired)
+    (instances c.self.inside.pages.entries c.self.inside.asked) c.args.self.now.fired
     c.args.instance.wave c.args.instance.instr c.self.invariant.0
     (ap (λ (s : TableContent). s.fired) c.self.view_is) c.requires) in
     let count = count_is g.J.Job.image (image_of c.program.result.now) c.args.instance.instr
@@ -38,7 +40,8 @@ unreachable-requires-in-None g c =
 pub returns-clause-operands : goal.returns-clause-operands
 returns-clause-operands g c =
     let fired = (table_fired g.J.Job.image g.J.Job.world c.self.inside.pages.entries
-    (instances c.self.inside.pages.entries c.self.inside.fired) (instances c.self.inside.pages.entries c.self.inside.asked) c.args.self.now.fired
+    (instances c.self.inside.pages.entries c.self.inside.fired)
+    (instances c.self.inside.pages.entries c.self.inside.asked) c.args.self.now.fired
     c.args.instance.wave c.args.instance.instr c.self.invariant.0
     (ap (λ (s : TableContent). s.fired) c.self.view_is) c.requires) in
     let count = count_is g.J.Job.image (image_of c.program.result.now) c.args.instance.instr
