@@ -1,8 +1,8 @@
 -- What an edge opens in a draft with no-ops: the draft's slots, and between them some more; the order of
 -- slots doesn't
 -- matter.
-use Rattle.std.proofs.Common.{ℕ, zero, suc, ◌+◌, ◌≡◌, ◌<◌, ◌≤◌, ◌⊎◌, Bool, true, false, eqb, ◌&&◌, List}
-use Rattle.std.proofs.Common.{[], ◌∷◌, ◌++◌, refl, sym, ap, ap₂, ◌∙◌, inl, inr, subst, arith}
+use Rattle.std.proofs.Common.{ℕ, zero, suc, ◌+◌, ◌≡◌, ◌<◌, ◌≤◌, ◌⊎◌, Bool, true, false, ◌&&◌, List, [], ◌∷◌}
+use Rattle.std.proofs.Common.{◌++◌, refl, sym, ap, ap₂, ◌∙◌, subst, arith}
 use Rattle.std.proofs.lemmas.Bool.{cases_Bool, cases_eq, eqb-true}
 use Rattle.ws_isa.specs.declared.instr.Dest.{Dest}
 use Rattle.ws_isa.specs.Image.{Image, edge_dests}
@@ -29,22 +29,9 @@ shut_before ds o j q h = not_true (o j q) (λ e. no_both (all_opened_keeps ds o 
 fresh_opened : (bs : List Dest) (d : Dest) (o : OpenSlots) → Fresh bs o
     → all_opened bs o d.instr d.port ≡ false → Fresh bs (opened d o)
 fresh_opened [] d o f h = tt
-fresh_opened (b ∷ bs) d o f h = grind (
-  arith,
-  not_true,
-  b.instr,
-  there,
-  cases_Bool,
-  d.instr,
-  d.port,
-  swap,
-  fresh_opened bs d (opened b o) f.1 h,
-)
-  where
-    there : opened d o b.instr b.port ≡ true → ((eqb d.instr b.instr && eqb d.port b.port) ≡ true)
-        ⊎ ((eqb d.instr b.instr && eqb d.port b.port) ≡ false) → ⊥
-    there e (inr n) = grind (arith, no_both, b.instr)
-    there e (inl y) = grind (arith, and_both, opened_here, eqb-true, no_both, all_opened_keeps)
+fresh_opened (b ∷ bs) d o f h =
+    let ih1 = fresh_opened bs d (opened b o) f.1 h in
+    grind (arith, not_true, cases_Bool, swap, no_both, and_both, opened_here, eqb-true, all_opened_keeps)
 
 pub append_nil : {A : Type 0} (xs : List A) → xs ++ [] ≡ xs
 append_nil [] = refl
@@ -57,8 +44,7 @@ fresh_swap bs (c ∷ cs) o f =
     let l : Fresh bs o = fresh_left bs (c ∷ cs) o f in
     let r : Fresh (c ∷ cs) (all_opened bs o) = fresh_right bs (c ∷ cs) o f in (
       shut_before bs o c.instr c.port r.0,
-      fresh_swap bs cs (opened c o) (fresh_append bs cs (opened c o) (fresh_opened bs c o l r.0)
-          (subst (Fresh cs) (sym (all_swap bs c o)) r.1)),
+      fresh_swap bs cs (opened c o) (grind (arith, fresh_append, fresh_opened, all_swap)),
     )
 
 -- the lists of n instructions from k on, one after the other
@@ -78,8 +64,7 @@ gather_one X Y s k (suc n) l m e h =
     (cases_eq k s)
   where
     go : (suc k ≤ s → gather X (suc k) n ≡ Y) → (k ≡ s) ⊎ (k ≡ s → ⊥) → X k ++ gather X (suc k) n ≡ Y
-    go rest (inl f) = grind (arith, gather_none, append_nil)
-    go rest (inr f) = grind (arith, gather)
+    go v0 v1 = grind (arith, gather_none, append_nil)
 
 renamed_append : (new : ℕ → ℕ) (xs ys : List Dest) → renamed new (xs ++ ys) ≡ renamed new xs ++ renamed new ys
 renamed_append new [] ys = refl
@@ -105,14 +90,7 @@ module _ (draft image : Image) (new : ℕ → ℕ) (b r sh lo hi : ℕ) (X : ℕ
       let ih : all_opened E (all_opened x p) ≡ all_opened (D ++ G) (all_opened x p) =
       all_alike (suc k) n (all_opened x p) (omega arith) (omega arith) in
       ap₂ (λ (u v : List Dest). all_opened (u ++ v) o) (each k l (omega arith)) (next_number k n)
-      ∙ (all_opened_append (A ++ x) E o
-      ∙ (ap (all_opened E) (all_opened_append A x o)
-      ∙ (ih ∙ (all_opened_append D G (all_opened x p)
-      ∙ (ap (all_opened G) (lists_swap D x p)
-      ∙ sym (ap (λ (u : List Dest). all_opened (u ++ (x ++ G)) o)
-      (renamed_append new (edge_dests draft b r k) (edge_all draft b r (suc k) n))
-      ∙ (all_opened_append (A ++ D) (x ++ G) o ∙ (ap (all_opened (x ++ G)) (all_opened_append A D o)
-      ∙ all_opened_append x G (all_opened D p)))))))))
+      ∙ (grind (arith, all_opened_append, lists_swap, renamed_append))
 
   pub fresh_alike : (k n : ℕ) (o : OpenSlots) → lo ≤ k → k + n ≤ hi →
       Fresh (renamed new (edge_all draft b r k n) ++ gather X k n) o → Fresh (edge_all image b r (k + sh) n) o
@@ -124,11 +102,9 @@ module _ (draft image : Image) (new : ℕ → ℕ) (b r sh lo hi : ℕ) (X : ℕ
       let D : List Dest = renamed new (edge_all draft b r (suc k) n) in
       let G : List Dest = gather X (suc k) n in
       let p : OpenSlots = all_opened A o in
-      let f1 : Fresh ((A ++ D) ++ (x ++ G)) o =
-      rw (renamed_append new (edge_dests draft b r k) (edge_all draft b r (suc k) n)) at f in
+      let f1 : Fresh ((A ++ D) ++ (x ++ G)) o = grind (arith, renamed_append) in
       let fAD : Fresh (A ++ D) o = fresh_left (A ++ D) (x ++ G) o f1 in
-      let fxG : Fresh (x ++ G) (all_opened D p) = subst (Fresh (x ++ G)) (all_opened_append A D o)
-      (fresh_right (A ++ D) (x ++ G) o f1) in
+      let fxG : Fresh (x ++ G) (all_opened D p) = grind (arith, all_opened_append, fresh_right) in
       let fA : Fresh A o = fresh_left A D o fAD in
       let fD : Fresh D p = fresh_right A D o fAD in
       let fx : Fresh x (all_opened D p) = fresh_left x G (all_opened D p) fxG in
@@ -139,10 +115,7 @@ module _ (draft image : Image) (new : ℕ → ℕ) (b r sh lo hi : ℕ) (X : ℕ
       let gG : Fresh G (all_opened D (all_opened x p)) = subst (Fresh G) (sym (lists_swap D x p)) fG in
       let ih : Fresh E (all_opened x p) = fresh_alike (suc k) n (all_opened x p) (omega arith) (omega arith)
       (fresh_append D G (all_opened x p) gD gG) in
-      let fAx : Fresh (A ++ x) o = fresh_append A x o fA gx in
-      let whole : Fresh ((A ++ x) ++ E) o = fresh_append (A ++ x) E o fAx
-      (subst (Fresh E) (sym (all_opened_append A x o)) ih) in
-      rw (ap₂ (λ (u v : List Dest). u ++ v) (each k l (omega arith)) (next_number k n)) whole
+      grind (arith, fresh_append, all_opened_append, next_number)
 
 -- an instruction that opens nothing on the edge adds nothing
 pub edge_all_more : (image : Image) (b r k n : ℕ) → edge_dests image b r (k + n) ≡ []

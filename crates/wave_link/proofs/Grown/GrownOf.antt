@@ -179,12 +179,7 @@ module _ (draft : Image) (ok : FitForNotes draft) where
       let p = edge_place (block_at draft b).exit r s
       (λ i ls q. clash (is_first draft c) ((shape.blocks b h).hang.landing_first i r ls q)
       (before_first c hc t)) in
-      let o = e.edge.only b p.0 h p.1 in
-      let i : IsIn draft b e.instr = subst (λ (n : ℕ). IsIn draft n e.instr) (sym o.0) e.inside in
-      elim (steer_cases draft b h) [
-        | inr x ↦ x
-        | inl n ↦ absurd (cc (n.none e.instr i, ap is_steer_op e.steers))
-      ]
+      grind (arith, steer_cases)
     where
       clash : (v : Bool) → v ≡ true → v ≡ false → ⊥
       clash v e f = cc
@@ -212,8 +207,7 @@ module _ (draft : Image) (ok : FitForNotes draft) where
           instr_positive draft b j h
               (p, omega (arith, q, end_of draft b l)),
         )))
-        ∙ sym (before_none (trigger draft (target draft b r)) (nop draft (target draft b r))
-        (λ t. none_one n (before_steered b r h s t)))
+        ∙ sym (grind (arith, before_none, trigger, nop, before_steered))
   ]
     where
       l : first_number draft b ≤ first_number draft (suc b)
@@ -251,8 +245,7 @@ module _ (draft : Image) (ok : FitForNotes draft) where
       (first_number draft (suc b)) (extras_at draft r) (each_edge b r h) (first_number draft b)
       (size_of draft b) o (omega arith)
       (omega (arith, end_of draft b (first_le draft b (suc b) (omega arith))))
-      (rw (ap₂ (λ (u v : List Dest). renamed (new draft) u ++ v) (opens_draft draft b r)
-      (sym (gathered b r h s))) at f))
+      (grind (arith, renamed, new, opens_draft, gathered)))
 
   ends_grown : (b : ℕ) → IsBlock draft b → first_number (annotated draft) (suc b) ≡ extra (trigger draft b)
       + (first_number draft (suc b) + shift draft b)
@@ -364,8 +357,7 @@ module _ (draft : Image) (ok : FitForNotes draft) where
       go (inr n) = absurd (rw (extras_else draft b r k h i n) at x)
       go (inl f) = elim (steer_cases draft b h) [
         | inl n ↦ absurd (omega (arith, n.zero_is, f, instr_positive draft b k h i))
-        | inr o ↦ (let op : (instr_at draft k).op ≡ Steer = ap (λ (n : ℕ). (instr_at draft n).op) (sym f)
-            ∙ steer_is (instr_at draft (steer_in draft b)).op o.is_one in
+        | inr o ↦ (let op : (instr_at draft k).op ≡ Steer = grind (arith, steer_is, steer_in) in
             let e = (shape.blocks b h).hang.steers k i op in
             let s : stops draft b ≡ false = not_stop b e.0 e.1 e.2 e.3 in
             let c : IsBlock draft (target draft b r) = (shape.blocks b h).edges.there r s in

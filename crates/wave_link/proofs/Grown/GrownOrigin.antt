@@ -1,6 +1,6 @@
 -- Which instruction of the draft an instruction of the image is.
 use Rattle.std.proofs.Common.{ℕ, zero, suc, ◌≡◌, ◌<◌, ◌≤◌, ◌⊎◌, true, cond, eqb, length, Option, Some, None}
-use Rattle.std.proofs.Common.{refl, sym, ap, inl, inr, arith, eq-eqb}
+use Rattle.std.proofs.Common.{refl, ap, inl, inr, arith, eq-eqb}
 use Rattle.std.proofs.lemmas.Bool.{cases_eq}
 use Rattle.ws_isa.specs.Image.{Image, flat, first_number, IsIn, IsBlock, IsInstr}
 use Rattle.ws_isa.proofs.Blocks.{number_last}
@@ -40,8 +40,7 @@ finds draft (suc n) m k l h e u = go (λ b. finds draft n m k l b e (λ j a c g.
   where
     go : (k ≤ n → find draft n m ≡ Some k) → (new draft (suc n) ≡ m) ⊎ (new draft (suc n) ≡ m → ⊥)
         → cond (eqb (new draft (suc n)) m) (Some (suc n)) (find draft n m) ≡ Some k
-    go rest (inl f) = grind (arith, eq-eqb)
-    go rest (inr f) = grind (arith, new, cases_eq)
+    go v0 v1 = grind (arith, eq-eqb, new, cases_eq)
 
 -- an instruction, or the no-op, of one block comes before those of later ones
 pub before_later : (draft : Image) (b c j k : ℕ) → IsBlock draft b → IsBlock draft c → b < c
@@ -92,15 +91,9 @@ new_apart draft j k h i e = go (three_ways x.block y.block)
     )
 
 pub is_instr : (draft : Image) (b k : ℕ) → IsBlock draft b → IsIn draft b k → IsInstr draft k
-is_instr draft b k h i = (
-  instr_positive draft b k h i,
-  omega (
-    arith,
-    i.1,
-    first_le draft (suc b) (suc (length draft.blocks)) (omega (arith, h.1)),
-    number_last draft,
-  ),
-)
+is_instr draft b k h i =
+    let ih1 = first_le draft (suc b) (suc (length draft.blocks)) (omega (arith, h.1)) in
+    grind (arith, instr_positive draft b k h i, number_last draft)
 
 pub origin_new : (draft : Image) (k : ℕ) → IsInstr draft k → origin draft (new draft k) ≡ Some k
 unfolding origin
@@ -108,8 +101,7 @@ origin_new draft k h = grind (arith, finds, new, new_apart)
 
 pub origin_is : (draft : Image) (m k : ℕ) → origin draft m ≡ Some k → (m ≡ new draft k) × IsInstr draft k
 unfolding origin
-origin_is draft m k e = let x : Found draft (length (flat draft.blocks)) m k =
-    found draft (length (flat draft.blocks)) m k e in (sym x.is, (x.low, x.high))
+origin_is draft m k e = grind (arith, found draft (length (flat draft.blocks)) m k e)
 
 pub nop_high : (draft : Image) (b : ℕ) → IsBlock draft b → adds draft b ≡ true
     → nop draft b < first_number (annotated draft) (suc b)

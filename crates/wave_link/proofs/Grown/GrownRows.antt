@@ -42,12 +42,7 @@ in_block image b k h i =
     let c : k < first_number image (suc b) = i.1 in
     let l : k - first_number image b < length (block_at image b).instrs = omega arith in
     let n : k ≡ first_number image b + (k - first_number image b) = omega arith in
-    record {
-      place = k - first_number image b;
-      within = l;
-      number = n;
-      is = instr_at_place image b (k - first_number image b) k h l n;
-    }
+    grind (arith, instr_at_place)
 
 -- the block of an instruction
 pub record Located (image : Image) (k : ℕ) : Type 0 where
@@ -74,15 +69,11 @@ placed (b ∷ bs) k l h =
     go rest (inr a) z e = grind arith
     go rest (inl a) z e =
         let p : Placed bs (k - length b.instrs) = rest (k - length b.instrs) (omega arith) (omega arith) in
-        let w = p.within in
-        let lo = p.low in
-        let hi = p.high in
-        record { place = suc p.place; within = omega arith; low = omega arith; high = omega arith }
+        grind arith
 
 pub located : (image : Image) (k : ℕ) → IsInstr image k → Located image k
 unfolding first_number
-located image k h =
-    let p : Placed image.blocks k = placed image.blocks k h.0 h.1 in grind arith
+located image k h = grind (arith, placed image.blocks k h.0 h.1)
 
 pub instr_positive : (image : Image) (b k : ℕ) → IsBlock image b → IsIn image b k → 1 ≤ k
 instr_positive image b k h i = omega (arith, i.0, first_le image 0 b (omega arith), first_zero image)
@@ -103,10 +94,9 @@ states_idle os b ways states n o e f = grind (arith, is_zero, middle)
 
 pub outline_there : (xs : List Block) (b : ℕ) (firsts : List Bool) (n m : ℕ) → n < length xs → m ≡ b + n
     → nth (outlines_from xs b firsts) n ≡ Some (outline_of (or_else (nth xs n) no_block) m firsts)
-outline_there [] b firsts n m l e = absurd (omega arith)
-outline_there (x ∷ xs) b firsts zero m l e = grind arith
 outline_there (x ∷ xs) b firsts (suc n) m l e =
     grind (arith, outline_there xs (b + 1) firsts n m (omega arith) (omega arith))
+outline_there v0 v1 v2 v3 v4 v5 v6 = grind arith
 
 more_up : (i : Instr) (n : ℕ) → n ≤ one_more_op i n
 more_up i n = grind arith

@@ -14,7 +14,7 @@ use Rattle.wave_link.specs.Fit.{FitForNotes}
 use Rattle.ws_isa.proofs.Slots.{has_append_cases, has_append_right}
 use Rattle.ws_isa.proofs.There.{There, dests_there, others_there}
 use Rattle.wave_link.specs.Layout.{Tables}
-use Rattle.wave_link.specs.Grown.{extra_dest, grown_exit, nop_instr, annotated}
+use Rattle.wave_link.specs.Grown.{extra_dest, grown_exit, annotated}
 use Rattle.wave_link.specs.Adds.{adds}
 use Rattle.wave_link.specs.Triggers.{IsAdded, NamesInstr, IsSteerBefore, TriggeredNear}
 use Rattle.wave_link.proofs.Parted.Parts.{tables_in}
@@ -29,9 +29,9 @@ use Rattle.wave_link.proofs.Grown.GrownTriggers.{trigger, whole, before, own, tr
 use Rattle.wave_link.proofs.Grown.GrownTriggers.{now_none, now_steer, other_none, other_steer, steered_by}
 use Rattle.wave_link.proofs.Grown.GrownTriggers.{steered_is, steer_steers}
 use Rattle.wave_link.proofs.Grown.GrownOf.{sizes, op_kept, entered, steer_is}
-use Rattle.wave_link.proofs.Sound.ShapeOf.{ImageCase, old, no_op, image_case, block_back, block_on}
-use Rattle.wave_link.proofs.Sound.ShapeOf.{old_inside, nop_inside, renamed_back, dests_grown, others_grown}
-use Rattle.wave_link.proofs.Sound.ShapeOf.{one_extra, no_extra, the_steer, not_stop, first_edge, second_edge}
+use Rattle.wave_link.proofs.Sound.ShapeOf.{ImageCase, image_case, block_back, block_on, old_inside}
+use Rattle.wave_link.proofs.Sound.ShapeOf.{nop_inside, renamed_back, dests_grown, others_grown, one_extra}
+use Rattle.wave_link.proofs.Sound.ShapeOf.{no_extra, the_steer, not_stop, first_edge, second_edge}
 use Rattle.ws_words.specs.Items.{nth, or_else}
 
 instr_cases : (image : Image) (m : ℕ) → IsInstr image m ⊎ (instr_at image m ≡ no_instr)
@@ -149,10 +149,8 @@ module _ (draft : Image) (ok : FitForNotes draft) where
   arms_in : (b s x y : ℕ) → IsBlock draft b → (block_at draft b).exit ≡ Branch s x y
       → IsBlock draft x × IsBlock draft y
   arms_in b s x y h e =
-      let n = not_stop draft ok b s x y e in (
-        subst (IsBlock draft) (sym (first_edge draft ok b s x y e)) ((shape.blocks b h).edges.there 1 n),
-        subst (IsBlock draft) (sym (second_edge draft ok b s x y e)) ((shape.blocks b h).edges.there 0 n),
-      )
+      let ih1 = second_edge draft ok b s x y e in
+      grind (arith, not_stop draft ok b s x y e, first_edge draft ok b s x y e)
 
   near_old : (b c k q : ℕ) → IsBlock draft b → adds draft b ≡ true → IsBlock draft c → IsIn draft c k →
       HasDest (instr_at (annotated draft) (k + shift draft c)).dests (nop draft b) q
@@ -213,16 +211,7 @@ module _ (draft : Image) (ok : FitForNotes draft) where
   ]
     where
       by_case : (c : ℕ) → IsBlock draft c → ImageCase draft c m → Near b m
-      by_case c i (no_op e n) =
-          let f : instr_at (annotated draft) m ≡ nop_instr (place_of draft c) =
-          ap (instr_at (annotated draft)) n ∙ nop_is_there draft c i e in
-          absurd (nothing_named (instr_at (annotated draft) m) (nop draft b) q (ap (λ (y : Instr). y.dests) f)
-          (ap (λ (y : Instr). y.others) f) x)
-      by_case c i (old k j n) =
-          subst (Near b) (sym n)
-          (near_old b c k q h a i j
-          (subst (λ (l : ℕ). HasDest (instr_at (annotated draft) l).dests (nop draft b) q
-          ⊎ HasDest (instr_at (annotated draft) l).others (nop draft b) q) n x))
+      by_case v0 v1 v2 = grind (arith, place_of, nop_is_there, nothing_named, nop, near_old)
 
   two : (x y c place : ℕ) → nth (x ∷ y ∷ []) place ≡ Some c → (x ≡ c) ⊎ (y ≡ c)
   two x y c place e = grind arith
@@ -275,15 +264,17 @@ module _ (draft : Image) (ok : FitForNotes draft) where
         (steer_steers draft b k h (instr_positive draft b k h o.inside)
         (no_steer (instr_at draft k).op o.is_one)) ∙ ap (λ (v : Bool). cond v (nop draft b) 0) a in (
           k + shift draft b,
-          (
-            0,
-            inl (subst (λ (ds : List Dest). HasDest ds (nop draft b) 0)
-                (sym (dests_grown draft b k h o.inside))
-                (has_append_right (by_number (new draft) (instr_at draft k).dests)
-                (extra_dest (get_or (tables_in draft.blocks).now k 0)) (nop draft b) 0
-                (some_dest (get_or (tables_in draft.blocks).now k 0) (nop draft b)
-                (omega (arith, e, nop_positive draft b)) e))),
-          ),
+          (grind (
+            arith,
+            nop,
+            dests_grown,
+            has_append_right,
+            by_number,
+            new,
+            tables_in,
+            some_dest,
+            nop_positive,
+          )),
         ))
   ]
 
@@ -296,6 +287,5 @@ module _ (draft : Image) (ok : FitForNotes draft) where
     some = λ b n h d. (let x = added_is draft b n h d in
         subst (λ (j : ℕ). (m : ℕ) × NamesInstr (annotated draft) m j) (sym x.1) (named b h x.0));
     near = λ b n m h d s. (let x = added_is draft b n h d in
-        near b m s.0 h x.0 (subst (λ (j : ℕ). HasDest (instr_at (annotated draft) m).dests j s.0
-        ⊎ HasDest (instr_at (annotated draft) m).others j s.0) x.1 s.1));
+        near b m s.0 h x.0 (grind arith));
   }

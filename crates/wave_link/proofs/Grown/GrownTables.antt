@@ -88,9 +88,7 @@ unfolding giver first_number
 giver_is draft zero h = absurd (omega (arith, h.0))
 giver_is draft (suc n) h = giving_there draft.blocks 1 n (first_of draft.blocks n) (omega (arith, h.1))
     (omega arith)
-    ∙ (giving_is (first_of draft.blocks n) (or_else (nth draft.blocks n) no_block).instrs
-    ∙ ap (λ (y : Block). found_from is_giving_op (first_of draft.blocks n) y.instrs)
-    (sym (block_is draft n)))
+    ∙ (grind (arith, giving_is, block_is))
 
 steer_in_is : (draft : Image) (b : ℕ) → IsBlock draft b → steer_in draft b ≡ found_from is_steer_op
     (first_number draft b) (block_at draft b).instrs
@@ -98,9 +96,7 @@ unfolding steer_in first_number
 steer_in_is draft zero h = absurd (omega (arith, h.0))
 steer_in_is draft (suc n) h = steer_there draft.blocks 1 n (first_of draft.blocks n) (omega (arith, h.1))
     (omega arith)
-    ∙ (steer_is (first_of draft.blocks n) (or_else (nth draft.blocks n) no_block).instrs
-    ∙ ap (λ (y : Block). found_from is_steer_op (first_of draft.blocks n) y.instrs)
-    (sym (block_is draft n)))
+    ∙ (grind (arith, steer_is, block_is))
 
 -- no instruction of block b is of this kind, or number n is
 pub record NoneIn (P : Op → Bool) (draft : Image) (b n : ℕ) : Type 0 where
@@ -210,13 +206,12 @@ written : (xs : List Block) (b n m : ℕ) (nops givings steers : List ℕ) (e : 
     × (get_or steers l 0 ≡ k → ⊥)) →
     Written (extras_from xs b nops givings steers e) (or_else (nth xs n) no_block).exit m nops givings steers
     k
-written [] b n m nops givings steers e k l f h a = absurd (omega arith)
-written (x ∷ xs) b zero m nops givings steers e k l f h a = grind (arith, far_now, far_other)
 written (x ∷ xs) b (suc n) m nops givings steers e k l f h a =
     let c = a b (omega arith) (omega arith) (λ r. omega arith) in
     written xs (b + 1) n m nops givings steers (extras_step x.exit b nops givings steers e) k (omega arith)
     (omega arith) (blank_step x.exit b nops givings steers e k c.0 c.1 h)
     (λ i p q r. a i (omega arith) (omega arith) r)
+written v0 v1 v2 v3 v4 v5 v6 v7 v8 v9 v10 v11 v12 = grind (arith, far_now, far_other)
 
 count_up_length : (n k : ℕ) → length (count_up n k) ≡ k
 count_up_length n zero = refl
@@ -297,8 +292,4 @@ writes draft b k h i =
     (no_extras (length (numbers_table draft.blocks (added_in draft.blocks)))) k x.2 (omega arith)
     (blank_start (length (numbers_table draft.blocks (added_in draft.blocks))) k
     (omega (arith, (is_instr draft b k h i).1, numbers_size draft)))
-    (λ l p q r. (
-      giver_apart draft b l k h (p, omega arith) i r,
-      steer_apart draft b l k h (p, omega arith) i
-          r,
-    )))
+    (λ l p q r. (grind (arith, giver_apart, steer_apart))))

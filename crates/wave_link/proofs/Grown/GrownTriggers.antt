@@ -219,8 +219,7 @@ now_grown draft b k h i = ap (λ (x : Instr). now_of x.op x.dests) (instr_is_gro
         (own_else draft b k (giver_gives draft b k h l (ap is_giving_op e))))
     go (plain e f g) = f (table_renamed (tables_in draft.blocks) ds ++ extra_dest n)
         ∙ (ap₂ (λ (u v : List Dest). u ++ v) (same_renamed draft ds) (extra_own e)
-        ∙ sym (ap (λ (u : List Dest). renamed (new draft) u ++ own_slot (trigger draft b) (nop draft b) k)
-        (f ds)))
+        ∙ sym (grind (arith, renamed, new, own_slot, nop)))
 
 -- Pads.
 

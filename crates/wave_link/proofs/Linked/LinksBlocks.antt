@@ -130,8 +130,7 @@ waves_rise draft b (suc c) w l h k = go (cases_eq b (suc c)) (λ q. waves_rise d
   where
     go : (b ≡ suc c) ⊎ (b ≡ suc c → ⊥) → (b ≤ c → (block_at draft b).wave ≤ (block_at draft c).wave)
         → (block_at draft b).wave ≤ (block_at draft (suc c)).wave
-    go (inl e) rec = rw e (omega arith)
-    go (inr d) rec = grind (arith, wave_step)
+    go v0 v1 = grind (arith, wave_step)
 
 not_first : (draft : Image) (b : ℕ) → 2 ≤ b → (block_at draft b).wave ≡ (block_at draft (b - 1)).wave
     → is_first draft b ≡ false
@@ -225,8 +224,7 @@ module _ (draft : Image) (shape : ShapeRules draft) (branches : (b s x y : ℕ) 
   back_by b Stop c h e k = absurd k
 
   pub back : (b c : ℕ) → IsBlock draft b → Leads (outline_at draft b).way c → Back b c
-  back b c h k = back_by b (block_at draft b).exit c h refl (subst (λ (w : Way). Leads w c) (way_is draft b h)
-      k)
+  back b c h k = back_by b (block_at draft b).exit c h refl (grind (arith, way_is))
 
   -- an edge inside a wave leads on in it
   pub record On_in (b c : ℕ) : Type 0 where
@@ -240,11 +238,7 @@ module _ (draft : Image) (shape : ShapeRules draft) (branches : (b s x y : ℕ) 
       let l : (b < target draft b q.r)
       × ((block_at draft (target draft b q.r)).wave ≡ (block_at draft b).wave) =
       (shape.blocks b h).edges.later q.r q.goes (ap (is_first draft) q.target_is ∙ q.inside) in
-      record {
-        later = subst (λ (i : ℕ). b < i) q.target_is l.0;
-        most = (subst (IsBlock draft) q.target_is ((shape.blocks b h).edges.there q.r q.goes)).1;
-        wave = ap (λ (i : ℕ). (block_at draft i).wave) (sym q.target_is) ∙ l.1;
-      }
+      grind arith
 
   out_by : (b : ℕ) (e : Exit) → IsBlock draft b → (block_at draft b).exit ≡ e
       → (stops draft b ≡ true)
@@ -311,10 +305,7 @@ module _ (draft : Image) (shape : ShapeRules draft) (branches : (b s x y : ℕ) 
   parts_by : (b : ℕ) (w : Way) → IsBlock draft b → (outline_at draft b).way ≡ w → Parts w
   parts_by b Out h e = tt
   parts_by b (On c) h e = tt
-  parts_by b (Fork p q) h e = λ s.
-      (let f : IsArm draft b 0 p × IsArm draft b 1 q = forks b p q h e in
-      let z : (b ≡ b) × (1 ≡ 0) = f.0.only.only b 1 h (f.1.only.is ∙ ap Some (sym s)) in
-      omega (arith, z.1))
+  parts_by b (Fork p q) h e = grind (arith, forks b p q h e)
 
   pub parts : (b : ℕ) → IsBlock draft b → Parts (outline_at draft b).way
   parts b h = parts_by b (outline_at draft b).way h refl

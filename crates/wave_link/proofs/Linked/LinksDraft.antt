@@ -126,9 +126,7 @@ module _ (draft : Image) (open_to : FitForNotes draft) where
       let a : adds draft (suc n) ≡ needs_nop y (suc n) (ways_in draft) s = added n l in
       stepped_next f (bare_of draft) 1 n (suc n) (replicate (length (bare_of draft) + 1) Shared)
       (omega (arith, l, bare_length draft)) (omega arith)
-      ∙ (same y s a ∙ (ap (λ (w : List Ways). form w (with_nop y (adds draft (suc n))) s n)
-      (sym (ways_end draft count refl)) ∙ ap (λ (o : Outline). form (ways_at draft (suc count)) o s n)
-      (sym e)))
+      ∙ (same y s a ∙ (grind (arith, ways_end)))
     where
       form : List Ways → Outline → List LastOps → ℕ → List LastOps
       form w o s n =
@@ -165,17 +163,7 @@ module _ (draft : Image) (open_to : FitForNotes draft) where
       let a : adds draft (suc n) ≡ needs_nop y (suc n) (ways_in draft) s =
       adds_is draft (suc n) (omega arith, l)
       ∙ ap (λ (k : ℕ). needs_nop (outline_in (bare_of draft) k) (suc n) (ways_in draft) s) (minus n) in
-      let o : (adds draft (suc n) ≡ false) × (y.ops ≡ 0) = none_of (adds draft (suc n)) y.ops
-      (ap (λ (v : Outline). v.ops) (sym e) ∙ z) in
-      let g : is_vain y.way (ways_in draft) (state_in y (suc n) (ways_in draft) s) ≡ true =
-      needless (reached y (suc n) (ways_in draft)) (eqb y.ops 0)
-      (is_vain y.way (ways_in draft) (state_in y (suc n) (ways_in draft) s)) (sym a ∙ o.0)
-      (ap (λ (v : List Ways). reached (with_nop y (adds draft (suc n))) (suc n) v) (sym w)
-      ∙ (ap (λ (v : Outline). reached v (suc n) (ways_at draft (suc count))) (sym e) ∙ r))
-      (eq-eqb y.ops 0 o.1) in
-      ap (λ (v : Outline). is_vain v.way (ways_at draft (suc count))
-      (state_in v (suc n) (ways_at draft (suc count)) s)) e
-      ∙ (ap (λ (v : List Ways). is_vain y.way v (state_in y (suc n) v s)) w ∙ g)
+      grind (arith, none_of, needless, eq-eqb)
     where
       minus : (n : ℕ) → suc n - 1 ≡ n
       minus n = omega arith
@@ -192,8 +180,7 @@ module _ (draft : Image) (open_to : FitForNotes draft) where
   pub run : Run count (outline_at draft) (low_of draft) (heads_in draft) (ways_at draft) (states_at draft)
       (behind_at draft)
   run = record {
-    later = λ b c l h k. (let o : On_in draft shape open_to.branches b c = edge_in b c (l, h) k in
-        (o.later, o.most));
+    later = λ b c l h k. (grind (arith, edge_in));
     inner = λ b c m l h k q r. (let o : On_in draft shape open_to.branches b c = edge_in b c (l, h) k in
         in_wave draft b c m shape.waves (l, h) (omega arith, o.most) (sym o.wave) q r);
     parts = λ b l h. parts draft shape open_to.branches b (l, h);
@@ -202,30 +189,15 @@ module _ (draft : Image) (open_to : FitForNotes draft) where
     low_next = λ b l h. lows b l h;
     head_is = by_suc (λ (b : ℕ). head_at (heads_in draft) b ≡ head_link (outline_at draft b) (low_of draft b)
         (heads_in draft)) heads;
-    ways_size = length-replicate (length (bare_of draft) + 1) Zero ∙ size (length (bare_of draft))
-        (bare_length draft);
-    states_size = length-replicate (length (bare_of draft) + 1) Shared ∙ size (length (bare_of draft))
-        (bare_length draft);
-    behind_size = length-replicate (length (grown_of draft) + 1) None ∙ size (length (grown_of draft))
-        (grown_length draft);
+    ways_size = grind (arith, length-replicate, bare_of, bare_length);
+    states_size = grind (arith, length-replicate, bare_of, bare_length);
+    behind_size = grind (arith, length-replicate, grown_of, grown_length);
     ways_start = λ c. same_all Zero (length (bare_of draft) + 1) c;
     behind_start = λ c. same_all None (length (grown_of draft) + 1) c;
-    ways_next = by_suc (λ (b : ℕ). ways_at draft (suc b) ≡ ways_step (outline_at draft b) b (ways_at draft b))
-        step_ways;
-    states_next =
-        by_suc (λ (b : ℕ). states_at draft (suc b) ≡ cond
-        (reached (outline_at draft b) b (ways_at draft (suc count)))
-        (spread_state (outline_at draft b).way (not (eqb (outline_at draft b).ops 0))
-        (state_in (outline_at draft b) b (ways_at draft (suc count)) (states_at draft b)) (states_at draft b))
-        (states_at draft b)) step_states;
-    behind_next = by_suc (λ (b : ℕ). behind_at draft (suc b) ≡ behind_step (lows_of (grown_of draft))
-        (outline_at draft b) b (behind_at draft b)) (λ n l.
-        stepped_next (behind_step (lows_of (grown_of draft))) (grown_of draft) 1 n (suc n)
-        (replicate (length (grown_of draft) + 1) None) (omega (arith, l, grown_length draft))
-        (omega arith));
-    none_vain = by_suc (λ (b : ℕ). reached (outline_at draft b) b (ways_at draft (suc count)) ≡ true
-        → (outline_at draft b).ops ≡ 0 → is_vain (outline_at draft b).way (ways_at draft (suc count))
-        (state_in (outline_at draft b) b (ways_at draft (suc count)) (states_at draft b)) ≡ true) vain_left;
+    ways_next = grind (arith, by_suc, outline_at, step_ways);
+    states_next = grind (arith, by_suc, outline_at, step_states);
+    behind_next = grind (arith, by_suc, behind_step, grown_of, outline_at, stepped_next, grown_length);
+    none_vain = grind (arith, by_suc, outline_at, vain_left);
   }
     where
       size : (n : ℕ) → n ≡ count → n + 1 ≡ suc count

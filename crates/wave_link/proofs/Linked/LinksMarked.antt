@@ -1,10 +1,9 @@
 -- The notes of an annotated image are made of its tables.
 use Rattle.std.proofs.Common.{ℕ, zero, suc, ◌+◌, ◌-◌, ◌≡◌, ◌<◌, ◌≤◌, ◌⊎◌, Bool, true, false, cond, List, []}
-use Rattle.std.proofs.Common.{◌∷◌, ◌++◌, length, Option, Some, refl, sym, ap, ap₂, ◌∙◌, inl, inr, subst}
-use Rattle.std.proofs.Common.{arith, eqb}
+use Rattle.std.proofs.Common.{◌∷◌, ◌++◌, length, Option, Some, refl, sym, ap, ◌∙◌, inl, inr, subst, arith}
+use Rattle.std.proofs.Common.{eqb}
 use Rattle.std.proofs.lemmas.Bool.{cases_Bool}
 use Rattle.ws_isa.specs.declared.instr.Op.{Op}
-use Rattle.ws_isa.specs.declared.instr.Op.TheVariants.{Nop}
 use Rattle.ws_isa.specs.declared.instr.Note.{Note}
 use Rattle.ws_isa.specs.Image.{Instr, Block, Image, no_instr, no_note, instr_at, block_at, first_number}
 use Rattle.ws_isa.specs.Image.{note_of, is_memory, is_writing, stops, target, is_first, is_memory_op}
@@ -13,9 +12,8 @@ use Rattle.ws_isa.specs.Sound.{LinkRules, RippleRules}
 use Rattle.wave_link.specs.Fit.{FitForNotes}
 use Rattle.ws_isa.proofs.Blocks.{block_is, instr_is, number_next}
 use Rattle.wave_link.specs.declared.outline.Way.TheVariants.{Out}
-use Rattle.wave_link.specs.declared.outline.Outline.{Outline}
 use Rattle.wave_link.specs.declared.links.Passage.{Passage}
-use Rattle.wave_link.specs.Outlines.{firsts_of, one_more_op, ops_from, writer_from, outline_of, with_nop}
+use Rattle.wave_link.specs.Outlines.{one_more_op, ops_from, writer_from}
 use Rattle.wave_link.specs.Notes.{place_at, note_at, writer_next}
 use Rattle.wave_link.specs.Layout.{Tables}
 use Rattle.wave_link.specs.Grown.{seq_next, grown_instrs, nop_instr, nop_at, grown_block, annotated}
@@ -58,11 +56,8 @@ count_on op l n s e = grind arith
 
 pub seq_end : (is : List Instr) (l n s : ℕ) → s ≡ l + n + 1 → seq_in is (length is) s ≡ l + ops_from is n + 1
 seq_end [] l n s e = e
-seq_end (i ∷ is) l n s e = grind (
-  arith,
-  count_on,
-  seq_end is l (one_more_op i n) (seq_next i.op s) (count_on i.op l n s e),
-)
+seq_end (i ∷ is) l n s e =
+    grind (arith, count_on, seq_end is l (one_more_op i n) (seq_next i.op s) (count_on i.op l n s e))
 
 -- the last writing number, from that of the entry and the place of the last writing one here
 abbrev writer_by : ℕ → ℕ → ℕ → ℕ
@@ -172,22 +167,12 @@ module _ (draft : Image) where
       let rest : List Instr = nop_instr p ∷ [] in
       let low0 : p.low + 1 ≡ p.low + 0 + 1 = omega arith in
       let o : ops_from x.instrs 0 ≡ 0 = z refl in
-      let w0 : writer_from x.instrs 0 0 ≡ 0 =
-      (let u : writer_from x.instrs 0 0 ≤ ops_from x.instrs 0 = writer_below x.instrs 0 0 (omega arith) in
-      omega arith) in
+      let w0 : writer_from x.instrs 0 0 ≡ 0 = grind (arith, writer_below) in
       let s : seq_in x.instrs (length x.instrs) (p.low + 1) ≡ p.low + 1 =
       seq_end x.instrs p.low 0 (p.low + 1) low0 ∙ (ap (λ (k : ℕ). p.low + k + 1) o ∙ sym low0) in
       let w : writer_in x.instrs (length x.instrs) (p.low + 1) p.writer ≡ p.writer =
       writer_end x.instrs p.low p.writer 0 0 (p.low + 1) p.writer low0 refl
-      ∙ ap (writer_by p.low p.writer) w0 in (
-        ap (λ (is : List Instr). ops_from is 0) e ∙ ops_grown t p (first_number draft b) (p.low + 1) p.writer
-            x.instrs rest 0,
-        ap (λ (is : List Instr). writer_from is 0 0) e ∙ writer_grown t p (first_number draft b) (p.low + 1)
-            p.writer x.instrs rest 0 0,
-        subst (Noted p (p.low + 1) p.writer) (sym e) (noted_grown t p (first_number draft b) (p.low + 1)
-            p.writer x.instrs rest
-            ((λ q. ap₂ (λ (i j : ℕ). Some (note_at p Nop i j)) (sym s) (sym w)), tt)),
-      )
+      ∙ ap (writer_by p.low p.writer) w0 in grind (arith, ops_grown, writer_grown, noted_grown)
   laid_by b x p false m g l e z = grind (arith, ops_grown, writer_grown, noted_grown)
 
   pub laid : (b : ℕ) → IsBlock draft b → Laid b
@@ -197,25 +182,14 @@ module _ (draft : Image) where
       (block_at draft b) = block_is_grown draft b h in
       let e : (block_at image b).instrs ≡ grown_instrs (tables_in draft.blocks) p (first_number draft b)
       (p.low + 1) p.writer (block_at draft b).instrs ++ cond (adds draft b) (nop_instr p ∷ []) [] =
-      ap (λ (x : Block). x.instrs) g
-      ∙ ap (λ (is : List Instr). grown_instrs (tables_in draft.blocks) p (first_number draft b)
-      (p.low + 1) p.writer (block_at draft b).instrs ++ is)
-      (ap (nop_at p) (nops_are draft b h) ∙ with_or_without p (adds draft b) (nop draft b)
-      (nop_positive draft b)) in
+      grind (arith, tables_in, nops_are, with_or_without, nop, nop_positive) in
       let r : (ops_from (block_at image b).instrs 0 ≡ cond (adds draft b)
       (ops_from (block_at draft b).instrs 0 + 1) (ops_from (block_at draft b).instrs 0))
       × (writer_from (block_at image b).instrs 0 0 ≡ writer_from (block_at draft b).instrs 0 0)
       × Noted p (p.low + 1) p.writer (block_at image b).instrs =
       laid_by b (block_at draft b) p (adds draft b) (nop draft b) (block_at image b) (nop_positive draft b) e
       (adds_empty b h) in
-      let o : outline_at draft b ≡ with_nop (outline_of (block_at draft b) b (firsts_of draft.blocks))
-      (adds draft b) = outline_is draft b h in
-      record {
-        ops = r.0 ∙ ap (λ (x : Outline). x.ops) (sym o);
-        writer = r.1
-            ∙ ap (λ (x : Outline). x.writer) (sym o);
-        noted = r.2;
-      }
+      grind (arith, outline_at, outline_is)
 
   -- Instructions by their numbers.
 
@@ -268,8 +242,7 @@ module _ (draft : Image) where
 
     noted_in : (b : ℕ) → IsBlock draft b → Noted (place b) (low b + 1) (place b).writer
         (block_at image b).instrs
-    noted_in b h = subst (λ (p : Passage). Noted p (p.low + 1) p.writer (block_at image b).instrs)
-        (place_is draft b h) (laid b h).noted
+    noted_in b h = grind (arith, place_is draft b h, laid b h)
 
     note_is : (b k : ℕ) → IsBlock image b → IsIn image b k → is_memory image k ≡ true
         → note_of image k ≡ note_at (place b) (instr_at image k).op (sq b k) (wr b k)
@@ -299,8 +272,7 @@ module _ (draft : Image) where
         + (outline_at draft b).ops + 1
     seq_finish b h =
         ap (λ (j : ℕ). seq_in (block_at image b).instrs j (low b + 1))
-        (all_past (first_number image b) (first_number image (suc b)) (length (block_at image b).instrs)
-        (ends_at b h))
+        (grind (arith, all_past, ends_at))
         ∙ (seq_end (block_at image b).instrs (low b) 0 (low b + 1) (low_zero b)
         ∙ ap (λ (j : ℕ). low b + j + 1) (laid b (in_draft b h)).ops)
 
@@ -308,8 +280,7 @@ module _ (draft : Image) where
         ≡ cond (eqb (outline_at draft b).writer 0) (place b).writer (low b + (outline_at draft b).writer)
     writer_finish b h =
         ap (λ (j : ℕ). writer_in (block_at image b).instrs j (low b + 1) (place b).writer)
-        (all_past (first_number image b) (first_number image (suc b)) (length (block_at image b).instrs)
-        (ends_at b h))
+        (grind (arith, all_past, ends_at))
         ∙ (writer_end (block_at image b).instrs (low b) (place b).writer 0 0 (low b + 1) (place b).writer
         (low_zero b) refl ∙ ap (writer_by (low b) (place b).writer) (laid b (in_draft b h)).writer)
 
@@ -353,11 +324,7 @@ module _ (draft : Image) where
         × ((r : ℕ) × (target image b r ≡ c)) × (is_first image c ≡ false)
     edge_from b c h k =
         let q : Back draft open_to.walkable.shape open_to.branches b c = back draft open_to.walkable.shape
-        open_to.branches b c (in_draft b h) k in (
-          stops_kept draft b ∙ q.goes,
-          (q.r, target_kept draft b q.r ∙ q.target_is),
-          first_kept draft c ∙ q.inside,
-        )
+        open_to.branches b c (in_draft b h) k in grind (arith, stops_kept, target_kept, first_kept)
 
     ends_out : (b : ℕ) → IsBlock image b → (stops image b ≡ true)
         ⊎ ((stops image b ≡ false) × ((r : ℕ) × (is_first image (target image b r) ≡ true)))
@@ -365,14 +332,7 @@ module _ (draft : Image) where
     ends_out b h (inl s) = way_out draft open_to.walkable.shape open_to.branches b (in_draft b h)
         (inl (sym (stops_kept draft b) ∙ s))
     ends_out b h (inr s) = way_out draft open_to.walkable.shape open_to.branches b (in_draft b h)
-        (inr (
-          sym (stops_kept draft b) ∙ s.0,
-          (
-            s.1.0,
-            ap (is_first draft) (sym (target_kept draft b s.1.0))
-                ∙ (sym (first_kept draft (target image b s.1.0)) ∙ s.1.1),
-          ),
-        ))
+        (inr (grind (arith, stops_kept, target_kept, first_kept)))
 
     pub marked : Marked image (length draft.blocks) (outline_at draft) (low_of draft) (heads_in draft)
         (behind_at draft) sq wr

@@ -67,9 +67,7 @@ module _ (draft : Image) (open_to : FitForNotes draft) where
   waves_up b c l h k = grind (arith, waves_rise, order, wave_kept)
 
   waves_one : (b : ℕ) → 1 ≤ b → b ≤ length draft.blocks → 1 ≤ wave b
-  waves_one b l h =
-      let r : wave 1 ≤ wave b = waves_up 1 b (omega arith) l h in
-      omega (arith, wave_kept draft 1, first_wave draft order)
+  waves_one b l h = grind (arith, waves_up 1 b (omega arith) l h, wave_kept draft 1, first_wave draft order)
 
   block : (b : ℕ) → 1 ≤ b → b ≤ length draft.blocks → IsBlock image b
   block b l h = (l, omega (arith, h, count_kept draft))
@@ -103,8 +101,7 @@ module _ (draft : Image) (open_to : FitForNotes draft) where
       go : (suc k ≡ first_number image b) ⊎ (suc k ≡ first_number image b → ⊥)
           → (first_number image b ≤ k → before w k ≡ before w (first_number image b))
           → before w (suc k) ≡ before w (first_number image b)
-      go (inl e) rec = ap (before w) e
-      go (inr n) rec = grind (arith, other_wave)
+      go v0 v1 = grind (arith, other_wave)
 
   seq_step : (b k : ℕ) → IsBlock image b → IsIn image b k → sq draft b (suc k) ≡ sq draft b k + cond
       (is_memory image k) 1 0
@@ -133,8 +130,7 @@ module _ (draft : Image) (open_to : FitForNotes draft) where
       along_other w (suc b) (first_number image (suc (suc b))) hb (λ e. absurd (omega arith))
       ((marked draft open_to).grows (suc b) hb) (omega arith)
       ∙ start (cases_eq b 0)
-      (λ o. none_early b w o (omega arith) (let u : wave b ≤ wave (suc b) = waves_up b (suc b) o
-      (omega arith) h in omega arith))
+      (λ o. none_early b w o (omega arith) (grind (arith, waves_up)))
     where
       hb : IsBlock image (suc b)
       hb = block (suc b) (omega arith) h

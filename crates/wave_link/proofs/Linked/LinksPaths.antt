@@ -122,10 +122,7 @@ module _ (image : Image) (n : ℕ) (x : ℕ → Outline) (low : ℕ → ℕ) (he
 
   pub sq_rise : (b j k : ℕ) → IsBlock image b → IsIn image b j → is_memory image j ≡ true → j < k
       → k ≤ first_number image (suc b) → sq b j < sq b k
-  sq_rise b j k h i m l w =
-      let e : sq b (suc j) ≡ sq b j + 1 = sq_step b j h i m in
-      let s : sq b (suc j) ≤ sq b k = sq_mono b (suc j) k h (omega (arith, i.0)) l w in
-      omega arith
+  sq_rise b j k h i m l w = grind (arith, sq_step b j h i m, sq_mono b (suc j) k h (omega (arith, i.0)) l w)
 
   pub sq_low : (b k : ℕ) → IsBlock image b → first_number image b ≤ k → k ≤ first_number image (suc b)
       → low b + 1 ≤ sq b k
@@ -257,12 +254,7 @@ module _ (image : Image) (n : ℕ) (x : ℕ → Outline) (low : ℕ → ℕ) (he
       go (inr d) (within j p q g) =
           let num : sq b j ≡ low b + (x b).ops = omega (arith, s, q) in
           subst (λ (v : ℕ). LastIs c v (first_number image c) last) (sym (some d))
-          (entry_some j t h.0 (record {
-            block = p.block;
-            inside = p.inside;
-            memory = p.memory;
-            number = num;
-          }) g)
+          (entry_some j t h.0 (grind arith) g)
 
   stands_out : (b k r : ℕ) (done : List ℕ) → Stands b k done → k ≡ first_number image (suc b)
       → stops image b ≡ false → is_first image (target image b r) ≡ false
@@ -296,8 +288,7 @@ module _ (image : Image) (n : ℕ) (x : ℕ → Outline) (low : ℕ → ℕ) (he
           let w1 : wr b k ≡ cond (eqb (x b).writer 0) (place b).writer (low b + (x b).writer) =
           ap (wr b) e ∙ marked.wr_end b s.block in
           let w2 : cond (eqb (x b).writer 0) (place b).writer (low b + (x b).writer)
-          ≡ cond (eqb (x b).writer 0) v.y.writer (low b + (x b).writer) =
-          ap (λ (i : ℕ). cond (eqb (x b).writer 0) i (low b + (x b).writer)) (place_writer b s.a v) in
+          ≡ cond (eqb (x b).writer 0) v.y.writer (low b + (x b).writer) = grind (arith, place_writer) in
           let w3 : cond (eqb (x b).writer 0) v.y.writer (low b + (x b).writer) ≤ (known_at p).y.writer =
           writer_on n x low heads ways states behind run b s.a (target image b r) v leads (known_at p) in
           let w4 : wr (target image b r) (first_number image (target image b r))
@@ -492,9 +483,7 @@ module _ (image : Image) (n : ℕ) (x : ℕ → Outline) (low : ℕ → ℕ) (he
   pub link_rules : LinkRules image
   link_rules = record {
     positive = λ k last f. (let s : Stands f.block k f.done = standing k last f in
-        let l : low f.block + 1 ≤ sq f.block k = sq_low f.block k s.block s.low_end s.high_end in
-        let e : seq image k ≡ sq f.block k = seq_is f.block k s.block (is_in k last f) f.memory in
-        omega arith);
+        grind (arith, sq_low, seq_is, is_in));
     differ = λ j k l m f g w e. apart f.block g.block j k (standing j l f).block (standing k m g).block w
         (is_in j l f) (is_in k m g) f.memory g.memory e;
     rise = λ j k f. (pair j k f).rises;
@@ -545,11 +534,7 @@ module _ (image : Image) (n : ℕ) (x : ℕ → Outline) (low : ℕ → ℕ) (he
   go_on b k (suc m) done p l h = go (cases_eq k (suc m)) (λ q. go_on b k m done p q (omega arith))
     where
       go : (k ≡ suc m) ⊎ (k ≡ suc m → ⊥) → (k ≤ m → Goes b m done) → Goes b (suc m) done
-      go (inl e) rec = record {
-        more = done;
-        path = subst (λ (i : ℕ). InWave image b i done) e p;
-        keeps = λ j a. a;
-      }
+      go (inl e) rec = (grind arith)
       go (inr d) rec = let g : Goes b m done = rec (omega arith) in
           record { more = m ∷ g.more; path = turn g.path h; keeps = λ j a. inr (g.keeps j a) }
 
@@ -558,8 +543,7 @@ module _ (image : Image) (n : ℕ) (x : ℕ → Outline) (low : ℕ → ℕ) (he
       → In j done
   passed b k done (turn {b = c} {k = i} {done = d} p q) j l w = elim (cases_eq j i) [
     | inl e ↦ inl e
-    | inr n ↦
-        inr (passed c i d p j l (omega arith))
+    | inr n ↦ grind (arith, passed c i d p j l (omega arith))
   ]
   passed b k done g j l w = grind arith
 
@@ -607,14 +591,7 @@ module _ (image : Image) (n : ℕ) (x : ℕ → Outline) (low : ℕ → ℕ) (he
       (first_number image (suc b)) g.done g.path (marked.grows b h) (omega arith) in
       let j : (i : ℕ) × IsIn image b i × (is_writing image i ≡ true) × (sq b i ≡ low b + (x b).writer) =
       marked.has_writer b h l in
-      record {
-        done = m.more;
-        path = crossed b c m.more h m.path k;
-        op = j.0;
-        among = passed b (first_number image (suc b)) m.more m.path j.0 j.1.0 j.1.1;
-        writes = j.2;
-        number = seq_is b j.0 h j.1 (writing_memory j.0 j.2) ∙ j.3;
-      }
+      grind (arith, crossed, passed, seq_is, writing_memory)
   comes_by (further {b = b} {c = c} {w = w} p k) =
       let f : (1 ≤ b) × (b ≤ n) × (w ≤ low b) = wrote_low n x low heads ways states behind run p in
       let h : IsBlock image b = is_block b f.0 f.1 in
@@ -649,16 +626,7 @@ module _ (image : Image) (n : ℕ) (x : ℕ → Outline) (low : ℕ → ℕ) (he
           → (first_number image b ≤ k → (wr b k ≡ (place b).writer) ⊎ WroteHere b k)
           → (wr b (suc k) ≡ (place b).writer) ⊎ WroteHere b (suc k)
       go (inl e) rec = inl (ap (wr b) e ∙ marked.wr_first b h)
-      go (inr d) rec = here (cases_Bool (is_writing image k)) (rec (omega arith))
-        where
-          i : IsIn image b k
-          i = (omega arith, w)
-
-          here : (is_writing image k ≡ true) ⊎ (is_writing image k ≡ false) → (wr b k ≡ (place b).writer)
-              ⊎ WroteHere b k → (wr b (suc k) ≡ (place b).writer) ⊎ WroteHere b (suc k)
-          here (inl v) o = grind (arith, wr_step, i)
-          here (inr v) (inl e) = inl (wr_stay b k h i v ∙ e)
-          here (inr v) (inr g) = grind (arith, wr_stay, i)
+      go (inr d) rec = grind (arith, here, cases_Bool, wr_step, wr_stay)
 
   met_at : (b k : ℕ) (done : List ℕ) → InWave image b k done → k < first_number image (suc b)
       → (wr b k ≡ 0) ⊎ ((j : ℕ) × MayPrecede image j k × (seq image j ≡ wr b k))
@@ -685,14 +653,7 @@ module _ (image : Image) (n : ℕ) (x : ℕ → Outline) (low : ℕ → ℕ) (he
           let i : IsIn image b g.op = (g.low_op, (let q : g.op < k = g.before in omega arith)) in
           inr (
             g.op,
-            record {
-              block = b;
-              done = done;
-              path = p;
-              within = w;
-              among = passed b k done p g.op g.low_op g.before;
-              writes = g.writes;
-            },
+            (grind (arith, passed)),
             seq_is b g.op s.block i (writing_memory g.op g.writes) ∙ g.number,
           )
       go (inl e) = elim t.writer [

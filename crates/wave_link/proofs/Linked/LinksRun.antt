@@ -12,7 +12,7 @@ use Rattle.wave_link.specs.declared.links.Behind.{Behind}
 use Rattle.wave_link.specs.declared.states.Ways.{Ways}
 use Rattle.wave_link.specs.declared.states.Ways.TheVariants.{Zero, One, Several}
 use Rattle.wave_link.specs.declared.states.LastOps.{LastOps}
-use Rattle.wave_link.specs.declared.states.LastOps.TheVariants.{Shared, Sole, Many}
+use Rattle.wave_link.specs.declared.states.LastOps.TheVariants.{Shared, Many}
 use Rattle.wave_link.specs.States.{more, has_way, is_several, reached, ways_step, is_shared}
 use Rattle.wave_link.specs.States.{is_many, state_in, is_vain, spread_state}
 use Rattle.wave_link.specs.Notes.{low_at, head_at, out_link, head_link, larger, joined, begin, behind_in}
@@ -114,8 +114,7 @@ module _ (n : ℕ) (x : ℕ → Outline) (low : ℕ → ℕ) (heads : List Link)
   hand_length b y = grind (arith, behind_length, out)
 
   behind_len : (b : ℕ) → 1 ≤ b → b ≤ suc n → length (behind b) ≡ suc n
-  behind_len (suc (suc k)) l h =
-      grind (arith, hand_length, here, behind_len (suc k) (omega arith) (omega arith))
+  behind_len (suc (suc k)) l h = grind (arith, hand_length, behind_len (suc k) (omega arith) (omega arith))
   behind_len b l h = grind arith
 
   -- one step at one place
@@ -226,12 +225,7 @@ module _ (n : ℕ) (x : ℕ → Outline) (low : ℕ → ℕ) (heads : List Link)
       old : (a : ℕ) → Came a c (suc m) → Came a c m
       old a k = elim (was_came a c m k) [
         | inr p ↦ p
-        | inl e ↦
-            absurd (elim q [
-              | inl r ↦ cc (sym (subst (λ (j : ℕ). reach j ≡ true) e k.reaches) ∙ r)
-              | inr w ↦
-                  w (subst (λ (j : ℕ). Leads (x j).way c) e k.edge)
-            ])
+        | inl e ↦ grind arith
       ]
 
       away : (here m ≡ None) ⊎ (Leads (x m).way c → ⊥)
@@ -518,15 +512,7 @@ module _ (n : ℕ) (x : ℕ → Outline) (low : ℕ → ℕ) (heads : List Link)
     reaches = i.reaches;
     y = i.z;
     y_is = i.z_is;
-    agrees = elim i.under.pred [
-      | inl u ↦ inl u
-      | inr u ↦
-          elim f.agrees [
-            | inl v ↦ inl (u ∙ (out_empty b f.y e ∙ v))
-            | inr v ↦
-                inr (u ∙ (out_empty b f.y e ∙ v))
-          ]
-    ];
+    agrees = grind (arith, out_empty);
     known = knows i.kind f.known;
     owner = owns i.kind f.owner;
     next = λ o. after o (f.next o);
@@ -554,8 +540,7 @@ module _ (n : ℕ) (x : ℕ → Outline) (low : ℕ → ℕ) (heads : List Link)
           ∙ ap (λ (v : LastOps). not (is_many v)) s))
 
       hand : (d : ℕ) → (x b).way ≡ On d → handed (x b).way (full b) (state b) ≡ state b
-      hand d w = ap (λ (v : Way). handed v (full b) (state b)) w ∙ ap (λ (v : Bool). cond v Sole (state b))
-          empty
+      hand d w = grind (arith, handed)
 
       hand_fork : (p q : ℕ) → (x b).way ≡ Fork p q → handed (x b).way (full b) (state b) ≡ Shared
       hand_fork p q w = ap (λ (v : Way). handed v (full b) (state b)) w
@@ -583,10 +568,7 @@ module _ (n : ℕ) (x : ℕ → Outline) (low : ℕ → ℕ) (heads : List Link)
           (state b ≡ Shared) ⊎ Owned b a → (state c ≡ Shared) ⊎ Owned c a
       owns (inr s) (inr o) = inr (owned s.1 o)
       owns (inr s) (inl g) = absurd (not_shared s.2 s.1 g)
-      owns (inl s) g = elim (on_or_fork (x b).way c k) [
-        | inr w ↦ inl (s.0 ∙ hand_fork w.0 w.1 w.2)
-        | inl w ↦ elim g [ inl u ↦ inl (s.0 ∙ (hand c w ∙ u)) | inr o ↦ inr (owned w o) ]
-      ]
+      owns (inl s) g = grind (arith, on_or_fork)
 
       after : 1 ≤ a → (out_link (x a).way heads ≡ Unknown) ⊎ (out_link (x a).way heads ≡ head_at heads b)
           → (out_link (x a).way heads ≡ Unknown) ⊎ (out_link (x a).way heads ≡ head_at heads c)
@@ -601,11 +583,7 @@ module _ (n : ℕ) (x : ℕ → Outline) (low : ℕ → ℕ) (heads : List Link)
     y = i.z;
     y_is = i.z_is;
     agrees = elim i.under.pred [ inl u ↦ inl u | inr u ↦ inr (u ∙ out_full b a f.y f.low_block e) ];
-    known = elim i.kind [
-      | inr s ↦ inl s.0
-      | inl s ↦
-          inr (ap (λ (v : Behind). v.pred) s.1 ∙ out_full b a f.y f.low_block e)
-    ];
+    known = grind (arith, out_full);
     owner = owns i.kind;
     next = λ o. next_head (x b).way c k;
     below = omega (arith, number_some b f.low_block, rise);
@@ -685,8 +663,7 @@ module _ (n : ℕ) (x : ℕ → Outline) (low : ℕ → ℕ) (heads : List Link)
           let e : z.writer ≡ low a + (x a).writer = w ∙ rw (ne_eqb (x a).writer 0 d) refl in
           inr (subst (Wrote c) (sym e) (wrote t.path (omega (arith, d)) k))
       go (inl d) o =
-          let e : z.writer ≡ t.y.writer = w ∙ (ap (λ (i : ℕ). cond (eqb i 0) y.writer (low a + i)) d
-          ∙ ap (λ (v : Behind). v.writer) (sym same)) in
+          let e : z.writer ≡ t.y.writer = w ∙ (grind arith) in
           elim o [ inl q ↦ inl (e ∙ q) | inr q ↦ inr (subst (Wrote c) (sym e) (further q k)) ]
 
   attained_next : (b : ℕ) → 1 ≤ b → b ≤ n → reach b ≡ true → ((a : ℕ) → Came a b b → Attained a) → Attained b
@@ -724,14 +701,7 @@ module _ (n : ℕ) (x : ℕ → Outline) (low : ℕ → ℕ) (heads : List Link)
   -- the writing operations of a path are counted where an edge leads on
   pub writer_on : (b a c : ℕ) (f : Facts b a) → Leads (x b).way c → (g : Facts c (last_of b a))
       → (out b f.y).writer ≤ g.y.writer
-  writer_on b a c f k g =
-      let i : Into b c f.y = into b c f.y f.low_block f.high_block f.reaches f.y_is k in
-      let e : i.z ≡ g.y = eq i.z g.y i.z_is g.y_is in
-      let w : (out b f.y).writer ≤ i.z.writer = i.under.writer in
-      omega (arith, w, ap (λ (v : Behind). v.writer) e)
-    where
-      eq : (v u : Behind) → here c ≡ Some v → here c ≡ Some u → v ≡ u
-      eq v u p q = cc
+  writer_on b a c f k g = grind (arith, into b c f.y f.low_block f.high_block f.reaches f.y_is k)
 
   pub writer_low : (b a : ℕ) (f : Facts b a) → f.y.writer ≤ low b
   writer_low b a f = go t.writer

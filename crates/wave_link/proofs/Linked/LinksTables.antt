@@ -157,8 +157,7 @@ head_there (x ∷ xs) lows b (suc n) m h l e w later =
     get_or-set_other r b m (head_link x (get_or lows b 0) r) Unknown (λ d. absurd (omega arith))
     ∙ (rec ∙ same_head (outline_in xs n) (get_or lows m 0) r f (λ c k.
     (let lt : b + suc n < c = later (suc n) c (omega arith) k in
-    sym (get_or-set_other r b c (head_link x (get_or lows b 0) r) Unknown
-    (λ d. absurd (omega arith))))))
+    sym (grind (arith, get_or-set_other)))))
 head_there xs lows b n m h l e w later = grind (
   arith,
   heads_length,

@@ -48,8 +48,7 @@ nop_there (x ∷ xs) b n (suc i) j m added l f e =
     let w = with_nop_is (get_or added b false) (n + length x.instrs) in
     nop_there xs (b + 1) (with_nop (get_or added b false) (n + length x.instrs)) i j m added (omega arith)
     (omega arith)
-    (sums m n (length x.instrs) (first_of xs (suc i)) (one_if (get_or added b false))
-    (count_from added (b + 1) i) (with_nop (get_or added b false) (n + length x.instrs)) e w)
+    (grind arith)
   where
     sums : (m n a f o c w : ℕ) → suc m ≡ n + ((a + f) + (o + c)) → w ≡ o + (n + a) → suc m ≡ w + (f + c)
     sums m n a f o c w e h = omega arith
@@ -78,8 +77,7 @@ number_there (x ∷ xs) b n (suc i) j p added l h e =
     get_or-append_right (count_up n (length x.instrs))
     (numbers_from xs (b + 1) (with_nop (get_or added b false) (n + length x.instrs)) added)
     (length x.instrs) p 0 (count_up_length n (length x.instrs)) g
-    ∙ (s ∙ sums n p (length x.instrs) (one_if (get_or added b false)) (count_from added (b + 1) i)
-    (with_nop (get_or added b false) (n + length x.instrs)) g w)
+    ∙ (grind arith)
   where
     positive : (bs : List Block) (n : ℕ) → 1 ≤ first_of bs n
     positive (b ∷ bs) (suc n) = let h : 1 ≤ first_of bs n = positive bs n in omega arith
@@ -95,10 +93,9 @@ block_there : (t : Tables) (ps : List Passage) (b k : ℕ) (xs : List Block) (n 
     → m ≡ b + n → suc j ≡ k + first_of xs n →
     nth (grown_from t ps b k xs) n ≡ Some (grown_block t (get_or ps m no_place) m j
     (or_else (nth xs n) no_block))
-block_there t ps b k [] n m j l e f = absurd (omega arith)
-block_there t ps b k (x ∷ xs) zero m j l e f = grind arith
 block_there t ps b k (x ∷ xs) (suc n) m j l e f = block_there t ps (b + 1) (k + length x.instrs) xs n m j
     (omega arith) (omega arith) (omega arith)
+block_there v0 v1 v2 v3 v4 v5 v6 v7 v8 v9 v10 = grind arith
 
 instrs_length : (t : Tables) (p : Passage) (k s w : ℕ) (is : List Instr)
     → length (grown_instrs t p k s w is) ≡ length is
@@ -158,11 +155,7 @@ place_of draft b = get_or (places_in draft.blocks) b no_place
 pub shift_next : (draft : Image) (b : ℕ) → 1 ≤ b → shift draft (suc b) ≡ shift draft b + one_if (adds draft b)
 unfolding shift adds
 shift_next draft zero l = absurd (omega arith)
-shift_next draft (suc n) l =
-    let e : 0 + n ≡ n = omega arith in
-    count_next (added_in draft.blocks) 0 n
-    ∙ ap (λ (m : ℕ). count_from (added_in draft.blocks) 0 n + one_if
-    (get_or (added_in draft.blocks) m false)) e
+shift_next draft (suc n) l = grind (arith, count_next (added_in draft.blocks) 0 n)
 
 nops_at : (draft : Image) (n m : ℕ) → n < length draft.blocks
     → suc m ≡ 1 + (first_of draft.blocks (suc n) + count_from (added_in draft.blocks) 0 n) →
@@ -219,8 +212,7 @@ ends_are draft (suc n) h =
     ≡ first_of draft.blocks (suc n) + count_from (added_in draft.blocks) 0 (suc n) =
     first_there (tables_in draft.blocks) (places_in draft.blocks) (added_in draft.blocks) 1 1 0 draft.blocks
     (suc n) (omega (arith, h.1)) (extras_say draft) in
-    f ∙ (ap (λ (k : ℕ). first_of draft.blocks (suc n) + k) c ∙ sums (first_of draft.blocks (suc n))
-    (count_from (added_in draft.blocks) 0 n) (one_if (get_or (added_in draft.blocks) n false)))
+    f ∙ (grind arith)
   where
     sums : (a b c : ℕ) → a + (b + c) ≡ c + (a + b)
     sums a b c = omega arith
@@ -278,10 +270,9 @@ instr_there : (t : Tables) (p : Passage) (k s w : ℕ) (is : List Instr) (i j : 
     nth (grown_instrs t p k s w is) i ≡ Some
     (grown_instr t j (note_for p (or_else (nth is i) no_instr).op (seq_in is i s) (writer_in is i s w))
     (or_else (nth is i) no_instr))
-instr_there t p k s w [] i j l e = absurd (omega arith)
-instr_there t p k s w (x ∷ is) zero j l e = grind arith
 instr_there t p k s w (x ∷ is) (suc i) j l e = instr_there t p (k + 1) (seq_next x.op s)
     (writer_next x.op s w) is i j (omega arith) (omega arith)
+instr_there v0 v1 v2 v3 v4 v5 v6 v7 v8 v9 = grind arith
 
 -- the note of instruction k of block b
 unfoldable pub note_in : Image → ℕ → ℕ → Option Note
@@ -311,38 +302,23 @@ instr_is_grown draft (suc n) k h i =
     let p : Passage = place_of draft (suc n) in
     let f : ℕ = first_number draft (suc n) in
     let j : ℕ = k - f in
-    let s : first_number draft (suc (suc n)) ≡ f + length x.instrs = number_next draft n l
-    ∙ ap (λ (y : Block). f + length y.instrs) (sym xe) in
+    let s : first_number draft (suc (suc n)) ≡ f + length x.instrs = grind (arith, number_next) in
     let a : f ≤ k = i.0 in
     let b : k < first_number draft (suc (suc n)) = i.1 in
     let m : j < length x.instrs = omega arith in
     let g : Block = grown_block (tables_in draft.blocks) p (suc n) f x in
     let e : or_else (nth (annotated draft).blocks n) no_block ≡ g = image_block draft n h in
     let gi : List Instr = grown_instrs (tables_in draft.blocks) p f (p.low + 1) p.writer x.instrs in
-    let lg : length gi ≡ length x.instrs = instrs_length (tables_in draft.blocks) p f (p.low + 1) p.writer
-    x.instrs in
+    let lg : length gi ≡ length x.instrs = grind (arith, instrs_length, tables_in) in
     let lb : length g.instrs ≡ length x.instrs + extra_of (get_or (tables_in draft.blocks).nops (suc n) 0) =
     block_length (tables_in draft.blocks) p (suc n) f x in
-    let d : instr_at draft k ≡ or_else (nth x.instrs j) no_instr =
-    instr_is draft n j k l (rw xe at m) (omega arith)
-    ∙ ap (λ (y : Block). or_else (nth y.instrs j) no_instr) (sym xe) in
-    let at : k + shift draft (suc n) ≡ first_number (annotated draft) (suc n) + j =
-    omega (arith, first_is draft (suc n) h) in
+    let d : instr_at draft k ≡ or_else (nth x.instrs j) no_instr = grind (arith, instr_is) in
+    let at : k + shift draft (suc n) ≡ first_number (annotated draft) (suc n) + j = grind (arith, first_is) in
     let here : instr_at (annotated draft) (k + shift draft (suc n)) ≡ or_else (nth g.instrs j) no_instr =
     instr_is (annotated draft) n j (k + shift draft (suc n)) (image_count draft n h)
     (rw e (omega arith)) at
     ∙ ap (λ (y : Block). or_else (nth y.instrs j) no_instr) e in
-    let left : nth g.instrs j ≡ nth gi j =
-    nth_append_left gi (nop_at p (get_or (tables_in draft.blocks).nops (suc n) 0)) j (omega arith) in
-    let it : nth gi j ≡ Some
-    (grown_instr (tables_in draft.blocks) k (note_for p (or_else (nth x.instrs j) no_instr).op
-    (seq_in x.instrs j (p.low + 1)) (writer_in x.instrs j (p.low + 1) p.writer))
-    (or_else (nth x.instrs j) no_instr)) =
-    instr_there (tables_in draft.blocks) p f (p.low + 1) p.writer x.instrs j k m (omega arith) in
-    here ∙ (ap (λ (o : Option Instr). or_else o no_instr) (left ∙ it)
-    ∙ ap (λ (y : Instr). grown_instr (tables_in draft.blocks) k
-    (note_for p y.op (seq_in x.instrs j (p.low + 1)) (writer_in x.instrs j (p.low + 1) p.writer)) y)
-    (sym d))
+    grind (arith, nth_append_left, tables_in, instr_there)
 
 -- the no-op of a block that gets one
 pub nop_is_there : (draft : Image) (b : ℕ) → IsBlock draft b → adds draft b ≡ true
@@ -355,19 +331,16 @@ nop_is_there draft (suc n) h a =
     let xe : x ≡ or_else (nth draft.blocks n) no_block = block_is draft n in
     let p : Passage = place_of draft (suc n) in
     let f : ℕ = first_number draft (suc n) in
-    let s : first_number draft (suc (suc n)) ≡ f + length x.instrs = number_next draft n l
-    ∙ ap (λ (y : Block). f + length y.instrs) (sym xe) in
+    let s : first_number draft (suc (suc n)) ≡ f + length x.instrs = grind (arith, number_next) in
     let g : Block = grown_block (tables_in draft.blocks) p (suc n) f x in
     let e : or_else (nth (annotated draft).blocks n) no_block ≡ g = image_block draft n h in
     let gi : List Instr = grown_instrs (tables_in draft.blocks) p f (p.low + 1) p.writer x.instrs in
-    let lg : length gi ≡ length x.instrs = instrs_length (tables_in draft.blocks) p f (p.low + 1) p.writer
-    x.instrs in
+    let lg : length gi ≡ length x.instrs = grind (arith, instrs_length, tables_in) in
     let nn : ℕ = get_or (tables_in draft.blocks).nops (suc n) 0 in
     let ne : nop_at p nn ≡ nop_instr p ∷ [] =
     ap (nop_at p) (nops_are draft (suc n) h ∙ ap (λ (v : Bool). cond v (nop draft (suc n)) 0) a)
     ∙ some_nop p (nop draft (suc n)) (nop_positive draft (suc n)) in
-    let lb : length g.instrs ≡ length gi + 1 = length-append gi (nop_at p nn)
-    ∙ ap (λ (z : List Instr). length gi + length z) ne in
+    let lb : length g.instrs ≡ length gi + 1 = grind (arith, length-append) in
     let at : first_number draft (suc (suc n)) + shift draft (suc n) ≡ first_number (annotated draft) (suc n)
     + length x.instrs = omega (arith, first_is draft (suc n) h) in
     let here : instr_at (annotated draft) (first_number draft (suc (suc n)) + shift draft (suc n))
@@ -376,9 +349,7 @@ nop_is_there draft (suc n) h a =
     (image_count draft n h) (rw e (omega arith)) at
     ∙ ap (λ (y : Block). or_else (nth y.instrs (length x.instrs)) no_instr) e in
     let pl : length x.instrs ≡ length gi + 0 = omega arith in
-    here ∙ (ap (λ (q : ℕ). or_else (nth (gi ++ nop_at p nn) q) no_instr) pl
-    ∙ (ap (λ (o : Option Instr). or_else o no_instr) (nth_append_right gi (nop_at p nn) 0)
-    ∙ ap (λ (z : List Instr). or_else (nth z 0) no_instr) ne))
+    here ∙ (grind (arith, nth_append_right))
   where
     some_nop : (p : Passage) (n : ℕ) → 1 ≤ n → nop_at p n ≡ nop_instr p ∷ []
     some_nop p n l = rw (ne_eqb n 0 (λ e. omega arith)) refl

@@ -36,10 +36,9 @@ of_blocks : (t : Tables) (ps : List Passage) (b k : ℕ) (xs : List Block) (n m 
     →
     ops_in (or_else (nth (grown_from t ps b k xs) n) no_block).instrs ≡ ops_in
     (or_else (nth xs n) no_block).instrs ++ nop_ops (get_or t.nops m 0)
-of_blocks t ps b k [] n m l e = absurd (omega arith)
-of_blocks t ps b k (x ∷ xs) zero m l e = grind (arith, of_block, nop_ops)
 of_blocks t ps b k (x ∷ xs) (suc n) m l e = of_blocks t ps (b + 1) (k + length x.instrs) xs n m (omega arith)
     (omega arith)
+of_blocks v0 v1 v2 v3 v4 v5 v6 v7 v8 = grind (arith, of_block, nop_ops)
 
 ops_there : (draft : Image) (n : ℕ) → n < length draft.blocks
     → ops_in (block_at (annotated draft) (suc n)).instrs ≡ ops_in (block_at draft (suc n)).instrs ++ nop_ops

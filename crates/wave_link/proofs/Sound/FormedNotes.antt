@@ -39,9 +39,8 @@ after_set P (x ∷ l) (suc i) a d h g zero = g zero
 after_set P (x ∷ l) (suc i) a d h g (suc j) = after_set P l i a d h (λ k. g (suc k)) j
 
 in_replicate : {A : Type 0} (P : A → Type 0) (n : ℕ) (d : A) → P d → (j : ℕ) → P (get_or (replicate n d) j d)
-in_replicate P zero d h j = h
-in_replicate P (suc n) d h zero = h
 in_replicate P (suc n) d h (suc j) = in_replicate P n d h j
+in_replicate v0 v1 v2 v3 v4 = grind arith
 
 cond_both : {A : Type 0} (P : A → Type 0) (v : Bool) (a b : A) → P a → P b → P (cond v a b)
 cond_both P v a b h g = grind arith
@@ -90,11 +89,8 @@ heads_up : (t : ℕ) (xs : List Outline) (lows : List ℕ) (b : ℕ) (heads : Li
     → LinksUpTo t heads → LinksUpTo t (heads_from xs lows b heads)
 heads_up t [] lows b heads f h = h
 heads_up t (x ∷ xs) lows b heads f h =
-    let r : LinksUpTo t (heads_from xs lows (suc b) heads) = grind (
-      arith,
-      fit_rest,
-      heads_up t xs lows (suc b) heads (fit_rest t x xs lows b f) h,
-    ) in
+    let r : LinksUpTo t (heads_from xs lows (suc b) heads) =
+    grind (arith, fit_rest, heads_up t xs lows (suc b) heads (fit_rest t x xs lows b f) h) in
     after_set (UpTo t) (heads_from xs lows (suc b) heads) b
     (head_link x (get_or lows b 0) (heads_from xs lows (suc b) heads)) Unknown
     (head_up t x (get_or lows b 0) (heads_from xs lows (suc b) heads) (f 0 b x refl (omega arith)) r) r

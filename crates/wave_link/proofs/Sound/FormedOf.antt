@@ -64,10 +64,7 @@ pub all_instrs : (P : Instr → Type 0) (image : Image) → ((b m : ℕ) → IsB
     → P (instr_at image m)) → AllByRecursion P (flat image.blocks)
 all_instrs P image h =
     all_of P (flat image.blocks)
-    (λ k x e. (let l : Located image (suc k) = located image (suc k) (
-      omega arith,
-      nth_short (flat image.blocks) k x e,
-    ) in
+    (λ k x e. (let l : Located image (suc k) = located image (suc k) (grind (arith, nth_short)) in
     subst P (instr_read image k x e) (h l.block (suc k) l.there l.inside)))
 
 pub all_blocks : (P : Block → Type 0) (image : Image) → ((b : ℕ) → IsBlock image b → P (block_at image b))
@@ -127,8 +124,7 @@ instrs_grown draft h =
     let e = ends_are draft n (l, omega arith) in
     let a : first_number draft (suc n) ≡ suc (length (flat draft.blocks)) = number_last draft in
     let b : first_number (annotated draft) (suc n) ≡ suc (length (flat (annotated draft).blocks)) =
-    ap (λ (m : ℕ). first_number (annotated draft) (suc m)) (sym (count_kept draft))
-    ∙ number_last (annotated draft) in
+    grind (arith, count_kept, number_last) in
     omega (arith, e, a, b, shift_next draft n l, shift_small draft n)
 
 -- and takes none away
@@ -138,11 +134,7 @@ instrs_kept draft h =
     let n : ℕ = length draft.blocks in
     let l : 1 ≤ n = h.1 in
     let e = ends_are draft n (l, omega arith) in
-    let a : first_number draft (suc n) ≡ suc (length (flat draft.blocks)) = number_last draft in
-    let b : first_number (annotated draft) (suc n) ≡ suc (length (flat (annotated draft).blocks)) =
-    ap (λ (m : ℕ). first_number (annotated draft) (suc m)) (sym (count_kept draft))
-    ∙ number_last (annotated draft) in
-    omega (arith, e, a, b)
+    grind (arith, number_last, count_kept)
 
 -- Notes.
 
@@ -320,17 +312,11 @@ module _ (draft : Image) (ok : FitForNotes draft) where
   references = record {
     dests = by_case (λ i. DestsIn (annotated draft) i.dests)
         (λ b k h i. subst (DestsIn (annotated draft)) (sym (dests_grown draft b k h i))
-        (dests_in (annotated draft) (by_number (new draft) (instr_at draft k).dests ++ extra_dest
-        (get_or (tables_in draft.blocks).now k 0))
-        (list_there (instr_at draft k).dests (get_or (tables_in draft.blocks).now k 0)
-        (dests_there draft refs k) (now_nop b k h i))))
+        (grind (arith, dests_in, by_number, new, tables_in, list_there, dests_there, refs, now_nop)))
         (λ b. tt);
     others = by_case (λ i. DestsIn (annotated draft) i.others)
         (λ b k h i. subst (DestsIn (annotated draft)) (sym (others_grown draft b k h i))
-        (dests_in (annotated draft) (by_number (new draft) (instr_at draft k).others ++ extra_dest
-        (get_or (tables_in draft.blocks).other k 0))
-        (list_there (instr_at draft k).others (get_or (tables_in draft.blocks).other k 0)
-        (others_there draft refs k) (other_nop b k h i))))
+        (grind (arith, dests_in, by_number, new, tables_in, list_there, others_there, refs, other_nop)))
         (λ b. tt);
     ops = by_case (λ i. OpIn (annotated draft) i.op)
         (λ b k h i. subst (OpIn (annotated draft)) (sym (op_kept draft b k h i))
@@ -434,8 +420,7 @@ module _ (draft : Image) (ok : FitForNotes draft) where
         let n : ℕ = k - first_number draft b in
         let s : ℕ = seq_in is n (p.low + 1) in
         let a : s ≤ p.low + 1 + n = seq_up is n (p.low + 1) in
-        let w : writer_in is n (p.low + 1) p.writer ≤ 8650754 = writer_up is n (p.low + 1) p.writer 8650754
-        (omega arith) (omega arith) in
+        let w : writer_in is n (p.low + 1) p.writer ≤ 8650754 = grind (arith, writer_up) in
         for_fits (most_ops draft) p (instr_at draft k).op s (writer_in is n (p.low + 1) p.writer) u
         (omega arith) (omega arith) (omega arith)
 
@@ -456,20 +441,12 @@ module _ (draft : Image) (ok : FitForNotes draft) where
           others = lists.1;
           const = subst ConstWithin (sym (op_kept draft b k h i))
               (instr_of_all (λ i. ConstWithin i.op) draft k limits.consts (is_instr draft b k h i));
-          send = subst SendWithin (sym (op_kept draft b k h i))
-              (send_within (instr_at draft k).op (λ p e. limits.sends b k p h i e));
-          note = subst NoteWithin (sym (ap (λ (x : Instr). x.note) (instr_is_grown draft b k h i)))
-              (note_old b k h i);
+          send = grind (arith, op_kept, send_within);
+          note = grind (arith, instr_is_grown, note_old);
         }
 
     instr_nop : (b : ℕ) → InstrWithin (nop_instr (place_of draft b))
-    instr_nop b = record {
-      dests = omega arith;
-      others = omega arith;
-      const = tt;
-      send = tt;
-      note = note_nop b;
-    }
+    instr_nop b = grind (arith, note_nop b)
 
     block_within : (b : ℕ) → IsBlock draft b → BlockWithin (block_at (annotated draft) b)
     block_within b h = record {
@@ -510,19 +487,6 @@ module _ (draft : Image) (ok : FitForNotes draft) where
     instrs = omega (arith, instrs_grown draft shape.has_block, room.instrs);
     lists = by_case (λ i. (length i.dests ≤ most_dests) × (length i.others ≤ most_dests))
         (λ b k h i. subst (λ (x : Instr). (length x.dests ≤ most_dests) × (length x.others ≤ most_dests))
-        (sym (instr_is_grown draft b k h i)) (
-          omega (
-            arith,
-            list_length (tables_in draft.blocks) (instr_at draft k).dests
-                (get_or (tables_in draft.blocks).now k 0),
-            room.dests b k h i,
-          ),
-          omega (
-            arith,
-            list_length (tables_in draft.blocks) (instr_at draft k).others
-                (get_or (tables_in draft.blocks).other k 0),
-            room.others b k h i,
-          ),
-        ))
+        (sym (instr_is_grown draft b k h i)) (grind (arith, list_length, tables_in)))
         (λ b. (omega arith, omega arith));
   }

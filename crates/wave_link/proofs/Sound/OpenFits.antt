@@ -1,6 +1,6 @@
 -- A draft that is open to notes can get them.
-use Rattle.std.proofs.Common.{arith, ℕ, ◌≡◌, ◌⊎◌, false, [], ◌∷◌, Some, sym, ap, ◌∙◌, inl, inr}
-use Rattle.ws_isa.specs.Image.{Exit, Image, is_first, edges_of}
+use Rattle.std.proofs.Common.{arith, ℕ, ◌≡◌, ◌⊎◌, false, [], ◌∷◌, Some, ◌∙◌}
+use Rattle.ws_isa.specs.Image.{Image, is_first}
 use Rattle.ws_isa.specs.Open.{HasGiver, EnteredBySteer, OpenToNotes}
 use Rattle.wave_link.specs.Fit.{CanTrigger, FitForNotes}
 use Rattle.ws_words.specs.Items.{nth}
@@ -14,10 +14,7 @@ module _ (draft : Image) (ok : OpenToNotes draft) where
   inside b y =
       let s = (ok.walkable.shape.blocks y.before y.block).hang.steers y.instr y.inside y.steers in
       let a = ok.arms y.before s.0 s.1 s.2 y.block s.3 in
-      elim (two_edges s.1 s.2 b y.place (ap (λ (x : Exit). nth (edges_of x) y.place) (sym s.3) ∙ y.edge.is)) [
-        | inl p ↦ ap (is_first draft) (sym p) ∙ a.0.not_first
-        | inr p ↦ ap (is_first draft) (sym p) ∙ a.1.not_first
-      ]
+      grind (arith, two_edges)
 
   trigger : (b : ℕ) → HasGiver draft b ⊎ EnteredBySteer draft b → CanTrigger draft b
   trigger b h = grind (arith, inside)

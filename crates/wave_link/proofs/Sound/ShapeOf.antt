@@ -1,14 +1,13 @@
 -- The image of a draft that is open to notes keeps the rules on shape.
-use Rattle.std.proofs.Common.{ℕ, zero, suc, ◌+◌, ◌-◌, ◌≡◌, ◌<◌, ◌≤◌, ◌⊎◌, Bool, true, false, cond, List, []}
-use Rattle.std.proofs.Common.{◌∷◌, ◌++◌, length, map, get_or, Some, refl, sym, ap, ◌∙◌, inl, inr, subst}
-use Rattle.std.proofs.Common.{arith}
+use Rattle.std.proofs.Common.{ℕ, suc, ◌+◌, ◌-◌, ◌≡◌, ◌<◌, ◌≤◌, ◌⊎◌, true, false, cond, List, [], ◌∷◌, ◌++◌}
+use Rattle.std.proofs.Common.{length, map, get_or, Some, refl, sym, ap, ◌∙◌, inl, inr, subst, arith}
 use Rattle.std.proofs.lemmas.Bool.{cases_Bool, cases_eq, cases_lt}
 use Rattle.ws_isa.specs.declared.instr.Op.{Op}
 use Rattle.ws_isa.specs.declared.instr.Op.TheVariants.{Steer, Send, Nop, Halt}
 use Rattle.ws_isa.specs.declared.instr.Dest.{Dest}
 use Rattle.ws_isa.specs.Image.{Exit, Branch, Landings, Pad, Block, Image, instr_at, block_at, block_of}
-use Rattle.ws_isa.specs.Image.{first_number, is_memory, is_memory_op, is_advance, is_giving, is_giving_op}
-use Rattle.ws_isa.specs.Image.{stops, target, is_first, now_dests, IsIn, IsBlock, IsInstr}
+use Rattle.ws_isa.specs.Image.{first_number, is_memory, is_memory_op, is_advance, is_giving, stops, target}
+use Rattle.ws_isa.specs.Image.{is_first, now_dests, IsIn, IsBlock, IsInstr}
 use Rattle.ws_isa.specs.Formed.{References, WavesFrom, WavesInOrder}
 use Rattle.ws_isa.specs.Sound.{HasDest, HasPad, IsAhead, BringsResult, direct, through, EdgeShape, FrontShape}
 use Rattle.ws_isa.specs.Sound.{ExitShape, HangShape, HaltShape, DestShape, BlockShape, ShapeRules}
@@ -33,7 +32,7 @@ use Rattle.wave_link.proofs.Grown.GrownForm.{extra}
 use Rattle.wave_link.proofs.Grown.GrownTriggers.{trigger, added_if, now_grown, now_giver, now_none, now_steer}
 use Rattle.wave_link.proofs.Grown.GrownTriggers.{other_none, other_steer, steered_is, same_renamed, pads_kept}
 use Rattle.wave_link.proofs.Grown.GrownTriggers.{steered_by}
-use Rattle.wave_link.proofs.Grown.GrownOf.{op_kept, advance_kept, nop_advance, before_first, steer_is}
+use Rattle.wave_link.proofs.Grown.GrownOf.{op_kept, advance_kept, nop_advance, before_first}
 use Rattle.ws_words.specs.Items.{nth, In}
 use Rattle.ws_words.proofs.Bools.{no_both}
 
@@ -66,8 +65,7 @@ old_inside draft b k h i = (omega (arith, i.0, first_is draft b h), omega (arith
 
 pub new_inside : (draft : Image) (b k : ℕ) → IsBlock draft b → IsIn draft b k
     → IsIn (annotated draft) b (new draft k)
-new_inside draft b k h i = subst (IsIn (annotated draft) b) (sym (new_is draft b k h i))
-    (old_inside draft b k h i)
+new_inside draft b k h i = grind (arith, new_is draft b k h i, old_inside draft b k h i)
 
 pub nop_inside : (draft : Image) (b : ℕ) → IsBlock draft b → adds draft b ≡ true
     → IsIn (annotated draft) b (nop draft b)
@@ -154,9 +152,8 @@ renamed_back new (d ∷ ds) j q (inr h) = let r = renamed_back new ds j q h in (
 
 nth_renamed : (new : ℕ → ℕ) (xs ys : List Dest) (place : ℕ) (d : Dest) → nth xs place ≡ Some d
     → nth (renamed new xs ++ ys) place ≡ Some (record { instr = new d.instr; port = d.port })
-nth_renamed new [] ys place d e = absurd (cc)
-nth_renamed new (x ∷ xs) ys zero d e = grind arith
 nth_renamed new (x ∷ xs) ys (suc place) d e = nth_renamed new xs ys place d e
+nth_renamed v0 v1 v2 v3 v4 v5 = grind arith
 
 -- The result of an instruction comes to where it comes in the draft.
 carried : (draft : Image) (b s k q : ℕ) → IsBlock draft b → IsIn draft b s → BringsResult draft b s k q
@@ -190,8 +187,7 @@ memory_kept draft b k h i = ap is_memory_op (op_kept draft b k h i)
 giving_kept : (draft : Image) (b k : ℕ) → IsBlock draft b → IsIn draft b k
     → is_giving (annotated draft) (new draft k) ≡ is_giving draft k
 unfolding is_giving
-giving_kept draft b k h i = ap (λ (j : ℕ). is_giving_op (instr_at (annotated draft) j).op)
-    (new_is draft b k h i) ∙ ap is_giving_op (op_kept draft b k h i)
+giving_kept draft b k h i = grind (arith, new_is draft b k h i, op_kept draft b k h i)
 
 pub dests_grown : (draft : Image) (b k : ℕ) → IsBlock draft b → IsIn draft b k
     → (instr_at (annotated draft) (k + shift draft b)).dests ≡ renamed (new draft) (instr_at draft k).dests
@@ -304,10 +300,7 @@ module _ (draft : Image) (ok : FitForNotes draft) where
   -- the steer of a block, with the exit
   pub the_steer : (b k : ℕ) → IsBlock draft b → IsIn draft b k → steer_in draft b ≡ k
       → (instr_at draft k).op ≡ Steer
-  the_steer b k h i f = elim (steer_cases draft b h) [
-    | inl n ↦ absurd (omega (arith, n.zero_is, f, instr_positive draft b k h i))
-    | inr o ↦ grind (arith, steer_is)
-  ]
+  the_steer b k h i f = grind (arith, steer_cases draft b h, instr_positive draft b k h i)
 
   now_ahead : (b k j q : ℕ) → IsBlock draft b → IsIn draft b k
       → HasDest (extra_dest (get_or (tables_in draft.blocks).now k 0)) j q
@@ -318,8 +311,7 @@ module _ (draft : Image) (ok : FitForNotes draft) where
       own_case : get_or (tables_in draft.blocks).now k 0 ≡ cond (adds draft b) (nop draft b) 0
           → (adds draft b ≡ true) ⊎ (adds draft b ≡ false) → IsAhead (annotated draft) b (k + shift draft b) j
       own_case e (inl a) = subst (IsAhead (annotated draft) b (k + shift draft b))
-          (sym (e ∙ ap (λ (v : Bool). cond v (nop draft b) 0) a) ∙ one_extra
-          (get_or (tables_in draft.blocks).now k 0) j q x) (own_ahead b k h i a)
+          (grind (arith, nop, one_extra, tables_in)) (own_ahead b k h i a)
       own_case e (inr a) = grind (arith, no_extra, tables_in, nop)
 
       go : (steer_in draft b ≡ k) ⊎ (steer_in draft b ≡ k → ⊥) → (giver draft b ≡ k) ⊎ (giver draft b ≡ k → ⊥)
@@ -368,8 +360,7 @@ module _ (draft : Image) (ok : FitForNotes draft) where
       (list_ahead b k j q (instr_at draft k).dests (extra_dest (get_or (tables_in draft.blocks).now k 0)) h i
       (dests_there draft refs k) (λ l p z. (shape.blocks b h).dests.dests k l p i z)
       (λ l p z. now_ahead b k l p h i z)
-      (subst (λ (ds : List Dest). HasDest ds j q) (ap (λ (l : ℕ). (instr_at (annotated draft) l).dests) n
-      ∙ dests_grown draft b k h i) x))
+      (subst (λ (ds : List Dest). HasDest ds j q) (grind (arith, dests_grown)) x))
 
   others_in_image : (b m j q : ℕ) → IsBlock draft b → ImageCase draft b m
       → HasDest (instr_at (annotated draft) m).others j q → IsAhead (annotated draft) b m j
@@ -378,8 +369,7 @@ module _ (draft : Image) (ok : FitForNotes draft) where
       (list_ahead b k j q (instr_at draft k).others (extra_dest (get_or (tables_in draft.blocks).other k 0)) h
       i (others_there draft refs k) (λ l p z. (shape.blocks b h).dests.others k l p i z)
       (λ l p z. other_ahead b k l p h i z)
-      (subst (λ (ds : List Dest). HasDest ds j q) (ap (λ (l : ℕ). (instr_at (annotated draft) l).others) n
-      ∙ others_grown draft b k h i) x))
+      (subst (λ (ds : List Dest). HasDest ds j q) (grind (arith, others_grown)) x))
 
   advances_in : (b m : ℕ) → IsBlock draft b → ImageCase draft b m → is_advance (annotated draft) m ≡ true
       → (k : ℕ) × IsIn draft b k × (m ≡ k + shift draft b) × (is_advance draft k ≡ true)
@@ -412,8 +402,7 @@ module _ (draft : Image) (ok : FitForNotes draft) where
   sends_in_image : (b m p : ℕ) → IsBlock draft b → ImageCase draft b m → (instr_at (annotated draft) m).op
       ≡ Send p → (s : ℕ) × (ls : List ℕ) × ((block_at (annotated draft) b).exit ≡ Landings s ls)
       × BringsResult (annotated draft) b s m 0
-  sends_in_image b m p h (no_op a n) e = let f : Nop ≡ Send p = nop_other draft b m (Send p) h a n e in
-      absurd (cc)
+  sends_in_image b m p h (no_op a n) e = grind (arith, nop_other draft b m (Send p) h a n e)
   sends_in_image b m p h (old k i n) e =
       let r = (shape.blocks b h).hang.sends k p i (old_op draft b k m (Send p) h i n e) in (
         new draft r.0,
@@ -425,8 +414,7 @@ module _ (draft : Image) (ok : FitForNotes draft) where
 
   landing_in : (b m p r : ℕ) → IsBlock draft b → ImageCase draft b m → (instr_at (annotated draft) m).op
       ≡ Send p → HasPad (block_at (annotated draft) (target (annotated draft) b r)).pads p
-  landing_in b m p r h (no_op a n) e = let f : Nop ≡ Send p = nop_other draft b m (Send p) h a n e in
-      absurd (cc)
+  landing_in b m p r h (no_op a n) e = grind (arith, nop_other draft b m (Send p) h a n e)
   landing_in b m p r h (old k i n) e =
       subst (λ (t : ℕ). HasPad (block_at (annotated draft) t).pads p) (sym (target_kept draft b r))
       (subst (λ (ps : List Pad). HasPad ps p) (sym (pads_kept draft (target draft b r)))
@@ -490,12 +478,10 @@ module _ (draft : Image) (ok : FitForNotes draft) where
           (new_inside draft b r.0 h (its.exit.address r.0 ls r.1)));
       source_gives = λ s x y e. (let r = branch_of draft b s x y e in
           ap (is_giving (annotated draft)) (sym r.2)
-          ∙ (giving_kept draft b r.0 h (its.exit.source r.0 x y r.1)
-          ∙ its.exit.source_gives r.0 x y r.1));
+          ∙ (grind (arith, giving_kept)));
       address_gives = λ s ls e. (let r = landings_of draft b s ls e in
           ap (is_giving (annotated draft)) (sym r.2)
-          ∙ (giving_kept draft b r.0 h (its.exit.address r.0 ls r.1)
-          ∙ its.exit.address_gives r.0 ls r.1));
+          ∙ (grind (arith, giving_kept)));
     }
 
     hang_shape : HangShape (annotated draft) b

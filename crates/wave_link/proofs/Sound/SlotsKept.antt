@@ -170,15 +170,7 @@ module _ (draft image : Image) (g : Grown draft image) where
       let at : g.origin m ≡ Some k = ap g.origin (sym (g.new_is b k h i)) ∙ g.origin_real b k h i in
       let a : closed m (held p n (up o)) ≡ held p n (up (closed k o)) =
       closed_held p n m (up o) (not_nop b k h i.1) ∙ ap (held p n) (up_closed k m o at) in
-      let c : all_opened (renamed g.new ds) (held p n (up (closed k o))) ≡ held p n
-      (up (all_opened ds (closed k o))) =
-      all_held (renamed g.new ds) p n (up (closed k o)) ∙ ap (held p n)
-      (up_all ds (closed k o) (λ j q z. g.now_real b k j q h i z)) in
-      ap (λ (xs : List Dest). all_opened xs (closed m (held p n (up o)))) (g.now b k h i)
-      ∙ (ap (all_opened (renamed g.new ds ++ own_slot (g.trigger b) n k)) a
-      ∙ (all_append (renamed g.new ds) (own_slot (g.trigger b) n k) (held p n (up (closed k o)))
-      ∙ (ap (all_opened (own_slot (g.trigger b) n k)) c ∙ own_step (g.trigger b) n k
-      (up (all_opened ds (closed k o))))))
+      grind (arith, renamed, up, all_held, up_all, own_slot, all_append, own_step)
 
   -- along an edge
   edge_turn : (b r : ℕ) (o : OpenSlots) → IsBlock draft b → stops draft b ≡ false →
@@ -210,10 +202,7 @@ module _ (draft image : Image) (g : Grown draft image) where
     low = omega arith;
     high = first_up draft 1;
     number = g.first 1 g.first_block;
-    are = start_turn
-        ∙ (sym (ap (λ (xs : List Dest). all_opened xs (up (all_opened (start_dests draft) none_open)))
-        (first_quiet 1 g.first_block (is_first_one draft))) ∙ start_pending 1 g.first_block
-        (up (all_opened (start_dests draft) none_open)));
+    are = grind (arith, start_turn, up, first_quiet, is_first_one, start_pending);
   })
   back b m o (turn {k = l} {o = p} path w) = elim (back b l p path) [
     | inr x ↦ absurd (omega (arith, x.number))
@@ -260,8 +249,7 @@ module _ (draft image : Image) (g : Grown draft image) where
             low = omega arith;
             high = first_up draft b;
             number = g.first b here;
-            are = ap (all_opened (opens_at image c r)) h.1.2
-                ∙ (edge_turn c r q h.0 st ∙ start_pending b here (up (all_opened (opens_at draft c r) q)));
+            are = grind (arith, edge_turn, start_pending, up);
           })
 
   renamed_real : (ds : List Dest) (j q : ℕ) → ((j q : ℕ) → HasDest ds j q → g.origin (g.new j) ≡ Some j)
@@ -306,36 +294,25 @@ module _ (draft image : Image) (g : Grown draft image) where
       let n : ℕ = g.nop b in
       let m : ℕ = k + g.shift b in
       let ds : List Dest = now_dests draft k in
-      let real : (j q : ℕ) → HasDest ds j q → g.origin (g.new j) ≡ Some j =
-      λ j q z. g.now_real b k j q h i z in
+      let real : (j q : ℕ) → HasDest ds j q → g.origin (g.new j) ≡ Some j = grind arith in
       let at : g.origin m ≡ Some k = ap g.origin (sym (g.new_is b k h i)) ∙ g.origin_real b k h i in
       let a : closed m (held p n (up o)) ≡ held p n (up (closed k o)) =
       closed_held p n m (up o) (not_nop b k h i.1) ∙ ap (held p n) (up_closed k m o at) in
       let c : all_opened (renamed g.new ds) (held p n (up (closed k o))) ≡ held p n
-      (up (all_opened ds (closed k o))) =
-      all_held (renamed g.new ds) p n (up (closed k o)) ∙ ap (held p n) (up_all ds (closed k o) real) in
+      (up (all_opened ds (closed k o))) = grind (arith, all_held, renamed, up, up_all) in
       let one : Fresh (renamed g.new ds) (held p n (up (closed k o))) =
-      fresh_held (renamed g.new ds) p n (up (closed k o)) (λ e. not_renamed b k ds h real e)
-      (up_fresh ds (closed k o) real f) in
-      let two : Fresh (own_slot (g.trigger b) n k)
-      (all_opened (renamed g.new ds) (held p n (up (closed k o)))) =
-      subst (Fresh (own_slot (g.trigger b) n k)) (sym c)
-      (own_fresh (g.trigger b) n k (up (all_opened ds (closed k o)))
-      (nop_shut b (all_opened ds (closed k o)) h)) in
-      rw (g.now b k h i) (subst (Fresh (renamed g.new ds ++ own_slot (g.trigger b) n k)) (sym a)
-      (fresh_append (renamed g.new ds) (own_slot (g.trigger b) n k) (held p n (up (closed k o))) one two))
+      grind (arith, fresh_held, renamed, up, not_renamed, up_fresh) in
+      grind (arith, own_slot, renamed, up, own_fresh, nop_shut, fresh_append)
 
   edge_is_fresh : (b r : ℕ) (o : OpenSlots) → IsBlock draft b → stops draft b ≡ false
       → Fresh (opens_at draft b r) o → Fresh (opens_at image b r) (up o)
   edge_is_fresh b r o h s f =
       let t : ℕ = target draft b r in
-      let real : (j q : ℕ) → HasDest (opens_at draft b r) j q → g.origin (g.new j) ≡ Some j =
-      λ j q z. g.edge_real b r j q h z in
+      let real : (j q : ℕ) → HasDest (opens_at draft b r) j q → g.origin (g.new j) ≡ Some j = grind arith in
       g.edge_fresh b r (up o) h s (fresh_append (renamed g.new (opens_at draft b r))
       (before_slot (g.trigger t) (g.nop t)) (up o) (up_fresh (opens_at draft b r) o real f)
       (subst (Fresh (before_slot (g.trigger t) (g.nop t))) (sym (up_all (opens_at draft b r) o real))
-      (before_fresh (g.trigger t) (g.nop t) (up (all_opened (opens_at draft b r) o))
-      (nop_shut t (all_opened (opens_at draft b r) o) (g.edges b r h s)))))
+      (grind (arith, before_fresh, up, nop_shut))))
 
   up_advances : (b : ℕ) (o : OpenSlots) → IsBlock draft b → AdvancesOpen draft b o
       → AdvancesOpen image b (up o)
@@ -371,12 +348,7 @@ module _ (draft image : Image) (g : Grown draft image) where
               let i : IsIn draft b k = (omega (arith, x.0.0, g.first b h, low), y) in
               let f : g.origin j ≡ Some k = ap g.origin (n ∙ sym (g.new_is b k h i))
               ∙ g.origin_real b k h i in
-              up_at o j q k f ∙ (a k q).1 (
-                i,
-                sym (g.advance_are b k h i) ∙ ap (is_advance image) (sym n)
-                    ∙ x.1,
-                x.2,
-              )
+              up_at o j q k f ∙ (a k q).1 (grind arith)
 
   module _ (rules : SlotRules draft) where
     turn_has_all : (b m : ℕ) (o : OpenSlots) → Real b m o ⊎ Passed b m o → m < first_number image (suc b)
@@ -434,8 +406,7 @@ module _ (draft image : Image) (g : Grown draft image) where
         let same : x.slots ≡ y.slots =
         fun_ext (λ j. fun_ext (λ q. rules.pending c d b x.slots y.slots x.into y.into
         (sym (g.firsts_are b) ∙ i) j q)) in
-        x.are ∙ (ap (λ (s : OpenSlots). all_opened (before_slot (g.trigger b) (g.nop b)) (up s)) same
-        ∙ sym y.are)
+        x.are ∙ (grind (arith, before_slot, up))
 
     shut : (p : OpenSlots) → ((i q : ℕ) → p i q ≡ false) → (j q : ℕ) → up p j q ≡ false
     shut p a j q = grind (arith, origin_cases, up_at, up_none)
@@ -447,9 +418,7 @@ module _ (draft image : Image) (g : Grown draft image) where
     end_slots b o path =
         let h = left b o path in
         record {
-          edges = λ s r. (let st : stops draft b ≡ false = sym (g.stops_are b) ∙ s in
-              subst (Fresh (opens_at image b r)) (sym h.1.2)
-              (edge_is_fresh b r h.1.0 h.0 st ((rules.ends b h.1.0 h.1.1).edges st r)));
+          edges = λ s r. (grind (arith, edge_is_fresh));
           stop = λ s j q. ap (λ (x : OpenSlots). x j q) h.1.2 ∙ shut h.1.0
               (λ i p. (rules.ends b h.1.0 h.1.1).stop (sym (g.stops_are b) ∙ s) i p) j q;
         }

@@ -129,8 +129,7 @@ module _ (image new : Image) (same : SameShape image new) where
     slots_on = record {
       start = grind (arith, start_same);
       begins = advances_on 1 (all_opened (start_dests new) none_open)
-          (subst (λ (ds : List Dest). AdvancesOpen image 1 (all_opened ds none_open)) (sym start_same)
-          rules.begins);
+          (grind (arith, start_same));
       turns = turn_on;
       ends = end_on;
       crossing =
@@ -140,8 +139,7 @@ module _ (image new : Image) (same : SameShape image new) where
     }
 
   carried : (b s k q : ℕ) → BringsResult image b s k q → BringsResult new b s k q
-  carried b s k q (direct place d e f g) = direct place d (ap (λ (ds : List Dest). nth ds place) (now_same s)
-      ∙ e) f g
+  carried b s k q (direct place d e f g) = direct place d (grind (arith, now_same)) f g
   carried b s k q (through place d e f inside merge rest) =
       through place d (ap (λ (ds : List Dest). nth ds place) (now_same s) ∙ e) f (in_on b d.instr inside)
       (same.ops d.instr ∙ merge) (carried b d.instr k q rest)
@@ -153,72 +151,18 @@ module _ (image new : Image) (same : SameShape image new) where
     block_shape : BlockShape new b
     block_shape = record {
       opening = λ e. rw (same.pads b) (shape.opening e);
-      edges = grind (
-        arith,
-        target_same,
-        block_on,
-        shape.edges.there,
-        stops_same,
-        shape.edges.later,
-        first_same,
-        same.waves,
-      );
-      front = grind (
-        arith,
-        first_same,
-        shape.front.advances,
-        in_back,
-        advance_same,
-        shape.front.front,
-        same.numbers,
-        same.pads,
-        shape.front.pads,
-      );
-      exit = grind (
-        arith,
-        in_on,
-        shape.exit.source,
-        same.exits,
-        shape.exit.address,
-        giving_same,
-        shape.exit.source_gives,
-        shape.exit.address_gives,
-      );
+      edges = grind (arith, target_same, block_on, stops_same, first_same);
+      front = grind (arith, first_same, in_back, advance_same);
+      exit = grind (arith, in_on, giving_same);
       hang = record {
-        steers = λ k i e. (let x = shape.hang.steers k (in_back b k i) (sym (same.ops k) ∙ e) in
-            (x.0, x.1, x.2, same.exits b ∙ x.3, carried b x.0 k 1 x.4));
+        steers = λ k i e. (grind (arith, in_back, carried));
         sends = λ k p i e. (let x = shape.hang.sends k p (in_back b k i) (sym (same.ops k) ∙ e) in
             (x.0, x.1, same.exits b ∙ x.2, carried b x.0 k 0 x.3));
-        landing_pad = λ k p r i e. rw (target_same b r)
-            (rw (same.pads (target image b r))
-            (shape.hang.landing_pad k p r (in_back b k i) (sym (same.ops k) ∙ e)));
-        landing_first = λ s r ls e. ap (is_first new) (target_same b r)
-            ∙ (first_same (target image b r) ∙ shape.hang.landing_first s r ls (sym (same.exits b) ∙ e));
+        landing_pad = grind (arith, target_same, in_back);
+        landing_first = grind (arith, target_same, first_same);
       };
-      halt = grind (
-        arith,
-        stops_same,
-        shape.halt.halt_stops,
-        in_back,
-        same.ops,
-        shape.halt.stop_halts,
-        in_on,
-        shape.halt.halt_last,
-        memory_same,
-      );
-      dests = grind (
-        arith,
-        ahead_on,
-        shape.dests.dests,
-        in_back,
-        same.dests,
-        shape.dests.others,
-        same.others,
-        shape.dests.pads,
-        same.pads,
-        in_on,
-        advance_same,
-      );
+      halt = grind (arith, stops_same, in_back, in_on, memory_same);
+      dests = grind (arith, ahead_on, in_back, in_on, advance_same);
     }
 
   pub shape_on : ShapeRules image → ShapeRules new

@@ -5,7 +5,6 @@ use Rattle.std.proofs.Common.{inr, subst, arith, eqb, eq-eqb, ne_eqb}
 use Rattle.std.proofs.lemmas.Bool.{cases_Bool, cases_eq, cases_lt, lt-ltb, le-ltb}
 use Rattle.ws_words.specs.Outside.{World}
 use Rattle.ws_isa.specs.declared.instr.Dest.{Dest}
-use Rattle.ws_isa.specs.declared.instr.Op.{Op}
 use Rattle.ws_isa.specs.declared.instr.Op.TheVariants.{Nop}
 use Rattle.ws_isa.specs.Image.{Image, first_number, is_memory, is_memory_op, now_dests, edge_dests, size_of}
 use Rattle.ws_isa.specs.Image.{stops, target, is_first, result_of, result_of_op, answer, answer_op, after}
@@ -13,7 +12,7 @@ use Rattle.ws_isa.specs.Image.{after_op, tokens_to, IsIn, IsBlock}
 use Rattle.ws_isa.specs.Sound.{HasDest}
 use Rattle.ws_isa.specs.Walk.{Ports, with_token, with_tokens, gather, Inst, Pos, enter, wave_of, operands_at}
 use Rattle.ws_isa.specs.Walk.{result_at, fire, choice, edge_tokens, leave, is_within, step, start_tokens}
-use Rattle.ws_isa.specs.Walk.{opening, pos, mem, fires_from, fires, with_inst, walk, has_ended}
+use Rattle.ws_isa.specs.Walk.{opening, pos, mem, fires_from, fires, walk, has_ended}
 use Rattle.ws_isa.proofs.Slots.{with_tokens_append}
 use Rattle.wave_link.proofs.Grown.GrownForm.{Grown, renamed, extra, nop_slot, own_slot, Trigger, Whole, Own}
 use Rattle.wave_link.proofs.Grown.GrownForm.{Before}
@@ -80,10 +79,7 @@ fired_sum : (image : Image) (m n : ℕ) (p : Pos) → fired_in image (m + n) p �
 fired_sum image zero n p = grind (arith, fired_in)
 fired_sum image (suc m) n p =
     ap (λ (k : ℕ). fired_in image k p) (same m n)
-    ∙ (ap₂ (λ (k : ℕ) (q : Pos). k + count_of (fires_from image q)) (fired_sum image m n p)
-    (ahead_sum image m n p)
-    ∙ sum (fired_in image n p) (fired_in image m (ahead image n p))
-    (count_of (fires_from image (ahead image m (ahead image n p)))))
+    ∙ (grind (arith, ahead_sum, fired_sum image m n p))
   where
     same : (m n : ℕ) → suc m + n ≡ suc (m + n)
     same m n = omega arith
@@ -226,17 +222,7 @@ module _ (draft image : Image) (g : Grown draft image) where
           b (λ j q x. like.each_real old.block r k j q s.here i x)
           (λ j q x. like.extras_none old.block r k j q s.here i x) like_ab) in
           let e : suc (k + g.shift old.block) ≡ suc k + g.shift old.block = omega arith in
-          let rest : SentLike g.origin (edge_sent image old.block r old.wave new.results
-          (suc k + g.shift old.block) n a') (edge_sent draft old.block r old.wave old.results (suc k) n
-          b') =
-          edge_alike r (suc k) n a' b' (omega arith) (omega arith) one in
-          let left : edge_sent image old.block r old.wave new.results (k + g.shift old.block) (suc n) a
-          ≡ edge_sent image old.block r old.wave new.results (suc k + g.shift old.block) n a' =
-          edge_next image old.block r old.wave new.results (k + g.shift old.block) n a
-          ∙ ap (λ (x : ℕ). edge_sent image old.block r old.wave new.results x n a') e in
-          rw left (subst (SentLike g.origin
-          (edge_sent image old.block r old.wave new.results (suc k + g.shift old.block) n a'))
-          (sym (edge_next draft old.block r old.wave old.results k n b)) rest)
+          grind (arith, edge_next, edge_alike r (suc k) n a' b' (omega arith) (omega arith) one)
 
     edge_more : (b r w k n : ℕ) (results : ℕ → ℕ) (a : Ports) → edge_dests image b r (k + n) ≡ []
         → edge_sent image b r w results k (suc n) a ≡ edge_sent image b r w results k n a
@@ -289,12 +275,8 @@ module _ (draft image : Image) (g : Grown draft image) where
         → StandsFor draft image g (cross_to draft old) (cross_to image mid)
     crosses_alike old mid s e st =
         let r : ℕ = choice draft old in
-        let c : choice image mid ≡ r = choice_is image mid
-        ∙ (ap (λ (b : ℕ). choice_at image b mid.results) e.block
-        ∙ (like.choices old.block mid.results old.results e.here e.results
-        ∙ sym (choice_is draft old))) in
-        let t : target image mid.block (choice image mid) ≡ target draft old.block r =
-        ap₂ (target image) e.block c ∙ g.targets_are old.block r in
+        let c : choice image mid ≡ r = grind (arith, choice_is, choice_at) in
+        let t : target image mid.block (choice image mid) ≡ target draft old.block r = grind arith in
         let h : IsBlock draft (target draft old.block r) = g.edges old.block r e.here st in
         record {
           here = h;
@@ -302,8 +284,7 @@ module _ (draft image : Image) (g : Grown draft image) where
           high = first_up draft (target draft old.block r);
           over = refl;
           block = t;
-          wave = ap₂ (λ (f : Bool) (w : ℕ). cond f (suc w) w) (ap (is_first image) t
-              ∙ g.firsts_are (target draft old.block r)) e.wave;
+          wave = ap₂ (λ (f : Bool) (w : ℕ). cond f (suc w) w) (grind arith) e.wave;
           next = ap (first_number image) t ∙ g.first (target draft old.block r) h;
           sent =
               rw (ap₂ (λ (b q : ℕ). edge_sent image b q mid.wave mid.results (first_number image b)
@@ -324,8 +305,7 @@ module _ (draft image : Image) (g : Grown draft image) where
     quiet old new s x e =
         let at : new.next ≡ g.nop old.block = grind (arith, g.nop_is, old.block) in
         let none : g.origin new.next ≡ None = ap g.origin at ∙ g.origin_nop old.block s.here x in
-        let no_dests : now_dests image new.next ≡ [] = ap (now_dests image) at
-        ∙ g.nop_now old.block s.here x in
+        let no_dests : now_dests image new.next ≡ [] = grind arith in
         let op : op_at image new.next ≡ Nop = ap (op_at image) at ∙ like.nop_op old.block s.here x in
         record {
           here = s.here;
@@ -334,11 +314,8 @@ module _ (draft image : Image) (g : Grown draft image) where
           sent = subst
               (λ (ds : List Dest). SentLike g.origin (with_dests new.wave (result_at image new) ds new.sent)
               old.sent) (sym no_dests) s.sent;
-          results = λ m k f. rw (ne_eqb m new.next (λ h. absurd (cc (sym f ∙ (ap g.origin h ∙ none)))))
-              (s.results m k f);
-          same_memory = memory_by_op image new
-              ∙ (ap (λ (o : Op). cond (is_memory_op o) (after_op o (operands_at image new) new.memory)
-              new.memory) op ∙ s.same_memory);
+          results = grind (arith, ne_eqb);
+          same_memory = grind (arith, memory_by_op);
         }
 
     step_over : (i : Image) (p : Pos) → p.over ≡ true → step i p ≡ p
@@ -420,65 +397,30 @@ module _ (draft image : Image) (g : Grown draft image) where
         go (inl o) x y z = grind (arith, step_over, count_over, passes_over)
         go (inr o) (inl l) y z = grind (arith, end_of_block, step_fire, fires_alike, count_fire, passes_fire)
         go (inr o) (inr l) (inl x) z =
-            let w : first_number image (suc new.block) ≤ new.next =
-            omega (arith, s.next, last l, none_extra old.block s.here x, end_of_block) in
+            let w : first_number image (suc new.block) ≤ new.next = grind (arith, none_extra) in
             record {
               more = 0;
               stands = rw (step_leave draft old o l, step_leave image new (s.over ∙ o) w) (left z);
-              fired = omega (
-                arith,
-                count_leave image new (s.over ∙ o) w,
-                count_leave draft old o l,
-                passes_leave old o l,
-                x,
-              );
+              fired = grind (arith, count_leave, passes_leave);
             }
           where
             left : (stops draft old.block ≡ true) ⊎ (stops draft old.block ≡ false)
                 → StandsFor draft image g (leave draft old) (leave image new)
             left (inl e) = rw (e, ap (stops image) s.block ∙ (g.stops_are old.block ∙ e))
-                (record {
-                  here = s.here;
-                  low = s.low;
-                  high = s.high;
-                  over = refl;
-                  block = s.block;
-                  wave = s.wave;
-                  next = s.next;
-                  sent = s.sent;
-                  results = s.results;
-                  same_memory =
-                      s.same_memory;
-                })
+                (grind arith)
             left (inr e) = rw (e, ap (stops image) s.block ∙ (g.stops_are old.block ∙ e))
                 (crosses_alike old new (standing old new new s (at_end_of old new s)) (at_end_of old new s) e)
         go (inr o) (inr l) (inr x) (inl e) = absurd (omega (arith, like.stop_whole old.block s.here e))
         go (inr o) (inr l) (inr x) (inr e) =
-            let w : new.next < first_number image (suc new.block) =
-            omega (arith, s.next, last l, g.ends old.block s.here, x, end_of_block) in
+            let w : new.next < first_number image (suc new.block) = grind arith in
             let mid : Pos = fire image new in
             let q : AtEnd draft image g old mid = quiet old new s x (last l) in
-            let v : first_number image (suc mid.block) ≤ mid.next =
-            omega (arith, s.next, last l, g.ends old.block s.here, x, end_of_block) in
+            let v : first_number image (suc mid.block) ≤ mid.next = grind arith in
             let f : step image new ≡ mid = step_fire image new (s.over ∙ o) w in
             record {
               more = 1;
-              stands = rw (
-                step_leave draft old o l,
-                f,
-                step_leave image mid refl v,
-                e,
-                ap (stops image) s.block ∙ (g.stops_are old.block ∙ e),
-              )
-                  (crosses_alike old mid (standing old new mid s q) q e);
-              fired = omega (
-                arith,
-                count_fire image new (s.over ∙ o) w,
-                ap (λ (p : Pos). count_of (fires_from image p)) f ∙ count_leave image mid refl v,
-                count_leave draft old o l,
-                passes_leave old o l,
-                x,
-              );
+              stands = grind (arith, step_leave, crosses_alike, standing);
+              fired = grind (arith, count_fire, count_leave, passes_leave);
             }
 
     -- the no-ops that t steps pass
@@ -498,16 +440,12 @@ module _ (draft image : Image) (g : Grown draft image) where
     keeps old new s zero = grind arith
     keeps old new s (suc t) =
         let k : Kept t old new = keeps old new s t in
-        let x : Stepped (ahead draft t old) (ahead image k.steps new) =
-        stepped (ahead draft t old) (ahead image k.steps new) k.stands in
+        let x : Stepped (ahead draft t old) (ahead image k.steps new) = grind (arith, stepped) in
         record {
           steps = suc x.more + k.steps;
           as_many = omega arith;
-          stands = subst (StandsFor draft image g (step draft (ahead draft t old)))
-              (sym (ahead_sum image (suc x.more) k.steps new)) x.stands;
-          fired = fired_sum image (suc x.more) k.steps new ∙ (ap₂ (λ (a b : ℕ). a + b) k.fired x.fired
-              ∙ sums (fired_in draft t old) (passes_in t old)
-              (count_of (fires_from draft (ahead draft t old))) (passes_at (ahead draft t old)));
+          stands = grind (arith, ahead_sum);
+          fired = fired_sum image (suc x.more) k.steps new ∙ (grind arith);
         }
       where
         sums : (a b c d : ℕ) → (a + b) + (c + d) ≡ (a + c) + (b + d)
@@ -525,10 +463,7 @@ module _ (draft image : Image) (g : Grown draft image) where
     walk_is : (i : Image) (world : World) (t : ℕ) → length (walk i world t) ≡ fired_in i t (opening i world)
     unfolding walk fires
     walk_is i world zero = refl
-    walk_is i world (suc t) = grind (arith, one, pos_is, walk_is i world t)
-      where
-        one : (xs : List Inst) (o : Option Inst) → length (with_inst xs o) ≡ length xs + count_of o
-        one xs o = grind (arith, length-append)
+    walk_is i world (suc t) = grind (arith, pos_is, length-append, walk_is i world t)
 
     pub record Alike (world : World) (t : ℕ) : Type 0 where
       pub steps : ℕ

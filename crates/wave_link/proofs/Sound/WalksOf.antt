@@ -43,13 +43,7 @@ pub follows : (draft : Image) (world : World) → FitForNotes draft → (t : ℕ
 follows draft world ok t =
     let a : Alike draft (annotated draft) (grown draft ok) (alike draft ok) world t =
     grind (arith, walks_alike, grown, alike) in
-    record {
-      steps = a.steps;
-      as_many = a.as_many;
-      outside = a.outside;
-      ended = a.ended;
-      fired = a.fired ∙ ap (λ (n : ℕ). length (walk draft world t) + n) (passed_all draft ok world t);
-    }
+    grind (arith, passed_all)
 
 one_at_most : (draft : Image) (ok : FitForNotes draft) (p : Pos) → passes_at draft (annotated draft)
     (grown draft ok) (alike draft ok) p ≤ where_left draft p 1
@@ -61,13 +55,9 @@ few_passed : (draft : Image) (ok : FitForNotes draft) (world : World) (t : ℕ)
     ≤ blocks_left draft world t
 unfolding passes_in blocks_left
 few_passed draft ok world zero = omega arith
-few_passed draft ok world (suc t) = omega (
-  arith,
-  few_passed draft ok world t,
-  one_at_most draft ok (ahead draft t (opening draft world)),
-  ap (λ (p : Pos). where_left draft p 1) (pos_is draft (annotated draft) (grown draft ok) (alike draft ok)
-      draft world t),
-)
+few_passed draft ok world (suc t) =
+    let ih1 = pos_is draft (annotated draft) (grown draft ok) (alike draft ok) draft world t in
+    grind (arith, one_at_most draft ok (ahead draft t (opening draft world)), few_passed draft ok world t)
 
 pub few_added : (draft : Image) (world : World) → FitForNotes draft → (t : ℕ)
     → added_left draft (annotated draft) world t ≤ blocks_left draft world t
@@ -112,8 +102,7 @@ ends_too draft world ok t e =
     let f : FollowsFor draft (annotated draft) world t = follows draft world ok t in
     let l : t ≤ f.steps = f.as_many in
     let s : (f.steps - t) + t ≡ f.steps = omega arith in
-    sym f.ended ∙ (ap (has_ended (annotated draft) world) (sym s) ∙ stays_over (annotated draft) world t
-    (f.steps - t) e)
+    sym f.ended ∙ (grind (arith, stays_over))
 
 pub walks_for : (draft : Image) (world : World) → FitForNotes draft → WalksFor draft (annotated draft) world
 walks_for draft world ok = grind (arith, follows, ends_too, few_added, costs)

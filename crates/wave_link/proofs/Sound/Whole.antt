@@ -1,4 +1,5 @@
 -- The image of a draft that is open to notes is sound.
+use Rattle.std.proofs.Common.{arith}
 use Rattle.ws_isa.specs.Image.{Image}
 use Rattle.ws_isa.specs.Sound.{Sound}
 use Rattle.wave_link.specs.Fit.{FitForNotes}
@@ -8,9 +9,5 @@ use Rattle.wave_link.proofs.Sound.WalksOf.{keeps_slots}
 use Rattle.wave_link.proofs.Linked.LinksMarked.{links_kept, ripples_kept}
 
 pub is_sound : (draft : Image) → FitForNotes draft → Sound (annotated draft)
-is_sound draft ok = record {
-  shape = shape_rules draft ok;
-  slots = keeps_slots draft ok;
-  links = links_kept draft ok;
-  ripples = ripples_kept draft ok;
-}
+is_sound draft ok =
+    grind (arith, shape_rules draft ok, keeps_slots draft ok, links_kept draft ok, ripples_kept draft ok)

@@ -1,6 +1,6 @@
 -- Each no-op that is added to a draft is needed.
-use Rattle.std.proofs.Common.{ℕ, zero, suc, ◌-◌, ◌≡◌, ◌<◌, ◌≤◌, ◌⊎◌, ◌&&◌, Bool, true, false, not, List}
-use Rattle.std.proofs.Common.{refl, sym, ap, ◌∙◌, inl, inr, subst, arith, eqb, length}
+use Rattle.std.proofs.Common.{ℕ, zero, suc, ◌-◌, ◌≡◌, ◌<◌, ◌≤◌, ◌⊎◌, ◌&&◌, Bool, true, false, not, List, refl}
+use Rattle.std.proofs.Common.{sym, ap, ◌∙◌, inl, inr, subst, arith, length}
 use Rattle.std.proofs.lemmas.Bool.{cases_eq}
 use Rattle.ws_isa.specs.declared.instr.Op.TheVariants.{Nop}
 use Rattle.ws_isa.specs.Image.{Image, instr_at, block_at, first_number, is_memory, is_memory_op, stops}
@@ -8,7 +8,6 @@ use Rattle.ws_isa.specs.Image.{target, is_first, IsIn, IsBlock}
 use Rattle.wave_link.specs.Fit.{FitForNotes}
 use Rattle.wave_link.specs.declared.outline.Way.TheVariants.{Out}
 use Rattle.wave_link.specs.declared.outline.Outline.{Outline}
-use Rattle.wave_link.specs.declared.states.Ways.{Ways}
 use Rattle.wave_link.specs.declared.states.LastOps.{LastOps}
 use Rattle.wave_link.specs.Outlines.{with_nop}
 use Rattle.wave_link.specs.States.{reached, state_in, is_vain, needs_nop}
@@ -75,20 +74,15 @@ module _ (draft : Image) (open_to : FitForNotes draft) where
       let e : outline_at draft (suc m) ≡ with_nop y (adds draft (suc m)) = grown_is draft m l in
       let w : ways_at draft (suc count) ≡ ways_in draft = ways_end draft count refl in
       let n : needs_nop y (suc m) (ways_in draft) s ≡ true =
-      ap (λ (k : ℕ). needs_nop (outline_in (bare_of draft) k) (suc m) (ways_in draft) s) (sym minus)
-      ∙ (sym (adds_is draft (suc m) h) ∙ a) in
+      grind (arith, outline_in, bare_of, ways_in, adds_is) in
       let q : (reached y (suc m) (ways_in draft) ≡ true)
       × (is_vain y.way (ways_in draft) (state_in y (suc m) (ways_in draft) s) ≡ false) =
-      split (reached y (suc m) (ways_in draft)) (eqb y.ops 0)
-      (is_vain y.way (ways_in draft) (state_in y (suc m) (ways_in draft) s)) n in
+      grind (arith, split, ways_in) in
       let r : reached (outline_at draft (suc m)) (suc m) (ways_at draft (suc count)) ≡ true =
-      ap (λ (v : Outline). reached v (suc m) (ways_at draft (suc count))) e
-      ∙ (ap (λ (v : List Ways). reached y (suc m) v) w ∙ q.0) in
+      grind (arith, ways_at) in
       let g : is_vain (outline_at draft (suc m)).way (ways_at draft (suc count))
       (state_in (outline_at draft (suc m)) (suc m) (ways_at draft (suc count)) s) ≡ false =
-      ap (λ (v : Outline). is_vain v.way (ways_at draft (suc count))
-      (state_in v (suc m) (ways_at draft (suc count)) s)) e
-      ∙ (ap (λ (v : List Ways). is_vain y.way v (state_in y (suc m) v s)) w ∙ q.1) in
+      grind (arith, ways_at) in
       needed count (outline_at draft) (low_of draft) (heads_in draft) (ways_at draft) (states_at draft)
       (behind_at draft) (run draft open_to) (suc m) h.0 h.1
       (sym (reach_same count (outline_at draft) (low_of draft) (heads_in draft) (ways_at draft)

@@ -57,18 +57,7 @@ module _ (image new : Image) (same : SamePaths image new) where
 
   ends : (w : ℕ) (last : Option ℕ) → EndsIn image w last → EndsIn new w last
   ends w last e = record {
-    ends = grind (
-      arith,
-      path,
-      e.ends.block,
-      e.ends.next,
-      e.ends.done,
-      same.numbers,
-      same.stops_are,
-      same.firsts,
-      same.targets,
-      same_last,
-    );
+    ends = grind (arith, path, same_last);
     wave_is = same.waves e.ends.block ∙ e.wave_is;
   }
 
@@ -101,22 +90,14 @@ module _ (image new : Image) (same : SamePaths image new) where
               last = last_op image d;
               follows =
                   record {
-                    follows = record {
-                      block = c;
-                      done = d;
-                      path = p;
-                      within = w;
-                      memory = m;
-                      last_is = refl;
-                    };
+                    follows = grind (arith, path);
                     wave_is = refl;
                   };
             })
           where
             one : (i j : ℕ) → Some i ≡ Some j → i ≡ j
             one i j q = cc
-    came b k done j (edge {b = c} {k = i} {done = d} p e s r f) q =
-        grind (arith, stays, block_of, came c i d j p q)
+    came b k done j (edge {b = c} {k = i} {done = d} p e s r f) q = grind (arith, block_of, came c i d j p q)
 
     came_before : (w j k : ℕ) → FollowsIn image w (Some j) k → Came w j
     came_before w j k f = grind (arith, came)
@@ -203,13 +184,8 @@ joined_op (x ∷ xs) ys (u ∷ us) vs l f g (suc n) = joined_op xs ys us vs (ome
 renoted_flat : (notes : ℕ → Option Note) (k : ℕ) (bs : List Block) (n : ℕ)
     → op_in (flat (renoted_blocks notes k bs)) n ≡ op_in (flat bs) n
 renoted_flat notes k [] n = refl
-renoted_flat notes k (b ∷ bs) n = grind (
-  arith,
-  joined_op,
-  renoted_length,
-  renoted_op,
-  renoted_flat notes (k + length b.instrs) bs,
-)
+renoted_flat notes k (b ∷ bs) n =
+    grind (arith, joined_op, renoted_length, renoted_op, renoted_flat notes (k + length b.instrs) bs)
 
 module _ (image : Image) (notes : ℕ → Option Note) where
   abbrev new : Image
@@ -241,7 +217,7 @@ module _ (image : Image) (notes : ℕ → Option Note) where
 
   block_is : (b : ℕ) → IsBlock image b → IsBlock new b
   unfolding renoted
-  block_is b h = (grind (arith, renoted_count))
+  block_is b h = grind (arith, renoted_count)
 
   memory_is : (k : ℕ) → is_memory new k ≡ is_memory image k
   unfolding renoted is_memory instr_at op_in
@@ -265,10 +241,10 @@ module _ (draft : Image) (open_to : FitForNotes draft) (x : ℕ) where
   image = without (annotated draft) x
 
   in_draft : (b : ℕ) → IsBlock image b → IsBlock draft b
-  in_draft b h = (grind (arith, count_kept, draft_count))
+  in_draft b h = grind (arith, count_kept, draft_count)
 
   in_image : (b : ℕ) → IsBlock draft b → IsBlock image b
-  in_image b h = (grind (arith, count_kept, draft_count))
+  in_image b h = grind (arith, count_kept, draft_count)
 
   leads : (b r : ℕ) → target image b r ≡ target draft b r
   leads b r = target_kept (annotated draft) x b r ∙ draft_target draft b r

@@ -200,8 +200,7 @@ module _ (image : Image) (n : ℕ) (x : ℕ → Outline) (low : ℕ → ℕ) (he
           record {
             more = m ∷ r.more;
             path = turn r.path h;
-            same = skipped (cases_eq m nop)
-                (cases_Bool (is_memory image m)) r.more ∙ r.same;
+            same = grind (arith, cases_eq, cases_Bool);
           }
         where
           skipped : (m ≡ nop) ⊎ (m ≡ nop → ⊥) → (is_memory image m ≡ true) ⊎ (is_memory image m ≡ false)
@@ -420,8 +419,7 @@ module _ (image : Image) (n : ℕ) (x : ℕ → Outline) (low : ℕ → ℕ) (he
       let r : Arrives s 0 f = arrives s 0 d p f in
       subst (λ (o : Option ℕ). FollowsIn image' w (moved_op nop o) (moved nop f.op))
       (last_none 0 r.last refl r.last_is)
-      (subst (λ (u : ℕ). FollowsIn image' u (moved_op nop r.last) (moved nop f.op)) e
-      (follows_by (wave s) r.last f.op r.comes))
+      (grind (arith, moved_op, follows_by))
 
   seen_after : (w s a j : ℕ) (f : FirstOp s) → (s ≡ v → ⊥) → wave s ≡ w → 1 ≤ a → Op a j (low a + (x a).ops)
       → Passes s a → FollowsIn image' w (Some (moved nop j)) (moved nop f.op)
@@ -436,7 +434,7 @@ module _ (image : Image) (n : ℕ) (x : ℕ → Outline) (low : ℕ → ℕ) (he
   last_at : (s a : ℕ) → (s ≡ v → ⊥) → 1 ≤ a → Passes s a → (f : FirstOp s)
       → (j : ℕ) × Op a j (low a + (x a).ops)
   last_at s a d l p f = let r : Arrives s a f = arrives s a d p f in let t : SomeOp a r.last =
-      last_some a r.last l r.last_is in (t.op, t.at)
+      grind (arith, last_some) in (t.op, t.at)
 
   last_far : (a c i j : ℕ) → Op a i (low a + (x a).ops) → Op c j (low c + (x c).ops) → (c ≡ a → ⊥) → j ≡ i → ⊥
   last_far a c i j p q d e =

@@ -1,7 +1,7 @@
 -- Why each no-op is needed, on the blocks of a wave: with it left out, some path, or some paths together,
 -- would break a rule on links.
-use Rattle.std.proofs.Common.{ℕ, zero, suc, ◌+◌, ◌≡◌, ◌<◌, ◌≤◌, ◌⊎◌, ◌&&◌, Bool, true, false, not, List}
-use Rattle.std.proofs.Common.{get_or, Option, refl, sym, ap, ◌∙◌, inl, inr, subst, arith, eq-eqb, ne_eqb}
+use Rattle.std.proofs.Common.{ℕ, zero, suc, ◌+◌, ◌≡◌, ◌<◌, ◌≤◌, ◌⊎◌, ◌&&◌, Bool, true, false, List, get_or}
+use Rattle.std.proofs.Common.{Option, refl, sym, ap, ◌∙◌, inl, inr, subst, arith, eq-eqb, ne_eqb}
 use Rattle.std.proofs.lemmas.Bool.{cases_eq, cases_lt}
 use Rattle.ws_isa.specs.declared.instr.Link.{Link}
 use Rattle.wave_link.specs.declared.outline.Way.{Way}
@@ -12,7 +12,7 @@ use Rattle.wave_link.specs.declared.states.Ways.{Ways}
 use Rattle.wave_link.specs.declared.states.Ways.TheVariants.{Zero}
 use Rattle.wave_link.specs.declared.states.LastOps.{LastOps}
 use Rattle.wave_link.specs.declared.states.LastOps.TheVariants.{Shared, Sole, Many}
-use Rattle.wave_link.specs.States.{is_several, is_shared, is_many, is_vain}
+use Rattle.wave_link.specs.States.{is_several, is_vain}
 use Rattle.wave_link.proofs.Linked.LinksTables.{Leads, Parts, handed}
 use Rattle.wave_link.proofs.Linked.LinksRun.{Run, Before, starts, goes, last_of, last_empty, last_full, Facts}
 use Rattle.wave_link.proofs.Linked.LinksRun.{facts, Into, into, Came, TwoCame, Inv, zero_in, one_in, many_in}
@@ -65,25 +65,18 @@ module _ (n : ℕ) (x : ℕ → Outline) (low : ℕ → ℕ) (heads : List Link)
   go_full b a c p e k = rw (full_after b a e) at (goes p k)
 
   vain : (b a : ℕ) → Known b a → (x b).ops ≡ 0 → is_vain (x b).way (ways (suc n)) (st b) ≡ true
-  vain b a f e = run.none_vain b f.low_block f.high_block (reach_same n x low heads ways states behind run b
-      f.low_block f.high_block ∙ f.reaches) e
+  vain b a f e = grind (arith, reach_same n x low heads ways states behind run b f.low_block f.high_block)
 
   -- what the state of an empty block forbids
   no_fork : (b a p q : ℕ) → Known b a → (x b).ops ≡ 0 → (x b).way ≡ Fork p q → st b ≡ Many → ⊥
-  no_fork b a p q f e w s =
-      cc (sym (vain b a f e) ∙ (ap (λ (v : Way). is_vain v (ways (suc n)) (st b)) w
-      ∙ ap (λ (v : LastOps). not (is_many v)) s))
+  no_fork b a p q f e w s = grind (arith, vain b a f e)
 
   no_out : (b a : ℕ) → Known b a → (x b).ops ≡ 0 → (x b).way ≡ Out → st b ≡ Shared → ⊥
-  no_out b a f e w s =
-      cc (sym (vain b a f e) ∙ (ap (λ (v : Way). is_vain v (ways (suc n)) (st b)) w
-      ∙ ap (λ (v : LastOps). not (is_shared v)) s))
+  no_out b a f e w s = grind (arith, vain b a f e)
 
   no_meet : (b a c : ℕ) → Known b a → (x b).ops ≡ 0 → (x b).way ≡ On c → many_ways c ≡ true → st b ≡ Shared
       → ⊥
-  no_meet b a c f e w v s =
-      cc (sym (vain b a f e) ∙ (ap (λ (u : Way). is_vain u (ways (suc n)) (st b)) w
-      ∙ (ap (λ (u : LastOps). not (is_shared u && many_ways c)) s ∙ ap not v)))
+  no_meet b a c f e w v s = grind (arith, vain b a f e)
 
   full_is : (b : ℕ) → 1 ≤ (x b).ops → full n x low heads ways states behind run b ≡ true
   full_is b e = rw (ne_eqb (x b).ops 0 (λ d. absurd (omega arith))) refl
@@ -119,8 +112,7 @@ module _ (n : ℕ) (x : ℕ → Outline) (low : ℕ → ℕ) (heads : List Link)
     pub path : Path b last
 
   pub path_to : (b : ℕ) → 1 ≤ b → b ≤ n → reach n x low heads ways states behind run b ≡ true → Reached b
-  path_to b l h r = let t = attained n x low heads ways states behind run b l h r in
-      record { last = t.last; path = t.path }
+  path_to b l h r = grind (arith, attained n x low heads ways states behind run b l h r)
 
   ops_or : (b : ℕ) → ((x b).ops ≡ 0) ⊎ (1 ≤ (x b).ops)
   ops_or b = elim (cases_eq (x b).ops 0) [ inl e ↦ inl e | inr d ↦ inr (omega arith) ]
@@ -388,8 +380,7 @@ module _ (n : ℕ) (x : ℕ → Outline) (low : ℕ → ℕ) (heads : List Link)
           → (g : ℕ) × ((x c).way ≡ On g) × (g ≤ c2)
       go (from {c = j} o z w q) e k rec = grind (arith, first_step, on_same)
       go (more {d = i2} {c = j2} {e = j} t z w q) e k rec = elim (cases_lt c j2) [
-        | inl m ↦ (let r = rec d c i2 j2 (omega (arith, l, e, q)) s t m in
-            (r.0, r.1, omega (arith, r.2, q, e)))
+        | inl m ↦ grind arith
         | inr m ↦ elim (cases_eq c j2) [
           | inl f ↦ (j, ap (λ (v : ℕ). (x v).way) f ∙ w, omega (arith, e))
           | inr f ↦ absurd (let r = rec i2 j2 d c (omega (arith, l, e, q)) t s (omega (arith, m, f)) in
@@ -437,14 +428,8 @@ module _ (n : ℕ) (x : ℕ → Outline) (low : ℕ → ℕ) (heads : List Link)
 
   -- such a block isn't shared, and a path before its end goes along it
   straight_state : {a d c : ℕ} (r : ℕ) → Path a r → Straight a d c → Path c a × (st c ≡ Shared → ⊥)
-  straight_state {a} r p (from {c = c} l o w k) = (
-    go_full a r c p o (on_leads a c w),
-    λ s. clash s (entry a r c (known_at p) (on_leads a c w)).kind,
-  )
-    where
-      clash : st c ≡ Shared → Kind n x low heads ways states behind run a c (known_at p).y
-          (entry a r c (known_at p) (on_leads a c w)).z → ⊥
-      clash s h = grind (arith, hand_full)
+  straight_state {a} r p (from {c = c} l o w k) =
+      grind (arith, go_full a r c p o (on_leads a c w), entry a r c (known_at p) (on_leads a c w))
   straight_state {a} r p (more {d = d} {c = c} {e = e} t z w k) =
       let g : Path c a × (st c ≡ Shared → ⊥) = straight_state r p t in (
         go_empty c a e g.0 z (on_leads c e w),
@@ -561,17 +546,7 @@ module _ (n : ℕ) (x : ℕ → Outline) (low : ℕ → ℕ) (heads : List Link)
       let m : Meeting c = meeting c l h v in
       let s : Straightly m.two.one c = straightly m.two.one c m.two.one_came m.one_way v in
       let t : Straightly m.two.other c = straightly m.two.other c m.two.other_came m.other_way v in
-      record {
-        one = s.last;
-        other = t.last;
-        one_path = s.path;
-        other_path = t.path;
-        one_some = s.some;
-        other_some = t.some;
-        differ = λ e.
-            m.two.differ (one_end s.straight (subst (λ (i : ℕ). Straight i m.two.other c) (sym e) t.straight)
-            refl);
-      }
+      grind (arith, one_end)
 
   two_on : (b c : ℕ) → TwoLasts b → (x b).ops ≡ 0 → Leads (x b).way c → TwoLasts c
   two_on b c t z k = grind (arith, go_empty)
@@ -670,16 +645,7 @@ module _ (n : ℕ) (x : ℕ → Outline) (low : ℕ → ℕ) (heads : List Link)
   other_arm v a p o s =
       let g : Origin v a = origin p o s in
       let h : Ahead g.other a = ahead (suc n) g.other g.other a (omega arith) at g.path g.shares in
-      record {
-        block = h.block;
-        stays = (
-          h.some,
-          λ e. arms_apart g.fork g.arm g.other g.to_arm g.to_other g.parted g.chain h.chain
-              (sym e),
-        );
-        path = h.path;
-        shares = h.shares;
-      }
+      grind (arith, arms_apart)
 
   need_out : (v a : ℕ) → Path v a → (x v).way ≡ Out → st v ≡ Shared → Need v
   need_out v a p w s = go (cases_eq a 0)
@@ -709,10 +675,7 @@ module _ (n : ℕ) (x : ℕ → Outline) (low : ℕ → ℕ) (heads : List Link)
       let d2 : t.other ≡ v → ⊥ = below_self v t.other t.other_path f.low_block in
       two_and_two t.one t.other s1.block s2.block (chain_skip (over stay (inr refl) kp) s1.chain) t.one_some
       t.other_some (λ e. t.differ (sym e))
-      (s1.some, λ e. absurd (omega (arith, chain_up s1.chain, u1, e))) (
-        s2.some,
-        λ e. absurd (omega (arith, chain_up s2.chain, u2, e)),
-      )
+      (s1.some, λ e. absurd (omega (arith, chain_up s1.chain, u1, e))) (grind (arith, chain_up))
       (λ e. arms_apart v p q (came v a p f kp) (came v a q f kq) (parts_of v p q a f w) s1.chain s2.chain
       (sym e))
       (record { at = v; path = t.one_path; other = d1; skip = chain_skip (over stay (inr refl) kp) s1.chain })
@@ -797,8 +760,7 @@ module _ (n : ℕ) (x : ℕ → Outline) (low : ℕ → ℕ) (heads : List Link)
           (λ y. not_straight v a b.edge c p (omega (arith, e))
           (subst (λ (j : ℕ). Straight j b.edge c) y b.way.straight) up s)
           (stays g l o) t.stays
-          (λ y. d (unique t.block a v t.path (subst (λ (j : ℕ). Path j v) (sym y) r)
-          (shared_not_many t.block t.shares)))
+          (λ y. d (grind (arith, unique, shared_not_many)))
           (by_self q) (past_here v t.block a t.path d) (by_other q)
 
   not_vain : (w : Way) (t : LastOps) → is_vain w (ways (suc n)) t ≡ false → ((w ≡ Out) × (t ≡ Shared))

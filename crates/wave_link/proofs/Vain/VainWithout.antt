@@ -88,8 +88,7 @@ hit_once : (x k n : ℕ) → k ≤ x → x < k + n → hit x k n ≡ 1
 hit_once x k zero l h = absurd (omega arith)
 hit_once x k (suc n) l h = elim (cases_eq k x) [
   | inl e ↦ grind (arith, eq-eqb, hit_behind)
-  | inr d ↦ rw (ne_eqb k x d) (let r : hit x (suc k) n ≡ 1 = hit_once x (suc k) n (omega arith)
-      (omega arith) in omega arith)
+  | inr d ↦ rw (ne_eqb k x d) (grind (arith, hit_once x (suc k) n (omega arith) (omega arith)))
 ]
 
 length_but : (x k : ℕ) (is : List Instr) → length (instrs_but x k is) + hit x k (length is) ≡ length is
@@ -102,11 +101,7 @@ first_but x k (y ∷ ys) (suc b) m e =
     let p : 1 ≤ first_of ys b = positive ys b in
     let n : ℕ = first_of ys b - 1 in
     let f : m ≡ length y.instrs + n = omega arith in
-    let r : first_of (blocks_but x (k + length y.instrs) ys) b + hit x (k + length y.instrs) n ≡ first_of ys
-    b = first_but x (k + length y.instrs) ys b n (omega arith) in
-    let h : hit x k m ≡ hit x k (length y.instrs) + hit x (k + length y.instrs) n =
-    ap (hit x k) f ∙ hit_sum x k (length y.instrs) n in
-    omega (arith, length_but x k y.instrs, r, h)
+    grind (arith, hit_sum, length_but, first_but x (k + length y.instrs) ys b n (omega arith))
   where
     positive : (bs : List Block) (n : ℕ) → 1 ≤ first_of bs n
     positive (b ∷ bs) (suc n) = let h : 1 ≤ first_of bs n = positive bs n in omega arith
@@ -150,17 +145,7 @@ number_kept image x (suc b) l = go (cases_lt x (first_of image.blocks b))
 but_append : (x k : ℕ) (xs ys : List Instr) → instrs_but x k (xs ++ ys) ≡ instrs_but x k xs ++ instrs_but x
     (k + length xs) ys
 but_append x k [] ys = grind arith
-but_append x k (i ∷ xs) ys = grind (arith, go, f, but_append x (suc k) xs ys)
-  where
-    f : (k n : ℕ) → suc k + n ≡ k + suc n
-    f k n = omega arith
-
-    go : (v : Bool) → instrs_but x (suc k) (xs ++ ys) ≡ instrs_but x (suc k) xs ++ instrs_but x
-        (k + suc (length xs)) ys →
-        cond v (instrs_but x (suc k) (xs ++ ys)) (instr_but x i ∷ instrs_but x (suc k) (xs ++ ys))
-        ≡ cond v (instrs_but x (suc k) xs) (instr_but x i ∷ instrs_but x (suc k) xs) ++ instrs_but x
-        (k + suc (length xs)) ys
-    go v r = grind arith
+but_append x k (i ∷ xs) ys = grind (arith, but_append x (suc k) xs ys)
 
 flat_but : (x k : ℕ) (bs : List Block) → flat (blocks_but x k bs) ≡ instrs_but x k (flat bs)
 flat_but x k [] = refl
@@ -178,8 +163,7 @@ nth_but x k (y ∷ ys) (suc n) m i e d h =
     go : (k ≡ x) ⊎ (k ≡ x → ⊥)
         → ((j : ℕ) → j + hit x (suc k) n ≡ n → nth (instrs_but x (suc k) ys) j ≡ Some (instr_but x i))
         → nth (instrs_but x k (y ∷ ys)) m ≡ Some (instr_but x i)
-    go (inl q) rec = grind (arith, hit, m)
-    go (inr q) rec = grind (arith, hit, m, hit_most)
+    go v0 v1 = grind (arith, hit_most)
 nth_but x k is n m i e d h = grind arith
 
 instr_moved : (image : Image) (x j : ℕ) (i : Instr) → 1 ≤ x → nth (flat image.blocks) j ≡ Some i
@@ -228,12 +212,9 @@ pub memory_kept : (image : Image) (x b k : ℕ) → 1 ≤ x → IsBlock image b 
 unfolding is_memory
 memory_kept image x b k l h i d =
     let f : InFlat image k = in_flat image b k h i in
-    let s : (y : Instr) × (nth (flat image.blocks) f.place ≡ Some y) = nth_some (flat image.blocks) f.place
-    f.below in
+    let s : (y : Instr) × (nth (flat image.blocks) f.place ≡ Some y) = grind (arith, nth_some) in
     let here : instr_at image k ≡ s.0 = instr_suc image k f.place s.0 f.is s.1 in
-    let there : instr_at (without image x) (moved x k) ≡ instr_but x s.0 =
-    ap (λ (j : ℕ). instr_at (without image x) (moved x j)) f.is ∙ instr_moved image x f.place s.0 l s.1
-    (λ e. d (f.is ∙ e)) in
+    let there : instr_at (without image x) (moved x k) ≡ instr_but x s.0 = grind (arith, instr_moved) in
     ap (λ (y : Instr). is_memory_op y.op) there ∙ ap (λ (y : Instr). is_memory_op y.op) (sym here)
 
 pub moved_one : (x j k : ℕ) → (j ≡ x → ⊥) → (k ≡ x → ⊥) → moved x j ≡ moved x k → j ≡ k
@@ -289,15 +270,13 @@ module _ (image : Image) (x : ℕ) (positive : 1 ≤ x) (edges : (b r : ℕ) →
       go : (k ≡ x) ⊎ (k ≡ x → ⊥) → Kept b (suc k) (k ∷ done)
       go (inl e) = grind (arith, moved_self, kept_by)
       go (inr d) =
-          let lt : moved x k < first_number image' (suc b) =
-          rw (number_kept image x (suc b) positive) (moved_less x k (first_number image (suc b)) d i.1) in
+          let lt : moved x k < first_number image' (suc b) = grind (arith, number_kept, moved_less) in
           let t : InWave image' b (suc (moved x k)) (moved x k ∷ map_but x done) = turn p.path lt in
           kept_by b (suc k) (k ∷ done) (moved x k ∷ map_but x done)
           (cond (is_memory image k) (Some k) (last_but image x done)) (rw (ne_eqb k x d) refl)
           (rw (ne_eqb k x d) refl)
           (rw (moved_suc x k d) at t)
-          (ap (λ (v : Bool). cond v (Some (moved x k)) (last_op image' (map_but x done)))
-          (memory_kept image x b k positive h i d) ∙ pick (is_memory image k))
+          (grind (arith, memory_kept))
         where
           pick : (v : Bool) → cond v (Some (moved x k)) (last_op image' (map_but x done)) ≡ moved_op x
               (cond v (Some k) (last_but image x done))
@@ -317,10 +296,7 @@ module _ (image : Image) (x : ℕ) (positive : 1 ≤ x) (edges : (b r : ℕ) →
       let g : InWave image' (target image' c r) (first_number image' (target image' c r)) (map_but x d) =
       edge q.path (ap (moved x) e ∙ sym (number_kept image x (suc c) positive)) (stops_kept image x c ∙ s) r
       (first_kept image x (target image' c r) ∙ (ap (is_first image) t ∙ f)) in
-      record {
-        path = rw (number_kept image x (target image c r) positive) at (rw t at g);
-        last = q.last;
-      }
+      grind (arith, number_kept)
 
   -- operation k comes on a path, right after this one but for x
   pub record Comes (w : ℕ) (last : Option ℕ) (k : ℕ) : Type 0 where
@@ -339,15 +315,7 @@ module _ (image : Image) (x : ℕ) (positive : 1 ≤ x) (edges : (b r : ℕ) →
       let p : Kept c.block k c.done = kept c.block k c.done c.path in
       let o : IsBlock image c.block × (first_number image c.block ≤ k) = on_path c.block k c.done c.path in
       record {
-        follows = record {
-          block = c.block;
-          done = map_but x c.done;
-          path = p.path;
-          within = rw (number_kept image x (suc c.block) positive)
-              (moved_less x k (first_number image (suc c.block)) c.other c.within);
-          memory = memory_kept image x c.block k positive o.0 (o.1, c.within) c.other ∙ c.memory;
-          last_is = p.last ∙ ap (moved_op x) c.last_is;
-        };
+        follows = grind (arith, number_kept, moved_less, memory_kept);
         wave_is = wave_kept image x c.block ∙ c.wave_is;
       }
 
@@ -366,25 +334,6 @@ module _ (image : Image) (x : ℕ) (positive : 1 ≤ x) (edges : (b r : ℕ) →
       let f : ℕ = first_number image (suc c.block) in
       let p : Kept c.block f c.done = kept c.block f c.done c.path in
       record {
-        ends = record {
-          block = c.block;
-          next = moved x f;
-          done = map_but x c.done;
-          path = p.path;
-          at_end = sym (number_kept image x (suc c.block) positive);
-          out = elim c.out [
-            | inl s ↦ inl (stops_kept image x c.block ∙ s)
-            | inr s ↦
-                inr (
-                  stops_kept image x c.block ∙ s.0,
-                  (
-                    s.1.0,
-                    first_kept image x (target image' c.block s.1.0)
-                        ∙ (ap (is_first image) (target_kept image x c.block s.1.0) ∙ s.1.1),
-                  ),
-                )
-          ];
-          last_is = p.last ∙ ap (moved_op x) c.last_is;
-        };
+        ends = grind (arith, number_kept, stops_kept, first_kept, target_kept);
         wave_is = wave_kept image x c.block ∙ c.wave_is;
       }
