@@ -1,7 +1,6 @@
 -- The printed form of a written program reads as the same program.
 use Rattle.std.proofs.Common.{arith, List}
-use Rattle.src_ast.specs.Lexemes.{start, after}
-use Rattle.src_ast.specs.Printed.{printed_form}
+use Rattle.src_ast.specs.Lexemes.{start}
 use Rattle.src_ast.specs.Syntax.{Part}
 use Rattle.src_ast.specs.Written.{IsWritten, ReadsTheSame}
 use Rattle.src_ast.proofs.Pieces.{placed, lexed, keeps}
@@ -16,12 +15,4 @@ pub reads_the_same : (all : List Part) → IsWritten all → ReadsTheSame all
 reads_the_same all h =
     let n = nearly all h in
     let r = parts_read all n start in
-    record {
-      ls = placed start (parts all);
-      finish = after start (printed_form all);
-      again = r.0;
-      lex = grind (arith, placed, parts, printed_is, lexed, parts_spelt);
-      kept = keeps start (parts_kept all h);
-      tree = r.1;
-      same = r.2;
-    }
+    grind (arith, placed, parts, printed_is, lexed, parts_spelt, keeps, parts_kept)

@@ -66,9 +66,7 @@ procedure_row a h at qs braces row k =
     let inside = past_line (past_mark open'.place LBrace) in
     let all : placed at (p.part (Proc a) qs) ≡ (l ∷ m ∷ first ∷ (ps.ls ++ last ∷ [])) ++ open' ∷ placed inside
     variables = grind (arith, append_assoc, placed) in
-    let k' = after_brace (l ∷ m ∷ first ∷ (ps.ls ++ last ∷ [])) open' (placed inside variables) braces row
-    refl (subst (KeepLimits braces row) all k) in
-    variables_row a.vars h.vars inside bodies k'.0 k'.1
+    grind (arith, after_brace, placed, variables_row)
 
 -- where the lexemes of the printed form keep the limits, the variables of each procedure fit a row
 rows : (all : List Part) → AreNearlyWritten all → (at : Place) (braces row : ℕ)

@@ -109,7 +109,6 @@ take_fits ks l port comma last ls n e eq is np q s c h braces rest k =
     let row : AllPlain (l ∷ port ∷ comma ∷ ls) = plain (plain_word l (codes "take") is)
     (plain (plain_number port n np) (plain (plain_mark comma Comma refl q) (expression_plain s))) in
     let w = line_limits last rest braces row c (subst (KeepLimits braces 0) all k) in
-    let small = w.0 in
     grind (arith, number_good, sound_here, sound_after, expression_good, sound_front, width_least)
 
 call_fits : (ks : List Lexeme) (name first last semi : Lexeme) (ls : List Lexeme) (f : Name)
@@ -166,15 +165,7 @@ test_fits ks l first last ls following e w eq is o s c h braces rest k =
     let flat : AllPlain row =
     plain (plain_word l w is) (grind (arith, plain, plain_mark, plain_append, expression_plain, no_plain)) in
     let within = row_limits (following ++ rest) braces flat (subst (KeepLimits braces 0) all k) in
-    let small = within.short in
-    let inside = sound_after (sound_after hs) in
-    record {
-      row = length row;
-      good = expression_good s (sound_front ls (last ∷ following) inside);
-      short = omega (arith, small, width_least s, length-append ls (last ∷ []));
-      inside = sound_after (sound_back ls (last ∷ following) inside);
-      kept = within.kept;
-    }
+    grind (arith, sound_after, expression_good, sound_front, width_least, length-append, sound_back)
 
 mutual
   pub statement_fits : {ks : List Lexeme} {s : Statement} → SpelledStatement ks s → AllSound ks
@@ -201,12 +192,10 @@ mutual
       let t = test_fits ks l first last ls (xs ++ ys) e (codes "if") eq is o s c h braces rest k in
       let x = block_fits sa (sound_front xs ys t.inside) braces t.row (ys ++ rest)
       (subst (KeepLimits braces t.row) (append_assoc xs ys rest) t.kept) in
-      let y = else_fits sb (sound_back xs ys t.inside) braces rest x.0 x.2 in
-      ((t.good, t.short, x.0, x.1, y.0), y.1)
+      grind (arith, sound_back, else_fits sb (sound_back xs ys t.inside) braces rest x.0 x.2)
   statement_fits (while {ks = ks} l first last ls bs e a eq is o s c sa) h braces rest k =
       let t = test_fits ks l first last ls bs e (codes "while") eq is o s c h braces rest k in
-      let x = block_fits sa t.inside braces t.row rest t.kept in
-      ((t.good, t.short, x.0, x.1), x.2)
+      grind (arith, block_fits sa t.inside braces t.row rest t.kept)
 
   pub block_fits : {ks : List Lexeme} {b : Statements} → SpelledBlock ks b → AllSound ks
       → (braces row : ℕ) (rest : List Lexeme)
@@ -226,8 +215,7 @@ mutual
   else_fits (with_else l ls b is s) h braces rest d k =
       let row : AllPlain (l ∷ []) = plain (plain_word l (codes "else") is) no_plain in
       let w = row_limits (ls ++ rest) braces row k in
-      let x = block_fits s (sound_after h) braces 1 rest w.kept in
-      (x.1, x.2)
+      grind (arith, sound_after, block_fits s (sound_after h) braces 1 rest w.kept)
 
   pub statements_fit : {ks : List Lexeme} {b : Statements} → SpelledStatements ks b → AllSound ks
       → (braces : ℕ) (rest : List Lexeme)
@@ -238,8 +226,7 @@ mutual
       let all : ks ++ rest ≡ ls ++ (rs ++ rest) = ap (λ t. t ++ rest) eq ∙ append_assoc ls rs rest in
       let x = statement_fits ss (sound_front ls rs hs) braces (rs ++ rest)
       (subst (KeepLimits braces 0) all k) in
-      let y = statements_fit sb (sound_back ls rs hs) braces rest x.1 in
-      ((x.0, y.0), y.1)
+      grind (arith, sound_back, statements_fit sb (sound_back ls rs hs) braces rest x.1)
 
 ending_fits : {ks : List Lexeme} {e : Option Last} → SpelledEnding ks e → AllSound ks
     → (braces : ℕ) (rest : List Lexeme)

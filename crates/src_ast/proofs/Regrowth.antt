@@ -16,8 +16,8 @@ use Rattle.src_ast.specs.Grammar.{nothing, first_then, SpelledEnding, no_ending,
 use Rattle.src_ast.specs.Grammar.{vars, SpelledItem, array, proc, Tree, no_items, items}
 use Rattle.src_ast.specs.Syntax.{Expression, Statement, Assign, Store, Print, Read, Give, Take, Call, If}
 use Rattle.src_ast.specs.Syntax.{While, Statements, Nothing, Then, Last, Procedure, Part, Array, Proc}
-use Rattle.src_ast.specs.Same.{bare, bare_expression, bare_names, bare_statement, bare_statements}
-use Rattle.src_ast.specs.Same.{bare_ending, bare_part, bare_parts}
+use Rattle.src_ast.specs.Same.{bare, bare_names, bare_statement, bare_statements, bare_ending, bare_part}
+use Rattle.src_ast.specs.Same.{bare_parts}
 use Rattle.src_ast.specs.Printed.{indent}
 use Rattle.src_ast.specs.Written.{IsWrittenName, AreWrittenNames, IsWrittenExpression, AreWrittenExpressions}
 use Rattle.src_ast.specs.Written.{IsWrittenStatement, AreWrittenStatements, IsWrittenEnding}
@@ -72,8 +72,7 @@ store_reads n s a i e g gi ge at qs =
       again = Store l.place (named a l.place) r.again t.again;
       spelled = store l first last equals semi r.ls t.ls (named a l.place) r.again t.again refl
           (good_name a l.place g) refl r.spelled refl refl t.spelled refl;
-      same = ap (λ x. Store start (bare a) x (bare_expression e)) r.same
-          ∙ ap (λ x. Store start (bare a) (bare_expression r.again) x) t.same;
+      same = grind arith;
     }
 
 print_reads : (n : ℕ) (s : Place) (e : Expression) → IsWrittenExpression e → (at : Place) (qs : List Piece)
