@@ -1,5 +1,5 @@
 -- The rules of statements with blocks in them, and how many statements those are.
-use Rattle.std.proofs.Common.{◌≡◌, ℕ, ◌+◌, List, [], ◌∷◌, ◌++◌, rules, ap, sym, ◌∙◌, add-one, arith}
+use Rattle.std.proofs.Common.{◌≡◌, ℕ, ◌+◌, List, [], ◌∷◌, ◌++◌, rules, ◌∙◌, add-one, arith}
 use Rattle.std.specs.Global.{Global}
 use Rattle.std.specs.declared.vec.Vec.{Vec}
 use Rattle.src_ast.specs.Syntax as syntax
@@ -24,9 +24,7 @@ module _ (s : Stmt) (test : Expr) where
   if_is : (first second : Vec Stmt Global) (xs ys : List Stmt) → s.form ≡ If test first second
       → xs ≡ first.items → ys ≡ second.items
       → statement s ≡ syntax.If s.place (expression test) (statements xs) (statements ys)
-  if_is first second xs ys is a b =
-      ap (statement_of s.place) is ∙ seen_if s.place test first second
-      ∙ (λ i. syntax.If s.place (expression test) (statements (sym a i)) (statements (sym b i)))
+  if_is first second xs ys is a b = grind (arith, seen_if s.place test first second)
 
   -- the rules of an `if` are those of its test and arms
   pub if_rules : (visible : List Declared) (k n m : ℕ) (first second : Vec Stmt Global) (xs ys : List Stmt)
@@ -46,8 +44,7 @@ module _ (s : Stmt) (test : Expr) where
 
   while_is : (body : Vec Stmt Global) (xs : List Stmt) → s.form ≡ While test body → xs ≡ body.items
       → statement s ≡ syntax.While s.place (expression test) (statements xs)
-  while_is body xs is a = ap (statement_of s.place) is ∙ seen_while s.place test body
-      ∙ ap (λ (l : List Stmt). syntax.While s.place (expression test) (statements l)) (sym a)
+  while_is body xs is a = grind (arith, seen_while s.place test body)
 
   -- the rules of a `while` are those of its test and body
   pub while_rules : (visible : List Declared) (k n : ℕ) (body : Vec Stmt Global) (xs : List Stmt)

@@ -72,10 +72,7 @@ module _ {find : List _ → Option Sort} {visible : List Declared} (x : Name) (w
   pub use_where_none : find x.text ≡ None → first_broken (use_rules visible x wanted)
       ≡ Some (record { kind = Unknown; place = x.place })
   unfolding first_broken
-  use_where_none e =
-      let v : is_visible visible x.text ≡ false = visible_where_found x.text stands
-      ∙ ap (passes (λ _. true)) e in
-      rw v refl
+  use_where_none e = grind (arith, visible_where_found x.text stands)
 
   -- the rules on a name that is found
   pub use_where_some : (s : Sort) (kind count : Bool) → find x.text ≡ Some s → kind ≡ same_kind s wanted

@@ -59,8 +59,7 @@ first_where_some (r ∷ rs) f h =
     elim r.kept as (λ b. r.kept ≡ b → (if b then first_broken rs else Some (fault r)) ≡ Some f
     → IsFirstBroken (r ∷ rs) f) [
       | true ↦ (λ k e. further r rs f k (first_where_some rs f e))
-      | false ↦
-          (λ k e. here r rs f k (same_fault (fault r) f e))
+      | false ↦ grind (arith, here, same_fault)
     ] refl h
 
 past_kept : (before following : List Rule) (r : Rule) → IsTrue (list_all (λ s. s.kept) before)

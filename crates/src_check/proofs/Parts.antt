@@ -1,6 +1,6 @@
 -- The rules of an array or a procedure, as tested; and what is known after one more of them.
 use Rattle.std.proofs.Common.{◌≡◌, ℕ, ◌+◌, List, [], ◌∷◌, ◌++◌, Bool, true, false, not, ◌||◌, nat_lt, nat_le}
-use Rattle.std.proofs.Common.{nat_eq, Option, Some, if◌then◌else◌, length, refl, sym, ap, ◌∙◌, arith}
+use Rattle.std.proofs.Common.{nat_eq, Option, Some, if◌then◌else◌, length, refl, ◌∙◌, arith}
 use lib.Pointwise.{pointwise}
 use Rattle.src_ast.specs.declared.lexeme.Place.{Place}
 use Rattle.src_ast.specs.declared.lexeme.Name.{Name}
@@ -22,10 +22,7 @@ pub array_rules_as : (before : List Part) (x : Name) (n : ℕ) (at : Place) (kno
     → part_rules before (Array x n at) ≡ rule x.place Twice (not known) ∷ rule x.place (Limit Arrays)
     (nat_lt checker.arrays 64) ∷ rule at (Limit Length) (nat_le n 65536) ∷ rule at (Limit CellSum)
     (nat_le (checker.cells + n) 1048576) ∷ []
-array_rules_as before x n at known checker is_known b =
-    λ i. rule x.place Twice (not (sym is_known i)) ∷ rule x.place (Limit Arrays) (nat_lt (sym b.arrays i) 64)
-    ∷ rule at (Limit Length) (nat_le n 65536) ∷ rule at (Limit CellSum)
-    (nat_le (sym b.cells i + n) 1048576) ∷ []
+array_rules_as before x n at known checker is_known b = grind (arith, nat_lt, nat_le)
 
 -- the rules of a procedure by what the checker knows
 pub procedure_rules_as : (before : List Part) (p : Procedure) (known : Bool) (checker : Checker) (main : Bool)
@@ -40,22 +37,12 @@ pub procedure_rules_as : (before : List Part) (p : Procedure) (known : Bool) (ch
     ++ (variable_rules (variables p.params ++ declared_by before) (length p.params) p.vars
     ++ (body_rules (variables (p.params ++ p.vars) ++ declared_by before) checker.statements p.body
     ++ ending_rules (variables (p.params ++ p.vars) ++ declared_by before) count p.ending)))))
-procedure_rules_as before p known checker main count is_known at_main b at_count =
-    let counted = at_count ∙ ap (λ n. n + size_of_all p.body) b.statements in
-    λ i. rule p.name.place Main (not (sym b.main i))
-    ∷ rule p.name.place Twice (not (sym is_known i))
-    ∷ rule p.name.place (Limit Procs) (nat_lt (sym b.procedures i) 64)
-    ∷ (parameter_rules (sym at_main i) (declared_by before) 0 p.params
-    ++ (variable_rules (variables p.params ++ declared_by before) (length p.params) p.vars
-    ++ (body_rules (variables (p.params ++ p.vars) ++ declared_by before) (sym b.statements i) p.body
-    ++ ending_rules (variables (p.params ++ p.vars) ++ declared_by before) (sym counted i) p.ending)))
+procedure_rules_as before p known checker main count is_known at_main b at_count = grind (arith, nat_lt)
 
 pub declared_by-append : (ps qs : List Part) → declared_by (ps ++ qs) ≡ declared_by ps ++ declared_by qs
 declared_by-append [] qs = refl
-declared_by-append (Array x n at ∷ ps) qs = ap (λ l. record { text = x.text; sort = array } ∷ l)
-    (declared_by-append ps qs)
-declared_by-append (Proc p ∷ ps) qs =
-    ap (λ l. record { text = p.name.text; sort = procedure (length p.params) } ∷ l) (declared_by-append ps qs)
+declared_by-append (Array x n at ∷ ps) qs = grind (arith, declared_by-append ps qs)
+declared_by-append (Proc p ∷ ps) qs = grind (arith, declared_by-append ps qs)
 
 pub arrays_in-append : (ps qs : List Part) → arrays_in (ps ++ qs) ≡ arrays_in ps + arrays_in qs
 arrays_in-append [] qs = omega arith

@@ -60,9 +60,7 @@ pushed-append (y ∷ xs) x visible =
 pub pushed_next : (xs : List Name) (i : ℕ) (x : Name) (visible : List Declared) → i < length xs
     → x ≡ get_or xs i x → pushed (take (i + 1) xs) visible ≡ variables (x ∷ []) ++ pushed (take i xs) visible
 pushed_next xs i x visible h is =
-    ap (λ n. pushed (take n xs) visible) (add-one i)
-    ∙ ap (λ (l : List Name). pushed l visible) (take-suc xs i x h ∙ ap (λ y. take i xs ++ y ∷ []) (sym is))
-    ∙ pushed-append (take i xs) x visible
+    grind (arith, add-one i, take-suc xs i x h, pushed-append (take i xs) x visible)
 
 or_moved : (a b c : Bool) → (a || (b || c)) ≡ ((b || a) || c)
 or_moved a b c = grind arith
@@ -82,8 +80,7 @@ stands_for_pushed xs visible st = grind (arith, list_any-append, nat_eq, finds-p
 
 variables-append : (xs ys : List Name) → variables (xs ++ ys) ≡ variables xs ++ variables ys
 variables-append [] ys = refl
-variables-append (x ∷ xs) ys = ap (λ l. record { text = x.text; sort = variable } ∷ l)
-    (variables-append xs ys)
+variables-append (x ∷ xs) ys = grind (arith, variables-append xs ys)
 
 finds-append : (xs ys : List Declared) (text : List ℕ) (test : Sort → Bool)
     → finds (xs ++ ys) text test ≡ (finds xs text test || finds ys text test)

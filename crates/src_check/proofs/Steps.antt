@@ -1,6 +1,6 @@
 -- The steps of a loop over a list: what is left begins with the element at hand.
-use Rattle.std.proofs.Common.{◌≡◌, ℕ, suc, ◌+◌, ◌<◌, List, [], ◌∷◌, ◌++◌, length, map, get_or, take, drop}
-use Rattle.std.proofs.Common.{sym, ap, ◌∙◌, add-one, drop-cons}
+use Rattle.std.proofs.Common.{arith, ◌≡◌, ℕ, suc, ◌+◌, ◌<◌, List, [], ◌∷◌, ◌++◌, length, map, get_or, take}
+use Rattle.std.proofs.Common.{drop, sym, ap, ◌∙◌, add-one, drop-cons}
 use Rattle.std.proofs.Math.Seq.{take-suc}
 use Rattle.ws_words.proofs.Lists.{map_push}
 
@@ -12,5 +12,4 @@ drop_next l i x h is = drop-cons l i x h ∙ rw add-one (ap (λ y. y ∷ drop (s
 -- what is done ends with the next item
 pub map-take_next : {A B : Type 0} (f : A → B) (l : List A) (i : ℕ) (x : A) → i < length l → x ≡ get_or l i x
     → map f (take (i + 1) l) ≡ map f (take i l) ++ f x ∷ []
-map-take_next f l i x h is = ap (λ n. map f (take n l)) (add-one i) ∙ ap (map f)
-    (take-suc l i x h ∙ ap (λ y. take i l ++ y ∷ []) (sym is)) ∙ map_push f (take i l) x
+map-take_next f l i x h is = grind (arith, add-one i, take-suc l i x h, map_push f (take i l) x)
