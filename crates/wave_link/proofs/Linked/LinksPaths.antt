@@ -133,11 +133,7 @@ module _ (image : Image) (n : ℕ) (x : ℕ → Outline) (low : ℕ → ℕ) (he
 
   pub sq_high : (b k : ℕ) → IsBlock image b → IsIn image b k → is_memory image k ≡ true
       → sq b k ≤ low b + (x b).ops
-  sq_high b k h i m =
-      let e : sq b (first_number image (suc b)) ≡ low b + (x b).ops + 1 = marked.sq_end b h in
-      let s : sq b k < sq b (first_number image (suc b)) = sq_rise b k (first_number image (suc b)) h i m i.1
-      (omega arith) in
-      omega arith
+  sq_high b k h i m = grind (arith, sq_rise b k (first_number image (suc b)) h i m i.1 (omega arith))
 
   pub seq_is : (b k : ℕ) → IsBlock image b → IsIn image b k → is_memory image k ≡ true → seq image k ≡ sq b k
   seq_is b k h i m = ap (λ (v : Note). v.seq) (marked.note b k h i m)

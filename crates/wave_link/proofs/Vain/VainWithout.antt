@@ -174,8 +174,7 @@ instr_moved image x j i l e d = go (cases_lt x (suc j))
     put : (m : ℕ) → moved x (suc j) ≡ suc m → m + hit x 1 j ≡ j → instr_at (without image x) (moved x (suc j))
         ≡ instr_but x i
     put m f h = instr_suc (without image x) (moved x (suc j)) m (instr_but x i) f
-        (ap (λ (is : List Instr). nth is m) (flat_but x 1 image.blocks)
-        ∙ nth_but x 1 (flat image.blocks) j m i e (λ q. d (omega (arith, q))) h)
+        (grind (arith, flat_but, nth_but))
 
     go : (x < suc j) ⊎ (suc j ≤ x) → instr_at (without image x) (moved x (suc j)) ≡ instr_but x i
     go (inl h) = let o : hit x 1 j ≡ 1 = hit_once x 1 j l (omega (arith, h)) in
