@@ -1,5 +1,5 @@
 -- A draft that is open to notes can get them.
-use Rattle.std.proofs.Common.{arith, ℕ, ◌≡◌, ◌⊎◌, false, [], ◌∷◌, Some, ◌∙◌}
+use Rattle.std.proofs.Common.{arith, ℕ, ◌≡◌, ◌⊎◌, false, [], ◌∷◌, Some}
 use Rattle.ws_isa.specs.Image.{Image, is_first}
 use Rattle.ws_isa.specs.Open.{HasGiver, EnteredBySteer, OpenToNotes}
 use Rattle.wave_link.specs.Fit.{CanTrigger, FitForNotes}

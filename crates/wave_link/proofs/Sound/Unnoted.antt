@@ -10,7 +10,7 @@ use Rattle.ws_isa.specs.Sound.{OpenSlots, none_open, all_opened, closed, edge_al
 use Rattle.ws_isa.specs.Sound.{begin, turn, edge, AdvancesOpen, TurnSlots, EndSlots, EdgeInto, SlotRules}
 use Rattle.ws_isa.specs.Sound.{IsAhead, BringsResult, direct, through, BlockShape, ShapeRules}
 use Rattle.ws_isa.proofs.Along.{path_end}
-use Rattle.wave_link.proofs.Grown.GrownTriggers.{steers, sends, op_case}
+use Rattle.wave_link.proofs.Grown.GrownTriggers.{op_case}
 use Rattle.ws_words.specs.Items.{nth}
 
 -- the same image but for notes
