@@ -63,9 +63,7 @@ last_more xs y ys = refl
 
 last_behind : (m : ℕ) (es : List Made) (more : List Timed) (n : ℕ) → m < n
     → n ≤ last_cycle (in_cycle m es ++ more) → last_cycle (in_cycle m es ++ more) ≡ last_cycle more
-last_behind m es [] n l k = absurd (let e : last_cycle (in_cycle m es ++ []) ≡ last_cycle (in_cycle m es) = ap
-    last_cycle (append-nil (in_cycle m es)) in let q : last_cycle (in_cycle m es) ≤ m = last_own m es in
-    omega (arith, l, k, e, q))
+last_behind m es [] n l k = grind (arith, append-nil (in_cycle m es), last_own m es)
 last_behind m es (y ∷ ys) n l k = last_more (in_cycle m es) y ys
 
 -- the events of this number, from a state on
@@ -91,18 +89,10 @@ cut g k s t all n (stops m es st) p l q =
     ∙ append-nil (map event_of es) in
     let none : before_cycle n (in_cycle m es) ≡ [] = ap (before_cycle n) (sym (append-nil (in_cycle m es)))
     ∙ before_other n m es [] (omega (arith, mn)) in
-    record {
-      began = s;
-      new = t;
-      before = subst (λ (xs : List law.Event). Run g.image s xs s) (sym none) (same_refl s);
-      cycle = inr (subst (λ (xs : List law.Event). Stopping g s xs t) (sym own) st, omega (arith, mn, q, o));
-    }
+    grind (arith, same_refl)
 cut g k s t all n (goes {t = mid} m es more some e c rest) p l q = elim (cases_eq m n) [
   | inl mn ↦ (
-      let own : of_cycle n all ≡ map event_of es = ap (of_cycle n) e
-      ∙ ap (λ (j : ℕ). of_cycle n (in_cycle j es ++ more)) mn ∙ of_own n es more
-      ∙ ap (λ (xs : List law.Event). map event_of es ++ xs)
-      (none_of g (suc m) mid t more n rest (omega (arith, mn))) ∙ append-nil (map event_of es) in
+      let own : of_cycle n all ≡ map event_of es = grind (arith, of_own, none_of, append-nil) in
       let none : before_cycle n all ≡ [] = ap (before_cycle n) e ∙ before_other n m es more
       (omega (arith, mn)) ∙ none_before g (suc m) mid t more n rest (omega (arith, mn)) in
       record {
@@ -131,5 +121,4 @@ cut g k s t all n (goes {t = mid} m es more some e c rest) p l q = elim (cases_e
 
 pub cut_of : (g : Grid) (world : World) (events : List Timed) (state : State) → Schedule g world events state
     → (n : ℕ) → 1 ≤ n → n ≤ last_cycle events → IsCycle g world events n
-cut_of g world events state c n p q =
-    grind (arith, cut g 1 (core_opening g.image world) state events n c p p q)
+cut_of g world events state c n p q = grind (arith, cut _ _ _ _ _ _ c p p q)

@@ -27,12 +27,10 @@ next_is_first image flow place g l may next k b may_k =
     let h = g.going.holds in
     let st = h.stands in
     let s : State = g.going.state in
-    let waits = st.asked_from (asked_at flow place).wave (asked_at flow place).instr
-    (listed (ports image (asked_at flow place).instr) (asked_at flow place).operands)
-    (has_asked image flow.asked.items place l) in
-    let waits_k = st.asked_from (asked_at flow k).wave (asked_at flow k).instr
-    (listed (ports image (asked_at flow k).instr) (asked_at flow k).operands)
-    (has_asked image flow.asked.items k b) in
+    let waits = st.asked_from (asked_at flow place).wave (asked_at flow place).instr (listed (ports image
+    (asked_at flow place).instr) (asked_at flow place).operands) (has_asked image flow.asked.items place l) in
+    let waits_k = st.asked_from (asked_at flow k).wave (asked_at flow k).instr (listed (ports image (asked_at
+    flow k).instr) (asked_at flow k).operands) (has_asked image flow.asked.items k b) in
     let w : (asked_at flow place).wave ≡ flow.chain.wave = eqb-true (asked_at flow place).wave flow.chain.wave
     (and_parts ((asked_at flow place).wave == flow.chain.wave) _ may).0 in
     let a : (asked_at flow k).wave ≡ flow.chain.wave = eqb-true (asked_at flow k).wave flow.chain.wave
@@ -41,17 +39,12 @@ next_is_first image flow place g l may next k b may_k =
     let n : IsNext s.chain (note_of image (asked_at flow place).instr) =
     subst (λ (d : Chain). IsNext d (note_of image (asked_at flow place).instr)) (sym h.chain_is)
     (next_is (chain_of flow.chain) (note_of image (asked_at flow place).instr) next) in
-    next_first image g.going.world g.going.formed g.going.sound st.fit.legal
-    (asked_at flow place).wave (asked_at flow place).instr (listed (ports image (asked_at flow place).instr)
-    (asked_at flow place).operands)
-    (asked_at flow k).wave (asked_at flow k).instr (listed (ports image (asked_at flow k).instr)
-    (asked_at flow k).operands)
-    (st.fit.request_right (asked_at flow place).wave (asked_at flow place).instr
-    (listed (ports image (asked_at flow place).instr) (asked_at flow place).operands) waits)
-    (st.fit.request_right (asked_at flow k).wave (asked_at flow k).instr
-    (listed (ports image (asked_at flow k).instr) (asked_at flow k).operands) waits_k)
-    (st.unissued (asked_at flow k).wave (asked_at flow k).instr
-    (listed (ports image (asked_at flow k).instr) (asked_at flow k).operands) waits_k) (w ∙ c) (a ∙ c) n
+    next_first _ _ g.going.formed g.going.sound st.fit.legal _ _ _ _ _ _ (st.fit.request_right (asked_at flow
+    place).wave (asked_at flow place).instr (listed (ports image (asked_at flow place).instr) (asked_at flow
+    place).operands) waits) (st.fit.request_right (asked_at flow k).wave (asked_at flow k).instr (listed
+    (ports image (asked_at flow k).instr) (asked_at flow k).operands) waits_k) (st.unissued (asked_at flow
+    k).wave (asked_at flow k).instr (listed (ports image (asked_at flow k).instr) (asked_at flow k).operands)
+    waits_k) (w ∙ c) (a ∙ c) n
 
 -- what comes first of those comes first of the issues that are enabled
 pub first_of : (image : Image) (world : World) (beside : List plain.Token) (flow : Flow) (s : State)
@@ -60,12 +53,11 @@ pub first_of : (image : Image) (world : World) (beside : List plain.Token) (flow
 first_of image world beside flow s h place first a j e =
     let r = has_at image flow.asked.items a j e.0 (h.stands.asked_to a j e.0 e.1.waits) in
     let m1 : Issuable image s.issued (chain_of flow.chain) s.stopped a j e.0 =
-    subst (λ (c : Chain). Issuable image s.issued c s.stopped a j e.0) h.chain_is e.1.issuable in
+    rw (← h.chain_is) e.1.issuable in
     let m2 : Issuable image s.issued (chain_of flow.chain) s.stopped (asked_at flow r.0).wave
     (asked_at flow r.0).instr (listed (ports image (asked_at flow r.0).instr)
     (asked_at flow r.0).operands) = rw (r.2, r.4, r.3) m1 in
-    subst (λ (k : ℕ). seq image (asked_at flow place).instr ≤ seq image k) r.3
-    (first r.0 r.1 (flagged image s.issued (chain_of flow.chain) s.stopped (asked_at flow r.0) m2))
+    rw (← r.3) (first r.0 r.1 (flagged image s.issued (chain_of flow.chain) s.stopped (asked_at flow r.0) m2))
 
 -- one more request is looked at
 pub least_taken : (image : Image) (flow : Flow) (n m : ℕ) (other : Option ℕ) → m ≡ suc n

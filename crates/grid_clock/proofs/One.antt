@@ -2,13 +2,12 @@
 use Rattle.std.proofs.Common.{ℕ, suc, ◌≡◌, ◌<◌, ◌≤◌, ◌⊎◌, true, false, List, [], ◌∷◌, ◌++◌, length, map, Some}
 use Rattle.std.proofs.Common.{None, refl, sym, ap, ◌∙◌, subst, inl, inr, arith}
 use Rattle.std.proofs.lemmas.Bool.{both_ways, cases_eq, cases_lt}
-use Rattle.ws_words.specs.Outside.{World, printed_words}
+use Rattle.ws_words.specs.Outside.{World}
 use Rattle.ws_isa.specs.Image.{Image, ports}
 use Rattle.ws_isa.specs.Formed.{Formed}
 use Rattle.ws_isa.specs.Operations.{FaultsAt}
 use Rattle.ws_isa.specs.Sound.{Sound, seq}
-use Rattle.ws_isa.specs.Walk.{fires}
-use Rattle.df_core.specs.Core.{State, Event, Match, Issue, Step, Enabled, with_at, core_opening}
+use Rattle.df_core.specs.Core.{State, Event, Match, Issue, Step, Enabled, with_at}
 use Rattle.df_core.specs.Fit.{RightToken, Fit}
 use Rattle.df_core.proofs.Walked.Facts.{WalkFacts}
 use Rattle.df_core.proofs.Walked.FromSound.{facts_of}
@@ -26,7 +25,7 @@ use Rattle.df_core.specs.Cores.{event_of}
 use Rattle.df_core.specs.Finishes.{is_fault}
 use Rattle.df_core.specs.Told.{run_from}
 use Rattle.grid_clock.specs.declared.run.Clocked.{Clocked}
-use Rattle.grid_clock.specs.Clocks.{Clocks, last_cycle}
+use Rattle.grid_clock.specs.Clocks.{Clocks}
 use Rattle.grid_clock.specs.declared.timed.Timed.{Timed}
 use Rattle.grid_clock.specs.Schedule.{Grid, Fires, FiresNothing, IsOld, NoIssue, NotAfter, NotBehind, Issues}
 use Rattle.grid_clock.specs.Schedule.{no_issue, issue, Quiets, no_quiet, quiet, Turns, no_turn, idle, turn}
@@ -81,8 +80,7 @@ module _ (image : Image) (world : World) (formed : Formed image) (sound : Sound 
   -- of one event and of the same event
   step_same : (s t u : State) (e f : Event) → Fit image world s → e ≡ f → Step image s e t → Step image s f u
       → t ≡ u
-  step_same s t u e f fit same a b =
-      step_one s t u e fit a (subst (λ (x : Event). Step image s x u) (sym same) b)
+  step_same s t u e f fit same a b = step_one s t u e fit a (rw same b)
 
   -- a firing match of an instance is of one port
   fires_one : (s : State) (w i p q : ℕ) → Fit image world s → Fires image s w i p → Fires image s w i q
@@ -176,37 +174,30 @@ module _ (g : Grid) (world : World) (formed : Formed g.image) (sound : Sound g.i
   turns_one began s t u k es fs fit (turn {t = b} {events = xs} e w i p l may first st rest)
       (turn {t = d} {events = ys} f a j q m may2 least st2 rest2) =
       let z = not_after_both w i a j (first a j q may2) (least w i p may) in
-      let there : Fires g.image s w i q = subst (λ (n : ℕ). Fires g.image s w n q) (sym z.1)
-      (subst (λ (v : ℕ). Fires g.image s v j q) (sym z.0) may2.fires) in
+      let there : Fires g.image s w i q = rw z.1 (rw z.0 may2.fires) in
       let pq : p ≡ q = fires_one g.image world formed sound s w i p q fit may.fires there in
       let same : Match w i p ≡ Match a j q = match_is w i p a j q z.0 z.1 pq in
       let bd : b ≡ d = step_same g.image world formed sound s b d (Match w i p) (Match a j q) fit same st
       st2 in
-      let on : Turns g began (suc e) b ys u = subst (λ (z : State). Turns g began (suc e) z ys u) (sym bd)
-      rest2 in
+      let on : Turns g began (suc e) b ys u = rw bd rest2 in
       let r = turns_one began b t u (suc e) xs ys (step_fit g.image world formed sound s b (Match w i p) fit
       st) rest on in
       (cons_is (Match w i p) (Match a j q) xs ys same r.0, r.1)
 
   cycle_fit : (s t : State) (es : List Event) → Fit g.image world s → Cycle g s es t → Fit g.image world t
-  cycle_fit s t es fit c = turns_fit s c.settled t 0 c.firings
-      (quiets_fit g.image world formed sound s c.issued c.settled c.quiets
-      (issues_fit g.image world formed sound s c.issued c.issues fit c.first) c.second) c.third
+  cycle_fit s t es fit c = turns_fit _ _ _ _ _ (quiets_fit _ _ formed sound _ _ _ _ (issues_fit _ _ formed
+      sound _ _ _ fit c.first) c.second) c.third
 
   cycle_one : (s t u : State) (es fs : List Event) → Fit g.image world s → Cycle g s es t → Cycle g s fs u
       → (es ≡ fs) × (t ≡ u)
   cycle_one s t u es fs fit c d =
-      let fit1 = issues_fit g.image world formed sound s c.issued c.issues fit c.first in
-      let a = issues_one g.image world formed sound s c.issued d.issued c.issues d.issues fit c.first
-      c.no_issue d.first d.no_issue in
-      let fit2 = quiets_fit g.image world formed sound s c.issued c.settled c.quiets fit1 c.second in
-      let second : Quiets g.image s c.issued d.quiets d.settled =
-      subst (λ (z : State). Quiets g.image s z d.quiets d.settled) (sym a.1) d.second in
-      let b = quiets_one g.image world formed sound s c.issued c.settled d.settled c.quiets d.quiets fit1
-      c.second c.no_quiet second d.no_quiet in
-      let third : Turns g s 0 c.settled d.firings u = subst (λ (z : State). Turns g s 0 z d.firings u)
-      (sym b.1) d.third in
-      let e = turns_one s c.settled t u 0 c.firings d.firings fit2 c.third third in
+      let fit1 = issues_fit _ _ formed sound _ _ _ fit c.first in
+      let a = issues_one _ _ formed sound _ _ _ _ _ fit c.first c.no_issue d.first d.no_issue in
+      let fit2 = quiets_fit _ _ formed sound _ _ _ _ fit1 c.second in
+      let second : Quiets g.image s c.issued d.quiets d.settled = rw a.1 d.second in
+      let b = quiets_one _ _ formed sound _ _ _ _ _ _ fit1 c.second c.no_quiet second d.no_quiet in
+      let third : Turns g s 0 c.settled d.firings u = rw b.1 d.third in
+      let e = turns_one _ _ _ _ _ _ _ fit2 c.third third in
       (c.parts ∙ (λ k. a.0 k ++ (b.0 k ++ e.0 k)) ∙ sym d.parts, e.1)
 
   stopping_one : (s t u : State) (es fs : List Event) → Fit g.image world s → Stopping g s es t
@@ -245,10 +236,7 @@ module _ (g : Grid) (world : World) (formed : Formed g.image) (sound : Sound g.i
       let x = issues_blocked s c.issued c.issues b.no_issue c.first in
       let second : Quiets g.image s s c.quiets c.settled =
       subst (λ (z : State). Quiets g.image s z c.quiets c.settled) x.1 c.second in
-      let y = quiets_blocked s s c.settled c.quiets b.no_quiet second in
-      let third : Turns g s 0 s c.firings t = subst (λ (z : State). Turns g s 0 z c.firings t) y.1 c.third in
-      let z = turns_blocked s s t 0 c.firings b third in
-      c.parts ∙ (λ k. x.0 k ++ (y.0 k ++ z k))
+      grind (arith, quiets_blocked, turns_blocked)
 
   stopping_blocked : (s t : State) (es : List Event) → Blocked g s → Stopping g s es t → ⊥
   stopping_blocked s t es b a = grind (arith, issues_blocked, both_ways)
@@ -295,19 +283,16 @@ module _ (g : Grid) (world : World) (formed : Formed g.image) (sound : Sound g.i
       absurd (one_kind g world formed sound s u mid (map event_of fs) (map event_of es) fit st c)
   cycles_one n s t u xs ys fit (goes {t = a} k es more some all c rest)
       (goes {t = b} m fs more2 some2 all2 d rest2) =
-      let r = cycle_one g world formed sound s a b (map event_of es) (map event_of fs) fit c d in
-      let on : Cycles g (suc n) a more2 u = subst (λ (z : State). Cycles g (suc n) z more2 u) (sym r.1)
-      rest2 in
-      let q = cycles_one (suc n) a t u more more2 (cycle_fit g world formed sound s a (map event_of es) fit c)
-      rest on in
-      let ev : es ≡ fs = made_one es fs r.0 in
+      let r = cycle_one _ _ formed sound _ _ _ _ _ fit c d in
+      let on : Cycles g (suc n) a more2 u = rw r.1 rest2 in
+      let q = cycles_one _ _ _ _ _ _ (cycle_fit _ _ formed sound _ _ _ fit c) rest on in
+      let ev : es ≡ fs = made_one _ _ r.0 in
       (all ∙ (λ h. in_cycle n (ev h) ++ q.0 h) ∙ sym all2, q.1)
 
   pub schedule_one : (xs ys : List Timed) (t u : State) → Schedule g world xs t → Schedule g world ys u
       → (xs ≡ ys) × (t ≡ u)
-  schedule_one xs ys t u a b = cycles_one 1 (core_opening g.image world) t u xs ys
-      (reached g.image world (facts_of g.image world (ports_there g.image formed) sound)
-      (core_opening g.image world) ([], same_refl (core_opening g.image world))).fit a b
+  schedule_one xs ys t u a b = cycles_one _ _ _ _ _ _ (reached _ _ (facts_of _ _ (ports_there _ formed) sound)
+      _ ([], same_refl _)).fit a b
 
 -- how the runs ended
 fault_one : (image : Image) (world : World) (t u : ℕ) (a : FaultsAt image world t)
@@ -335,16 +320,4 @@ clocked_one g world formed sound c d a b =
     (record { printed = c.printed; arrays = c.cells; took = a.took; fired = c.fired })
     (record { printed = d.printed; arrays = d.cells; took = b.took; fired = d.fired })
     (a.stops ∙ ap (λ (s : State). s.stopped) r.1 ∙ sym b.stops) a.run b.run in
-    let cycles : c.cycles ≡ d.cycles = a.cycles ∙ ap last_cycle r.0 ∙ sym b.cycles in
-    let printed : c.printed ≡ d.printed = sym a.printed ∙ ap (λ (s : State). printed_words s.memory.acts) r.1
-    ∙ b.printed in
-    let cells : c.cells ≡ d.cells = sym a.cells ∙ ap (λ (s : State). s.memory.cells) r.1 ∙ b.cells in
-    let fired : c.fired ≡ d.fired = sym a.fired ∙ ap (λ (s : State). length s.fired) r.1 ∙ b.fired in
-    λ k. record {
-      finish = how k;
-      events = r.0 k;
-      cycles = cycles k;
-      printed = printed k;
-      cells = cells k;
-      fired = fired k;
-    }
+    grind arith

@@ -6,8 +6,7 @@ use Rattle.grid_clock.proofs.Leading.{same_going, same_leads}
 use Rattle.grid_clock.proofs.matching.make_match.Goals as goal
 
 pub arrive-requires-clause-going : goal.arrive-requires-clause-going
-arrive-requires-clause-going c = same_going (image_of c.args.program.now) (token_of c.args.token ∷ [])
-    c.args.flow.now c.prepare.new.self c.prepare.ensures.same c.requires.going
+arrive-requires-clause-going c = same_going _ _ _ _ c.prepare.ensures.same c.requires.going
 
 pub returns-clause-leads : goal.returns-clause-leads
 returns-clause-leads c = same_leads (image_of c.args.program.now) (Match c.args.token.wave c.args.token.instr
