@@ -34,8 +34,7 @@ module _ (o : Order) (p : ℕ) (k : Kept) (l : p < length o.kept.items)
     (wave_is : k.wave ≡ (kept_at o p).wave) (instr_is : k.instr ≡ (kept_at o p).instr) where
   changed : unissued (slice_set o.kept.items p k) ≡ unissued o.kept.items
       → Indexed (slice_set o.kept.items p k) o.index o.waiting o.chain.wave
-  changed = O.set_indexed o.kept.items (slice_set o.kept.items p k) o.index o.waiting o.chain.wave o.ok p k l
-      wave_is instr_is refl
+  changed = O.set_indexed _ _ _ _ _ o.ok _ _ l wave_is instr_is refl
 
   pub answered : (a b : ℕ) → (kept_at o p).answer ≡ Some a → k.answer ≡ Some b
       → Indexed (slice_set o.kept.items p k) o.index o.waiting o.chain.wave
@@ -106,5 +105,4 @@ kept_still o p k l ew ei w i e = grind (
 
 pub found_at : (o : Order) → (p : ℕ) → p < length o.kept.items →
     entry_of o.kept.items (kept_at o p).wave (kept_at o p).instr ≡ Some (kept_at o p)
-found_at o p l = sym (F.here o.kept.items (place_in o.index) o.ok.index (kept_at o p).wave
-    (kept_at o p).instr p (o.ok.index p l) l refl refl)
+found_at o p l = sym (F.here _ (place_in o.index) o.ok.index _ _ _ (o.ok.index p l) l refl refl)

@@ -51,16 +51,13 @@ own_cell : (image : Image) (world : World) (formed : Formed image) (sound : Soun
     OnCell image world f.wave f.instr f.row f.index t → SameKey k.wave k.instr f.wave f.instr →
     (f.row ≡ array_at image k.instr - 1) × (f.index ≡ k.first)
 own_cell image world formed sound k right f t on key =
-    let here : OnCell image world k.wave k.instr f.row f.index t =
-    subst (λ (i : ℕ). OnCell image world k.wave i f.row f.index t) (sym key.instr)
-    (subst (λ (w : ℕ). OnCell image world w f.instr f.row f.index t) (sym key.wave) on) in
+    let here : OnCell image world k.wave k.instr f.row f.index t = rw key.instr (rw key.wave on) in
     let row : is_on_row (instr_at image k.instr).op (array_at image k.instr - 1) ≡ true =
     elim (O.cases_row image [] k.instr 0) [
       | inl z ↦ z.0
       | inr z ↦ absurd (both_ways (is_on_row (instr_at image k.instr).op f.row) (z.0 f.row) here.row)
     ] in
-    let there : OnCell image world k.wave k.instr (array_at image k.instr - 1) k.first right.time =
-    record {
+    let there : OnCell image world k.wave k.instr (array_at image k.instr - 1) k.first right.time = record {
       inst = right.inst;
       at = right.at;
       row = row;
@@ -86,20 +83,7 @@ module _ {P : Type 0} where
         let own = own_cell image world formed sound k right f sf.0 sf.1
         (record { wave = sym a; instr = sym b }) in
         far (sym z.1.row ∙ own.0 ∙ sym is) (sym z.1.index ∙ own.1)) in
-        let x = on.2 world began formed sound st going but in (
-          x.0,
-          (
-            x.1,
-            λ f q l h. elim (cases_eq q r) [
-              | inl a ↦ elim (cases_eq l k.first) [
-                | inl b ↦ none f (subst (λ (y : ℕ). front n.queues.entries.items r y ≡ Some f) b
-                    (subst (λ (y : ℕ). front n.queues.entries.items y l ≡ Some f) a h))
-                | inr b ↦ x.2 f q l h (λ y z. b z)
-              ]
-              | inr a ↦ x.2 f q l h (λ y z. a y)
-            ],
-          ),
-        ),
+        let x = on.2 world began formed sound st going but in (grind (arith, cases_eq)),
   )
 
 -- the data has come, and moves lead on
@@ -114,12 +98,10 @@ module _ {P : Type 0} (image : Image) (world : World) (began : List (Option Bega
   fills = grind arith
 
   parting : Parting image world began (content_of (record mid { starved = false }))
-  parting = L.fills image world began (content_of old)
-      (content_of (record mid { starved = false })) k fills calm.0.parting running right
+  parting = L.fills _ _ _ _ _ _ fills calm.0.parting running right
 
   issued : (w i : ℕ) → issued_in mid.order.kept.items w i ≡ issued_in old.order.kept.items w i
-  issued = L.issued image world began (content_of old)
-      (content_of (record mid { starved = false })) k fills calm.0.parting running right
+  issued = L.issued _ _ _ _ _ _ fills calm.0.parting running right
 
   stands : PartsStand image world began (record mid { starved = false })
   stands = record {
@@ -127,19 +109,16 @@ module _ {P : Type 0} (image : Image) (world : World) (began : List (Option Bega
     early_issued = λ j h. let r = subst (λ (x : code.Chain × List ℕ).
         EarlyIssued (issued_in old.order.kept.items) (chain_of x.0) x.1)
         (λ n. (sym filled.same_chain n, sym (ap early_ops filled.early) n)) calm.0.early_issued j h
-        in (r.0, issued mid.order.chain.wave j ∙ r.1);
-    early_all = λ cut w i a t e is x at me l.
-        subst (λ (y : code.Chain × List ℕ).
-        HasEarly image world (issued_in old.order.kept.items) (chain_of y.0) y.1)
-        (λ n. (sym filled.same_chain n, sym (ap early_ops filled.early) n)) calm.0.early_all cut w
-        i a t e (sym (issued w i) ∙ is) x at me l;
+        in (r.0, issued _ _ ∙ r.1);
+    early_all = λ cut w i a t e is x at me l. subst (λ (y : code.Chain × List ℕ). HasEarly image world
+        (issued_in old.order.kept.items) (chain_of y.0) y.1) (λ n.
+        (sym filled.same_chain n, sym (ap early_ops filled.early) n)) calm.0.early_all cut w i a t e (sym
+        (issued _ _) ∙ is) x at me l;
   }
 
   by : FrontsBy k.wave k.instr (content_of (record mid { starved = false }))
-  by e r j h n = L.bare_there image world began (content_of old)
-      (content_of (record mid { starved = false })) k fills calm.0.parting running right e.wave e.instr
-      (λ key. n (sym key.wave) (sym key.instr))
-      ∙ calm.1 e r j (subst (λ (es : List Queued). front es r j ≡ Some e) filled.fills.queued h)
+  by e r j h n = L.bare_there _ _ _ _ _ _ fills calm.0.parting running right _ _ (λ key. n (sym key.wave) (sym
+      key.instr)) ∙ calm.1 e r j (rw (← filled.fills.queued) h)
 
   drained : Moves image (content_of (record mid { starved = false })) drains.0 (content_of d) ×
       Calm image world began d
@@ -161,10 +140,9 @@ module _ {P : Type 0} (image : Image) (world : World) (began : List (Option Bega
   led = lead.2 world began formed sound (subst (Calm image world began) same drained.1)
 
   both : Moves image (content_of (record mid { starved = false })) (drains.0 ++ lead.0) led.0.mid
-  both = G.moves_on image (content_of (record mid { starved = false }))
-      (content_of (record d { starved = false })) led.0.mid drains.0 lead.0
-      (subst (λ (x : Parts P). Moves image (content_of (record mid { starved = false })) drains.0
-      (content_of x)) same drained.0) led.0.moves
+  both = G.moves_on _ _ _ _ _ _ (subst (λ (x : Parts P). Moves image (content_of (record mid {
+    starved = false;
+  })) drains.0 (content_of x)) same drained.0) led.0.moves
 
   pub told : t2 ≡ drains.0 ++ lead.0
   told = grind arith
@@ -173,8 +151,7 @@ module _ {P : Type 0} (image : Image) (world : World) (began : List (Option Bega
   calm_new = led.1
 
   pub right_new : RightTokens image world (drains.0 ++ lead.0)
-  right_new = (K.moves_keep image world formed sound began
-      (content_of (record mid { starved = false })) led.0.mid (drains.0 ++ lead.0) both parting).1
+  right_new = (K.moves_keep _ _ formed sound _ _ _ _ both parting).1
 
   took : (f p : Option ℕ) (s : Bool) → new.fault ≡ f → new.failed ≡ p → new.starved ≡ s →
       PartTookSo image (content_of old) k (drains.0 ++ lead.0) f p s (content_of new)

@@ -58,23 +58,9 @@ module _ (image : Image) (world : World) (began : List (Option Began)) (c d : Pa
   fills = record {
     counts = s.counts;
     memory = s.memory;
-    legal = subst (λ (v : Bool). Legal image world s.counts (asking image d) v d.chain s.memory)
-        (sym (ap has (f.fault ∙ going)))
-        (subst (λ (v : Chain). Legal image world s.counts (asking image d) false v s.memory) (sym f.chain)
-        (record {
-          cut = s.legal.cut;
-          ordered = s.legal.ordered;
-          settled = s.legal.settled;
-          halted = λ z. absurd (both_ways false refl z);
-        }));
+    legal = grind (arith, both_ways);
     partly = record {
-      right = λ w i x h. elim (cases w i) [
-        | inl y ↦ (let q : Some k' ≡ Some x = sym y.1 ∙ h in let e : k' ≡ x = cc in
-            subst (λ (v : Kept). IsKept image world (is_bare d w i) v) e
-            (whole (is_bare d w i) (bare_here w i y.0)))
-        | inr y ↦ subst (λ (v : Bool). IsKept image world v x) (sym (bare_there w i y.0))
-            (s.partly.right w i x (sym y.1 ∙ h))
-      ];
+      right = grind (arith, cases, whole, bare_here, bare_there);
       same = λ w i. s.partly.same w i ∙ sym (ap has (issued w i));
       told = λ w i a n e. s.partly.told w i a (sym (queued_same w i) ∙ n) (sym (issued w i) ∙ e);
       opened = λ w i a n e. elim (cases w i) [

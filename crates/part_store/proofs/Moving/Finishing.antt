@@ -48,9 +48,8 @@ pub counts : (image : Image) (world : World) (began : List (Option Began)) (c : 
     Parting image world began c → (e : Queued) → In e c.queued → Counts c e
 counts image world began c s e h =
     let q = (s.partly.sits e h).1 in
-    let r = O.some_more (issued_in c.kept e.wave e.instr) (s.counts e.wave e.instr) q.0
-    (sym (s.partly.same e.wave e.instr)) q.1 in
-    let x = entry_with (entry_of c.kept e.wave e.instr) r.0 r.1 in
+    let r = O.some_more _ _ _ (sym (s.partly.same e.wave e.instr)) q.1 in
+    let x = entry_with _ _ r.1 in
     record { request = x.0; is_kept = x.1; answer = r.0; answered = x.2 }
 
 module _ {P : Type 0} (image : Image) (world : World) (formed : Formed image) (sound : Sound image)
@@ -77,9 +76,7 @@ module _ {P : Type 0} (image : Image) (world : World) (formed : Formed image) (s
   at = A.flagged s.order p e.wave e.instr flag
 
   found : entry_of s.order.kept.items e.wave e.instr ≡ Some (kept_at s.order p)
-  found = subst (λ (i : ℕ). entry_of s.order.kept.items e.wave i ≡ Some (kept_at s.order p)) at.instr
-      (subst (λ (w : ℕ). entry_of s.order.kept.items w (kept_at s.order p).instr ≡ Some (kept_at s.order p))
-      at.wave (U.found image s.order p l))
+  found = rw (← at.instr) (rw (← at.wave) (U.found image s.order p l))
 
   word_so : word ≡ word_of image (content_of s) e
   word_so = word_is
@@ -111,8 +108,7 @@ module _ {P : Type 0} (image : Image) (world : World) (formed : Formed image) (s
 
   moves : Moves image (content_of s) (sends image e.wave e.instr (operands_at image (kept_at s.order p))
       (word_of image (content_of s) e)) (content_of n)
-  moves = subst (λ (ts : List Token). Moves image (content_of s) ts (content_of n))
-      (append-nil (sends image e.wave e.instr (operands_at image (kept_at s.order p))
+  moves = rw (← append-nil (sends image e.wave e.instr (operands_at image (kept_at s.order p))
       (word_of image (content_of s) e))) (follows e fol going followed stays)
 
   has_same : (w i : ℕ) → has (issued_in n.order.kept.items w i) ≡ has (issued_in s.order.kept.items w i)
@@ -135,19 +131,14 @@ module _ {P : Type 0} (image : Image) (world : World) (formed : Formed image) (s
   finishes = (
     moves,
     record {
-      parting = (K.moves_keep image world formed sound began (content_of s) (content_of n) (sends image e.wave
-          e.instr (operands_at image (kept_at s.order p)) (word_of image (content_of s) e)) moves
-          st.parting).0;
+      parting = (K.moves_keep _ _ formed sound _ _ _ _ moves st.parting).0;
       early_issued = λ j h. let r = subst (λ (x : code.Chain × List ℕ). EarlyIssued (issued_in
           s.order.kept.items) (chain_of x.0) x.1) (λ i. (sym same.chain i, sym (ap early_ops same.early) i))
           st.early_issued j h in
-          O.some_more (issued_in n.order.kept.items n.order.chain.wave j)
-          (issued_in s.order.kept.items n.order.chain.wave j) r.0 (has_same n.order.chain.wave j) r.1;
-      early_all = λ cut w i a t x is y at2 me m. let r = O.some_more (issued_in s.order.kept.items w i)
-          (issued_in n.order.kept.items w i) a (sym (has_same w i)) is in
-          subst (λ (z : code.Chain × List ℕ).
-          HasEarly image world (issued_in s.order.kept.items) (chain_of z.0) z.1)
-          (λ j. (sym same.chain j, sym (ap early_ops same.early) j)) st.early_all cut w i r.0 t
-          x r.1 y at2 me m;
+          O.some_more _ _ _ (has_same _ _) r.1;
+      early_all = λ cut w i a t x is y at2 me m. let r = O.some_more _ _ _ (sym (has_same _ _)) is in
+          subst (λ (z : code.Chain × List ℕ). HasEarly image world (issued_in s.order.kept.items) (chain_of
+          z.0) z.1) (λ j. (sym same.chain j, sym (ap early_ops same.early) j)) st.early_all cut w i r.0 t x
+          r.1 y at2 me m;
     },
   )

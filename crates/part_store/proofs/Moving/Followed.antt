@@ -32,14 +32,12 @@ module _ {P : Type 0} where
     one.1 ∙ ap (λ (ts : List Token). ts ++ one.0) all.1 ∙ append_assoc t0 all.0 one.0,
     λ world began formed sound st going but.
         let x = all.2 world began formed sound st going but in
-        let on = (F.front_in b.queues.entries.items r j e h).1 in
-        let fol : FrontGoes (content_of b) e =
-        record { first = on_its_cell b.queues.entries.items r j e h; whole = whole } in
+        let on = (F.front_in _ _ _ _ h).1 in
+        let fol : FrontGoes (content_of b) e = record { first = on_its_cell _ _ _ _ h; whole = whole } in
         let y = one.2 world began formed sound x.1 (fault ∙ going) fol in (
-          L.moves_on image (content_of a) (content_of b) (content_of c) all.0 one.0 x.0 y.0,
+          L.moves_on _ _ _ _ _ _ x.0 y.0,
           y.1,
           λ f q l g n. ap (λ (m : _). is_in m f.wave f.instr) bare ∙ x.2 f q l (sym (N.first_other
-              b.queues.entries.items e.row e.index q l (λ y z. n (y ∙ on.row) (z ∙ on.index))) ∙ subst (λ
-              (es : List Queued). front es q l ≡ Some f) queued g) n,
+              _ _ _ _ _ (λ y z. n (y ∙ on.row) (z ∙ on.index))) ∙ rw (← queued) g) n,
         ),
   )

@@ -136,16 +136,14 @@ module _ {P : Type 0} (image : Image) (world : World) (formed : Formed image) (s
     may = record {
       going = refl;
       current = waits_now.1;
-      fresh = O.no_more (parting.counts k.wave k.instr) (issued_in s.order.kept.items k.wave k.instr)
-          (parting.partly.same k.wave k.instr) fresh;
+      fresh = O.no_more _ _ (parting.partly.same k.wave k.instr) fresh;
       turn = may_whole.turn;
     };
     first = O.first_of image k;
   }
 
   pub is_memory_now : is_in s.bare k.wave k.instr ≡ false → is_memory image k.instr ≡ true
-  is_memory_now b = (K.right_of image world formed sound began (content_of s) parting k
-      (waits false b)).memory
+  is_memory_now b = (K.right_of _ _ formed sound _ _ parting _ (waits _ b)).memory
 
   module _ (n : Parts P) (word : ℕ) (within : is_past_at image k ≡ false) (a : Ask)
       (kept : n.order.kept.items ≡ slice_set s.order.kept.items p
@@ -192,8 +190,7 @@ module _ {P : Type 0} (image : Image) (world : World) (formed : Formed image) (s
     stands : (tokens : List Token) → Moves image (content_of s) tokens (content_of n) →
         PartsStand image world began n
     stands tokens moves = record {
-      parting = (K.moves_keep image world formed sound began (content_of s)
-          (content_of n) tokens moves parting).0;
+      parting = (K.moves_keep _ _ formed sound _ _ _ _ moves parting).0;
       early_issued = U.early_now image world formed sound s.order n.order parting.counts parting.memory
           (asking image (content_of s)) (asking image (content_of n)) legal parting.partly.same
           calm.0.early_issued calm.0.early_all k.wave k.instr a.xs a.req a.may inside new_same passed;
@@ -222,22 +219,21 @@ module _ {P : Type 0} (image : Image) (world : World) (formed : Formed image) (s
 
     opens_so : is_in s.bare k.wave k.instr ≡ true → OpensQueue image (content_of s) k
     opens_so b =
-        let r = and_parts (not (is_past_at image k))
-        (ltb (open_queues s.queues.entries.items) 16 || holds_op s.queues.entries.items
-        (instr_at image k.instr).op k.first)
-        (subst (λ (x : Bool). cond x (not (is_past_at image k) &&
-        (ltb (open_queues s.queues.entries.items) 16 || holds_op s.queues.entries.items
-        (instr_at image k.instr).op k.first))
-        (nat_eq (length s.queues.entries.items) 0 || not (is_past_at image k)) ≡ true) b goes.rule) in
+        let r = and_parts (not (is_past_at image k)) (ltb (open_queues s.queues.entries.items) 16 || holds_op
+        s.queues.entries.items (instr_at image k.instr).op k.first) (subst (λ (x : Bool). cond x (not
+        (is_past_at image k) && (ltb (open_queues s.queues.entries.items) 16 || holds_op
+        s.queues.entries.items (instr_at image k.instr).op k.first)) (nat_eq (length s.queues.entries.items) 0
+        || not (is_past_at image k)) ≡ true) b goes.rule) in
         record {
-          waits = waits true b;
+          waits = waits _ b;
           current = waits_now.1;
           next = next_bare b;
           within = within;
           going = going;
-          room = elim (either (ltb (open_queues s.queues.entries.items) 16)
-              (holds_op s.queues.entries.items (instr_at image k.instr).op k.first) r.1)
-              [ inl h ↦ inr (ltb-true (open_queues s.queues.entries.items) 16 h) | inr h ↦ inl h ];
+          room = elim (either _ _ r.1) [
+            | inl h ↦ inr (ltb-true (open_queues s.queues.entries.items) 16 h)
+            | inr h ↦ inl h
+          ];
         }
 
     goes_so : is_in s.bare k.wave k.instr ≡ false → GoesByChain image (content_of s) k
@@ -248,29 +244,23 @@ module _ {P : Type 0} (image : Image) (world : World) (formed : Formed image) (s
         (holds_op s.queues.entries.items (instr_at image k.instr).op k.first ≡ true)) →
         Moves image (content_of s) [] (content_of n) × Calm image world began n
     waits_on (inl b) =
-        let g = outside_moved 0 (joined (entry_at image k) s.queues.entries.items)
-        (counted n 0 within (ask_bare b) kept passed bare fault
-        (joined (entry_at image k) s.queues.entries.items) queued) in
+        let g = outside_moved 0 (joined (entry_at image k) s.queues.entries.items) (counted n 0 within
+        (ask_bare b) kept passed bare fault (joined (entry_at image k) s.queues.entries.items) queued) in
         let m : Moves image (content_of s) [] (content_of n) = opens k calm.1 (opens_so b) g stays in (
           m,
           (
-            stands n 0 within (ask_bare b) kept passed bare fault
-                [] m,
-            K.opened_fronts image world formed sound began (content_of s)
-                (content_of n) parting k calm.1 (opens_so b) g,
+            stands n 0 within (ask_bare b) kept passed bare fault [] m,
+            K.opened_fronts _ _ formed sound _ _ _ parting _ calm.1 (opens_so b) g,
           ),
         )
     waits_on (inr h) =
-        let g = outside_moved 0 (joined (entry_at image k) s.queues.entries.items)
-        (counted n 0 within (ask_whole h.0) kept passed bare fault
-        (joined (entry_at image k) s.queues.entries.items) queued) in
+        let g = outside_moved 0 (joined (entry_at image k) s.queues.entries.items) (counted n 0 within
+        (ask_whole h.0) kept passed bare fault (joined (entry_at image k) s.queues.entries.items) queued) in
         let m : Moves image (content_of s) [] (content_of n) = joins k calm.1 (goes_so h.0) h.1 g stays in (
           m,
           (
-            stands n 0 within (ask_whole h.0) kept passed bare fault
-                [] m,
-            K.joined_fronts image world formed sound began (content_of s)
-                (content_of n) parting k calm.1 (goes_so h.0) h.1 g,
+            stands n 0 within (ask_whole h.0) kept passed bare fault [] m,
+            K.joined_fronts _ _ formed sound _ _ _ parting _ calm.1 (goes_so h.0) h.1 g,
           ),
         )
 
@@ -333,8 +323,7 @@ module _ {P : Type 0} (image : Image) (world : World) (formed : Formed image) (s
         m,
         (
           record {
-            parting = (K.moves_keep image world formed sound began (content_of s)
-                (record (content_of s) { fault = Some (array_at image k.instr) }) [] m parting).0;
+            parting = (K.moves_keep _ _ formed sound _ _ _ [] m parting).0;
             early_issued = calm.0.early_issued;
             early_all = calm.0.early_all;
           },

@@ -63,25 +63,21 @@ module _ (image : Image) (world : World) (formed : Formed image) (sound : Sound 
   free_cell : (r : ℕ) → is_on_row (instr_at image k.instr).op r ≡ true →
       (array_at image k.instr - 1 ≡ r) × (holds c.queued r k.first ≡ false)
   free_cell r e = elim (O.cases_row image c.queued k.instr k.first) [
-    | inl h ↦ (let q : array_at image k.instr - 1 ≡ r =
-        T.row_is_op (instr_at image k.instr).op (array_at image k.instr - 1) r h.0 e in
+    | inl h ↦ (let q : array_at image k.instr - 1 ≡ r = T.row_is_op _ _ _ h.0 e in
         (q, subst (λ (n : ℕ). holds c.queued n k.first ≡ false) q (sym h.1 ∙ held)))
     | inr h ↦ absurd (both_ways (is_on_row (instr_at image k.instr).op r) (h.0 r) e)
   ]
 
   pub word_is : word ≡ answer image k.instr (operands_at image k) memory
-  word_is = answers.answer ∙ sym ((O.operands_alike image k om).0)
-      ∙ sym (O.answer_is image k.instr (operands_at image k) om)
-      ∙ elim (O.cases_row image c.queued k.instr k.first) [
+  word_is = answers.answer ∙ sym ((O.operands_alike image k om).0) ∙ sym (O.answer_is image k.instr
+      (operands_at image k) om) ∙ elim (O.cases_row image c.queued k.instr k.first) [
         | inl h ↦ elim (cases_Bool (is_store_op (instr_at image k.instr).op)) [
-          | inl s ↦ O.answer_store image k.instr (operands_at image k) om s
-              ∙ sym (O.answer_store image k.instr (operands_at image k) memory s)
-          | inr s ↦ O.answer_load image k.instr (array_at image k.instr - 1) (operands_at image k) om h.0 s
-              ∙ ap (cell c.outside.cells (array_at image k.instr - 1)) first_is
-              ∙ p.free (array_at image k.instr - 1) k.first (free_cell (array_at image k.instr - 1) h.0).1
-              ∙ ap (cell memory.cells (array_at image k.instr - 1)) (sym first_is)
-              ∙ sym (O.answer_load image k.instr (array_at image k.instr - 1)
-              (operands_at image k) memory h.0 s)
+          | inl s ↦ O.answer_store image k.instr (operands_at image k) om s ∙ sym (O.answer_store _ _ _ _ s)
+          | inr s ↦ O.answer_load image k.instr (array_at image k.instr - 1) (operands_at image k) om h.0 s ∙
+              ap (cell c.outside.cells (array_at image k.instr - 1)) first_is ∙ p.free (array_at image k.instr
+              - 1) k.first (free_cell (array_at image k.instr - 1) h.0).1 ∙ ap (cell memory.cells (array_at
+              image k.instr - 1)) (sym first_is) ∙ sym (O.answer_load image k.instr (array_at image k.instr -
+              1) (operands_at image k) memory h.0 s)
         ]
         | inr h ↦ O.no_cells image k.instr (operands_at image k) memory c.outside.cells h.0
       ]
@@ -148,24 +144,15 @@ module _ (image : Image) (world : World) (formed : Formed image) (sound : Sound 
   left_free : (r j : ℕ) → holds c.queued r j ≡ false → cell left.cells r j ≡ cell memory'.cells r j
   left_free r j n = elim (cases_Bool (is_store_op (instr_at image k.instr).op)) [
     | inl s ↦ (let q = C.store_row image k.instr s in
-        ap (λ (cs : List (List ℕ)). cell cs r j) (left_store q.0 s q.1)
-        ∙ elim (same_place q.0 r j) [
-          | inl z ↦ subst (λ (m : ℕ). cell
-              (C.stored c.outside.cells q.0 k.first (slice_index (operands_at image k) 1)) r m ≡ cell
-              (C.stored memory.cells q.0 k.first (slice_index (operands_at image k) 1)) r m) z.1
-              (subst (λ (m : ℕ). cell (C.stored c.outside.cells q.0 k.first
-              (slice_index (operands_at image k) 1)) m k.first ≡ cell
-              (C.stored memory.cells q.0 k.first (slice_index (operands_at image k) 1)) m k.first) z.0
-              (C.stored_here c.outside.cells memory.cells q.0 k.first (slice_index (operands_at image k) 1)
-              (p.shape q.0)))
+        ap (λ (cs : List (List ℕ)). cell cs r j) (left_store q.0 s q.1) ∙ elim (same_place q.0 r j) [
+          | inl z ↦ rw (← z.1) (rw (← z.0) (C.stored_here c.outside.cells memory.cells q.0 k.first
+              (slice_index (operands_at image k) 1) (p.shape q.0)))
           | inr z ↦ C.stored_there c.outside.cells q.0 k.first (slice_index (operands_at image k) 1) r j z
               ∙ p.free r j n ∙ sym (C.stored_there memory.cells q.0 k.first
               (slice_index (operands_at image k) 1) r j z)
-        ]
-        ∙ sym (ap (λ (cs : List (List ℕ)). cell cs r j) (memory_store q.0 s q.1)))
-    | inr s ↦ ap (λ (cs : List (List ℕ)). cell cs r j) (left_plain s) ∙ p.free r j n
-        ∙ sym (ap (λ (cs : List (List ℕ)). cell cs r j)
-        (C.plain_cells image k.instr (operands_at image k) memory s))
+        ] ∙ sym (ap (λ (cs : List (List ℕ)). cell cs r j) (memory_store q.0 s q.1)))
+    | inr s ↦ ap (λ (cs : List (List ℕ)). cell cs r j) (left_plain s) ∙ p.free r j n ∙ sym (ap (λ (cs : List
+        (List ℕ)). cell cs r j) (C.plain_cells image k.instr (operands_at image k) memory s))
   ]
     where
       same_place : (q r j : ℕ) → ((q ≡ r) × (k.first ≡ j)) ⊎ C.Differ q k.first r j
@@ -176,11 +163,9 @@ module _ (image : Image) (world : World) (formed : Formed image) (sound : Sound 
       cell left.cells r j ≡ cell c.outside.cells r j
   left_held r j e h = elim (cases_Bool (is_store_op (instr_at image k.instr).op)) [
     | inl s ↦ (let q = C.store_row image k.instr s in
-        ap (λ (cs : List (List ℕ)). cell cs r j) (left_store q.0 s q.1)
-        ∙ C.stored_there c.outside.cells q.0 k.first (slice_index (operands_at image k) 1) r j
-        (λ x y. both_ways (holds c.queued r j)
-        (subst (λ (m : ℕ). holds c.queued r m ≡ false) y
-        (subst (λ (m : ℕ). holds c.queued m k.first ≡ false) x (free_cell q.0 q.1).1)) (ap has h)))
+        ap (λ (cs : List (List ℕ)). cell cs r j) (left_store q.0 s q.1) ∙ C.stored_there c.outside.cells q.0
+        k.first (slice_index (operands_at image k) 1) r j (λ x y. both_ways (holds c.queued r j) (rw (← y) (rw
+        (← x) (free_cell q.0 q.1).1)) (ap has h)))
     | inr s ↦ ap (λ (cs : List (List ℕ)). cell cs r j) (left_plain s)
   ]
 
@@ -194,9 +179,8 @@ module _ (image : Image) (world : World) (formed : Formed image) (sound : Sound 
 
   left_rows : length left.cells ≡ length c.outside.cells
   left_rows = elim (cases_Bool (is_store_op (instr_at image k.instr).op)) [
-    | inl s ↦ (let q = C.store_row image k.instr s in
-        ap (λ (cs : List (List ℕ)). length cs) (left_store q.0 s q.1)
-        ∙ C.stored_rows c.outside.cells q.0 k.first (slice_index (operands_at image k) 1))
+    | inl s ↦ (let q = C.store_row _ _ s in
+        ap (λ (cs : List (List ℕ)). length cs) (left_store _ s q.1) ∙ C.stored_rows _ _ _ _)
     | inr s ↦ ap (λ (cs : List (List ℕ)). length cs) (left_plain s)
   ]
 
@@ -212,13 +196,8 @@ module _ (image : Image) (world : World) (formed : Formed image) (sound : Sound 
       subst (λ (m : ℕ). OnCell image world k.wave m r j u) (sym key.instr)
       (subst (λ (m : ℕ). OnCell image world m i r j u) (sym key.wave) there) in
       let q = free_cell r there'.row in
-      let here : OnCell image world k.wave k.instr r k.first req.time =
-      record {
-        inst = req.inst;
-        at = req.at;
-        row = there'.row;
-        index = ap (λ (ys : List ℕ). slice_index ys 0) req.operands ∙ first_is;
-      } in
+      let here : OnCell image world k.wave k.instr r k.first req.time = grind (arith, slice_index, first_is)
+      in
       let s = T.one_there image world formed sound k.wave k.instr r k.first req.time r j u here there' in
       both_ways (holds c.queued r j) (subst (λ (m : ℕ). holds c.queued r m ≡ false) s.index q.1) (ap has h)
 
@@ -231,7 +210,7 @@ module _ (image : Image) (world : World) (formed : Formed image) (sound : Sound 
       | inl key ↦ absurd (both_ways (is_bare c w i) (whole w i key) (sym (go.bare w i) ∙ b))
       | inr old ↦ queued_same w i ∙ p.opened w i a old.1 (sym (go.bare w i) ∙ b)
     ];
-    sits = λ e h. let s = p.sits e (subst (λ (es : List Queued). In e es) go.queued_are h) in (
+    sits = λ e h. let s = p.sits e (rw (← go.queued_are) h) in (
       s.0,
       elim (with_key_cases k.wave k.instr (Some (answer image k.instr (operands_at image k) memory)) counts
           e.wave e.instr) [
@@ -239,13 +218,13 @@ module _ (image : Image) (world : World) (formed : Formed image) (sound : Sound 
             | inr z ↦ (s.1.0, z.1 ∙ s.1.1)
           ],
     );
-    numbered = λ e h. p.numbered e (subst (λ (es : List Queued). In e es) go.queued_are h);
-    rising = subst (RisingEntries image world) (sym go.queued_are) p.rising;
+    numbered = λ e h. p.numbered e (rw (← go.queued_are) h);
+    rising = rw go.queued_are p.rising;
     every = λ e r j t h on w i a u n there l. elim (count_cases w i a n) [
       | inl key ↦ absurd (not_held r j u e w i key (sym (front_same r j) ∙ h) there)
       | inr old ↦ queued_same w i ∙ p.every e r j t (sym (front_same r j) ∙ h) on w i a u old.1 there l
     ];
-    few = subst (λ (es : List Queued). open_queues es ≤ 16) (sym go.queued_are) p.few;
+    few = rw go.queued_are p.few;
     free = λ r j n. ap (λ (h : Holding). cell h.cells r j) go.outside_is ∙ left_free r j (ap has (sym
         (front_same r j)) ∙ n);
     before = λ e r j t h on. ap (λ (x : Holding). cell x.cells r j) go.outside_is ∙ left_held r j e (sym
@@ -254,8 +233,7 @@ module _ (image : Image) (world : World) (formed : Formed image) (sound : Sound 
         k.instr (operands_at image k) memory);
     shape = λ r. ap (λ (x : Holding). length (row x.cells r)) go.outside_is ∙ left_shape r ∙ p.shape r ∙ sym
         (C.after_shape image k.instr (operands_at image k) memory r);
-    outside = subst (λ (x : Holding). HoldsOut began (O.with_cells memory' x.cells) x) (sym go.outside_is)
-        outside_left;
+    outside = rw go.outside_is outside_left;
   }
     where
       whole : (w i : ℕ) → SameKey k.wave k.instr w i → is_bare c w i ≡ false

@@ -66,16 +66,13 @@ module _ (image : Image) (world : World) (formed : Formed image) (sound : Sound 
         counted = record {
           counts = issued_with image s.counts s.memory k.wave k.instr xs;
           memory = effect_after image k.instr xs s.memory;
-          legal = subst (λ (b : Bool). Legal image world
-              (issued_with image s.counts s.memory k.wave k.instr xs) (asking image d) b d.chain
-              (effect_after image k.instr xs s.memory)) (sym (ap has (go.fault ∙ going)))
-              (B.new_legal image world facts s.counts c.chain false s.memory legal.settled k.wave k.instr xs
-              may req.time req.inst req.at req.operands req.memory legal.cut legal.ordered
-              (O.past_is image k xs first_is ∙ within) (asking image d) d.chain
-              (O.passes_alike image (issued_in d.kept)
-              (issued_with image s.counts s.memory k.wave k.instr xs) same c.chain d.chain go.passed));
+          legal = rw (ap has (go.fault ∙ going)) (B.new_legal image world facts s.counts c.chain false
+              s.memory legal.settled k.wave k.instr xs may req.time req.inst req.at req.operands req.memory
+              legal.cut legal.ordered (O.past_is image k xs first_is ∙ within) (asking image d) d.chain
+              (O.passes_alike image (issued_in d.kept) (issued_with image s.counts s.memory k.wave k.instr xs)
+              same c.chain d.chain go.passed));
           partly = partly;
-          fault = subst (FaultIs image world) (sym (go.fault ∙ going)) tt;
+          fault = rw (go.fault ∙ going) tt;
           quiet = λ e. absurd (both_ways (has d.fault) (ap has (go.fault ∙ going)) e);
         }
 
@@ -115,15 +112,12 @@ module _ (image : Image) (world : World) (formed : Formed image) (sound : Sound 
           (sym (s.partly.same e.wave e.instr)) q.1.1 in
           let kept : (x : Kept) × (entry_of c.kept e.wave e.instr ≡ Some x) =
           has_entry (entry_of c.kept e.wave e.instr) n.0 n.1 in
-          let ad : IsAddressed image world kept.0.wave kept.0.instr kept.0.first =
-          S.bare_kept image world (is_bare c e.wave e.instr) kept.0 b
-          (s.partly.right e.wave e.instr kept.0 kept.1) in
+          let ad : IsAddressed image world kept.0.wave kept.0.instr kept.0.first = S.bare_kept image world
+          (is_bare c e.wave e.instr) kept.0 b (s.partly.right e.wave e.instr kept.0 kept.1) in
           let key = O.entry_key c.kept e.wave e.instr kept.0 kept.1 in
-          let st : is_store_op (instr_at image e.instr).op ≡ true =
-          subst (λ (m : ℕ). is_store_op (instr_at image m).op ≡ true) key.instr ad.store in
-          let l : q.0.0 < legal.cut = S.store_passed image world formed sound false
-          (asking image c) s.counts c.chain s.memory legal e.wave e.instr q.1.0 q.0.0 e.row e.index q.1.1
-          st q.0.1 in
+          let st : is_store_op (instr_at image e.instr).op ≡ true = rw (← key.instr) ad.store in
+          let l : q.0.0 < legal.cut = S.store_passed image world formed sound false (asking image c) s.counts
+          c.chain s.memory legal e.wave e.instr q.1.0 q.0.0 e.row e.index q.1.1 st q.0.1 in
           let m : legal.cut ≤ req.time = S.from image world formed sound false
           (asking image c) s.counts c.chain s.memory legal k.wave k.instr xs req may in
           T.earlier_by image world formed sound e f q.0.0 req.time q.0.1 here (omega (arith, l, m))
@@ -145,9 +139,8 @@ module _ (image : Image) (world : World) (formed : Formed image) (sound : Sound 
           N.one_more (holds c.queued f.row f.index) (open_queues c.queued) = N.open_joined f c.queued in
           let b1 : N.one_more (holds c.queued f.row f.index) (open_queues c.queued) ≡ open_queues c.queued =
           ap (λ (b : Bool). N.one_more b (open_queues c.queued)) (ap has h) in
-          let c1 : open_queues c.queued ≤ 16 = s.partly.few in omega (arith, a1, b1, c1))
-          (λ r j x on g. let z : front (joined f c.queued) r j ≡ Some e =
-          T.joined_front image world formed sound f c.queued r j e s.partly.rising
+          let c1 : open_queues c.queued ≤ 16 = s.partly.few in omega (arith, a1, b1, c1)) (λ r j x on g. let z
+          : front (joined f c.queued) r j ≡ Some e = T.joined_front _ _ formed sound _ _ _ _ _ s.partly.rising
           (move_to r j (Some e) on h) (behind e h) in
           let y : Some e ≡ Some x = sym z ∙ g in inl (move_to r j (Some e) on h ∙ y))
           (λ r j v i a u on g n there l. let z : Some e ≡ None = sym (move_to r j (Some e) on h) ∙ g in cc)
@@ -186,23 +179,8 @@ module _ (image : Image) (world : World) (formed : Formed image) (sound : Sound 
               elim (lt_or_eq req.time u l) [
                 | inl y ↦ S.none_before_early image world formed sound false (asking image c) s.counts c.chain
                     s.memory legal v i a u r j n there (array_at image k.instr - 1) k.first req.time m y
-                    (record {
-                      inst = req.inst;
-                      fires = req.at.fires;
-                      store = subst (λ (q : ℕ). is_store_op (instr_at image q).op ≡ true) (sym req.at.instr)
-                          st;
-                      row = subst (λ (q : ℕ). is_on_row (instr_at image q).op (array_at image k.instr - 1) ≡
-                          true) (sym req.at.instr) row;
-                      index = ap (λ (ys : List ℕ). slice_index ys 0) req.operands ∙ first_is;
-                    })
-                | inr y ↦ (let there' : OnCell image world v i r j req.time = subst (λ (q : ℕ). OnCell image
-                    world v i r j q) (sym y) there in
-                    let key = T.one_instance image world formed sound k.wave k.instr
-                    (array_at image k.instr - 1) k.first v i r j req.time here there' in
-                    let g : s.counts v i ≡ None =
-                    subst (λ (q : ℕ). s.counts v q ≡ None) key.instr
-                    (subst (λ (q : ℕ). s.counts q k.instr ≡ None) key.wave may.fresh) in
-                    let z : Some a ≡ None = sym n ∙ g in cc)
+                    (grind (arith, slice_index))
+                | inr y ↦ (grind (arith, T.one_instance, here))
               ]
             where
               lt_or_eq : (m n : ℕ) → m ≤ n → (m < n) ⊎ (m ≡ n)
@@ -212,18 +190,16 @@ module _ (image : Image) (world : World) (formed : Formed image) (sound : Sound 
       join_fronts : ((e : Queued) × (front c.queued (array_at image k.instr - 1) k.first ≡ Some e)) ⊎
           ((front c.queued (array_at image k.instr - 1) k.first ≡ None) × (is_bare c k.wave k.instr ≡ true)) →
           Fronts d
-      join_fronts which x r j h0 = let h : front (joined f c.queued) r j ≡ Some x = subst (λ (es : List
-          Queued). front es r j ≡ Some x) go.queued_are h0 in
+      join_fronts which x r j h0 = let h : front (joined f c.queued) r j ≡ Some x = rw (← go.queued_are) h0 in
           go.bare x.wave x.instr ∙ elim (cell_cases f r j) [
             | inl o ↦ elim which [
               | inl z ↦ (let y : Some z.0 ≡ Some x = sym (T.joined_front image world formed sound f c.queued r
                   j z.0 s.partly.rising (move_to r j (Some z.0) o.1 z.1) (behind z.0 z.1)) ∙ h in
                   let q : z.0 ≡ x = cc in
-                  subst (λ (e : Queued). is_bare c e.wave e.instr ≡ true) q
-                  (fronts z.0 r j (move_to r j (Some z.0) o.1 z.1)))
+                  rw (← q) (fronts z.0 r j (move_to r j (Some z.0) o.1 z.1)))
               | inr z ↦ (let y : Some f ≡ Some x = sym (F.joined_first f c.queued r j o.1 (move_to r j None
                   o.1 z.0)) ∙ h in
-                  let q : f ≡ x = cc in subst (λ (e : Queued). is_bare c e.wave e.instr ≡ true) q z.1)
+                  let q : f ≡ x = cc in rw (← q) z.1)
             ]
             | inr n ↦ fronts x r j (sym (F.joined_other f c.queued r j n.1) ∙ h)
           ]
@@ -235,8 +211,7 @@ module _ (image : Image) (world : World) (formed : Formed image) (sound : Sound 
 
       joined_now : Partly image world began (issued_with image s.counts s.memory k.wave k.instr xs)
           (effect_after image k.instr xs s.memory) d → Parting image world began d
-      joined_now new = counted k bare w xs req may first_is within 0
-          (joined (entry_at image k) c.queued) c.outside d go same_now new
+      joined_now new = counted _ _ w _ req may first_is within _ _ _ _ go same_now new
 
   -- rule 1
   opened : (c d : PartContent) → Parting image world began c → (k : Kept) → Fronts c → OpensQueue image c k →
@@ -247,14 +222,7 @@ module _ (image : Image) (world : World) (formed : Formed image) (sound : Sound 
       (s.partly.right k.wave k.instr k o.waits.kept) in
       let row : is_on_row (instr_at image k.instr).op (array_at image k.instr - 1) ≡ true =
       O.store_row image k.instr ad.store in
-      let req : RightRequest image world k.wave k.instr ad.inst.operands =
-      record {
-        time = ad.time;
-        inst = ad.inst;
-        at = ad.at;
-        operands = refl;
-        memory = T.row_memory image k.instr (array_at image k.instr - 1) row;
-      } in
+      let req : RightRequest image world k.wave k.instr ad.inst.operands = grind (arith, T.row_memory) in
       let may = may_next c s o.going k true o.waits o.current o.next ad.inst.operands in
       joined_now c s o.going fronts k true o.waits ad.inst.operands req may row ad.address o.within d go
       (elim (front_case c.queued (array_at image k.instr - 1) k.first) [
@@ -286,14 +254,7 @@ module _ (image : Image) (world : World) (formed : Formed image) (sound : Sound 
       (s.partly.right k.wave k.instr k o.waits.kept) in
       let row : is_on_row (instr_at image k.instr).op (array_at image k.instr - 1) ≡ true =
       O.store_row image k.instr ad.store in
-      let req : RightRequest image world k.wave k.instr ad.inst.operands =
-      record {
-        time = ad.time;
-        inst = ad.inst;
-        at = ad.at;
-        operands = refl;
-        memory = T.row_memory image k.instr (array_at image k.instr - 1) row;
-      } in
+      let req : RightRequest image world k.wave k.instr ad.inst.operands = grind (arith, T.row_memory) in
       let may = may_next c s o.going k true o.waits o.current o.next ad.inst.operands in
       join_fronts c s o.going fronts k true o.waits ad.inst.operands req may row ad.address o.within d go
       (elim (which (front c.queued (array_at image k.instr - 1) k.first))
@@ -310,8 +271,7 @@ module _ (image : Image) (world : World) (formed : Formed image) (sound : Sound 
 
   pub right_of : (c : PartContent) (s : Parting image world began c) (k : Kept) → Waits c k false →
       RightRequest image world k.wave k.instr (operands_at image k)
-  right_of c s k w = S.whole_kept image world (is_bare c k.wave k.instr) k w.bare_is
-      (s.partly.right k.wave k.instr k w.kept)
+  right_of c s k w = S.whole_kept _ _ _ _ w.bare_is (s.partly.right k.wave k.instr k w.kept)
 
   -- rule 2
   joined_so : (c d : PartContent) → Parting image world began c → (k : Kept) → Fronts c
@@ -319,12 +279,11 @@ module _ (image : Image) (world : World) (formed : Formed image) (sound : Sound 
       holds_op c.queued (instr_at image k.instr).op k.first ≡ true →
       Counted image c k 0 (joined (entry_at image k) c.queued) c.outside d → Parting image world began d
   joined_so c d s k fronts g h go = elim (O.cases_row image c.queued k.instr k.first) [
-    | inl z ↦ (let req = right_of c s k g.waits in
+    | inl z ↦ (let req = right_of _ s _ g.waits in
         let may = may_counts c s k g in
         let e = held_front c s g.going k z.0 h in
-        joined_now c s g.going fronts k false g.waits (operands_at image k) req may z.0
-        (O.first_of image k) g.within d go
-        (join_held c s g.going fronts k false g.waits (operands_at image k) req may z.0
+        joined_now c s g.going fronts k false g.waits (operands_at image k) req may z.0 (O.first_of image k)
+        g.within d go (join_held c s g.going fronts k false g.waits (operands_at image k) req may z.0
         (O.first_of image k) g.within d go e.0 e.1))
     | inr z ↦ absurd (both_ways (holds_op c.queued (instr_at image k.instr).op k.first) z.1 h)
   ]
@@ -350,17 +309,15 @@ module _ (image : Image) (world : World) (formed : Formed image) (sound : Sound 
       Parting image world began d × RightTokens image world
       (sends image k.wave k.instr (operands_at image k) word)
   issued_so c d s k word left g h answers go =
-      let req = right_of c s k g.waits in
+      let req = right_of _ s _ g.waits in
       let may = may_counts c s k g in
       let law = legal c s g.going in
-      let told : Performed began (instr_at image k.instr).op (k.first ∷ k.second ∷ 0 ∷ [])
-      (record {
+      let told : Performed began (instr_at image k.instr).op (k.first ∷ k.second ∷ 0 ∷ []) (record {
         cells = c.outside.cells;
         input = s.memory.input;
         left = s.memory.left;
         acts = s.memory.acts;
-      }) word left = answers began
-      (record {
+      }) word left = answers began (record {
         cells = c.outside.cells;
         input = s.memory.input;
         left = s.memory.left;
@@ -386,16 +343,14 @@ module _ (image : Image) (world : World) (formed : Formed image) (sound : Sound 
         record {
           counts = s.counts;
           memory = s.memory;
-          legal = subst (λ (b : Bool). Legal image world s.counts (asking image d) b d.chain s.memory) (sym
-              (ap has (go.fault ∙ going))) (subst (λ (x : Chain). Legal image world s.counts (asking image d)
-              false x s.memory) (sym go.chain) (record {
-                cut = law.cut;
-                ordered = law.ordered;
-                settled = law.settled;
-                halted = λ z. absurd (both_ways false refl z);
-              }));
+          legal = rw (ap has (go.fault ∙ going)) (rw go.chain (record {
+            cut = law.cut;
+            ordered = law.ordered;
+            settled = law.settled;
+            halted = λ z. absurd (both_ways false refl z);
+          }));
           partly = p;
-          fault = subst (FaultIs image world) (sym (go.fault ∙ going)) tt;
+          fault = rw (go.fault ∙ going) tt;
           quiet = λ z. absurd (both_ways (has d.fault) (ap has (go.fault ∙ going)) z);
         },
         W.sent_right image world formed sound began c false (asking image c) s.counts s.memory law s.partly e
@@ -413,9 +368,8 @@ module _ (image : Image) (world : World) (formed : Formed image) (sound : Sound 
   unfolding B.fault_here
   fault_so c s k f law may past waits req = (
     req.time,
-    B.fault_here image world facts s.counts c.chain false s.memory law.settled k.wave k.instr
-        (operands_at image k) may req.time req.inst req.at req.operands req.memory law.cut law.ordered past
-        (asking image c) waits,
+    B.fault_here _ _ facts s.counts _ _ _ law.settled _ _ _ may _ _ req.at req.operands req.memory _
+        law.ordered past (asking image c) waits,
     ap (array_at image) (sym req.at.instr),
   )
 
@@ -436,22 +390,7 @@ module _ (image : Image) (world : World) (formed : Formed image) (sound : Sound 
         legal = B.stop_legal image world facts s.counts c.chain false s.memory law.settled k.wave k.instr
             (operands_at image k) may req.time req.inst req.at req.operands req.memory law.cut law.ordered
             past (asking image c) waits;
-        partly = record {
-          right = s.partly.right;
-          same = s.partly.same;
-          told = s.partly.told;
-          opened = s.partly.opened;
-          sits = s.partly.sits;
-          numbered = s.partly.numbered;
-          rising = s.partly.rising;
-          every = s.partly.every;
-          few = s.partly.few;
-          free = s.partly.free;
-          before = s.partly.before;
-          rows = s.partly.rows;
-          shape = s.partly.shape;
-          outside = s.partly.outside;
-        };
+        partly = grind (arith, opened);
         fault = fault_so c s k f law may past waits req;
         quiet = λ z. f.none;
       }

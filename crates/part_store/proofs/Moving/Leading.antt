@@ -15,30 +15,22 @@ no_going c a e f = absurd (let g : Some a ≡ None = sym e ∙ f in cc)
 -- nothing moves where the chain is stopped
 stopped_stays : (image : Image) (c d : PartContent) (a : ℕ) (ts : List Token) → c.fault ≡ Some a →
     Moves image c ts d → (ts ≡ []) × (d ≡ c)
-stopped_stays image c d a ts e stays = (refl, refl)
-stopped_stays image c d a ts e (opens k f o g rest) = no_going c a e o.going
-stopped_stays image c d a ts e (joins k f g h go rest) = no_going c a e g.going
-stopped_stays image c d a ts e (issues k word left f g h answers go rest) = no_going c a e g.going
-stopped_stays image c d a ts e (follows first fol going go rest) = no_going c a e going
-stopped_stays image c d a ts e (stops k f) = no_going c a e f.going
+stopped_stays v0 v1 v2 v3 v4 v5 v6 = grind (arith, no_going)
 
 pub moves_on : (image : Image) (a b c : PartContent) (xs ys : List Token) → Moves image a xs b →
     Moves image b ys c → Moves image a (xs ++ ys) c
 moves_on image a b c xs ys stays more = more
-moves_on image a b c xs ys (opens {d = d} k f o g rest) more =
-    opens k f o g (moves_on image d b c xs ys rest more)
+moves_on image a b c xs ys (opens {d = d} k f o g rest) more = opens k f o g (moves_on _ _ _ _ _ _ rest more)
 moves_on image a b c xs ys (joins {d = d} k f g h go rest) more =
     joins k f g h go (moves_on image d b c xs ys rest more)
-moves_on image a b c xs ys (issues {d = d} {rest = r} k word left f g h answers go rest) more = subst (λ (ts :
-    List Token). Moves image a ts c) (sym (append_assoc (sends image k.wave k.instr (operands_at image k)
-    word) r ys)) (issues k word left f g h answers go (moves_on image d b c r ys rest more))
-moves_on image a b c xs ys (follows {d = d} {some = some} {rest = r} first fol going go rest) more =
-    subst (λ (ts : List Token). Moves image a ts c) (sym (append_assoc some r ys))
-    (follows first fol going go (moves_on image d b c r ys rest more))
+moves_on image a b c xs ys (issues {d = d} {rest = r} k word left f g h answers go rest) more = rw
+    (append_assoc (sends image k.wave k.instr (operands_at image k)
+    word) r ys) (issues k word left f g h answers go (moves_on image d b c r ys rest more))
+moves_on image a b c xs ys (follows {d = d} {some = some} {rest = r} first fol going go rest) more = rw
+    (append_assoc some r ys) (follows first fol going go (moves_on image d b c r ys rest more))
 moves_on image a b c xs ys (stops k f) more =
     let r = stopped_stays image _ c _ ys refl more in
-    subst (λ (ts : List Token). Moves image a ts c) (sym r.0)
-    (subst (λ (x : PartContent). Moves image a [] x) (sym r.1) (stops k f))
+    rw r.0 (rw r.1 (stops k f))
 
 pub same : (c : PartContent) → Alike c c
 same c = grind arith
@@ -87,17 +79,7 @@ module _ {P : Type 0} where
     λ world began formed sound calm.
         let r = all.2 world began formed sound calm in
         subst (λ (x : Parts P). Moves image (content_of a) all.0 (content_of x) × Calm image world began x)
-        (sym same) (
-          r.0,
-          (
-            record {
-              parting = r.1.0.parting;
-              early_issued = r.1.0.early_issued;
-              early_all = r.1.0.early_all;
-            },
-            r.1.1,
-          ),
-        ),
+        (sym same) (grind arith),
   )
 
 alike_on : (a b c : PartContent) → Alike a b → Alike b c → Alike a c
@@ -121,14 +103,5 @@ minded {P} image a b f t t0 t1 all = (
   all.1,
   λ world began formed sound calm.
       let r = all.2 world began formed sound calm in
-      let q = G.still_calm image world began b (record b { failed = f; starved = t }) r.1 refl refl refl refl
-      (λ n o h. h) in (
-        record {
-          mid = r.0.mid;
-          moves = r.0.moves;
-          alike = alike_on r.0.mid (content_of b) (content_of (record b { failed = f; starved = t }))
-              r.0.alike q.1;
-        },
-        q.0,
-      ),
+      grind (arith, G.still_calm, alike_on),
 )

@@ -11,11 +11,5 @@ use Rattle.store_buf.proofs.Stepping.{no_selector}
 pub sent : (image : Image) (k : Kept) (word : ℕ) → is_memory image k.instr ≡ true →
     tokens_to k.wave word (destinations image k.instr 0) ≡ sends image k.wave k.instr
     (operands_at image k) word
-sent image k word m = grind (
-  arith,
-  memory_is_op image k.instr,
-  no_selector,
-  no_advance,
-  sends_are image
-      k.wave k.instr (operands_at image k) word,
-)
+sent image k word m =
+    grind (arith, memory_is_op image k.instr, sends_are image k.wave k.instr (operands_at image k) word)

@@ -37,8 +37,7 @@ module _ (image : Image) (o : Order) (p : ℕ) (l : p < length o.kept.items) whe
   k = kept_at o p
 
   pub found : entry_of o.kept.items (kept_at o p).wave (kept_at o p).instr ≡ Some (kept_at o p)
-  found = sym (F.here o.kept.items (place_in o.index) o.ok.index (kept_at o p).wave (kept_at o p).instr p
-      (o.ok.index p l) l refl refl)
+  found = sym (F.here _ (place_in o.index) o.ok.index _ _ _ (o.ok.index p l) l refl refl)
 
   pub answered : (word : ℕ) (ks : List Kept) →
       ks ≡ slice_set o.kept.items p (record {
@@ -91,10 +90,8 @@ module _ (image : Image) (world : World) (formed : Formed image) (sound : Sound 
   going = record {
     legal = legal;
     early_issued = λ j h. let r = early_issued j h in
-        O.some_more (counts o.chain.wave j) (issued_in o.kept.items o.chain.wave j) r.0
-        (same o.chain.wave j) r.1;
-    early_all = λ cut v j a t e is x at me l. let r =
-        O.some_more (issued_in o.kept.items v j) (counts v j) a (sym (same v j)) is in
+        O.some_more _ _ _ (same o.chain.wave j) r.1;
+    early_all = λ cut v j a t e is x at me l. let r = O.some_more _ _ _ (sym (same v j)) is in
         early_all cut v j r.0 t e r.1 x at me l;
   }
 
@@ -106,21 +103,14 @@ module _ (image : Image) (world : World) (formed : Formed image) (sound : Sound 
   goes : After
   unfolding After
   goes = elim passed [
-    | inl q ↦ G.goes_next image world facts counts waiting false (chain_of o.chain) memory (early_ops o.early)
-        going w i xs req may inside after q.0 (chain_of n.chain) (early_ops n.early) q.1
+    | inl q ↦ G.goes_next _ _ facts counts waiting _ _ _ _ going _ _ _ req may inside after q.0 _ _ q.1
     | inr q ↦ (let load : is_load image i ≡ true = elim may.turn [ inl e ↦ absurd (q.0 e) | inr e ↦ e.0 ] in
-        let r = G.goes_early image world facts counts waiting false
-        (chain_of o.chain) memory (early_ops o.early) going w i xs req may inside after q.0 load in (
-          subst (λ (d : law.Chain). Passes image (issued_with image counts memory w i xs) (chain_of o.chain)
-              d) (sym q.1) r.0,
-          subst (λ (d : law.Chain). OrderGoes image world (issued_with image counts memory w i xs) after false
-              d (effect_after image i xs memory) (early_ops n.early)) (sym q.1) (early_alike image world
-              (issued_with image counts memory w i xs) after false (chain_of o.chain) (effect_after image i xs
-              memory) (i ∷ (early_ops o.early)) (early_ops n.early) (λ j e. elim e [
-                | inl h ↦ subst (λ (k : ℕ). In k (early_ops n.early)) (sym h) q.2.1
-                | inr h ↦ q.2.2 j h
-              ])
-              (λ j e. elim (q.2.0 j e) [ inl h ↦ inl (sym h) | inr h ↦ inr h ]) r.1),
+        let r = G.goes_early _ _ facts counts waiting _ _ _ _ going _ _ _ req may inside after q.0 load in (
+          rw q.1 r.0,
+          rw q.1 (early_alike _ _ (issued_with image counts memory w i xs) after _ _ _ _ _ (λ j e. elim e [
+            | inl h ↦ rw h q.2.1
+            | inr h ↦ q.2.2 j h
+          ]) (λ j e. elim (q.2.0 j e) [ inl h ↦ inl (sym h) | inr h ↦ inr h ]) r.1),
         ))
   ]
 
@@ -132,8 +122,7 @@ module _ (image : Image) (world : World) (formed : Formed image) (sound : Sound 
   pub early_now : EarlyIssued (issued_in n.kept.items) (chain_of n.chain) (early_ops n.early)
   unfolding After
   early_now j h = let r = goes.1.early_issued j h in
-      O.some_more (issued_in n.kept.items n.chain.wave j)
-      (issued_with image counts memory w i xs n.chain.wave j) r.0 (sym (new_same n.chain.wave j)) r.1
+      O.some_more _ _ _ (sym (new_same n.chain.wave j)) r.1
 
   pub all_now : HasEarly image world (issued_in n.kept.items) (chain_of n.chain) (early_ops n.early)
   unfolding After

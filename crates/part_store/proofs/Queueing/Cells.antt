@@ -144,13 +144,7 @@ module _ (image : Image) where
               (store_cells x.instr x.operands (effect_at image world t) q.0 s q.1)
               ∙ stored_there (effect_at image world t).cells q.0 (slice_index x.operands 0)
               (slice_index x.operands 1) r j
-              (λ e f. none (record {
-                inst = x;
-                fires = fx;
-                store = s;
-                row = subst (λ (n : ℕ). is_on_row (instr_at image x.instr).op n ≡ true) e q.1;
-                index = f;
-              })))
+              (λ e f. none (grind arith)))
           | inr s ↦ ap (λ (cs : List (List ℕ)). cell cs r j)
               (plain_cells x.instr x.operands (effect_at image world t) s)
         ]
@@ -185,8 +179,7 @@ module _ (image : Image) where
     store_leaves t r j s cs m e = stored_here cs (effect_at image world t).cells r j (slice_index
         s.inst.operands 1) e ∙ ap (λ (n : ℕ). cell (stored (effect_at image world t).cells r n (slice_index
         s.inst.operands 1)) r j) (sym s.index) ∙ sym (ap (λ (o : Outside). cell o.cells r j) (facts.mem_op t
-        s.inst s.fires m) ∙ ap (λ (ds : List (List ℕ)). cell ds r j) (store_cells s.inst.instr s.inst.operands
-        (effect_at image world t) r s.store s.row))
+        s.inst s.fires m) ∙ ap (λ (ds : List (List ℕ)). cell ds r j) (store_cells _ _ _ _ s.store s.row))
 
 -- the same of the operation alone
 pub op_plain : (image : Image) (i : ℕ) (xs : List ℕ) (o : Outside) →

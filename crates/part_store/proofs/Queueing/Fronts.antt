@@ -69,9 +69,8 @@ module _ (f : Queued) where
   pub joined_old : (es : List Queued) (e : Queued) → In e es → In e (joined f es)
   joined_old [] e h = absurd h
   joined_old (x ∷ es) e h = elim (cases_Bool (all_later (x ∷ es) f)) [
-    | inl l ↦ subst (λ (b : Bool). In e (cond b (f ∷ x ∷ es) (x ∷ joined f es))) (sym l) (inr h)
-    | inr l ↦ subst (λ (b : Bool). In e (cond b (f ∷ x ∷ es) (x ∷ joined f es))) (sym l)
-        (elim h [ inl q ↦ inl q | inr g ↦ inr (joined_old es e g) ])
+    | inl l ↦ rw l (inr h)
+    | inr l ↦ rw l (elim h [ inl q ↦ inl q | inr g ↦ inr (joined_old es e g) ])
   ]
 
   -- on other cells nothing changes
@@ -90,8 +89,7 @@ module _ (f : Queued) where
     | inr l ↦ ap (λ (b : Bool). front (cond b (f ∷ x ∷ es) (x ∷ joined f es)) r j) l
         ∙ elim (cell_cases x r j) [
           | inl c ↦ absurd (let g : Some x ≡ None = sym (front_here x es r j c.1) ∙ h in cc)
-          | inr c ↦ front_there x (joined f es) r j c.1
-              ∙ joined_first es r j o (sym (front_there x es r j c.1) ∙ h)
+          | inr c ↦ front_there _ _ _ _ c.1 ∙ joined_first es r j o (sym (front_there x es r j c.1) ∙ h)
         ]
   ]
 
@@ -108,12 +106,11 @@ module _ (w i : ℕ) where
       In e (without es w i)
   in_without [] e h n = absurd h
   in_without (x ∷ es) e h n = elim (key_cases x.wave x.instr w i) [
-    | inl k ↦ subst (λ (b : Bool). In e (cond b es (x ∷ without es w i))) (sym k.0) (elim h [
-      | inl q ↦ absurd (n (subst (λ (y : Queued). SameKey y.wave y.instr w i) (sym q) k.1))
+    | inl k ↦ rw k.0 (elim h [
+      | inl q ↦ absurd (n (rw q k.1))
       | inr g ↦ g
     ])
-    | inr k ↦ subst (λ (b : Bool). In e (cond b es (x ∷ without es w i))) (sym k.0)
-        (elim h [ inl q ↦ inl q | inr g ↦ inr (in_without es e g n) ])
+    | inr k ↦ rw k.0 (elim h [ inl q ↦ inl q | inr g ↦ inr (in_without es e g n) ])
   ]
 
   -- on cells on which it doesn't stand nothing changes

@@ -39,17 +39,14 @@ open_joined f (x ∷ es) = elim (cases_Bool (all_later (x ∷ es) f)) [
   | inr l ↦ ap (λ (b : Bool). open_queues (cond b (f ∷ x ∷ es) (x ∷ joined f es))) l
       ∙ elim (cell_cases x f.row f.index) [
         | inl c ↦ (let g = F.held_in (joined f es) x.row x.index f (F.joined_new f es) (on_same x f c.1) in
-            ap (λ (b : Bool). one_more b (open_queues (joined f es))) (ap has g.1)
-            ∙ open_joined f es
-            ∙ ap (λ (b : Bool). one_more b (open_queues es)) (sym (at_cell es x f.row f.index c.1))
-            ∙ sym (ap (λ (b : Bool). one_more b (one_more (holds es x.row x.index) (open_queues es)))
-            (held_here x es f.row f.index c.1)))
-        | inr c ↦ ap (λ (b : Bool). one_more b (open_queues (joined f es)))
-            (ap has (F.joined_other f es x.row x.index (λ o. c.1 (on_same f x o))))
-            ∙ ap (one_more (holds es x.row x.index)) (open_joined f es)
-            ∙ swap (holds es x.row x.index) (holds es f.row f.index) (open_queues es)
-            ∙ sym (ap (λ (b : Bool). one_more b (one_more (holds es x.row x.index) (open_queues es)))
-            (held_there x es f.row f.index c.1))
+            ap (λ (b : Bool). one_more b (open_queues (joined f es))) (ap has g.1) ∙ open_joined f es ∙ ap (λ
+            (b : Bool). one_more b (open_queues es)) (sym (at_cell es x f.row f.index c.1)) ∙ sym (ap (λ (b :
+            Bool). one_more b (one_more (holds es x.row x.index) (open_queues es))) (held_here _ _ _ _ c.1)))
+        | inr c ↦ ap (λ (b : Bool). one_more b (open_queues (joined f es))) (ap has (F.joined_other f es x.row
+            x.index (λ o. c.1 (on_same f x o)))) ∙ ap (one_more (holds es x.row x.index)) (open_joined f es) ∙
+            swap (holds es x.row x.index) (holds es f.row f.index) (open_queues es) ∙ sym (ap (λ (b : Bool).
+            one_more b (one_more (holds es x.row x.index) (open_queues es))) (held_there x es f.row f.index
+            c.1))
       ]
 ]
 
@@ -70,23 +67,8 @@ module _ (w i r j : ℕ) where
         let g = F.queued_in es w i q' in
         elim (cell_cases x r j) [
           | inl c ↦ (let s = F.held_in es r j g.0 g.1 (all g.0 (inr g.1) g.2) in
-              ap (λ (b : Bool). one_more b (open_queues es)) (at_cell es x r j c.1 ∙ ap has s.1)
-              ∙ ih
-              ∙ ap (λ (b : Bool). one_more b (open_queues (without es w i)))
-              (sym (at_cell (without es w i) x r j c.1))
-              ∙ sym (ap (λ (b : Bool). one_more b
-              (one_more (holds (without es w i) x.row x.index) (open_queues (without es w i))))
-              (held_here x (without es w i) r j c.1)))
-          | inr c ↦ ap (one_more (holds es x.row x.index)) ih ∙ swap (holds es x.row x.index) (holds (without
-              es w i) r j) (open_queues (without es w i)) ∙ ap (λ (b : Bool). one_more (holds (without es w i)
-              r j) (one_more b (open_queues (without es w i)))) (sym (ap has (F.without_other w i es x.row
-              x.index (λ e h y o. c.1 (record {
-                row = sym o.row ∙ (all e (inr h) y).row;
-                index = sym o.index ∙ (all e (inr h) y).index;
-              })))))
-              ∙ sym (ap (λ (b : Bool). one_more b
-              (one_more (holds (without es w i) x.row x.index) (open_queues (without es w i))))
-              (held_there x (without es w i) r j c.1))
+              grind (arith, at_cell, held_here))
+          | inr c ↦ grind (arith, swap, F.without_other, held_there)
         ]
         ∙ sym (ap (λ (b : Bool). one_more (holds (cond b es (x ∷ without es w i)) r j)
         (open_queues (cond b es (x ∷ without es w i)))) k.0))

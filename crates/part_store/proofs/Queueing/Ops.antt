@@ -203,9 +203,5 @@ pub outside_after : (began : List (Option Began)) (image : Image) (i : ℕ) (xs 
     h →
     HoldsOut began (with_cells (effect_after image i xs o) h.cells) h
 unfolding effect_after after
-outside_after began image i xs o cs h is = grind (
-  arith,
-  apart_op (instr_at image i).op xs o cs,
-  out_effect
-      began (after_op (instr_at image i).op xs (with_cells o cs)) h is,
-)
+outside_after began image i xs o cs h is =
+    grind (arith, apart_op (instr_at image i).op xs o cs, out_effect _ _ _ is)

@@ -51,8 +51,7 @@ module _ (image : Image) (world : World) (formed : Formed image) (sound : Sound 
   -- a store that counts is passed
   pub store_passed : (w i a t r j : ℕ) → counts w i ≡ Some a → is_store_op (instr_at image i).op ≡ true →
       OnCell image world w i r j t → t < legal.cut
-  store_passed w i a t r j e s on =
-      grind (arith, place_of w i a t r j e on, both_ways, O.store_no_load image i s)
+  store_passed w i a t r j e s on = grind (arith, place_of _ _ _ _ _ _ e on, both_ways, O.store_no_load _ _ s)
 
   -- a store on a cell before the passed operations' end counts
   pub passed_counts : (r j k : ℕ) → (s : C.StoreAt image world facts r j k) → k < legal.cut →
@@ -81,7 +80,6 @@ module _ (image : Image) (world : World) (formed : Formed image) (sound : Sound 
         let mx : is_memory image req.inst.instr ≡ true = ap (is_memory image) req.at.instr ∙ req.memory in
         let wv : req.inst.wave ≡ (chain_at image world legal.cut).wave = req.at.wave ∙ may.current
         ∙ ap (λ (d : Chain). d.wave) legal.ordered.chain in
-        let ny : IsNext (chain_at image world legal.cut) (note_of image req.inst.instr) =
-        subst (λ (d : Chain). IsNext d (note_of image req.inst.instr)) legal.ordered.chain
-        (subst (λ (n : ℕ). IsNext chain (note_of image n)) (sym req.at.instr) nx) in
+        let ny : IsNext (chain_at image world legal.cut) (note_of image req.inst.instr) = rw (←
+        legal.ordered.chain) (rw req.at.instr nx) in
         facts.only_first legal.cut req.time req.inst req.at.fires mx wv ny

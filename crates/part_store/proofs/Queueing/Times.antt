@@ -82,9 +82,7 @@ module _ (image : Image) (world : World) (formed : Formed image) (sound : Sound 
   -- an entry isn't earlier than one of its own instance
   pub not_self : (e f : Queued) → SameKey e.wave e.instr f.wave f.instr → Earlier image world e f → ⊥
   not_self e f k s =
-      let b : OnCell image world f.wave f.instr e.row e.index s.time =
-      subst (λ (n : ℕ). OnCell image world f.wave n e.row e.index s.time) k.instr
-      (subst (λ (n : ℕ). OnCell image world n e.instr e.row e.index s.time) k.wave s.one) in
+      let b : OnCell image world f.wave f.instr e.row e.index s.time = rw (← k.instr) (rw (← k.wave) s.one) in
       let q = one_there f.wave f.instr e.row e.index s.time f.row f.index s.then b s.other in
       let e : s.time ≡ s.then = q.time in
       let l : s.time < s.then = s.before in omega arith
@@ -93,9 +91,9 @@ module _ (image : Image) (world : World) (formed : Formed image) (sound : Sound 
       (e.wave < f.wave) ⊎ ((e.wave ≡ f.wave) × (e.seq < f.seq))
   waves_of e f s =
       let mx : is_memory image s.one.inst.instr ≡ true = ap (is_memory image) s.one.at.instr
-      ∙ row_memory image e.instr e.row s.one.row in
+      ∙ row_memory _ _ _ s.one.row in
       let my : is_memory image s.other.inst.instr ≡ true = ap (is_memory image) s.other.at.instr
-      ∙ row_memory image f.instr f.row s.other.row in
+      ∙ row_memory _ _ _ s.other.row in
       let l : s.time < s.then = s.before in
       let a : s.one.inst.wave ≡ (chain_at image world s.time).wave =
       facts.turn_wave s.time s.one.inst s.one.at.fires mx in
@@ -106,9 +104,8 @@ module _ (image : Image) (world : World) (formed : Formed image) (sound : Sound 
       elim (cases_eq e.wave f.wave) [
         | inl same ↦ inr (
           same,
-          rw (s.numbered.0, s.numbered.1, ← s.one.at.instr, ← s.other.at.instr) (seq_up image world
-              sound.shape sound.links s.time s.then s.one.inst s.other.inst l s.one.at.fires mx
-              s.other.at.fires my (we ∙ same ∙ sym wf)),
+          rw (s.numbered.0, s.numbered.1, ← s.one.at.instr, ← s.other.at.instr) (seq_up _ _ sound.shape
+              sound.links _ _ _ _ l s.one.at.fires mx s.other.at.fires my (we ∙ same ∙ sym wf)),
         )
         | inr n ↦ inl (omega arith)
       ]
@@ -122,13 +119,12 @@ module _ (image : Image) (world : World) (formed : Formed image) (sound : Sound 
   ]
 
   pub later_not : (e f : Queued) → Earlier image world e f → is_later e f ≡ false
-  later_not e f s = elim (waves_of e f s) [
+  later_not e f s = elim (waves_of _ _ s) [
     | inl l ↦ rw (le-ltb f.wave e.wave (omega (arith, l)), ne_eqb f.wave e.wave (λ q. omega (arith, l, q)))
         refl
     | inr h ↦ rw (
       le-ltb f.wave e.wave (omega (arith, h.0)),
-      eq-eqb f.wave e.wave
-          (sym h.0),
+      eq-eqb f.wave e.wave (sym h.0),
       le-ltb f.seq e.seq (omega (arith, h.1)),
     ) refl
   ]
@@ -155,9 +151,7 @@ module _ (image : Image) (world : World) (formed : Formed image) (sound : Sound 
   first_leaves [] r j e rise h = refl
   first_leaves (x ∷ es) r j e rise h = elim (cell_cases x r j) [
     | inl c ↦ (let q : Some x ≡ Some e = sym (F.front_here x es r j c.1) ∙ h in let s : x ≡ e = cc in
-        let k : same_key x.wave x.instr e.wave e.instr ≡ true =
-        subst (λ (y : Queued). same_key x.wave x.instr y.wave y.instr ≡ true) s
-        (same_key_is x.wave x.instr) in
+        let k : same_key x.wave x.instr e.wave e.instr ≡ true = rw (← s) (same_key_is x.wave x.instr) in
         ap (λ (b : Bool). cond b es (x ∷ without_first es r j)) c.0
         ∙ sym (ap (λ (b : Bool). cond b es (x ∷ without es e.wave e.instr)) k))
     | inr c ↦ (let g : front es r j ≡ Some e = sym (F.front_there x es r j c.1) ∙ h in
@@ -185,32 +179,30 @@ module _ (image : Image) (world : World) (formed : Formed image) (sound : Sound 
         RisingEntries image world (joined f es)
     rising_joined [] rise all = ((λ g h. absurd h), tt)
     rising_joined (x ∷ es) rise all = elim (cases_Bool (all_later (x ∷ es) f)) [
-      | inl l ↦ subst (λ (b : Bool). RisingEntries image world (cond b (f ∷ x ∷ es) (x ∷ joined f es))) (sym
-          l) (elim (all x (inl refl)) [
-            | inl a ↦ absurd (both_ways (is_later x f) (later_not x f a) (and_parts (is_later x f) (all_later
-                es f) l).0)
-            | inr a ↦ (
-              (λ g h. elim h [
-                | inl q ↦ subst (λ (y : Queued). Earlier image world f y) (sym q) a
-                | inr k ↦ earlier_then f x g a (rise.0 g k)
-              ]),
-              rise,
-            )
+      | inl l ↦ rw l (elim (all x (inl refl)) [
+        | inl a ↦ absurd (both_ways (is_later x f) (later_not x f a) (and_parts (is_later x f) (all_later
+            es f) l).0)
+        | inr a ↦ (
+          (λ g h. elim h [
+            | inl q ↦ rw q a
+            | inr k ↦ earlier_then f x g a (rise.0 g k)
+          ]),
+          rise,
+        )
+      ])
+      | inr l ↦ rw l (
+        (λ g h. elim (F.joined_in f es g h) [
+          | inl q ↦ rw q (elim (all x (inl refl)) [
+            | inl a ↦ a
+            | inr a ↦ absurd (both_ways (all_later (x ∷ es) f) l (later_all (x ∷ es) (λ g h. elim h [
+              | inl q ↦ rw q a
+              | inr k ↦ earlier_then f x g a (rise.0 g k)
+            ])))
           ])
-      | inr l ↦ subst (λ (b : Bool). RisingEntries image world (cond b (f ∷ x ∷ es) (x ∷ joined f es))) (sym
-          l) (
-            (λ g h. elim (F.joined_in f es g h) [
-              | inl q ↦ subst (λ (y : Queued). Earlier image world x y) (sym q) (elim (all x (inl refl)) [
-                | inl a ↦ a
-                | inr a ↦ absurd (both_ways (all_later (x ∷ es) f) l (later_all (x ∷ es) (λ g h. elim h [
-                  | inl q ↦ subst (λ (y : Queued). Earlier image world f y) (sym q) a
-                  | inr k ↦ earlier_then f x g a (rise.0 g k)
-                ])))
-              ])
-              | inr k ↦ rise.0 g k
-            ]),
-            rising_joined es rise.1 (λ g h. all g (inr h)),
-          )
+          | inr k ↦ rise.0 g k
+        ]),
+        rising_joined es rise.1 (λ g h. all g (inr h)),
+      )
     ]
 
     -- the first entry of its cell stays the first, where it is earlier
@@ -219,8 +211,7 @@ module _ (image : Image) (world : World) (formed : Formed image) (sound : Sound 
     joined_front [] r j e rise h a = absurd (let g : None ≡ Some e = h in cc)
     joined_front (x ∷ es) r j e rise h a = elim (cell_cases x r j) [
       | inl c ↦ (let q : Some x ≡ Some e = sym (F.front_here x es r j c.1) ∙ h in let s : x ≡ e = cc in
-          let l : all_later (x ∷ es) f ≡ false =
-          not_all x es (subst (λ (y : Queued). Earlier image world y f) (sym s) a) in
+          let l : all_later (x ∷ es) f ≡ false = not_all x es (rw s a) in
           ap (λ (b : Bool). front (cond b (f ∷ x ∷ es) (x ∷ joined f es)) r j) l
           ∙ F.front_here x (joined f es) r j c.1 ∙ q)
       | inr c ↦ (let g : front es r j ≡ Some e = sym (F.front_there x es r j c.1) ∙ h in

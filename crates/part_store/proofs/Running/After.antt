@@ -44,15 +44,12 @@ module _ {P : Type 0} (image : Image) (world : World) (began : List (Option Bega
   one_failed : (port : ℕ) → new.failed ≡ Some port → RoseAt port old.outer.ports new.outer.ports →
       PortWaits image new.order.kept.items (chain_of new.order.chain) port →
       PartFailedSo image began (content_of new)
-  one_failed port is rose waits p e =
-      let same : port ≡ p = (let f : Some port ≡ Some p = sym is ∙ e in cc) in
-      subst (λ (n : ℕ). PortWaits image new.order.kept.items (chain_of new.order.chain) n ×
-      RoseSince began n new.outer.ports) same (
-        waits,
-        rose_since began _ (holding old.outer) standing.calm.0.parting.partly.outside port new.outer.ports
-            (instr_at image waits.request.instr).op
-            (port_in image waits.request.instr formed) waits.port_is rose,
-      )
+  one_failed port is rose waits p e = grind (
+    arith,
+    rose_since began _ (holding old.outer)
+        standing.calm.0.parting.partly.outside port new.outer.ports (instr_at image waits.request.instr).op
+        (port_in image waits.request.instr formed) waits.port_is rose,
+  )
 
   stands : PartIdle image (content_of new) → PartFailedSo image began (content_of new) →
       PartsStanding image world began new
@@ -111,10 +108,9 @@ module _ {P : Type 0} (im image : Image) (world : World) (began : List (Option B
   address_told right leads =
       let l = subst (λ (i : Image). AddressLeads i old k tokens r new) same leads world began formed sound
       right standing.calm standing.idle in (
-        addressed image world began formed old new standing l.0 ok (subst (λ (i : Image). PartsFiled i
-            new) same filed) k tokens r l.2,
+        addressed image world began formed old new standing l.0 ok (rw (← same) filed) k tokens r l.2,
         l.1,
-        subst (λ (x : Kept). AddressSo image (content_of old) x tokens r (content_of new)) is l.2,
+        rw (← is) l.2,
       )
 
   pub submit_told : IsAsked image world (asked_of k) → PartsSubmitLeads im old k tokens r new →
@@ -123,10 +119,9 @@ module _ {P : Type 0} (im image : Image) (world : World) (began : List (Option B
   submit_told right leads =
       let l = subst (λ (i : Image). PartsSubmitLeads i old k tokens r new) same leads world began formed sound
       right standing.calm standing.idle in (
-        submitted image world began formed old new standing l.0 ok (subst (λ (i : Image). PartsFiled i
-            new) same filed) k tokens r l.2,
+        submitted image world began formed old new standing l.0 ok (rw (← same) filed) k tokens r l.2,
         l.1,
-        subst (λ (x : Kept). PartSubmitSo image (content_of old) x tokens r (content_of new)) is l.2,
+        rw (← is) l.2,
       )
 
 -- the same with a list of tokens as the answer

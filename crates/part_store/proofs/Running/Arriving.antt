@@ -52,15 +52,7 @@ module _ (image : Image) (world : World) (began : List (Option Began)) (c d : Pa
   arrives = record {
     counts = s.counts;
     memory = s.memory;
-    legal = subst (λ (v : Bool). Legal image world s.counts (asking image d) v d.chain s.memory)
-        (sym (ap has (come.fault ∙ going)))
-        (subst (λ (v : Chain). Legal image world s.counts (asking image d) false v s.memory) (sym come.chain)
-        (record {
-          cut = s.legal.cut;
-          ordered = s.legal.ordered;
-          settled = s.legal.settled;
-          halted = λ z. absurd (both_ways false refl z);
-        }));
+    legal = grind (arith, both_ways);
     partly = record {
       right = new_right;
       same = λ w i. s.partly.same w i ∙ sym (ap has (issued w i));

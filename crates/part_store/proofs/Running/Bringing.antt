@@ -117,22 +117,7 @@ module _ (image : Image) where
           answer = Some (word_of image c e);
         } in
         elim (with_key_cases e.wave e.instr (Some new) (entry_of c.kept) w i) [
-          | inl h ↦ (let z : Some new ≡ Some x = sym h.1 ∙ sym (n.kept w i) ∙ is in
-              let y : new ≡ x = cc in
-              let v : Some (word_of image c e) ≡ Some a = ap (λ (l : Kept). l.answer) y ∙ s in
-              let u : word_of image c e ≡ a = cc in
-              let key = O.entry_key c.kept e.wave e.instr n.request n.is_kept in
-              let sent' : Covers (sends image e.wave e.instr (operands_at image n.request)
-              (word_of image c e)) way = subst (λ (ts : List Token). Covers ts way) n.tokens_are sent in
-              let sent'' : Covers (sends image e.wave e.instr
-              (operands_of (ports image e.instr) n.request.first n.request.second) (word_of image c e))
-              way =
-              subst (λ (l : ℕ). Covers (sends image e.wave e.instr
-              (operands_of (ports image l) n.request.first n.request.second) (word_of image c e)) way)
-              key.instr sent' in
-              subst (λ (l : ℕ × ℕ × ℕ × ℕ × ℕ).
-              AllReach f way (sends image l.0 l.1 (operands_of (ports image l.1) l.2 l.3) l.4))
-              (λ j. (h.0.wave j, h.0.instr j, (y j).first, (y j).second, u j)) (R.reach_all f _ way sent''))
+          | inl h ↦ (grind (arith, O.entry_key, R.reach_all))
           | inr h ↦ done w i a x (sym h.1 ∙ sym (n.kept w i) ∙ is) s
               (old_without c.queued e.wave e.instr w i q' h.0)
         ]
@@ -145,9 +130,8 @@ module _ (image : Image) where
         moves_done m d _ r sent (join_done c m k _ n done)
     moves_done c d ts (issues {d = m} {rest = rest} k word left a b h u n r) sent done = moves_done m d rest r
         (R.covers_right _ rest way sent) (issue_done c m k word _ n (R.covers_left _ rest way sent) done)
-    moves_done c d ts (follows {d = m} {some = some} {rest = rest} first g h n r) sent done =
-        moves_done m d rest r (R.covers_right some rest way sent)
-        (follow_done c m first some n (R.covers_left some rest way sent) done)
+    moves_done c d ts (follows {d = m} {some = some} {rest = rest} first g h n r) sent done = moves_done _ _ _
+        r (R.covers_right _ _ _ sent) (follow_done _ _ _ _ n (R.covers_left _ _ _ sent) done)
     moves_done c d ts (stops k h) sent done = done
 
     alike_done : (c d : PartContent) → Alike c d → Done c → Done d
@@ -162,8 +146,7 @@ module _ (image : Image) where
     fill_done : (world : World) (began : List (Option Began)) (c d : PartContent) (k : Kept) →
         Parting image world began c → Fills c k d → Done c → Done d
     fill_done world began c d k parting m done w i a x e s q =
-        let q' : is_queued c.queued w i ≡ false =
-        subst (λ (es : List Queued). is_queued es w i ≡ false) m.queued q in
+        let q' : is_queued c.queued w i ≡ false = rw (← m.queued) q in
         elim (with_key_cases k.wave k.instr (Some (answered k m.old.answer)) (entry_of c.kept) w i) [
           | inl h ↦ (let z : Some (answered k m.old.answer) ≡ Some x = sym h.1 ∙ sym (m.kept w i) ∙ e in
               let y : answered k m.old.answer ≡ x = cc in
@@ -173,9 +156,8 @@ module _ (image : Image) where
               (parting.partly.same k.wave k.instr) issued in
               let queued : is_queued c.queued k.wave k.instr ≡ true =
               parting.partly.opened k.wave k.instr counts.0 counts.1 m.bare in
-              absurd (both_ways (is_queued c.queued w i) q'
-              (subst (λ (l : ℕ × ℕ). is_queued c.queued l.0 l.1 ≡ true)
-              (λ j. (h.0.wave j, h.0.instr j)) queued)))
+              absurd (both_ways (is_queued c.queued w i) q' (subst (λ (l : ℕ × ℕ). is_queued c.queued l.0 l.1
+              ≡ true) (λ j. (h.0.wave j, h.0.instr j)) queued)))
           | inr h ↦ done w i a x (sym h.1 ∙ sym (m.kept w i) ∙ e) s q'
         ]
 
@@ -195,21 +177,15 @@ module _ (image : Image) where
   come_whole c d k b w i m h = grind (
     arith,
     key_cases k.wave k.instr w i,
-    nothing,
-    with_kept k.wave k.instr
-        (answered k None) (entry_of c.kept) w i h.0 h.1,
+    with_kept k.wave k.instr (answered
+        k None) (entry_of c.kept) w i h.0 h.1,
     come_kept c d k b m w i,
   )
 
   -- a request that has come is whole
   now_whole : (c d : PartContent) (k : Kept) → ComesIn c k false d → IsWhole d k.wave k.instr
-  now_whole c d k m = grind (
-    arith,
-    with_key_cases,
-    come_kept c d k false m k.wave k.instr,
-    key_cases k.wave
-        k.instr k.wave k.instr,
-  )
+  now_whole c d k m =
+      grind (arith, come_kept c d k false m k.wave k.instr, key_cases k.wave k.instr k.wave k.instr)
 
   fill_whole : (c d : PartContent) (k : Kept) (w i : ℕ) → Fills c k d → IsWhole c w i → IsWhole d w i
   fill_whole c d k w i m h = grind arith
@@ -221,9 +197,8 @@ module _ (image : Image) where
   pay_part : (t : Tables) (c d : PartContent) (way : List Token)
       → ((w i : ℕ) → IsWhole c w i → IsWhole d w i) →
       HaveAnswered image t.held way d → Paid image t c way → Paid image t d way
-  pay_part t c d way whole done paid = pay_buffer image t (IsWhole c) (IsWhole d) (Owes image c)
-      (Owes image d) way whole (λ ts o. subst (λ (us : List Token). AllReach t.held way us) (sym o.7)
-      (done o.0 o.1 o.2 o.3 o.4 o.5 o.6)) paid
+  pay_part t c d way whole done paid = pay_buffer image t (IsWhole c) (IsWhole d) (Owes image c) (Owes image
+      d) way whole (λ ts o. rw o.7 (done o.0 o.1 o.2 o.3 o.4 o.5 o.6)) paid
 
   pay_came : (t : Tables) (c d : PartContent) (k : Kept) (b : Bool) (ts old way : List Token) (x : Option ℕ)
       (y : Option ℕ) (z : Bool) → CameSo image c k b ts x y z d → Covers old way → Covers ts way →
@@ -231,10 +206,9 @@ module _ (image : Image) where
   pay_came t c d k b ts old way x y z m more sent paid =
       let up = P.pay_more image t c old way more paid in
       let mid = m.1.0 in
-      pay_part t c d way (λ w i h. last_whole mid d w i (to_last mid d ts m.1.2)
-      (come_whole c mid k b w i m.1.1 h))
-      (to_done t.held way mid d ts m.1.2 sent
-      (come_done t.held way c mid k b m.1.1 (have_answered image t c way up))) up
+      pay_part t c d way (λ w i h. last_whole _ _ _ _ (to_last mid d ts m.1.2) (come_whole c mid k b w i m.1.1
+      h)) (to_done t.held way mid d ts m.1.2 sent (come_done t.held way c mid k b m.1.1 (have_answered image t
+      c way up))) up
 
   pub addressed : (c d : PartContent) (k : Kept) (answer : Result (List Token) BufFault)
       (old way : List Token) →
@@ -261,11 +235,10 @@ module _ (image : Image) where
     pay_took t d k ts old way x y z m more sent paid =
         let up = P.pay_more image t c old way more paid in
         let mid = m.1.0 in
-        pay_part t c d way (λ w i h. last_whole mid d w i (to_last mid d ts m.1.2) (elim m.1.1 [
+        pay_part t c d way (λ w i h. last_whole _ _ _ _ (to_last mid d ts m.1.2) (elim m.1.1 [
           | comes g ↦ come_whole c mid k false w i g h
           | fills g ↦ fill_whole c mid k w i g h
-        ]))
-        (to_done t.held way mid d ts m.1.2 sent (elim m.1.1 [
+        ])) (to_done t.held way mid d ts m.1.2 sent (elim m.1.1 [
           | comes g ↦ come_done t.held way c mid k false g (have_answered image t c way up)
           | fills g ↦ fill_done t.held way world began c mid k parting g (have_answered image t c way up)
         ])) up

@@ -86,16 +86,14 @@ module _ {P : Type 0} where
 
     pub unchanged : Calm image world began old → Calm image world began new
     unchanged calm =
-        let e : EarlyIssued (issued_in new.order.kept.items)
-        (chain_of new.order.chain) (early_ops new.order.early) ×
-        HasEarly image world (issued_in new.order.kept.items)
-        (chain_of new.order.chain) (early_ops new.order.early) =
-        subst (λ (x : List Kept × code.Chain × List ℕ). EarlyIssued (issued_in x.0) (chain_of x.1) x.2 ×
-        HasEarly image world (issued_in x.0) (chain_of x.1) x.2)
-        (λ j. (sym keeps.kept_are j, sym keeps.chain j, sym keeps.early j))
+        let e : EarlyIssued (issued_in new.order.kept.items) (chain_of new.order.chain) (early_ops
+        new.order.early) × HasEarly image world (issued_in new.order.kept.items)
+        (chain_of new.order.chain) (early_ops new.order.early) = subst (λ (x : List Kept × code.Chain × List
+        ℕ). EarlyIssued (issued_in x.0) (chain_of x.1) x.2 × HasEarly image world (issued_in x.0) (chain_of
+        x.1) x.2) (λ j. (sym keeps.kept_are j, sym keeps.chain j, sym keeps.early j))
         (calm.0.early_issued, calm.0.early_all) in (
           record {
-            parting = subst (Parting image world began) (sym same_content)
+            parting = rw same_content
                 (Y.parting image world began (content_of old) new.bare.set.keys bare calm.0.parting);
             early_issued = e.0;
             early_all = e.1;
@@ -142,26 +140,23 @@ module _ {P : Type 0} where
     pub calm_now : Calm image world began (record mid { starved = false })
     calm_now = (
       record {
-        parting = A.arrives image world began (content_of old) (content_of (record mid { starved = false })) k
-            b comes calm.0.parting running right;
+        parting = A.arrives _ _ _ _ _ _ _ comes calm.0.parting running right;
         early_issued = λ j h. let r = subst (λ (x : code.Chain × List ℕ). EarlyIssued (issued_in
             old.order.kept.items) (chain_of x.0) x.1) (λ n. (sym keeps.chain n, sym keeps.early n))
             calm.0.early_issued j h in
-            (r.0, issued_same mid.order.chain.wave j ∙ r.1);
+            (r.0, issued_same _ _ ∙ r.1);
         early_all = λ cut w i a t e is x at me l. subst (λ (y : code.Chain × List ℕ). HasEarly image world
             (issued_in old.order.kept.items) (chain_of y.0) y.1) (λ n. (sym keeps.chain n, sym keeps.early n))
-            calm.0.early_all cut w i a t e (sym (issued_same w i) ∙ is) x at me l;
+            calm.0.early_all cut w i a t e (sym (issued_same _ _) ∙ is) x at me l;
       },
-      A.fronts_stay image world began (content_of old) (content_of (record mid { starved = false })) k b comes
-          calm.0.parting running right calm.1,
+      A.fronts_stay _ _ _ _ _ _ _ comes calm.0.parting running right calm.1,
     )
 
     module _ (new : Parts P) (tokens : List Token)
         (lead : MovesTo image (content_of (record mid { starved = false })) tokens (content_of new) ×
         Calm image world began new) where
       pub right_now : RightTokens image world tokens
-      right_now = (K.moves_keep image world formed sound began
-          (content_of (record mid { starved = false })) lead.0.mid tokens lead.0.moves calm_now.0.parting).1
+      right_now = (K.moves_keep _ _ formed sound _ _ _ _ lead.0.moves calm_now.0.parting).1
 
       came : (f p : Option ℕ) (s : Bool) → new.fault ≡ f → new.failed ≡ p → new.starved ≡ s →
           CameSo image (content_of old) k b tokens f p s (content_of new)
@@ -176,14 +171,10 @@ module _ {P : Type 0} where
         where
           on_true : CameSo image (content_of old) k b tokens None None false (content_of new) →
               CameSo image (content_of old) k true tokens None None false (content_of new)
-          on_true x = subst (λ (y : Bool).
-              CameSo image (content_of old) k y tokens None None false (content_of new)) t x
-      said t (Err (fault.Index array)) s =
-          subst (λ (y : Bool). CameSo image (content_of old) k y tokens (Some array) None false
-          (content_of new)) t (came (Some array) None false s.0 (s.1 ∙ keeps.failed ∙ working) s.2)
+          on_true x = rw (← t) x
+      said t (Err (fault.Index array)) s = rw (← t) (came _ _ _ s.0 (s.1 ∙ keeps.failed ∙ working) s.2)
       said t (Err (fault.Port port)) s = (
-        subst (λ (y : Bool). CameSo image (content_of old) k y tokens None (Some port) false (content_of new))
-            t (came None (Some port) false s.0 s.1 s.2),
+        rw (← t) (came None (Some port) false s.0 s.1 s.2),
         subst (λ (h : Holding). RoseAt port h.ports new.outer.ports) keeps.outer s.3,
         s.4,
       )
@@ -259,8 +250,7 @@ module _ {P : Type 0} where
       }
 
       put_rule : NoRule image (content_of (record mid { starved = false }))
-      put_rule = R.no_rule_held image (content_of old) (content_of (record mid { starved = false })) k b comes
-          (idle working fed) held calm_now.1
+      put_rule = R.no_rule_held _ _ _ _ _ comes (idle working fed) held calm_now.1
 
       pub put_calm : Calm image world began mid
       put_calm = subst (Calm image world began) same_mid calm_now

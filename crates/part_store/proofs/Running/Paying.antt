@@ -29,8 +29,7 @@ module _ (image : Image) where
       (fresh : HasFired old.fired x.wave x.instr → ⊥) (c : PartContent) (way : List Token)
       (paid : Paid image (part old) c (x ∷ way)) where
     arrived : Paid image (record { held = held new; fired = old.fired }) c way
-    arrived = P.pay_arrived image (IsWhole c) (Owes image c) (held old) (held new) old.fired x a.free a.more
-        fresh way paid
+    arrived = P.pay_arrived image (IsWhole c) (Owes image c) _ _ _ _ a.free a.more fresh _ paid
 
     pub taken_waits : new.fired ≡ old.fired → Paid image (part new) c way
     taken_waits same = grind (arith, arrived)
@@ -47,17 +46,15 @@ module _ (image : Image) where
         let up = pay_more (record { held = held new; fired = old.fired }) c way more keep arrived in
         let sent' : Covers (sends image x.wave x.instr (operands_in image (held new) x.wave x.instr)
         (result_of image x.instr (operands_in image (held new) x.wave x.instr))) more =
-        subst (λ (ys : List ℕ). Covers (sends image x.wave x.instr ys (result_of image x.instr ys)) more)
-        full.operands_are (subst (λ (ts : List Token). Covers ts more) are sent) in
+        rw (← full.operands_are) (rw (← are) sent) in
         P.pay_fires image (IsWhole c) (Owes image c) (held new) old.fired new.fired more up x.wave x.instr
         (one xs full) plain (R.reach_all (held new) _ more sent')
 
     pub taken_asks : (d : PartContent) (more : List Token) (xs : List ℕ) → Full image old x new xs →
         is_memory image x.instr ≡ true → ((t : Tables) → Paid image t c way → Paid image t d more) →
         IsWhole d x.wave x.instr → Paid image (part new) d more
-    taken_asks d more xs full memory tell whole = P.pay_asks image (IsWhole d) (Owes image d) (held new)
-        old.fired new.fired more (tell (record { held = held new; fired = old.fired }) arrived) x.wave x.instr
-        (one xs full) memory whole
+    taken_asks d more xs full memory tell whole = P.pay_asks _ (IsWhole d) (Owes image d) _ _ _ _ (tell
+        (record { held = held new; fired = old.fired }) arrived) _ _ (one _ full) memory whole
 
 -- a run begins
 pub pay_start : (image : Image) (f : Ports) (ks : List Key) (c : PartContent) (way : List Token) → ks ≡ [] →

@@ -65,12 +65,10 @@ module _ {P : Type 0} (image : Image) (s : Parts P) (none : NoneGo image s) wher
 
   pub no_rule : Fronts (content_of s) → NoRule image (content_of s)
   no_rule fronts = record {
-    opens = λ k o. both_ways (go_flag image s k) (stays k o.waits.kept)
-        (and_from _ _ (next_ready k o.waits.waits o.current o.next)
-        (bare_rule k o.waits.bare_is o.within o.room));
-    goes = λ k g. both_ways (go_flag image s k) (stays k g.waits.kept)
-        (and_from _ _ (goes_ready k g) (whole_rule k g.waits.bare_is
-        (or_right (nat_eq (length s.queues.entries.items) 0) _ (false_not _ g.within))));
+    opens = λ k o. both_ways (go_flag image s k) (stays k o.waits.kept) (and_from _ _ (next_ready k
+        o.waits.waits o.current o.next) (bare_rule k o.waits.bare_is o.within o.room));
+    goes = λ k g. both_ways (go_flag image s k) (stays k g.waits.kept) (and_from _ _ (goes_ready k g)
+        (whole_rule k g.waits.bare_is (or_right _ _ (false_not _ g.within))));
     follows = λ e f. both_ways (is_bare (content_of s) e.wave e.instr) f.whole
         (fronts e e.row e.index f.first);
     faults = λ k f. both_ways (go_flag image s k) (stays k f.waits.kept)
@@ -125,8 +123,7 @@ module _ (image : Image) (c d : PartContent) (k : Kept) (b : Bool) (come : Comes
       next = next_old x o.next;
       within = o.within;
       going = sym come.fault ∙ o.going;
-      room = subst (λ (es : List Queued). (holds_op es (instr_at image x.instr).op x.first ≡ true) ⊎
-          (open_queues es < 16)) come.queued o.room;
+      room = rw (← come.queued) o.room;
     });
     goes = λ x g. let w = waits_old x false g.waits (goes_lets x g) in none.goes x (record {
       waits = w;

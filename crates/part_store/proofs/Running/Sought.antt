@@ -56,15 +56,12 @@ module _ {P : Type 0} (image : Image) (world : World) (formed : Formed image) (s
     ask : (b : Bool) → is_in s.bare (kept_at s.order q).wave (kept_at s.order q).instr ≡ b → Ask q
     ask false e = record {
       xs = operands_at image (kept_at s.order q);
-      req = K.right_of image world formed sound began (content_of s) parting (kept_at s.order q)
-          (waits false e);
+      req = K.right_of _ _ formed sound _ _ parting _ (waits _ e);
     }
     ask true e =
         let ad : IsAddressed image world (kept_at s.order q).wave (kept_at s.order q).instr
-        (kept_at s.order q).first = S.bare_kept image world
-        (is_in s.bare (kept_at s.order q).wave (kept_at s.order q).instr) (kept_at s.order q) e
-        (parting.partly.right (kept_at s.order q).wave (kept_at s.order q).instr (kept_at s.order q)
-        (U.found image s.order q here.within)) in
+        (kept_at s.order q).first = S.bare_kept _ _ _ _ e (parting.partly.right (kept_at s.order q).wave
+        (kept_at s.order q).instr (kept_at s.order q) (U.found image s.order q here.within)) in
         record {
           xs = ad.inst.operands;
           req = record {
@@ -72,8 +69,7 @@ module _ {P : Type 0} (image : Image) (world : World) (formed : Formed image) (s
             inst = ad.inst;
             at = ad.at;
             operands = refl;
-            memory = T.row_memory image (kept_at s.order q).instr (array_at image (kept_at s.order q).instr -
-                1) (O.store_row image (kept_at s.order q).instr ad.store);
+            memory = T.row_memory _ _ _ (O.store_row _ _ ad.store);
           };
         }
 
@@ -85,16 +81,13 @@ module _ {P : Type 0} (image : Image) (world : World) (formed : Formed image) (s
       IsNext (chain_of s.order.chain) (note_of image (kept_at s.order p).instr) →
       number_of image (kept_at s.order q) ≤ number_of image (kept_at s.order p) → p ≡ q
   same_place p q here there next least =
-      let x = asked p here in
-      let y = asked q there in
-      let most : number_of image (kept_at s.order p) ≤ number_of image (kept_at s.order q) =
-      L.next_first image world formed sound legal (kept_at s.order p).wave (kept_at s.order p).instr x.xs
-      (kept_at s.order q).wave (kept_at s.order q).instr y.xs x.req y.req (fresh q there)
-      here.current there.current next in
+      let x = asked _ here in
+      let y = asked _ there in
+      let most : number_of image (kept_at s.order p) ≤ number_of image (kept_at s.order q) = L.next_first _ _
+      formed sound legal _ _ _ _ _ _ x.req y.req (fresh _ there) here.current there.current next in
       let wave : (kept_at s.order p).wave ≡ (kept_at s.order q).wave = here.current ∙ sym there.current in
-      let instr : (kept_at s.order p).instr ≡ (kept_at s.order q).instr =
-      L.same_op image world formed sound (kept_at s.order p).wave (kept_at s.order p).instr x.xs
-      (kept_at s.order q).wave (kept_at s.order q).instr y.xs x.req y.req wave (omega (arith, least, most)) in
+      let instr : (kept_at s.order p).instr ≡ (kept_at s.order q).instr = L.same_op _ _ formed sound _ _ _ _ _
+      _ x.req y.req wave (omega (arith, least, most)) in
       let e : Some p ≡ Some q = sym (s.order.ok.index p here.within)
       ∙ (λ j. place_in s.order.index (wave j) (instr j)) ∙ s.order.ok.index q there.within in
       cc
@@ -116,8 +109,7 @@ module _ {P : Type 0} (image : Image) (world : World) (formed : Formed image) (s
     contrary = elim (U.turn image s.order p l ready) [
       | inl next ↦ (let f = none.first p here in
           both_ways (go_flag image s (kept_at s.order f.0)) f.2
-          (subst (λ (z : ℕ). go_flag image s (kept_at s.order z) ≡ true)
-          (same_place p f.0 here f.1.here next (f.1.least p here)) goes))
+          (rw (← same_place p f.0 here f.1.here next (f.1.least p here)) goes))
       | inr e ↦ none.early p (record {
         here = here;
         ripple = (note_of image (kept_at s.order p).instr).ripple;
@@ -127,10 +119,9 @@ module _ {P : Type 0} (image : Image) (world : World) (formed : Formed image) (s
     ]
 
   none_goes : NoneSought image s → NoneGo image s
-  none_goes none p l = go (go_flag image s (kept_at s.order p)) refl
+  none_goes none p l = go _ refl
     where
-      go : (b : Bool) → go_flag image s (kept_at s.order p) ≡ b →
-          go_flag image s (kept_at s.order p) ≡ false
+      go : (b : Bool) → go_flag image s (kept_at s.order p) ≡ b → go_flag image s (kept_at s.order p) ≡ false
       go false e = e
       go true e = absurd (contrary none p l e)
 
@@ -149,15 +140,14 @@ pub first_on : {P : Type 0} (image : Image) (s : Parts P) (o : Order) → o ≡ 
     (q : ℕ) → IsForemost image s.order q → go_flag image s (kept_at s.order q) ≡ false →
     (p : ℕ) → WaitsHere o p → (x : ℕ) × IsForemost image o x
     × (go_flag image (record s { order = o }) (kept_at o x) ≡ false)
-first_on image s o same q is held = subst (λ (n : Order). (p : ℕ) → WaitsHere n p → (x : ℕ) × IsForemost image
-    n x × (go_flag image (record s { order = n }) (kept_at n x) ≡ false)) (sym same) (λ p h. (
-      q,
-      record {
-        here = record { within = is.here.within; current = is.here.current; waits = is.here.waits };
-        least = λ z w. is.least z (record { within = w.within; current = w.current; waits = w.waits });
-      },
-      held,
-    ))
+first_on image s o same q is held = rw same (λ p h. (
+  q,
+  record {
+    here = record { within = is.here.within; current = is.here.current; waits = is.here.waits };
+    least = λ z w. is.least z (record { within = w.within; current = w.current; waits = w.waits });
+  },
+  held,
+))
 
 pub sought_early : {P : Type 0} (image : Image) (s : Parts P) (r : Option ℕ) → PartsFiled image s →
     MatchOption r (NoneEarly image s.order) (GoesEarly image s.order) → IfSome r (MayAt image s.order) →

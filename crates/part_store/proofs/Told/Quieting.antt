@@ -67,8 +67,7 @@ module _ (image : Image) (world : World) (formed : Formed image) (sound : Sound 
         bare = none;
         queued = W.empty old none before.1;
         halts = ap has running;
-        legal = subst (λ (b : Bool). Legal image world (issued_in old.kept)
-            (waiting_in image old.kept) b old.chain m) (ap has running) is.ok.legal;
+        legal = rw (← ap has running) is.ok.legal;
         right = λ w i x e. S.whole_kept image world (is_bare old w i) x (none w i)
             (before.0.partly.right w i x e);
         outside = is.outside;
@@ -101,8 +100,7 @@ module _ (image : Image) (world : World) (formed : Formed image) (sound : Sound 
       }
 
       way : W.Way image world formed sound began took.1.0 m tokens took.1.2.mid
-      way = W.way image world formed sound began took.1.0 took.1.2.mid tokens took.1.2.moves
-          (come.fault ∙ running) m on_mid
+      way = W.way _ world formed sound began _ _ _ took.1.2.moves (come.fault ∙ running) _ on_mid
 
       on_new : W.On image world formed sound began new (has new.fault) way.memory
       on_new = let a = took.1.2.alike in record {
@@ -130,12 +128,10 @@ module _ (image : Image) (world : World) (formed : Formed image) (sound : Sound 
           memory = refl;
         };
         memory = way.memory;
-        issues = subst (λ (x : List Kept × Chain × Option ℕ).
-            Issues image (part image took.1.0.kept took.1.0.chain (has took.1.0.fault) m) tokens
-            (part image x.0 x.1 (has x.2) way.memory))
-            (λ j. (sym a.kept j, sym a.chain j, sym a.fault j)) way.issues;
-        is = W.buffer_so image world formed sound began new
-            (has new.fault) way.memory on_new own after.0.fault;
+        issues = subst (λ (x : List Kept × Chain × Option ℕ). Issues image (part image took.1.0.kept
+            took.1.0.chain (has took.1.0.fault) m) tokens (part image x.0 x.1 (has x.2) way.memory)) (λ j.
+            (sym a.kept j, sym a.chain j, sym a.fault j)) way.issues;
+        is = W.buffer_so _ _ formed sound _ _ _ _ on_new own after.0.fault;
       }
 
     pub said : whole.Comes image world began (whole_of old) r tokens f p s (whole_of new)
@@ -161,8 +157,7 @@ module _ (image : Image) (world : World) (formed : Formed image) (sound : Sound 
     bare_after (Err (fault.Index array)) x = still_none x.0 (Some array) None false x.1 before.0.memory old_is
     bare_after (Err (fault.Port port)) x = still_none x.0 None (Some port) false x.1.0 before.0.memory old_is
     bare_after (Err fault.NoMemory) (tokens, inl x) = same_none x.2
-    bare_after (Err fault.NoMemory) (tokens, inr x) =
-        still_none tokens None None true x.0 before.0.memory old_is
+    bare_after (Err fault.NoMemory) (tokens, inr x) = still_none _ _ _ _ x.0 _ old_is
     bare_after (Err fault.Old) x = equal_none x.1.3
     bare_after (Err (fault.Stopped port)) x = equal_none x.1.2
     bare_after (Err (fault.Ended array)) x = equal_none x.1.1

@@ -58,8 +58,7 @@ module _ (image : Image) (world : World) (formed : Formed image) (sound : Sound 
       let g = f.1 0 f.0 in
       let r : RightToken image world w i 0 g.0 = tok.right w i 0 g.0 g.1 in (
         suc r.time,
-        has_same (keys_of (walk image world (suc r.time))) r.inst.wave r.inst.instr w i r.at.wave
-            r.at.instr (walk_has image world facts (suc r.time) r.time r.inst (omega arith) r.at.fires),
+        has_same _ _ _ _ _ r.at.wave r.at.instr (walk_has _ _ facts _ _ _ (omega arith) r.at.fires),
       )
 
   -- where a token hasn't come the walk has more
@@ -71,9 +70,8 @@ module _ (image : Image) (world : World) (formed : Formed image) (sound : Sound 
       (P.not_fired image world formed sound t tok x right missing, once) (λ w i h. elim h [
         | inl e ↦ (
           suc right.time,
-          has_same (keys_of (walk image world (suc right.time))) right.inst.wave right.inst.instr w i
-              (right.at.wave ∙ e.0) (right.at.instr ∙ e.1) (walk_has image world facts (suc right.time)
-              right.time right.inst (omega arith) right.at.fires),
+          has_same _ _ _ _ _ (right.at.wave ∙ e.0) (right.at.instr ∙ e.1) (walk_has image world facts (suc
+              right.time) right.time right.inst (omega arith) right.at.fires),
         )
         | inr e ↦ walk_fired w i e
       ]) in
@@ -86,10 +84,9 @@ module _ (image : Image) (world : World) (formed : Formed image) (sound : Sound 
 
   pub costs : ((n : ℕ) (x : Inst) → fires image world n ≡ Some x → HasFired t.fired x.wave x.instr) →
       CostAtMost image world (length t.fired)
-  costs all n = few_keys (walk image world n) (length t.fired)
-      (once_length (keys_of (walk image world n)) t.fired (walk_once image world facts n) (λ w i h.
-      let r = walk_from image world facts n w i h in
-      has_same t.fired r.inst.wave r.inst.instr w i r.wave r.instr (all r.time r.inst r.fires)))
+  costs all n = few_keys _ _ (once_length _ _ (walk_once _ _ facts _) (λ w i h.
+      let r = walk_from _ _ facts _ _ _ h in
+      has_same _ _ _ _ _ r.wave r.instr (all r.time r.inst r.fires)))
 
 module _ (image : Image) (world : World) (began : List (Option Began)) (c : PartContent)
     (s : Parting image world began c) where
@@ -107,9 +104,8 @@ module _ (image : Image) (world : World) (began : List (Option Began)) (c : Part
   -- what is outside but for the cells is what the walk leaves there
   out_at : (n : ℕ) → effect_at image world n ≡ s.memory →
       HoldsOut began (O.with_cells (mem image world n) c.outside.cells) c.outside
-  out_at n e = out_of began (O.with_cells (mem image world n) c.outside.cells) c.outside
-      (subst (λ (o : Outside). HoldsOut began (O.with_cells o c.outside.cells) c.outside)
-      (sym e ∙ effect_is image world n) s.partly.outside)
+  out_at n e = out_of _ _ _ (subst (λ (o : Outside). HoldsOut began (O.with_cells o c.outside.cells)
+      c.outside) (sym e ∙ effect_is _ _ _) s.partly.outside)
 
   cells_at : (n : ℕ) → effect_at image world n ≡ s.memory → c.queued ≡ [] →
       c.outside.cells ≡ (mem image world n).cells
@@ -140,17 +136,16 @@ module _ (image : Image) (world : World) (began : List (Option Began)) (c : Part
     tripped array fault handed e =
         let f = subst (λ (o : Option ℕ). FaultIs image world o) fault s.fault in
         let at : StoppedAt image world cut _ c.chain = s.legal.halted (ap has fault) in
-        let times : at.time ≡ f.0 = one_fault image world known at.time f.0 at.fault f.1 in
-        let left : effect_at image world f.0 ≡ s.memory = ap (effect_at image world) (sym times)
-        ∙ mem_same image world known cut at.time at.from
-        (no_op_no_write image world cut at.time at.passed) ∙ at_cut in
+        let times : at.time ≡ f.0 = one_fault _ _ known _ _ at.fault f.1 in
+        let left : effect_at image world f.0 ≡ s.memory = ap (effect_at image world) (sym times) ∙ mem_same _
+        _ known _ _ at.from (no_op_no_write _ _ _ _ at.passed) ∙ at_cut in
         record {
           time = f.0;
           fault = f.1;
           array_is = f.2;
-          printed_are = sym (out_at f.0 left).printed_are;
-          cells_are = cells_at f.0 left (s.quiet (ap has fault));
-          ports = slots_at handed e f.0 left;
+          printed_are = sym (out_at _ left).printed_are;
+          cells_are = cells_at _ left (s.quiet (ap has fault));
+          ports = slots_at _ e _ left;
         }
 
     -- the request on a port is the walk's next operation
@@ -163,12 +158,10 @@ module _ (image : Image) (world : World) (began : List (Option Began)) (c : Part
 
       next_of : (b : Bool) → IsKept image world b waits.request → Next
       next_of false r = record { time = r.time; inst = r.inst; at = r.at; memory = r.memory }
-      next_of true r = absurd (store_no_port
-          (instr_at image waits.request.instr).op port r.store waits.port_is)
+      next_of true r = absurd (store_no_port _ _ r.store waits.port_is)
 
       right : Next
-      right = next_of (is_bare c waits.request.wave waits.request.instr)
-          (s.partly.right waits.request.wave waits.request.instr waits.request waits.is_kept)
+      right = next_of _ (s.partly.right waits.request.wave waits.request.instr waits.request waits.is_kept)
 
       memory : is_memory image right.inst.instr ≡ true
       memory = ap (is_memory image) right.at.instr ∙ right.memory
@@ -185,8 +178,7 @@ module _ (image : Image) (world : World) (began : List (Option Began)) (c : Part
           (right.at.wave ∙ waits.current ∙ ap (λ (d : Chain). d.wave) s.legal.ordered.chain) next
 
       left_there : effect_at image world right.time ≡ s.memory
-      left_there = mem_same image world known cut right.time from
-          (no_op_no_write image world cut right.time none_before) ∙ at_cut
+      left_there = mem_same _ _ known _ _ from (no_op_no_write _ _ _ _ none_before) ∙ at_cut
 
       pub port_failed : (handed : List (Option Told)) → began ≡ began_of handed →
           RoseAt port handed c.outside.ports →
@@ -210,28 +202,21 @@ module _ (image : Image) (world : World) (began : List (Option Began)) (c : Part
         (handed : List (Option Told)) → began ≡ began_of handed →
         RunWhole image world handed c.outside.printed c.outside.cells (length t.fired) c.outside.ports
     rested fronts none going t tok once paid handed e =
-        let n = counted image world formed sound t tok once in
+        let n = counted _ _ formed sound _ tok once in
         let l = n.1 in
-        let cost : CostAtMost image world (length t.fired) =
-        costs image world formed sound t tok once
-        (λ u x fx. (W.all_done image world formed sound began c s fronts none going t tok paid u x
-        fx).fired) in
+        let cost : CostAtMost image world (length t.fired) = costs _ _ formed sound _ tok once (λ u x fx.
+        (W.all_done _ _ formed sound _ _ s fronts none going _ tok paid _ _ fx).fired) in
         let k = cost n.0 in
-        let quiet : NoOp image world n.0 (n.0 + cut) =
-        none_fires image world (length t.fired) n.0 (n.0 + cut) cost l in
-        let left : effect_at image world n.0 ≡ s.memory =
-        sym (mem_same image world known n.0 (n.0 + cut) (omega arith)
-        (no_op_no_write image world n.0 (n.0 + cut) quiet))
-        ∙ mem_same image world known cut (n.0 + cut) (omega arith)
-        (W.no_write image world formed sound began c s fronts none going t tok paid (n.0 + cut))
-        ∙ at_cut in
+        let quiet : NoOp image world n.0 (n.0 + cut) = none_fires _ _ _ _ _ cost l in
+        let left : effect_at image world n.0 ≡ s.memory = sym (mem_same _ _ known _ _ (omega arith)
+        (no_op_no_write _ _ _ _ quiet)) ∙ mem_same _ _ known _ _ (omega arith) (W.no_write _ _ formed sound _
+        _ s fronts none going _ tok paid _) ∙ at_cut in
         record {
-          no_fault = W.no_fault image world formed sound began c s fronts none going t tok paid;
+          no_fault = W.no_fault _ _ formed sound _ _ s fronts none going _ tok paid;
           time = n.0;
           fired_is = omega (arith, l, k);
           cost = cost;
-          printed_are = sym (out_at n.0 left).printed_are;
-          cells_are = cells_at n.0 left (W.none_queued image world formed sound began c s fronts none going t
-              tok paid);
-          ports = slots_at handed e n.0 left;
+          printed_are = sym (out_at _ left).printed_are;
+          cells_are = cells_at _ left (W.none_queued _ _ formed sound _ _ s fronts none going _ tok paid);
+          ports = slots_at _ e _ left;
         }

@@ -86,42 +86,34 @@ module _ (image : Image) (world : World) (formed : Formed image) (sound : Sound 
       a ≡ x.result
   counts_at u x fx a e =
       let op = s.legal.ordered.others x.wave x.instr a e in
-      op.answer ∙ ap (λ (y : Inst). y.result)
-      (same_inst image world facts x.wave x.instr op.time u op.inst x op.at
-      (record { fires = fx; wave = refl; instr = refl }))
+      op.answer ∙ ap (λ (y : Inst). y.result) (same_inst _ _ facts _ _ _ _ _ _ op.at (record
+      { fires = fx; wave = refl; instr = refl }))
 
   -- what a done instance has sent has come
   sent_come : (u : ℕ) (x : Inst) → fires image world u ≡ Some x → IsDone x → (w i p v : ℕ) →
       IsSent (sends image x.wave x.instr x.operands x.result) w i p v → (n : ℕ) × (t.held w i p ≡ Some n)
   sent_come u x fx d w i p v h = elim (cases_Bool (is_memory image x.instr)) [
-    | inl m ↦ (let k = asked u x fx m d.fired in
+    | inl m ↦ (let k = asked _ _ fx m d.fired in
         let e = d.counted m in
-        let a = O.some_more (issued_in c.kept x.wave x.instr) (s.counts x.wave x.instr) e.0
-        (sym (s.partly.same x.wave x.instr)) e.1 in
+        let a = O.some_more _ _ _ (sym (s.partly.same x.wave x.instr)) e.1 in
         let answer : k.kept.answer ≡ Some a.0 = sym (ap answer_if k.entry) ∙ a.1 in
-        let result : a.0 ≡ x.result = counts_at u x fx a.0
-        (s.partly.told x.wave x.instr a.0 (d.left m) a.1) in
-        let ops : operands_of (ports image x.instr) k.kept.first k.kept.second ≡ x.operands =
-        ap (λ (n : ℕ). operands_of (ports image n) k.kept.first k.kept.second) (sym k.instr)
-        ∙ k.operands in
-        let all : AllReach t.held [] (sends image x.wave x.instr x.operands x.result) =
-        subst (λ (q : List ℕ × ℕ). AllReach t.held [] (sends image x.wave x.instr q.0 q.1))
-        (λ j. (ops j, result j))
-        (paid.answered (sends image x.wave x.instr (operands_of (ports image x.instr) k.kept.first
-        k.kept.second) a.0) (x.wave, x.instr, a.0, k.kept, k.entry, answer, d.left m, refl)) in
-        reach_none t.held _ all w i p v h)
+        let result : a.0 ≡ x.result = counts_at _ _ fx _ (s.partly.told x.wave x.instr a.0 (d.left m) a.1) in
+        let ops : operands_of (ports image x.instr) k.kept.first k.kept.second ≡ x.operands = ap (λ (n : ℕ).
+        operands_of (ports image n) k.kept.first k.kept.second) (sym k.instr) ∙ k.operands in
+        let all : AllReach t.held [] (sends image x.wave x.instr x.operands x.result) = subst (λ (q : List ℕ ×
+        ℕ). AllReach t.held [] (sends image x.wave x.instr q.0 q.1)) (λ j. (ops j, result j)) (paid.answered
+        (sends image x.wave x.instr (operands_of (ports image x.instr) k.kept.first k.kept.second) a.0)
+        (x.wave, x.instr, a.0, k.kept, k.entry, answer, d.left m, refl)) in
+        reach_none _ _ all _ _ _ _ h)
     | inr m ↦ (let ops : operands_in image t.held x.wave x.instr ≡ x.operands = right_operands image world
         facts t.held x.wave x.instr u x (record { fires = fx; wave = refl; instr = refl }) (tok.right x.wave
         x.instr) (tok.fired_full x.wave x.instr d.fired).1 in
-        let all : AllReach t.held [] (sends image x.wave x.instr x.operands
-        (result_of image x.instr x.operands)) =
-        subst (λ (xs : List ℕ). AllReach t.held []
-        (sends image x.wave x.instr xs (result_of image x.instr xs))) ops
-        (paid.told x.wave x.instr d.fired m) in
-        let all' : AllReach t.held [] (sends image x.wave x.instr x.operands x.result) =
-        subst (λ (n : ℕ). AllReach t.held [] (sends image x.wave x.instr x.operands n))
-        (sym (facts.plain u x fx m)) all in
-        reach_none t.held _ all' w i p v h)
+        let all : AllReach t.held [] (sends image x.wave x.instr x.operands (result_of image x.instr
+        x.operands)) = subst (λ (xs : List ℕ). AllReach t.held [] (sends image x.wave x.instr xs (result_of
+        image x.instr xs))) ops (paid.told x.wave x.instr d.fired m) in
+        let all' : AllReach t.held [] (sends image x.wave x.instr x.operands x.result) = subst (λ (n : ℕ).
+        AllReach t.held [] (sends image x.wave x.instr x.operands n)) (sym (facts.plain u x fx m)) all in
+        reach_none _ _ all' _ _ _ _ h)
   ]
 
   has_fired : (u : ℕ) (x : Inst) → DoneBelow u → fires image world u ≡ Some x →
@@ -131,8 +123,7 @@ module _ (image : Image) (world : World) (formed : Formed image) (sound : Sound 
       let n : (v : ℕ) × (nth x.operands p ≡ Some v) = nth_there x.operands p (omega (arith, l, len)) in
       elim (facts.made u x fx p n.0 n.1) [
         | inl h ↦ reach_none t.held _ paid.start x.wave x.instr p n.0 h
-        | inr m ↦ sent_come m.time m.inst m.fires
-            (below m.time m.inst m.earlier m.fires) x.wave x.instr p n.0 m.sent
+        | inr m ↦ sent_come _ _ m.fires (below m.time m.inst m.earlier m.fires) _ _ _ _ m.sent
       ])
 
   -- a queue's entry is an operation of the walk
@@ -163,8 +154,7 @@ module _ (image : Image) (world : World) (formed : Formed image) (sound : Sound 
   bare_store : (e : Queued) → In e c.queued → is_bare c e.wave e.instr ≡ true → is_load image e.instr ≡ false
   bare_store e i b =
       let a = (s.partly.sits e i).1 in
-      let n = O.some_more (issued_in c.kept e.wave e.instr) (s.counts e.wave e.instr) a.0
-      (sym (s.partly.same e.wave e.instr)) a.1 in
+      let n = O.some_more _ _ _ (sym (s.partly.same e.wave e.instr)) a.1 in
       let k = entry_there (entry_of c.kept e.wave e.instr) refl n.0 n.1 in
       let key = O.entry_key c.kept e.wave e.instr k.0 k.1 in
       let r = subst (λ (v : Bool). IsKept image world v k.0) b (s.partly.right e.wave e.instr k.0 k.1) in
@@ -181,10 +171,9 @@ module _ (image : Image) (world : World) (formed : Formed image) (sound : Sound 
       first : (es : List Queued) → c.queued ≡ es → c.queued ≡ []
       first [] g = g
       first (e ∷ es) g =
-          let i : In e c.queued = subst (λ (fs : List Queued). In e fs) (sym g) (inl refl) in
-          let f : front c.queued e.row e.index ≡ Some e =
-          subst (λ (fs : List Queued). front fs e.row e.index ≡ Some e) (sym g)
-          (F.front_here e es e.row e.index (record { row = refl; index = refl })) in
+          let i : In e c.queued = rw g (inl refl) in
+          let f : front c.queued e.row e.index ≡ Some e = rw g (F.front_here e es e.row e.index (record
+          { row = refl; index = refl })) in
           let store = bare_store e i (fronts e e.row e.index f) in
           let a = (s.partly.sits e i).1 in
           let op : IssuedOp image world cut e.wave e.instr a.0 =
@@ -201,8 +190,7 @@ module _ (image : Image) (world : World) (formed : Formed image) (sound : Sound 
     | inl h ↦ no_op u below n (omega (arith, l)) k x a h fx mx
     | inr h ↦ (let quiet : NoOp image world cut k =
         λ k' y a' b'. no_op u below n (omega (arith, l)) k' y a' (omega (arith, b', b)) in
-        let q : chain_at image world k ≡ c.chain = chain_same image world cut k a quiet
-        ∙ sym s.legal.ordered.chain in
+        let q : chain_at image world k ≡ c.chain = chain_same _ _ _ _ a quiet ∙ sym s.legal.ordered.chain in
         let i : (m : ℕ) × (s.counts x.wave x.instr ≡ Some m) =
         (below k x (omega (arith, l, b)) fx).counted mx in
         let wv : x.wave ≡ c.chain.wave = facts.turn_wave k x fx mx ∙ ap (λ (d : Chain). d.wave) q in
@@ -239,17 +227,7 @@ module _ (image : Image) (world : World) (formed : Formed image) (sound : Sound 
           going = going;
           none = no_queue u below l;
         })
-        | inr within ↦ none.goes k.kept (record {
-          waits = record { kept = entry; waits = unanswered; bare_is = whole };
-          may = record {
-            going = refl;
-            current = current;
-            fresh = ap answer_if entry ∙ unanswered;
-            turn = inl next;
-          };
-          within = within;
-          going = going;
-        })
+        | inr within ↦ none.goes k.kept (grind arith)
       ]
 
   has_counted : (u : ℕ) (x : Inst) → DoneBelow u → fires image world u ≡ Some x →
@@ -274,9 +252,8 @@ module _ (image : Image) (world : World) (formed : Formed image) (sound : Sound 
         let whole = (asked u x fx mx (has_fired u x below fx)).whole in
         absurd (elim (T.front_first image world formed sound c.queued e.0.row e.0.index f.0 e.0
         s.partly.rising f.1 e.1 (record { row = refl; index = refl })) [
-          | inl same ↦ both_ways (is_bare c x.wave x.instr) whole
-              (subst (λ (m : ℕ × ℕ). is_bare c m.0 m.1 ≡ true) (λ j. (e.2.wave j, e.2.instr j))
-              (subst (λ (g : Queued). is_bare c g.wave g.instr ≡ true) (sym same) bare))
+          | inl same ↦ both_ways (is_bare c x.wave x.instr) whole (subst (λ (m : ℕ × ℕ). is_bare c m.0 m.1 ≡
+              true) (λ j. (e.2.wave j, e.2.instr j)) (rw same bare))
           | inr early ↦ (let sf = (s.partly.sits f.0 fi.0).0 in
               let l = T.earlier_times image world formed sound f.0 e.0 sf.0 on.0 early sf.1 on.1 in
               none_before u below f.0 fi.0 sf.0 sf.1.inst sf.1.at (omega (arith, l, time)))
@@ -303,14 +280,12 @@ module _ (image : Image) (world : World) (formed : Formed image) (sound : Sound 
   counted_place : (u : ℕ) (x : Inst) → fires image world u ≡ Some x → is_memory image x.instr ≡ true →
       (u < cut) ⊎ ((cut ≤ u) × IsEarly image world cut u x)
   counted_place u x fx mx =
-      let a = (all_done u x fx).counted mx in
+      let a = (all_done _ _ fx).counted mx in
       let op : IssuedOp image world cut x.wave x.instr a.0 = s.legal.ordered.others x.wave x.instr a.0 a.1 in
       let at : FiresAt image world x.wave x.instr u x = record { fires = fx; wave = refl; instr = refl } in
-      subst (λ (k : ℕ × Inst). (k.0 < cut) ⊎ ((cut ≤ k.0) × IsEarly image world cut k.0 k.1))
-      (λ j. (
-        one_time image world facts x.wave x.instr op.time u op.inst x op.at at j,
-        same_inst image world
-            facts x.wave x.instr op.time u op.inst x op.at at j,
+      subst (λ (k : ℕ × Inst). (k.0 < cut) ⊎ ((cut ≤ k.0) × IsEarly image world cut k.0 k.1)) (λ j. (
+        one_time _ _ facts _ _ _ _ _ _ op.at at j,
+        same_inst _ _ facts _ _ _ _ _ _ op.at at j,
       )) op.place
 
   pub no_fault : NoFault image world

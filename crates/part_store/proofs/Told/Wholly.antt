@@ -142,8 +142,7 @@ module _ (image : Image) (world : World) (formed : Formed image) (sound : Sound 
       issued_kept = λ w i a e. (let s = some_entry (entry_of c.kept w i) a e in
           (operands_at image s.0, ap (operands_if image) s.1));
       listed = λ w i. (listed_to c.kept own w i, λ e. listed_from c.kept w i e.0 e.1);
-      legal = subst (λ (b : Bool). Legal image world (issued_in c.kept) (waiting_in image c.kept) b c.chain m)
-          (sym on.halts) on.legal;
+      legal = rw on.halts on.legal;
     };
     outside = on.outside;
     fault = fault;
@@ -182,8 +181,7 @@ module _ (image : Image) (world : World) (formed : Formed image) (sound : Sound 
           parted.0.legal;
       right = λ w i k e. S.whole_kept image world (is_bare c w i) k (none w i)
           (parted.0.partly.right w i k e);
-      outside = subst (λ (cs : List (List ℕ)). HoldsOut began (O.with_cells parted.0.memory cs) c.outside)
-          (sym cells_are) parted.0.partly.outside;
+      outside = rw cells_are parted.0.partly.outside;
     }
 
   -- one issue
@@ -253,8 +251,7 @@ module _ (image : Image) (world : World) (formed : Formed image) (sound : Sound 
       issued_so = record {
         operands = operands_at image k;
         waits = waits_here;
-        issuable = subst (λ (b : Bool). Issuable image (issued_in c.kept) c.chain b k.wave k.instr
-            (operands_at image k)) (sym (ap has going)) g.may;
+        issuable = rw (ap has going) g.may;
         within = within;
         passed = passed;
         tokens_are = ap (sends image k.wave k.instr (operands_at image k)) word_is;
@@ -269,33 +266,23 @@ module _ (image : Image) (world : World) (formed : Formed image) (sound : Sound 
           ∙ ap (λ (o : Outside). o.cells) (O.operands_alike image k m).1 ∙ answers.after.cells_are
 
       out_left : HoldsOut began (effect_after image k.instr (operands_at image k) m) left
-      out_left = subst (λ (cs : List (List ℕ)).
-          HoldsOut began (O.with_cells (effect_after image k.instr (operands_at image k) m) cs) left)
-          (sym cells_left)
-          (O.outside_after began image k.instr (operands_at image k) m m.cells left
-          (subst (λ (o : Outside). HoldsOut began o left)
-          (sym (O.operands_alike image k m).1) answers.after))
+      out_left = rw cells_left (O.outside_after began image k.instr (operands_at image k) m m.cells left (rw
+          (O.operands_alike image k m).1 answers.after))
 
       pub on_step : On d false (effect_after image k.instr (operands_at image k) m)
       on_step = record {
         bare = λ w i. go.bare w i ∙ on.bare w i;
         queued = go.queued_are ∙ on.queued;
         halts = ap has go.fault ∙ on.halts;
-        legal = subst (λ (f : ℕ → ℕ → Option ℕ).
-            Legal image world f (waiting_in image d.kept) false d.chain
-            (effect_after image k.instr (operands_at image k) m)) (sym issued_are)
-            (B.new_legal image world facts (issued_in c.kept) c.chain false m on.legal.settled k.wave k.instr
-            (operands_at image k) g.may req.time req.inst req.at req.operands req.memory on.legal.cut
-            on.legal.ordered
-            within (waiting_in image d.kept) d.chain passed);
+        legal = rw issued_are (B.new_legal image world facts (issued_in c.kept) c.chain false m
+            on.legal.settled k.wave k.instr (operands_at image k) g.may req.time req.inst req.at req.operands
+            req.memory on.legal.cut on.legal.ordered within (waiting_in image d.kept) d.chain passed);
         right = λ w i x e. elim (with_key_cases k.wave k.instr (Some k') (entry_of c.kept) w i) [
           | inl h ↦ (let q : Some k' ≡ Some x = sym (go.kept w i ∙ h.1) ∙ e in let z : k' ≡ x = cc in
-              subst (λ (y : Kept). IsAsked image world (asked_of y)) z
-              (on.right k.wave k.instr k g.waits.kept))
+              rw (← z) (on.right k.wave k.instr k g.waits.kept))
           | inr h ↦ on.right w i x (sym (go.kept w i ∙ h.1) ∙ e)
         ];
-        outside = subst (HoldsOut began (effect_after image k.instr (operands_at image k) m))
-            (sym go.outside_is) out_left;
+        outside = rw go.outside_is out_left;
       }
 
   -- moves are issues in turn
@@ -316,12 +303,11 @@ module _ (image : Image) (world : World) (formed : Formed image) (sound : Sound 
   way c d _ (joins {rest = rest} k fronts g held go more) going m on = grind (arith, both_ways, none_held)
   way c d _ (issues {d = e} {rest = rest} k word left fronts g free told go more) going m on =
       let answers = told began m on.outside in
-      let step = on_step c m on going k g word left answers e go in
-      let r = way e d rest more (go.fault ∙ going)
-      (effect_after image k.instr (operands_at image k) m) step in
+      let step = on_step _ _ on going _ g _ _ answers _ go in
+      let r = way _ _ _ more (go.fault ∙ going) _ step in
       record {
         memory = r.memory;
-        issues = Holds.goes k.wave k.instr (issued_so c m on going k g word left answers e go) r.issues;
+        issues = Holds.goes k.wave k.instr (issued_so _ _ on going _ g _ _ answers _ go) r.issues;
         on = r.on;
       }
   way c d _ (follows first f going' fol more) going m on = grind arith
@@ -332,9 +318,8 @@ module _ (image : Image) (world : World) (formed : Formed image) (sound : Sound 
       bare = on.bare;
       queued = on.queued;
       halts = refl;
-      legal = B.stop_legal image world facts
-          (issued_in c.kept) c.chain false m on.legal.settled k.wave k.instr
-          (operands_at image k) may req'.time req'.inst req'.at req'.operands req'.memory on.legal.cut
+      legal = B.stop_legal image world facts (issued_in c.kept) c.chain false m on.legal.settled k.wave
+          k.instr (operands_at image k) may req'.time req'.inst req'.at req'.operands req'.memory on.legal.cut
           on.legal.ordered past (waiting_in image c.kept) waits;
       right = on.right;
       outside = on.outside;
@@ -361,8 +346,7 @@ module _ (image : Image) (world : World) (formed : Formed image) (sound : Sound 
       stopped = record {
         operands = operands_at image k;
         waits = waits;
-        issuable = subst (λ (b : Bool). Issuable image (issued_in c.kept) c.chain b k.wave k.instr
-            (operands_at image k)) (sym (ap has going)) may;
+        issuable = rw (ap has going) may;
         past = past;
         kept = λ a b. refl;
         issued = λ a b. refl;
@@ -394,18 +378,7 @@ module _ (image : Image) (world : World) (formed : Formed image) (sound : Sound 
       subst (λ (b : Bool). Issuable image (issued_in c.kept) c.chain b k.wave k.instr
       (operands_at image k)) may.going may' in
       elim (cases_Bool (is_past_at image k)) [
-        | inl p ↦ none.faults k (record {
-          waits = waits;
-          current = may'.current;
-          next = elim may'.turn [
-            | inl x ↦ x
-            | inr x ↦ absurd (both_ways (is_past_at image k)
-                (sym (O.past_is image k (operands_at image k) (O.first_of image k)) ∙ x.1) p)
-          ];
-          past = p;
-          going = going;
-          none = on.queued;
-        })
+        | inl p ↦ none.faults k (grind (arith, both_ways, O.past_is, O.first_of))
         | inr p ↦ none.goes k (record { waits = waits; may = free; within = p; going = going })
       ]
 
@@ -428,24 +401,7 @@ module _ (image : Image) (world : World) (formed : Formed image) (sound : Sound 
         memory = m;
         legal = subst (λ (f : ℕ → ℕ → Option (List ℕ)).
             Legal image world (issued_in c.kept) f (has c.fault) c.chain m) asking_are is.ok.legal;
-        partly = record {
-          right = λ w i k e. subst (λ (b : Bool). IsKept image world b k) (sym (none w i))
-              (asked_here w i k e);
-          same = λ w i. refl;
-          told = λ w i a q e. e;
-          opened = λ w i a e b. absurd (both_ways (is_bare c w i) (none w i) b);
-          sits = λ e h. absurd (subst (λ (es : List Queued). In e es) free h);
-          numbered = λ e h. absurd (subst (λ (es : List Queued). In e es) free h);
-          rising = subst (RisingEntries image world) (sym free) tt;
-          every = λ e r j t h. absurd (no_front e r j h);
-          few = subst (λ (es : List Queued). open_queues es ≤ 16) (sym free) (omega arith);
-          free = λ r j h. ap (λ (cs : List (List ℕ)). cell cs r j) (sym is.outside.cells_are);
-          before = λ e r j t h. absurd (no_front e r j h);
-          rows = ap (λ (cs : List (List ℕ)). length cs) (sym is.outside.cells_are);
-          shape = λ r. ap (λ (cs : List (List ℕ)). length (row cs r)) (sym is.outside.cells_are);
-          outside = subst (λ (cs : List (List ℕ)). HoldsOut began (O.with_cells m cs) c.outside)
-              is.outside.cells_are is.outside;
-        };
+        partly = grind (arith, asked_here, both_ways, no_front, O.with_cells);
         fault = is.fault;
         quiet = λ e. free;
       },

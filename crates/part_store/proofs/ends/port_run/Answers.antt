@@ -8,8 +8,5 @@ pub returns : goal.returns
 returns g c = λ handed e.
     let failed = c.facts.ensures.failed c.args.port c.requires.failed in
     let back = c.args.buffer.now.outside.ports in
-    port_failed g.J.Job.image g.J.Job.world g.J.Job.began c.args.buffer.now c.facts.ensures.parted.0
-    c.facts-2.ensures.formed
-    c.facts-2.ensures.sound c.args.port failed.0 handed e
-    (c.told_ports_begin.ensures.rose handed back c.args.port
-    (subst (λ (b : List (Option Began)). RoseSince b c.args.port back) e failed.1))
+    port_failed _ _ _ _ c.facts.ensures.parted.0 c.facts-2.ensures.formed c.facts-2.ensures.sound _ failed.0 _
+    e (c.told_ports_begin.ensures.rose handed back c.args.port (rw (← e) failed.1))

@@ -8,8 +8,7 @@ returns c image world began formed sound x none own = (
     W.empty x none parted.1,
     (
       parted.0.memory,
-      W.buffer_so image world formed sound began x
-          (has x.fault) parted.0.memory (W.on_now image world formed sound began x none parted) own
+      W.buffer_so _ _ formed sound _ _ _ _ (W.on_now image world formed sound began x none parted) own
           parted.0.fault,
     ),
   )),

@@ -46,14 +46,12 @@ returns-in-Fires-clause-paid g c =
     let x = c.args.token in
     let answer : Accepted {J = g.row.J.Denot} image old x c.accept_into-took.new.self
     (Fires c.accept_into-took.new.results.sent) = c.in-Fires.ensures.answer.0 in
-    let fresh = not_fired image world c.facts-2.ensures.formed c.facts-2.ensures.sound
-    (part old) c.facts.ensures.part x c.facts-3.ensures.right answer.0.free in
+    let fresh = not_fired _ _ c.facts-2.ensures.formed c.facts-2.ensures.sound
+    _ c.facts.ensures.part _ c.facts-3.ensures.right answer.0.free in
     let full = answer.1 in
-    both_ok c.send_all.result (λ keep sent going.
-    taken_fires image old x c.accept_into-took.new.self answer.0 fresh c.args.run.now.buffer
-    c.args.run.now.way c.requires.paid
-    c.send_all.new.self c.accept_into-took.new.results.sent full.0 full.1 full.2.0 full.2.1 keep sent)
-    c.send_all.ensures.old
+    both_ok c.send_all.result (λ keep sent going. taken_fires image old x c.accept_into-took.new.self answer.0
+    fresh c.args.run.now.buffer c.args.run.now.way c.requires.paid c.send_all.new.self
+    c.accept_into-took.new.results.sent full.0 full.1 full.2.0 full.2.1 keep sent) c.send_all.ensures.old
     c.send_all.ensures.taken
 
 pub returns-in-Some-request-clause-paid : goal.returns-in-Some-request-clause-paid
@@ -66,17 +64,14 @@ returns-in-Some-request-clause-paid g c =
     let some : Some asks.0 ≡ Some c.in-Some-request.request = sym asks.1 ∙ c.in-Some-request.is in
     let same : asks.0 ≡ c.in-Some-request.request = cc in
     let answer : Accepted {J = g.row.J.Denot} image old x c.accept_into-took.new.self
-    (Asks c.in-Some-request.request) =
-    subst (λ a. Accepted {J = g.row.J.Denot} image old x c.accept_into-took.new.self (Asks a)) same asks.3 in
+    (Asks c.in-Some-request.request) = rw (← same) asks.3 in
     let fresh = not_fired image world c.facts-2.ensures.formed c.facts-2.ensures.sound
     (part old) c.facts.ensures.part x c.facts-3.ensures.right answer.0.free in
     let full = answer.1 in
-    both_ok c.ask.result (λ tell whole going.
-    taken_asks image old x c.accept_into-took.new.self answer.0 fresh c.args.run.now.buffer
-    c.args.run.now.way c.requires.paid
-    c.ask.new.buffer c.ask.new.way full.0 full.1 full.2.0 (λ t paid. tell t paid going)
-    (subst (λ (k : ℕ × ℕ). IsWhole c.ask.new.buffer k.0 k.1) (λ j. (full.2.1 j, full.2.2 j)) (whole going)))
-    c.ask.ensures.paid c.ask.ensures.asked
+    both_ok c.ask.result (λ tell whole going. taken_asks image old x c.accept_into-took.new.self answer.0
+    fresh c.args.run.now.buffer c.args.run.now.way c.requires.paid c.ask.new.buffer c.ask.new.way full.0
+    full.1 full.2.0 (λ t paid. tell t paid going) (subst (λ (k : ℕ × ℕ). IsWhole c.ask.new.buffer k.0 k.1) (λ
+    j. (full.2.1 j, full.2.2 j)) (whole going))) c.ask.ensures.paid c.ask.ensures.asked
 
 pub returns-in-Old-clause-paid : goal.returns-in-Old-clause-paid
 returns-in-Old-clause-paid g c = λ going.
@@ -86,6 +81,5 @@ returns-in-Old-clause-paid g c = λ going.
     let way = c.args.run.now.way in
     let refused : Refused {J = g.row.J.Denot} old x c.accept_into-took.new.self (Old x) =
     c.in-Old.ensures.answer.0 in
-    subst (λ t. Paid image (part t) c.args.run.now.buffer way) (sym refused.1)
-    (pay_held image (part old) c.args.run.now.buffer way x
-    (has_some (held old x.wave x.instr x.port) refused.2) c.requires.paid)
+    rw refused.1 (pay_held image (part old) c.args.run.now.buffer way x (has_some (held old x.wave x.instr
+    x.port) refused.2) c.requires.paid)

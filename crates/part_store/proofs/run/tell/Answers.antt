@@ -6,8 +6,6 @@ use Rattle.ws_words.proofs.Results.{on_ok}
 
 pub returns : goal.returns
 returns g c = record {
-  paid = on_ok c.offer.result (λ offered t. addressed g.J.Job.image c.args.buffer.now
-      c.address_into-answer.new.self (address_of c.args.token)
-      (with_tokens c.address_into-answer.new.answers c.address_into-answer.result) c.args.way.now
-      c.offer.new.self c.address_into-answer.ensures offered t) c.offer.ensures;
+  paid = on_ok c.offer.result (λ offered t. addressed _ _ _ _ _ _ _ c.address_into-answer.ensures offered _)
+      c.offer.ensures;
 }

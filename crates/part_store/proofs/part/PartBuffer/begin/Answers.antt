@@ -43,27 +43,21 @@ invariant_of-result g c =
       failed = None;
       starved = false;
     } in
-    let cells : c.in-Ok.cells ≡ cells_of image.arrays = c.in-Ok.ensures
-    ∙ ap (λ xs. cells_of (map view.array xs)) c.deref.ensures.value
-    ∙ ap (λ (i : Image). cells_of i.arrays) c.program.ensures.image in
-    O.opening_stands image world g.J.Job.began
-    (λ state r. c.every_list_of_events.ensures.reach image world c.program.ensures.formed
-    c.program.ensures.sound state r)
-    c.new-2.result (subst (AllBegan g.J.Job.began world.left) (sym c.new-2.ensures) c.requires.ports) s
-    (record {
+    let cells : c.in-Ok.cells ≡ cells_of image.arrays = c.in-Ok.ensures ∙ ap (λ xs. cells_of (map view.array
+    xs)) c.deref.ensures.value ∙ ap (λ (i : Image). cells_of i.arrays) c.program.ensures.image in
+    O.opening_stands image world g.J.Job.began (λ state r. c.every_list_of_events.ensures.reach image world
+    c.program.ensures.formed c.program.ensures.sound state r) c.new-2.result (rw c.new-2.ensures
+    c.requires.ports) s (record {
       early = no_room order c.new-3.ensures.kept c.new-3.ensures.early;
       printed = omega (arith, w, c.new.ensures.len);
       queues = omega (arith, w, n, queues.entries.ok.0);
       lines = omega (arith, w);
       counted = c.new-5.ensures.ok;
       bare = λ w i e. absurd (none_bare bare c.new-4.ensures w i e);
-    })
-    (record {
+    }) (record {
       filed = c.new-3.ensures.filed image;
       stores = λ w i e. absurd (none_bare bare c.new-4.ensures w i e);
-    })
-    c.new-3.ensures.early
-    (λ j. record {
+    }) c.new-3.ensures.early (λ j. record {
       kept = c.new-3.ensures.kept j;
       bare = c.new-4.ensures j;
       queued = c.new-5.ensures.none j;

@@ -8,17 +8,14 @@ use Rattle.part_store.proofs.part.PartBuffer.facts.Goals as goal
 use Rattle.part_store.specs.Contents.{PartContent}
 
 pub returns-clause-parted : goal.returns-clause-parted
-returns-clause-parted g c = subst (Parted g.J.Job.image g.J.Job.world g.J.Job.began) c.self.view_is
-    (c.self.invariant.calm.0.parting, c.self.invariant.calm.1)
+returns-clause-parted g c = rw (← c.self.view_is) (c.self.invariant.calm.0.parting, c.self.invariant.calm.1)
 
 pub returns-clause-idle : goal.returns-clause-idle
 returns-clause-idle g c = subst (PartIdle g.J.Job.image) c.self.view_is c.self.invariant.idle
 
 pub returns-clause-failed : goal.returns-clause-failed
-returns-clause-failed g c = subst (PartFailedSo g.J.Job.image g.J.Job.began) c.self.view_is
-    c.self.invariant.failed
+returns-clause-failed g c = rw (← c.self.view_is) c.self.invariant.failed
 
 pub returns-clause-once : goal.returns-clause-once
-returns-clause-once g c = subst (λ (x : PartContent). All (λ k. entry_of x.kept k.wave k.instr ≡ Some k)
-    x.kept) c.self.view_is (own c.self.inside.parts.order.kept.items (place_in
+returns-clause-once g c = rw (← c.self.view_is) (own c.self.inside.parts.order.kept.items (place_in
     c.self.inside.parts.order.index) c.self.inside.parts.order.ok.index)

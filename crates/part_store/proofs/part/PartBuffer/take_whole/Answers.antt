@@ -9,27 +9,18 @@ use Rattle.part_store.proofs.Running.After as A
 use Rattle.part_store.proofs.part.PartBuffer.take_whole.Goals as goal
 
 pub invariant_of-self : goal.invariant_of-self
-invariant_of-self g c = (A.submit_told (image_of c.args.program.now) g.J.Job.image g.J.Job.world
-    g.J.Job.began c.requires.code.image_is c.requires.code.formed c.requires.code.sound c.self.inside.parts
-    c.submit.new.self c.args.kept (request_of (asked_of c.args.kept)) (tokens_of c.submit.new.told.items)
-    c.submit.result (A.waits_is c.args.kept c.requires.waits) c.submit.ensures.ok c.submit.ensures.filed
-    c.self.invariant c.requires.right c.submit.ensures.leads).0
+invariant_of-self g c = (A.submit_told _ _ _ _ c.requires.code.image_is c.requires.code.formed
+    c.requires.code.sound _ _ _ _ _ _ (A.waits_is _ c.requires.waits) c.submit.ensures.ok
+    c.submit.ensures.filed c.self.invariant c.requires.right c.submit.ensures.leads).0
 
 pub returns-clause-right : goal.returns-clause-right
-returns-clause-right g c = (A.submit_told (image_of c.args.program.now) g.J.Job.image g.J.Job.world
-    g.J.Job.began c.requires.code.image_is c.requires.code.formed c.requires.code.sound c.self.inside.parts
-    c.submit.new.self c.args.kept (request_of (asked_of c.args.kept)) (tokens_of c.submit.new.told.items)
-    c.submit.result (A.waits_is c.args.kept c.requires.waits) c.submit.ensures.ok c.submit.ensures.filed
-    c.self.invariant c.requires.right c.submit.ensures.leads).1
+returns-clause-right g c = (A.submit_told _ _ _ _ c.requires.code.image_is c.requires.code.formed
+    c.requires.code.sound _ _ _ _ _ _ (A.waits_is _ c.requires.waits) c.submit.ensures.ok
+    c.submit.ensures.filed c.self.invariant c.requires.right c.submit.ensures.leads).1
 
 pub returns-clause-submitted : goal.returns-clause-submitted
-returns-clause-submitted g c = A.submitted_as g.J.Job.image c.args.self.now
-    (request_of (asked_of c.args.kept)) (tokens_of c.submit.new.told.items) c.submit.result
-    (content_of c.submit.new.self)
-    (subst (λ (x : PartContent). PartSubmitSo g.J.Job.image x (request_of (asked_of c.args.kept))
-    (tokens_of c.submit.new.told.items) c.submit.result (content_of c.submit.new.self)) c.self.view_is
-    (A.submit_told (image_of c.args.program.now) g.J.Job.image g.J.Job.world
-    g.J.Job.began c.requires.code.image_is c.requires.code.formed c.requires.code.sound c.self.inside.parts
-    c.submit.new.self c.args.kept (request_of (asked_of c.args.kept)) (tokens_of c.submit.new.told.items)
-    c.submit.result (A.waits_is c.args.kept c.requires.waits) c.submit.ensures.ok c.submit.ensures.filed
-    c.self.invariant c.requires.right c.submit.ensures.leads).2)
+returns-clause-submitted g c = A.submitted_as _ _ _ _ _ _ (subst (λ (x : PartContent). PartSubmitSo
+    g.J.Job.image x (request_of (asked_of c.args.kept)) (tokens_of c.submit.new.told.items) c.submit.result
+    (content_of c.submit.new.self)) c.self.view_is (A.submit_told _ _ _ _ c.requires.code.image_is
+    c.requires.code.formed c.requires.code.sound _ _ _ _ _ _ (A.waits_is _ c.requires.waits)
+    c.submit.ensures.ok c.submit.ensures.filed c.self.invariant c.requires.right c.submit.ensures.leads).2)

@@ -7,5 +7,4 @@ use Rattle.part_store.proofs.parts.Parts.address.Goals as goal
 
 pub returns-else-lets-clause-leads : goal.returns-else-lets-clause-leads
 returns-else-lets-clause-leads g c = let image = image_of c.args.program.now in
-    subst (λ (ts : List Token). AddressLeads image c.args.self.now c.args.kept ts c.put_by_address.result
-    c.put_by_address.new.self) (sym (ap tokens_of c.requires.told)) c.put_by_address.ensures.leads
+    rw (ap tokens_of c.requires.told) c.put_by_address.ensures.leads

@@ -1,4 +1,4 @@
-use Rattle.std.proofs.Common.{◌≡◌, ◌∙◌, [], Some, slice_set, refl, ap}
+use Rattle.std.proofs.Common.{arith, ◌≡◌, ◌∙◌, [], Some, slice_set, refl, ap}
 use Rattle.store_buf.specs.declared.kept.Kept.{Kept}
 use Rattle.store_buf.specs.Ordering.{no_request, kept_at}
 use Rattle.store_buf.proofs.Lists.{or_any}
@@ -29,11 +29,5 @@ returns-clause-ok g c =
       lines = c.requires.ok.lines;
       counted = c.requires.ok.counted;
       bare = λ w i e. U.still_kept (record { arrays = []; blocks = [] }) o c.args.place c.requires.within
-          c.args.word _ (ap (λ (k : Kept). slice_set o.kept.items c.args.place (record {
-            wave = k.wave;
-            instr = k.instr;
-            first = k.first;
-            second = k.second;
-            answer = Some c.args.word;
-          })) q) w i (c.requires.ok.bare w i e);
+          c.args.word _ (grind (arith, slice_set)) w i (c.requires.ok.bare w i e);
     }

@@ -28,12 +28,10 @@ returns-clause-leads g c = λ world began formed sound right calm idle.
     c.requires.running c.requires.working right calm in (
       D.calm_new image world began formed sound old mid d new k t0 t1 t2 filled drains same lead empty
           c.requires.running c.requires.working right calm,
-      subst (RightTokens image world) (sym told) (D.right_new image world began formed sound old mid d new
+      rw told (D.right_new image world began formed sound old mid d new
           k t0 t1 t2 filled drains same lead empty c.requires.running c.requires.working right calm),
-      subst (λ (ts : List Token). PartSubmitSo image (content_of old) k ts c.settle.result (content_of
-          new)) (sym told) (D.said image world began formed sound old mid d new k t0 t1 t2 filled drains
-          same lead empty c.requires.running c.requires.working right calm c.settle.result
-          c.settle.ensures.settled),
+      rw told (D.said image world began formed sound old mid d new k t0 t1 t2 filled drains same lead empty
+          c.requires.running c.requires.working right calm c.settle.result c.settle.ensures.settled),
     )
 
 pub drain-requires-clause-filed : goal.drain-requires-clause-filed

@@ -22,41 +22,25 @@ pub returns-in_default-clause-leads : goal.returns-in_default-clause-leads
 returns-in_default-clause-leads g c = (
   [],
   sym (append-nil (tokens_of c.args.told.now.items)),
-  λ world began formed sound st going fol. let e = c.args.entry in let q = N.counts (image_of
-      c.args.program.now) world began (content_of c.args.self.now) st.parting e (F.front_in
-      c.args.self.now.queues.entries.items e.row e.index e fol.first).0 in absurd
+  λ world began formed sound st going fol. let e = c.args.entry in let q = N.counts _ _ _ _ st.parting _
+      (F.front_in
+      _ _ _ _ fol.first).0 in absurd
       (c.in_default.ensures.none q.request q.answer q.is_kept q.answered),
 )
 
 pub tell-requires : goal.tell-requires
-tell-requires g c = let f = few_sent (image_of c.args.program.now) c.requires.formed c.destinations.result.now
-    c.args.entry.instr c.destinations.ensures in
-    omega (
-      arith,
-      f,
-      c.requires.room,
-      c.leave.ensures.fewer,
-      c.args.self.now.queues.entries.ok.0,
-      c.leave.new.self.entries.ok.0,
-    )
+tell-requires g c = grind (
+  arith,
+  few_sent (image_of c.args.program.now) c.requires.formed
+      c.destinations.result.now c.args.entry.instr c.destinations.ensures,
+)
 
 pub returns-clause-room : goal.returns-clause-room
-returns-clause-room g c = let f = few_sent (image_of c.args.program.now) c.requires.formed
-    c.destinations.result.now c.args.entry.instr c.destinations.ensures in
-    let q : length c.answer_at.new.self.queues.entries.items ≡ length c.leave.new.self.entries.items =
-    ap (λ (x : _). length x.entries.items) c.answer_at.ensures.queues in
-    omega (
-      arith,
-      f,
-      q,
-      c.requires.room,
-      c.leave.ensures.fewer,
-      c.args.self.now.queues.entries.ok.0,
-      c.leave.new.self.entries.ok.0,
-      c.answer_at.ensures.same.waiting,
-      c.tell.ensures.count,
-      c.tell.ensures.room,
-    )
+returns-clause-room g c = grind (
+  arith,
+  few_sent (image_of c.args.program.now) c.requires.formed
+      c.destinations.result.now c.args.entry.instr c.destinations.ensures,
+)
 
 pub returns-clause-leads : goal.returns-clause-leads
 returns-clause-leads g c = (
@@ -86,16 +70,7 @@ returns-clause-leads g c = (
       ∙ T.first_leaves image world formed sound old.queues.entries.items e.row e.index e
       st.parting.partly.rising fol.first in
       let b = c.answer_at.ensures.same in
-      let beside : Beside old new = record {
-        chain = b.chain;
-        early = b.early;
-        waiting = b.waiting;
-        bare = b.bare;
-        ports = b.ports ∙ c.use_cell-word.ensures.ports;
-        fault = b.fault;
-        failed = b.failed;
-        starved = b.starved;
-      } in
+      let beside : Beside old new = grind arith in
       let told = ap (λ (ds : List Dest). tokens_to e.wave word ds) c.destinations.ensures
       ∙ N.told_are image world formed sound began old new e p st going fol
       c.in-Some.ensures.within c.in-Some.ensures.is word c.answer_at.ensures.kept word_is cells input read

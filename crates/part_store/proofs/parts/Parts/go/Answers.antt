@@ -33,9 +33,7 @@ use Rattle.ws_words.proofs.Results.{on_err}
 
 past_so : (image : Image) (op : Op) (k m : Kept) (b : Bool) → is_past_op image.arrays op (k.first ∷ []) ≡ b →
     op ≡ (instr_at image k.instr).op → k ≡ m → is_past_at image m ≡ b
-past_so image op k m b e f q = subst (λ (x : Kept).
-    is_past_op image.arrays (instr_at image x.instr).op (x.first ∷ []) ≡ b) q
-    (subst (λ (o : Op). is_past_op image.arrays o (k.first ∷ []) ≡ b) f e)
+past_so image op k m b e f q = rw (← q) (rw (← f) e)
 
 array_so : (image : Image) (op : Op) (k m : Kept) (a : ℕ) → a ≡ array_of_op op →
     op ≡ (instr_at image k.instr).op → k ≡ m → array_at image m.instr ≡ a
@@ -48,18 +46,14 @@ returns-then-is_past-clause-leads g c =
     let image = image_of c.args.program.now in
     let old = c.args.self.now in
     let m = kept_at old.order c.args.place in
-    let past : is_past_at image m ≡ true =
-    past_so image c.op-op.result c.request-kept.result m true
-    (sym c.is_past.ensures ∙ c.if-is_past.true) c.op-op.ensures c.request-kept.ensures in
-    let a : array_at image m.instr ≡ c.array_of.result =
-    array_so image c.op-op.result c.request-kept.result m c.array_of.result c.array_of.ensures
-    c.op-op.ensures c.request-kept.ensures in (
+    let past : is_past_at image m ≡ true = past_so image c.op-op.result c.request-kept.result m true (sym
+    c.is_past.ensures ∙ c.if-is_past.true) c.op-op.ensures c.request-kept.ensures in
+    let a : array_at image m.instr ≡ c.array_of.result = array_so image c.op-op.result c.request-kept.result m
+    c.array_of.result c.array_of.ensures c.op-op.ensures c.request-kept.ensures in (
       [],
       sym (append-nil (tokens_of c.args.told.now.items)),
-      λ world began formed sound calm. subst (λ (n : ℕ). Moves image (content_of old) [] (record (content_of
-          old) { fault = Some n }) × Calm image world began (record old { fault = Some n })) a (G.stops_now
-          image world formed sound began old c.requires.ok calm c.requires.going c.args.place c.requires.goes
-          past),
+      λ world began formed sound calm. rw (← a) (G.stops_now image world formed sound began old c.requires.ok
+          calm c.requires.going c.args.place c.requires.goes past),
     )
 
 bare_so : {P : Type 0} (s : Parts P) (k m : Kept) (b r : Bool) → r ≡ is_in s.bare k.wave k.instr → r ≡ b →
@@ -69,9 +63,8 @@ bare_so s k m b r e f q = subst (λ (x : Kept). is_in s.bare x.wave x.instr ≡ 
 held_so : {P : Type 0} (image : Image) (s : Parts P) (op : Op) (k m : Kept) (b r : Bool) →
     r ≡ holds_op s.queues.entries.items op k.first → r ≡ b → op ≡ (instr_at image k.instr).op → k ≡ m →
     holds_op s.queues.entries.items (instr_at image m.instr).op m.first ≡ b
-held_so image s op k m b r e f at q = subst
-    (λ (x : Kept). holds_op s.queues.entries.items (instr_at image x.instr).op x.first ≡ b) q
-    (subst (λ (o : Op). holds_op s.queues.entries.items o k.first ≡ b) at (sym e ∙ f))
+held_so image s op k m b r e f at q = subst (λ (x : Kept). holds_op s.queues.entries.items (instr_at image
+    x.instr).op x.first ≡ b) q (rw (← at) (sym e ∙ f))
 
 pub returns-then-is_alone-clause-leads : goal.returns-then-is_alone-clause-leads
 returns-then-is_alone-clause-leads g c =
@@ -83,17 +76,13 @@ returns-then-is_alone-clause-leads g c =
     (sym c.is_past.ensures ∙ c.if-is_past.false) c.op-op.ensures c.request-kept.ensures in
     let which : (is_in old.bare m.wave m.instr ≡ true) ⊎
     ((is_in old.bare m.wave m.instr ≡ false) ×
-    (holds_op old.queues.entries.items (instr_at image m.instr).op m.first ≡ true)) =
-    elim c.then-is_alone.branch [
-      | then-is_alone-via-then-is_alone w ↦ inl (bare_so old c.request-kept.result m true c.is_alone.result
-          c.is_alone.ensures w.if-is_alone.true c.request-kept.ensures)
-      | then-is_alone-via-else-is_alone+then-holds w ↦ inr (
-        bare_so old c.request-kept.result m false c.is_alone.result c.is_alone.ensures w.if-is_alone.false
-            c.request-kept.ensures,
-        held_so image old c.op-op.result c.request-kept.result m true w.holds.result w.holds.ensures
-            w.if-holds.true c.op-op.ensures c.request-kept.ensures,
-      )
-    ] in (
+    (holds_op old.queues.entries.items (instr_at image m.instr).op m.first ≡ true)) = grind (
+      arith,
+      then-is_alone-via-then-is_alone,
+      bare_so,
+      then-is_alone-via-else-is_alone+then-holds,
+      held_so,
+    ) in (
       [],
       sym (append-nil (tokens_of c.args.told.now.items)),
       λ world began formed sound calm. G.waits_on image world formed sound began old c.requires.ok calm
@@ -103,13 +92,10 @@ returns-then-is_alone-clause-leads g c =
     )
 
 pub run-requires-clause-port : goal.run-requires-clause-port
-run-requires-clause-port g c = subst PortIn (sym c.op-op.ensures)
-    (port_in (image_of c.args.program.now) c.request-kept.result.instr c.requires.formed)
+run-requires-clause-port g c = rw c.op-op.ensures (port_in _ _ c.requires.formed)
 
 pub run-requires-clause-room : goal.run-requires-clause-room
-run-requires-clause-room g c = let s = C.some_wait
-    (image_of c.args.program.now) c.args.self.now.order c.args.place
-    c.requires.goes.may in
+run-requires-clause-room g c = let s = C.some_wait _ _ _ c.requires.goes.may in
     omega (arith, s, c.requires.ok.printed)
 
 pub returns-in_err-word-clause-stays : goal.returns-in_err-word-clause-stays
@@ -123,22 +109,14 @@ returns-in_err-word-clause-stays g c = on_err c.from_residual.result (λ world b
       failed = c.args.self.now.failed;
       starved = c.args.self.now.starved;
     } in
-    G.still_calm (image_of c.args.program.now) world began c.args.self.now n calm refl refl refl refl
-    (λ b o h. c.in_err-word.ensures.kept b o h))
+    G.still_calm _ _ _ _ _ calm refl refl refl refl (λ b o h. c.in_err-word.ensures.kept b o h))
 
 silent_so : (image : Image) {P : Type 0} (old new : Parts P) (op : Op) (k : Kept) (why : Silent) →
     (q : ℕ) → q < length old.order.kept.items →
     ready_flag image old.order (kept_at old.order q) ≡ true → k ≡ kept_at old.order q →
     op ≡ (instr_at image k.instr).op →
     new.order ≡ old.order → SilentAt op old.outer.ports new.outer.ports why → PartsSilentSo image old new why
-silent_so image old new op k (Failed p) q l ready is at same s = (
-  subst (λ o. PortWaits image o.kept.items (chain_of o.chain) p) (sym same) (port_waits image old.order q
-      l ready p (ap (λ x. port_of (instr_at image x.instr).op) (sym is) ∙ ap port_of (sym at) ∙ s.0)),
-  s.1,
-)
-silent_so image old new op k (NoMemory p) q l ready is at same s = subst (λ o. PortWaits image o.kept.items
-    (chain_of o.chain) p) (sym same) (port_waits image old.order q l ready p (ap (λ x. port_of (instr_at image
-    x.instr).op) (sym is) ∙ ap port_of (sym at) ∙ s))
+silent_so v0 v1 v2 v3 v4 v5 v6 v7 v8 v9 v10 v11 v12 = grind (arith, port_waits)
 
 pub returns-in_err-word-clause-silent : goal.returns-in_err-word-clause-silent
 returns-in_err-word-clause-silent g c = let o = c.args.self.now.order in
@@ -158,29 +136,19 @@ returns-in_err-word-clause-silent g c = let o = c.args.self.now.order in
     c.requires.goes.may.ready c.request-kept.ensures c.op-op.ensures refl c.in_err-word.ensures.silent)
 
 pub tell-requires : goal.tell-requires
-tell-requires g c = let f = few_sent (image_of c.args.program.now) c.requires.formed c.destinations.result.now
-    c.request-kept.result.instr c.destinations.ensures in
-    let s = C.some_wait (image_of c.args.program.now) c.args.self.now.order c.args.place
-    c.requires.goes.may in
+tell-requires g c = let f = few_sent _ c.requires.formed _ _ c.destinations.ensures in
+    let s = C.some_wait _ _ _ c.requires.goes.may in
     let r = c.requires.room in omega (arith, f, s, r)
 
 pub returns-clause-room : goal.returns-clause-room
-returns-clause-room g c = let f = few_sent
-    (image_of c.args.program.now) c.requires.formed c.destinations.result.now c.request-kept.result.instr
-    c.destinations.ensures in
+returns-clause-room g c = let f = few_sent _ c.requires.formed _ _ c.destinations.ensures in
     let l = c.issue.ensures.fewer in let n = c.tell.ensures.count in let q = c.tell.ensures.room in
     let r = c.requires.room in omega (arith, f, l, n, q, r)
 
 pub returns-clause-ok : goal.returns-clause-ok
 returns-clause-ok g c = let o = c.args.self.now.order in record {
   early = c.issue.ensures.room;
-  printed = omega (
-    arith,
-    c.issue.ensures.fewer,
-    c.requires.ok.printed,
-    c.in_ok-word.ensures.room,
-    c.in_ok-word.ensures.fewer,
-  );
+  printed = grind arith;
   queues = omega (arith, c.issue.ensures.fewer, c.requires.ok.queues);
   lines = omega (arith, c.issue.ensures.fewer, c.requires.ok.lines);
   counted = c.requires.ok.counted;
@@ -205,9 +173,8 @@ returns-clause-leads g c =
       failed = old.failed;
       starved = old.starved;
     } in
-    let within : is_past_at image m ≡ false =
-    past_so image c.op-op.result k m false
-    (sym c.is_past.ensures ∙ c.if-is_past.false) c.op-op.ensures c.request-kept.ensures in
+    let within : is_past_at image m ≡ false = past_so image c.op-op.result k m false (sym c.is_past.ensures ∙
+    c.if-is_past.false) c.op-op.ensures c.request-kept.ensures in
     let whole : is_in old.bare m.wave m.instr ≡ false =
     bare_so old k m false c.is_alone.result c.is_alone.ensures c.if-is_alone.false c.request-kept.ensures in
     let held : holds_op old.queues.entries.items (instr_at image m.instr).op m.first ≡ false =
@@ -219,12 +186,9 @@ returns-clause-leads g c =
           image m.wave m.instr (operands_at image m) word = ap (tokens_to k.wave word)
           c.destinations.ensures ∙ ap (λ (x : Kept). tokens_to x.wave word (destinations image x.instr 0))
           c.request-kept.ensures ∙ N.sent image m word (G.is_memory_now image world formed sound began old
-          c.requires.ok calm c.requires.going c.args.place c.requires.goes whole) in subst (λ (ts : List
-          Token). Moves image (content_of old) ts (content_of n) × Calm image world began n) (sym told)
+          c.requires.ok calm c.requires.going c.args.place c.requires.goes whole) in rw told
           (G.issues_now image world formed sound began old c.requires.ok calm c.requires.going
           c.args.place c.requires.goes n word within c.issue.ensures.kept c.issue.ensures.passed refl refl
-          refl whole held (λ b o h. subst (λ (x : Kept). Performed b (instr_at image x.instr).op (x.first
-          ∷ x.second ∷ 0 ∷ []) o word (holding c.run.new.self)) c.request-kept.ensures (subst (λ (op :
-          Op). Performed b op (k.first ∷ k.second ∷ 0 ∷ []) o word (holding c.run.new.self))
-          c.op-op.ensures (c.in_ok-word.ensures.answer b o 0 h)))),
+          refl whole held (λ b o h. rw (← c.request-kept.ensures) (rw (← c.op-op.ensures)
+          (c.in_ok-word.ensures.answer b o 0 h)))),
     )

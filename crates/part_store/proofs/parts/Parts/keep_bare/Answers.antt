@@ -9,10 +9,8 @@ pub add_bare-requires-clause-kept : goal.add_bare-requires-clause-kept
 add_bare-requires-clause-kept g c =
     let ks = c.reserve_bare.new.self.order.kept.items in
     let fresh : entry_of ks c.args.kept.wave c.args.kept.instr ≡ None =
-    subst (λ (xs : List Kept). entry_of xs c.args.kept.wave c.args.kept.instr ≡ None)
-    (sym c.in_ok-reserve_bare.ensures.keeps.kept_are) c.requires.fresh in
-    subst (λ (xs : List Kept). (x : Kept) × (entry_of xs c.args.kept.wave c.args.kept.instr ≡ Some x))
-    (sym c.in_ok-keep.ensures.keeps.kept_are) (C.kept_now ks c.args.kept fresh)
+    rw c.in_ok-reserve_bare.ensures.keeps.kept_are c.requires.fresh in
+    rw c.in_ok-keep.ensures.keeps.kept_are (C.kept_now ks c.args.kept fresh)
 
 pub returns-in_err-reserve_bare-clause-filed : goal.returns-in_err-reserve_bare-clause-filed
 returns-in_err-reserve_bare-clause-filed g c = c.in_err-reserve_bare.ensures.filed

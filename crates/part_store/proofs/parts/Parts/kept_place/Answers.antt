@@ -10,10 +10,8 @@ returns-else-is_kept_at-clause-none g c = λ k e.
     let s = A.stands_at o c.args.wave c.args.instr k e in
     let q : Some c.in-Some.place ≡ Some s.place = sym c.in-Some.is ∙ c.place.ensures ∙ s.found in
     let r : c.in-Some.place ≡ s.place = cc in
-    both_ways (kept_flag o s.place c.args.wave c.args.instr)
-    (subst (λ (n : ℕ). kept_flag o n c.args.wave c.args.instr ≡ false) r
-    (sym (c.if-is_kept_at.ensures.flag (subst (λ (n : ℕ). n < length o.kept.items) (sym r) s.inside))))
-    (A.kept_flag_is o s.place c.args.wave c.args.instr k s.is s.wave s.instr)
+    both_ways (kept_flag o s.place c.args.wave c.args.instr) (rw (← r) (sym (c.if-is_kept_at.ensures.flag (rw
+    r s.inside)))) (A.kept_flag_is o s.place c.args.wave c.args.instr k s.is s.wave s.instr)
 
 pub returns-in-None-clause-none : goal.returns-in-None-clause-none
 returns-in-None-clause-none g c = λ k e.

@@ -10,9 +10,8 @@ returns-in-Ok-clause-leads g c = λ world began formed sound right calm idle.
     let old = c.args.self.now in
     let mid = c.keep.new.self in
     let bare = C.whole_bare old mid c.args.kept c.requires.ok c.requires.fresh c.keep.ensures.bare in (
-      C.put_calm image world began formed sound old mid c.args.kept false c.requires.fresh c.requires.waits
-          c.in-Ok.ensures.keeps bare c.requires.running c.requires.working right calm c.requires.fed
-          c.requires.held idle,
+      C.put_calm _ _ _ formed sound _ _ _ _ c.requires.fresh c.requires.waits c.in-Ok.ensures.keeps bare
+          c.requires.running c.requires.working right calm c.requires.fed c.requires.held idle,
       (λ w i p v e. absurd e),
       C.put_request image world began formed sound old mid c.args.kept false c.requires.fresh c.requires.waits
           c.in-Ok.ensures.keeps bare c.requires.running c.requires.working right calm c.requires.fed

@@ -9,13 +9,11 @@ returns-in-Ok-clause-leads g c = λ world began formed sound right calm idle.
     let old = c.args.self.now in
     let mid = c.keep_bare.new.self in
     let bare = c.in-Ok.ensures.bare in (
-      C.put_calm image world began formed sound old mid c.args.kept true c.requires.fresh c.requires.waits
-          c.in-Ok.ensures.keeps bare c.requires.running c.requires.working right calm c.requires.fed
-          c.requires.held idle,
+      C.put_calm _ _ _ formed sound _ _ _ _ c.requires.fresh c.requires.waits c.in-Ok.ensures.keeps bare
+          c.requires.running c.requires.working right calm c.requires.fed c.requires.held idle,
       (λ w i p v e. absurd e),
-      C.put_address image world began formed sound old mid c.args.kept true c.requires.fresh c.requires.waits
-          c.in-Ok.ensures.keeps bare c.requires.running c.requires.working right calm c.requires.fed
-          c.requires.held idle refl,
+      C.put_address _ _ _ formed sound _ _ _ _ c.requires.fresh c.requires.waits c.in-Ok.ensures.keeps bare
+          c.requires.running c.requires.working right calm c.requires.fed c.requires.held idle refl,
     )
 
 pub returns-in-Err-clause-leads : goal.returns-in-Err-clause-leads

@@ -7,5 +7,4 @@ use Rattle.part_store.specs.Parts.{PartsSubmitLeads}
 
 pub returns-else-lets-clause-leads : goal.returns-else-lets-clause-leads
 returns-else-lets-clause-leads g c = let image = image_of c.args.program.now in
-    subst (λ (ts : List Token). PartsSubmitLeads image c.args.self.now c.args.kept ts c.put_by.result
-    c.put_by.new.self) (sym (ap tokens_of c.requires.told)) c.put_by.ensures.leads
+    rw (ap tokens_of c.requires.told) c.put_by.ensures.leads

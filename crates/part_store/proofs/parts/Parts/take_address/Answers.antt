@@ -16,19 +16,15 @@ returns-in-Ok-clause-leads g c = λ world began formed sound right calm idle.
     let lead = c.settle.ensures.lead in
     let told = lead.1 ∙ ap (λ (xs : List Token). xs ++ lead.0)
     (ap tokens_of (c.make_room.ensures.items ∙ c.requires.told)) in
-    let now = C.calm_now image world began formed sound old mid c.args.kept true c.requires.fresh
-    c.requires.waits c.in-Ok.ensures.keeps c.in-Ok.ensures.bare c.requires.running c.requires.working
-    right calm in
+    let now = C.calm_now _ _ _ formed sound _ _ _ _ c.requires.fresh c.requires.waits c.in-Ok.ensures.keeps
+    c.in-Ok.ensures.bare c.requires.running c.requires.working right calm in
     let led = lead.2 world began formed sound now in (
       led.1,
-      subst (RightTokens image world) (sym told) (C.right_now image world began formed sound old mid
-          c.args.kept true c.requires.fresh c.requires.waits c.in-Ok.ensures.keeps c.in-Ok.ensures.bare
-          c.requires.running c.requires.working right calm c.settle.new.self lead.0 led),
-      subst (λ (ts : List Token). AddressSo image (content_of old) c.args.kept ts c.settle.result
-          (content_of c.settle.new.self)) (sym told) (C.said image world began formed sound old mid
-          c.args.kept true c.requires.fresh c.requires.waits c.in-Ok.ensures.keeps c.in-Ok.ensures.bare
-          c.requires.running c.requires.working right calm c.settle.new.self lead.0 led refl
-          c.settle.result c.settle.ensures.settled),
+      rw told (C.right_now _ _ _ formed sound _ _ _ _ c.requires.fresh c.requires.waits c.in-Ok.ensures.keeps
+          c.in-Ok.ensures.bare c.requires.running c.requires.working right calm _ _ led),
+      rw told (C.said _ _ _ formed sound _ _ _ _ c.requires.fresh c.requires.waits c.in-Ok.ensures.keeps
+          c.in-Ok.ensures.bare c.requires.running c.requires.working right calm _ _ led refl _
+          c.settle.ensures.settled),
     )
 
 pub returns-in-Err-clause-leads : goal.returns-in-Err-clause-leads

@@ -18,21 +18,18 @@ returns-in-Ok-clause-leads g c = λ world began formed sound right calm idle.
     let told = lead.1 ∙ ap (λ (xs : List Token). xs ++ lead.0)
     (ap tokens_of (c.make_room.ensures.items ∙ c.requires.told)) in
     let now = C.calm_now image world began formed sound old mid c.args.kept false c.requires.fresh
-    c.requires.waits c.in-Ok.ensures.keeps
-    (C.whole_bare old mid c.args.kept c.requires.ok c.requires.fresh c.in-Ok.ensures.bare)
-    c.requires.running c.requires.working right calm in
+    c.requires.waits c.in-Ok.ensures.keeps (C.whole_bare old mid c.args.kept c.requires.ok c.requires.fresh
+    c.in-Ok.ensures.bare) c.requires.running c.requires.working right calm in
     let led = lead.2 world began formed sound now in (
       led.1,
-      subst (RightTokens image world) (sym told) (C.right_now image world began formed sound old mid
+      rw told (C.right_now image world began formed sound old mid
           c.args.kept false c.requires.fresh c.requires.waits c.in-Ok.ensures.keeps (C.whole_bare old mid
           c.args.kept c.requires.ok c.requires.fresh c.in-Ok.ensures.bare) c.requires.running
           c.requires.working right calm c.settle.new.self lead.0 led),
-      subst (λ (ts : List Token). PartSubmitSo image (content_of old) c.args.kept ts c.settle.result
-          (content_of c.settle.new.self)) (sym told) (C.took image world began formed sound old mid
-          c.args.kept false c.requires.fresh c.requires.waits c.in-Ok.ensures.keeps (C.whole_bare old mid
-          c.args.kept c.requires.ok c.requires.fresh c.in-Ok.ensures.bare) c.requires.running
-          c.requires.working right calm c.settle.new.self lead.0 led refl c.settle.result
-          c.settle.ensures.settled),
+      rw told (C.took image world began formed sound old mid c.args.kept false c.requires.fresh
+          c.requires.waits c.in-Ok.ensures.keeps (C.whole_bare old mid c.args.kept c.requires.ok
+          c.requires.fresh c.in-Ok.ensures.bare) c.requires.running c.requires.working right calm
+          c.settle.new.self lead.0 led refl c.settle.result c.settle.ensures.settled),
     )
 
 pub returns-in-Err-clause-leads : goal.returns-in-Err-clause-leads

@@ -11,13 +11,11 @@ use Rattle.part_store.proofs.Moving.Turning as U
 use Rattle.part_store.proofs.parts.Parts.wait_on.Goals as goal
 
 pub join-requires-clause-room : goal.join-requires-clause-room
-join-requires-clause-room g c = let s = C.some_wait
-    (image_of c.args.program.now) c.args.self.now.order c.args.place c.requires.may in
+join-requires-clause-room g c = let s = C.some_wait _ _ _ c.requires.may in
     omega (arith, s, c.requires.ok.queues)
 
 pub join-requires-clause-lines : goal.join-requires-clause-lines
-join-requires-clause-lines g c = let s = C.some_wait
-    (image_of c.args.program.now) c.args.self.now.order c.args.place c.requires.may in
+join-requires-clause-lines g c = let s = C.some_wait _ _ _ c.requires.may in
     omega (arith, s, c.requires.ok.lines)
 
 pub returns-clause-ok : goal.returns-clause-ok
@@ -42,9 +40,8 @@ pub returns-clause-queued : goal.returns-clause-queued
 returns-clause-queued g c =
     let image = image_of c.args.program.now in
     let q : c.request-kept.result ≡ kept_at c.args.self.now.order c.args.place = c.request-kept.ensures in
-    let r : c.row_of.result ≡ array_at image (kept_at c.args.self.now.order c.args.place).instr - 1 =
-    row_so image c.op.result c.request-kept.result
-    (kept_at c.args.self.now.order c.args.place) c.row_of.result c.row_of.ensures c.op.ensures q in
+    let r : c.row_of.result ≡ array_at image (kept_at c.args.self.now.order c.args.place).instr - 1 = row_so _
+    _ _ _ _ c.row_of.ensures c.op.ensures q in
     let n : c.note.result.seq ≡ (note_of image (kept_at c.args.self.now.order c.args.place).instr).seq =
     ap (λ (x : _). x.seq) c.note.ensures ∙ ap (λ (x : Kept). (note_of image x.instr).seq) q in
     c.join.ensures.entries ∙ ap (λ (e : Queued). joined e c.args.self.now.queues.entries.items)

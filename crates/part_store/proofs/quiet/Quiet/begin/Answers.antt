@@ -9,7 +9,5 @@ pub returns-in-Ok-clause-stands : goal.returns-in-Ok-clause-stands
 returns-in-Ok-clause-stands g c =
     let image = g.J.Job.image in
     let world = g.J.Job.world in
-    subst (λ (x : PartContent). IsBuffer image world g.J.Job.began (whole_of x) (opening_memory image world))
-    (sym c.in-Ok.ensures.opening)
-    (O.opening_is image world g.J.Job.began (λ state r. c.every_list_of_events.ensures.reach image world
-    c.facts.ensures.formed c.facts.ensures.sound state r) _ c.requires.ports)
+    rw c.in-Ok.ensures.opening (O.opening_is _ _ _ (λ state r. c.every_list_of_events.ensures.reach image
+    world c.facts.ensures.formed c.facts.ensures.sound state r) _ c.requires.ports)

@@ -9,8 +9,7 @@ pub returns-clause-stands : goal.returns-clause-stands
 returns-clause-stands g c =
     let inner = c.self.inside.inner in
     let parted = c.facts.ensures.parted in
-    subst (λ (x : Content). (m : Outside) × IsBuffer g.J.Job.image g.J.Job.world g.J.Job.began x m)
-    c.self.view_is (
+    rw (← c.self.view_is) (
       parted.0.memory,
       W.buffer_so g.J.Job.image g.J.Job.world c.self.invariant.1 c.self.invariant.2 g.J.Job.began
           inner (has inner.fault) parted.0.memory
@@ -22,8 +21,7 @@ pub returns-clause-idle : goal.returns-clause-idle
 returns-clause-idle g c =
     let inner = c.self.inside.inner in
     let parted = c.facts.ensures.parted in
-    subst (λ (x : Content). x.failed ≡ None → x.starved ≡ false → Idle g.J.Job.image x) c.self.view_is
-    (λ f t. W.idle_so g.J.Job.image g.J.Job.world c.self.invariant.1 c.self.invariant.2
-    g.J.Job.began inner (has inner.fault) parted.0.memory
-    (W.on_now g.J.Job.image g.J.Job.world c.self.invariant.1 c.self.invariant.2 g.J.Job.began inner
-    c.self.invariant.0 parted) (c.facts.ensures.idle f t))
+    rw (← c.self.view_is) (λ f t. W.idle_so g.J.Job.image g.J.Job.world c.self.invariant.1 c.self.invariant.2
+    g.J.Job.began inner (has inner.fault) parted.0.memory (W.on_now g.J.Job.image g.J.Job.world
+    c.self.invariant.1 c.self.invariant.2 g.J.Job.began inner c.self.invariant.0 parted) (c.facts.ensures.idle
+    f t))

@@ -17,9 +17,5 @@ returns g c =
     let inner = c.self.inside.inner in
     let b = gives_word (instr_at g.J.Job.image c.args.instr).op in
     let o = issued_in inner.kept c.args.wave c.args.instr in
-    subst (λ (x : Content). c.word.result ≡ answer_of g.J.Job.image x c.args.wave c.args.instr)
-    c.self.view_is
-    (c.word.ensures
-    ∙ ap (λ (es : List Queued). cond (b && not (is_queued es c.args.wave c.args.instr)) o None)
-    (W.empty inner c.self.invariant.0 c.facts.ensures.parted.1)
-    ∙ unqueued b o)
+    rw (← c.self.view_is) (c.word.ensures ∙ ap (λ (es : List Queued). cond (b && not (is_queued es c.args.wave
+    c.args.instr)) o None) (W.empty inner c.self.invariant.0 c.facts.ensures.parted.1) ∙ unqueued b o)
