@@ -1,11 +1,10 @@
 -- The data of a store comes, and what is true of a buffer stays true.
-use Rattle.std.proofs.Common.{ℕ, ◌≡◌, ◌≤◌, ◌⊎◌, Bool, false, List, length, Option, Some, None, refl, sym, ap}
+use Rattle.std.proofs.Common.{ℕ, ◌≡◌, ◌≤◌, ◌⊎◌, Bool, false, List, length, Option, Some, None, sym, ap}
 use Rattle.std.proofs.Common.{◌∙◌, subst, inl, inr, arith}
 use Rattle.std.proofs.lemmas.Bool.{both_ways}
 use Rattle.ws_words.specs.Outside.{World, row}
 use Rattle.ws_isa.specs.Image.{Image}
-use Rattle.df_core.specs.Core.{Chain, has}
-use Rattle.df_core.specs.Fit.{Legal}
+use Rattle.df_core.specs.Core.{has}
 use Rattle.df_core.proofs.Keeping.Ports.{SameKey, with_key_cases}
 use Rattle.df_core.specs.Began.{Began}
 use Rattle.df_core.specs.Rights.{IsAsked}
@@ -16,7 +15,7 @@ use Rattle.store_buf.specs.Contents.{FaultIs}
 use Rattle.store_buf.specs.Stores.{asked_of}
 use Rattle.part_store.specs.declared.entry.Queued.{Queued}
 use Rattle.part_store.specs.Queues.{front, holds, is_queued, open_queues}
-use Rattle.part_store.specs.Contents.{is_bare, asking, cell, PartContent}
+use Rattle.part_store.specs.Contents.{is_bare, cell, PartContent}
 use Rattle.part_store.specs.Parted.{IsKept, Parting, RisingEntries}
 use Rattle.part_store.specs.Rules.{Fills}
 use Rattle.part_store.proofs.Queueing.Keys.{key_cases}

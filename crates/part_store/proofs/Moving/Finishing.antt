@@ -3,7 +3,7 @@ use Rattle.std.proofs.Common.{ℕ, ◌≡◌, ◌<◌, true, cond, List, length,
 use Rattle.std.proofs.Common.{◌∙◌, subst, arith}
 use Rattle.std.proofs.lemmas.List.{append-nil}
 use Rattle.ws_words.specs.Outside.{World, row, with_row}
-use Rattle.ws_isa.specs.Image.{Image, Token, instr_at, is_memory, sends, tokens_to}
+use Rattle.ws_isa.specs.Image.{Image, instr_at, is_memory, sends, tokens_to}
 use Rattle.ws_isa.specs.Formed.{Formed}
 use Rattle.ws_isa.specs.Sound.{Sound}
 use Rattle.df_core.specs.Core.{has, with_key}

@@ -1,5 +1,5 @@
 -- First entries on a cell are done, one after another.
-use Rattle.std.proofs.Common.{ℕ, ◌≡◌, false, List, [], ◌++◌, Some, sym, ap, ◌∙◌, subst, arith}
+use Rattle.std.proofs.Common.{ℕ, ◌≡◌, false, List, [], ◌++◌, Some, sym, ap, ◌∙◌, arith}
 use Rattle.std.proofs.lemmas.List.{append_assoc, append-nil}
 use Rattle.ws_isa.specs.Image.{Image, Token}
 use Rattle.part_store.specs.declared.entry.Queued.{Queued}

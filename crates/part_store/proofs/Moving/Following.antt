@@ -1,5 +1,5 @@
 -- The first entry of a queue is done, and the buffer's facts stay.
-use Rattle.std.proofs.Common.{ℕ, suc, ◌-◌, ◌≡◌, ◌<◌, ◌≤◌, ◌⊎◌, Bool, true, false, List, [], length, Option}
+use Rattle.std.proofs.Common.{ℕ, suc, ◌≡◌, ◌<◌, ◌≤◌, ◌⊎◌, Bool, true, false, List, [], length, Option}
 use Rattle.std.proofs.Common.{Some, None, slice_index, refl, sym, ap, ◌∙◌, subst, inl, inr, arith}
 use Rattle.std.proofs.lemmas.Bool.{both_ways, cases_Bool, cases_lt, cond-true, cond-false}
 use Rattle.ws_words.specs.Outside.{Outside, World, row}
@@ -17,15 +17,11 @@ use Rattle.df_core.proofs.Keeping.Settling.{one_time}
 use Rattle.df_core.specs.Began.{Began}
 use Rattle.store_buf.specs.declared.kept.Kept.{Kept}
 use Rattle.store_buf.specs.Requests.{entry_of, issued_in, answer_if}
-use Rattle.port_set.specs.Ports.{Told}
-use Rattle.port_set.specs.Slots.{port_at}
-use Rattle.ws_words.specs.Plain.{took_words}
-use Rattle.store_buf.specs.Outdoors.{SlotIs}
 use Rattle.store_buf.specs.Contents.{RightTokens}
 use Rattle.part_store.specs.declared.entry.Queued.{Queued}
-use Rattle.part_store.specs.Queues.{front, holds, is_queued, open_queues, without}
+use Rattle.part_store.specs.Queues.{front, is_queued, open_queues, without}
 use Rattle.part_store.specs.Contents.{is_bare, cell, is_on_row, PartContent}
-use Rattle.part_store.specs.Parted.{OnCell, IsKept, Partly, is_store_op, RisingEntries}
+use Rattle.part_store.specs.Parted.{OnCell, IsKept, Partly, is_store_op}
 use Rattle.part_store.specs.Rules.{FrontGoes, Followed, operands_at, word_of, cells_left}
 use Rattle.part_store.proofs.Queueing.Keys.{IsOn, cell_cases}
 use Rattle.part_store.proofs.Queueing.Fronts as F
@@ -233,8 +229,9 @@ module _ (image : Image) (world : World) (formed : Formed image) (sound : Sound 
           z.row) f_on)) in elim (T.front_first image world formed sound (without c.queued e.wave e.instr)
           e.row e.index f q.0 (T.rising_without image world formed sound e.wave e.instr c.queued p.rising) h
           q.1 o.0) [
-            | inl z ↦ (let w : m ≡ u = T.at_once image world formed sound f m u (subst (λ (g :
-                Queued). OnCell image world g.wave g.instr g.row g.index m) z o.1) f_at in omega (arith, w, y))
+            | inl z ↦ (let w : m ≡ u = T.at_once image world formed sound f m u
+                (subst (λ (g : Queued). OnCell image world g.wave g.instr g.row g.index m) z o.1) f_at in
+                omega (arith, w, y))
             | inr z ↦ (let w : u < m = T.earlier_times image world formed sound f q.0 u m z f_at o.1 in omega
                 (arith, w, y))
           ])

@@ -5,7 +5,7 @@ use Rattle.std.proofs.Common.{sym, ap, ◌∙◌, subst, inl, inr, ltb-true, ari
 use Rattle.std.proofs.lemmas.Bool.{and_parts, both_ways}
 use Rattle.std.proofs.lemmas.List.{append-nil}
 use Rattle.ws_words.specs.Outside.{Outside, World, row}
-use Rattle.ws_isa.specs.Image.{Image, Token, instr_at, array_at, answer, is_load, is_memory, is_past, note_of}
+use Rattle.ws_isa.specs.Image.{Image, Token, instr_at, array_at, is_load, is_memory, is_past, note_of}
 use Rattle.ws_isa.specs.Image.{sends}
 use Rattle.ws_isa.specs.Formed.{Formed}
 use Rattle.ws_isa.specs.Sound.{Sound}

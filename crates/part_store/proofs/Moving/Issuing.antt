@@ -1,5 +1,5 @@
 -- An operation whose cell no queue holds is issued, and the buffer's facts stay.
-use Rattle.std.proofs.Common.{ℕ, ◌-◌, ◌≡◌, ◌≤◌, ◌⊎◌, true, false, List, [], ◌∷◌, length, Option, Some}
+use Rattle.std.proofs.Common.{ℕ, ◌-◌, ◌≡◌, ◌⊎◌, true, false, List, [], ◌∷◌, length, Option, Some}
 use Rattle.std.proofs.Common.{slice_index, sym, ap, ◌∙◌, subst, inl, inr, arith}
 use Rattle.std.proofs.lemmas.Bool.{both_ways, cases_Bool}
 use Rattle.ws_words.specs.Outside.{Outside, World, row}
@@ -18,14 +18,13 @@ use Rattle.store_buf.specs.Requests.{entry_of, issued_in, answer_if}
 use Rattle.store_buf.specs.Outdoors.{Holding, HoldsOut, Performed}
 use Rattle.store_buf.specs.Contents.{RightTokens}
 use Rattle.part_store.specs.declared.entry.Queued.{Queued}
-use Rattle.part_store.specs.Queues.{front, holds, is_queued, open_queues}
+use Rattle.part_store.specs.Queues.{front, holds, is_queued}
 use Rattle.part_store.specs.Contents.{is_bare, cell, is_on_row, holds_op, PartContent}
-use Rattle.part_store.specs.Parted.{OnCell, IsKept, Partly, is_store_op, RisingEntries}
+use Rattle.part_store.specs.Parted.{OnCell, IsKept, Partly, is_store_op}
 use Rattle.part_store.specs.Rules.{Counted, operands_at}
 use Rattle.part_store.proofs.Queueing.Times as T
 use Rattle.part_store.proofs.Queueing.Ops as O
 use Rattle.part_store.proofs.Queueing.Cells as C
-use Rattle.ws_words.specs.Items.{In}
 
 module _ (image : Image) (world : World) (formed : Formed image) (sound : Sound image)
     (began : List (Option Began))

@@ -1,13 +1,13 @@
 -- Each move keeps what is true of a buffer with queues.
 use Rattle.std.proofs.Common.{ℕ, ◌-◌, ◌≡◌, ◌<◌, ◌≤◌, ◌⊎◌, Bool, true, false, List, [], ◌∷◌, ◌++◌, Option}
-use Rattle.std.proofs.Common.{Some, None, slice_index, refl, sym, ap, ◌∙◌, subst, inl, inr, arith}
+use Rattle.std.proofs.Common.{Some, None, slice_index, refl, sym, ap, ◌∙◌, inl, inr, arith}
 use Rattle.std.proofs.lemmas.Bool.{both_ways, cases_lt}
 use Rattle.ws_words.specs.Outside.{Outside, World}
 use Rattle.ws_isa.specs.Image.{Image, Token, instr_at, array_at, is_past, note_of, sends}
 use Rattle.ws_isa.specs.Formed.{Formed}
 use Rattle.ws_isa.specs.Sound.{Sound}
 use Rattle.df_core.specs.Effect.{effect_after}
-use Rattle.df_core.specs.Core.{Chain, Issuable, IsNext, IsSent, has, issued_with}
+use Rattle.df_core.specs.Core.{Issuable, IsNext, IsSent, has, issued_with}
 use Rattle.df_core.specs.Fit.{Legal, RightRequest}
 use Rattle.df_core.proofs.Walked.Facts.{WalkFacts}
 use Rattle.df_core.proofs.Keeping.BufferKept as B

@@ -1,13 +1,12 @@
 -- A request or address that may go: what the chain lets, and what comes when it counts as issued.
-use Rattle.std.proofs.Common.{ℕ, ◌≡◌, ◌<◌, ◌≤◌, ◌⊎◌, true, false, List, ◌∷◌, length, Option, Some, None}
-use Rattle.std.proofs.Common.{slice_set, refl, sym, subst, inl, inr, leb-true, arith}
+use Rattle.std.proofs.Common.{ℕ, ◌≡◌, ◌<◌, ◌≤◌, ◌⊎◌, true, false, List, length, Option, Some, None}
+use Rattle.std.proofs.Common.{slice_set, refl, sym, inl, inr, leb-true, arith}
 use Rattle.std.proofs.lemmas.Bool.{and_parts}
 use Rattle.ws_words.specs.Outside.{Outside, World}
 use Rattle.ws_isa.specs.Image.{Image, instr_at, is_load, is_load_op, is_past, note_of}
 use Rattle.ws_isa.specs.Formed.{Formed}
 use Rattle.ws_isa.specs.Sound.{Sound}
 use Rattle.df_core.specs.Effect.{effect_after}
-use Rattle.df_core.specs.Core as law
 use Rattle.df_core.specs.Core.{IsNext, Issuable, Passes, has, issued_with, position_after, with_key}
 use Rattle.df_core.specs.Fit.{Legal, RightRequest}
 use Rattle.df_core.proofs.Walked.Facts.{WalkFacts}
@@ -29,7 +28,6 @@ use Rattle.part_store.specs.Rules.{is_past_at}
 use Rattle.part_store.proofs.Queueing.Times as T
 use Rattle.part_store.proofs.Queueing.Ops as O
 use Rattle.ws_words.proofs.Bools.{or_comes as either, not_true as not_false}
-use Rattle.ws_words.specs.Items.{In}
 use Rattle.store_buf.specs.Orders.{OrderGoes}
 
 module _ (image : Image) (o : Order) (p : ℕ) (l : p < length o.kept.items) where

@@ -13,7 +13,7 @@ use Rattle.df_core.specs.Rights.{IsAsked, IsRight}
 use Rattle.store_buf.specs.declared.fault.BufFault.{BufFault}
 use Rattle.store_buf.specs.declared.fault.BufFault.TheVariants as fault
 use Rattle.store_buf.specs.declared.kept.Kept.{Kept}
-use Rattle.store_buf.specs.Outdoors.{RoseAt, RoseSince}
+use Rattle.store_buf.specs.Outdoors.{RoseAt}
 use Rattle.store_buf.specs.Outers.{holding}
 use Rattle.store_buf.specs.Contents.{PortWaits, RightTokens, with_tokens}
 use Rattle.store_buf.specs.Stores.{asked_of}

@@ -1,11 +1,10 @@
 -- A request or an address comes, and what is true of a buffer stays true.
-use Rattle.std.proofs.Common.{ℕ, ◌≡◌, ◌≤◌, Bool, false, List, length, Option, Some, None, refl, sym, ap, ◌∙◌}
+use Rattle.std.proofs.Common.{ℕ, ◌≡◌, ◌≤◌, Bool, false, List, length, Option, Some, None, sym, ap, ◌∙◌}
 use Rattle.std.proofs.Common.{subst, arith}
 use Rattle.std.proofs.lemmas.Bool.{both_ways}
 use Rattle.ws_words.specs.Outside.{World, row}
 use Rattle.ws_isa.specs.Image.{Image}
-use Rattle.df_core.specs.Core.{Chain, has}
-use Rattle.df_core.specs.Fit.{Legal}
+use Rattle.df_core.specs.Core.{has}
 use Rattle.df_core.proofs.Keeping.Ports.{with_key_cases}
 use Rattle.df_core.specs.Began.{Began}
 use Rattle.store_buf.specs.declared.kept.Kept.{Kept}
@@ -15,7 +14,7 @@ use Rattle.store_buf.specs.Contents.{FaultIs}
 use Rattle.store_buf.proofs.Coming.{entry_push, issued_push}
 use Rattle.part_store.specs.declared.entry.Queued.{Queued}
 use Rattle.part_store.specs.Queues.{front, holds, is_queued, open_queues}
-use Rattle.part_store.specs.Contents.{is_bare, asking, cell, PartContent}
+use Rattle.part_store.specs.Contents.{is_bare, cell, PartContent}
 use Rattle.part_store.specs.Parted.{IsKept, Parting, Fronts, RisingEntries}
 use Rattle.part_store.proofs.Queueing.Keys.{key_cases}
 use Rattle.part_store.proofs.Queueing.Fronts as F

@@ -21,7 +21,7 @@ use Rattle.store_buf.specs.Contents.{RightTokens}
 use Rattle.store_buf.proofs.Coming.{entry_push, issued_push}
 use Rattle.part_store.specs.declared.parts.Parts.{Parts}
 use Rattle.part_store.specs.Bares.{is_in}
-use Rattle.part_store.specs.Parted.{IsKept, Parting, Fronts}
+use Rattle.part_store.specs.Parted.{IsKept, Fronts}
 use Rattle.part_store.specs.Rules.{MovesTo, NoRule, stays, ComesIn}
 use Rattle.part_store.specs.Calls.{AddressSo, ComesWhole, CameSo, SameAs, PartIdle, PartSubmitSo}
 use Rattle.part_store.specs.Parts.{Calm, PartsOk, content_of, PartsSettledSo, PartsKeep}

@@ -1,5 +1,5 @@
 -- A token comes to the table, and what is known of a run stays true.
-use Rattle.std.proofs.Common.{ℕ, ◌≡◌, ◌⊎◌, true, false, List, [], ◌∷◌, Some, subst, arith}
+use Rattle.std.proofs.Common.{ℕ, ◌≡◌, ◌⊎◌, true, false, List, [], ◌∷◌, Some, arith}
 use Rattle.ws_isa.specs.Image.{Image, Token, is_memory, result_of, sends}
 use Rattle.ws_isa.specs.Walk.{Ports, start_tokens}
 use Rattle.df_core.specs.Core.{Key, HasFired, operands_in}

@@ -29,7 +29,7 @@ use Rattle.store_buf.specs.Contents.{FaultIs, PortWaits}
 use Rattle.store_buf.specs.Ended.{PortFailed, RunWhole, Spent, Starved, Tripped}
 use Rattle.store_buf.proofs.Outside.{out_of}
 use Rattle.store_buf.proofs.Paying as P
-use Rattle.part_store.specs.Contents.{is_bare, PartContent}
+use Rattle.part_store.specs.Contents.{PartContent}
 use Rattle.part_store.specs.Parted.{Fronts, IsKept, Parting, is_store_op}
 use Rattle.part_store.specs.Rules.{NoRule}
 use Rattle.part_store.specs.Runs.{Paid}

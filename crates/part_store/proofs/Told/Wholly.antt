@@ -1,5 +1,5 @@
 -- A buffer that holds no address without data is a store buffer.
-use Rattle.std.proofs.Common.{ℕ, suc, ◌≡◌, ◌<◌, ◌≤◌, Bool, true, false, cond, List, [], ◌∷◌, length, All}
+use Rattle.std.proofs.Common.{ℕ, suc, ◌≡◌, ◌<◌, Bool, true, false, cond, List, [], ◌∷◌, length, All}
 use Rattle.std.proofs.Common.{Option, Some, None, slice_index, slice_index_or, refl, sym, ap, ◌∙◌, subst, inl}
 use Rattle.std.proofs.Common.{inr, arith}
 use Rattle.std.proofs.lemmas.Bool.{both_ways, cases_Bool}
@@ -29,9 +29,9 @@ use Rattle.store_buf.specs.Contents as whole
 use Rattle.store_buf.specs.Stores.{asked_of}
 use Rattle.store_buf.proofs.Found.{entry_case}
 use Rattle.part_store.specs.declared.entry.Queued.{Queued}
-use Rattle.part_store.specs.Queues.{front, open_queues}
+use Rattle.part_store.specs.Queues.{front}
 use Rattle.part_store.specs.Contents.{NoBare, asking, cell, holds_op, is_bare, whole_of, PartContent}
-use Rattle.part_store.specs.Parted.{Fronts, IsKept, Parted, RisingEntries}
+use Rattle.part_store.specs.Parted.{Fronts, Parted}
 use Rattle.part_store.specs.Rules.{Counted, GoesByChain, Moves, NoRule, Waits, stays, opens, joins, issues}
 use Rattle.part_store.specs.Rules.{follows, stops, is_past_at, operands_at}
 use Rattle.part_store.proofs.Queueing.Fronts as F
@@ -39,7 +39,6 @@ use Rattle.part_store.proofs.Queueing.Ops as O
 use Rattle.part_store.proofs.Queueing.Standing as S
 use Rattle.part_store.proofs.Queueing.Times as T
 use Rattle.match_table.proofs.Held.{has_none as none_has}
-use Rattle.ws_words.specs.Items.{In}
 use Rattle.store_buf.proofs.Coming.{listed_from}
 
 -- rows with equal cells are equal

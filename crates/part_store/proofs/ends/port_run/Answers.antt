@@ -1,6 +1,3 @@
-use Rattle.std.proofs.Common.{List, Option, subst}
-use Rattle.df_core.specs.Began.{Began}
-use Rattle.store_buf.specs.Outdoors.{RoseSince}
 use Rattle.part_store.proofs.Told.Telling.{port_failed}
 use Rattle.part_store.proofs.ends.port_run.Goals as goal
 

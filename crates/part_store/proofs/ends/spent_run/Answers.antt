@@ -1,5 +1,3 @@
-use Rattle.std.proofs.Common.{length}
-use Rattle.match_table.specs.Tables.{part}
 use Rattle.part_store.proofs.Told.Telling.{dear, spent}
 use Rattle.part_store.proofs.ends.spent_run.Goals as goal
 

@@ -1,4 +1,3 @@
-use Rattle.match_table.specs.Tables.{part}
 use Rattle.part_store.proofs.Told.Telling.{rested}
 use Rattle.part_store.proofs.ends.whole_run.Goals as goal
 

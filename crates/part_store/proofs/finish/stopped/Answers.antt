@@ -1,6 +1,3 @@
-use Rattle.std.proofs.Common.{List, Option, subst, sym}
-use Rattle.port_set.specs.Ports.{Told}
-use Rattle.store_buf.specs.Ended.{Starved}
 use Rattle.part_store.proofs.finish.stopped.Goals as goal
 
 pub returns-in_default-clause-tells : goal.returns-in_default-clause-tells

@@ -1,4 +1,3 @@
-use Rattle.df_core.specs.Core.{has}
 use Rattle.part_store.proofs.Told.Wholly as W
 use Rattle.part_store.proofs.laws.no_bare_is_a_store_buffer.Goals as goal
 

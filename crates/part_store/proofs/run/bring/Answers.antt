@@ -3,7 +3,7 @@ use Rattle.match_table.specs.declared.table.Accept.TheVariants.{Waits, Fires, As
 use Rattle.match_table.specs.declared.table.AcceptFault.TheVariants.{Old}
 use Rattle.match_table.specs.Matching.{Accepted, Refused}
 use Rattle.match_table.specs.Tables.{held, part}
-use Rattle.part_store.specs.Runs.{IsWhole, Paid}
+use Rattle.part_store.specs.Runs.{IsWhole}
 use Rattle.part_store.proofs.Running.Bringing.{both_ok}
 use Rattle.store_buf.proofs.Paying.{not_fired}
 use Rattle.part_store.proofs.Running.Paying.{pay_held, taken_waits, taken_fires, taken_asks}

@@ -1,8 +1,6 @@
-use Rattle.std.proofs.Common.{◌≡◌, ℕ, ◌∙◌, List, ap, sym, subst, true}
-use Rattle.ws_isa.specs.Image.{Token}
+use Rattle.std.proofs.Common.{◌≡◌, ℕ, ◌∙◌, ap, sym, true}
 use Rattle.df_core.specs.Core.{has}
 use Rattle.match_table.specs.Tables.{held, part}
-use Rattle.part_store.specs.Runs.{Paid}
 use Rattle.part_store.proofs.Running.Paying.{pay_held}
 use Rattle.part_store.proofs.run.step.Goals as goal
 use Rattle.df_core.proofs.Keeping.Ports.{has_some}

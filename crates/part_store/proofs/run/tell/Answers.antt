@@ -1,5 +1,3 @@
-use Rattle.store_buf.specs.Contents.{with_tokens}
-use Rattle.part_store.specs.Calls.{address_of}
 use Rattle.part_store.proofs.Running.Bringing.{addressed}
 use Rattle.part_store.proofs.run.tell.Goals as goal
 use Rattle.ws_words.proofs.Results.{on_ok}

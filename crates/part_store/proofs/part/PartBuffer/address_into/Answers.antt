@@ -1,10 +1,5 @@
-use Rattle.std.proofs.Common.{arith, subst}
-use Rattle.df_core.specs.Places.{image_of}
-use Rattle.df_core.specs.Rights.{tokens_of}
+use Rattle.std.proofs.Common.{arith}
 use Rattle.df_core.proofs.Sizes.Sends.{all_right}
-use Rattle.part_store.specs.Calls.{address_of, AddressSo}
-use Rattle.part_store.specs.Parts.{content_of}
-use Rattle.part_store.specs.Contents.{PartContent}
 use Rattle.part_store.proofs.Running.After as A
 use Rattle.part_store.proofs.part.PartBuffer.address_into.Goals as goal
 

@@ -1,11 +1,10 @@
-use Rattle.std.proofs.Common.{ℕ, ◌≡◌, None, true, false, [], List, map, length, ap, ◌∙◌, sym, subst}
+use Rattle.std.proofs.Common.{ℕ, ◌≡◌, None, true, false, [], List, map, length, ap, ◌∙◌}
 use Rattle.std.proofs.Common.{arith}
 use Rattle.std.proofs.lemmas.Bool.{both_ways}
 use Rattle.std.specs.List.{list_any}
 use Rattle.ws_isa.specs.Image.{Image, cells_of}
 use Rattle.ws_isa.specs.View as view
 use Rattle.store_buf.specs.Finding.{pair_eq}
-use Rattle.store_buf.specs.Outdoors.{AllBegan}
 use Rattle.part_store.specs.declared.bare.Bare.{Bare}
 use Rattle.part_store.specs.declared.parts.Parts.{Parts}
 use Rattle.part_store.specs.Bares.{is_in}

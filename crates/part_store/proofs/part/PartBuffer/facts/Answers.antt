@@ -1,11 +1,8 @@
-use Rattle.std.proofs.Common.{◌≡◌, All, Some, subst}
-use Rattle.store_buf.specs.Requests.{entry_of}
+use Rattle.std.proofs.Common.{subst}
 use Rattle.store_buf.specs.Finding.{place_in}
 use Rattle.store_buf.proofs.Once.{own}
-use Rattle.part_store.specs.Parted.{Parted}
-use Rattle.part_store.specs.Calls.{PartFailedSo, PartIdle}
+use Rattle.part_store.specs.Calls.{PartIdle}
 use Rattle.part_store.proofs.part.PartBuffer.facts.Goals as goal
-use Rattle.part_store.specs.Contents.{PartContent}
 
 pub returns-clause-parted : goal.returns-clause-parted
 returns-clause-parted g c = rw (← c.self.view_is) (c.self.invariant.calm.0.parting, c.self.invariant.calm.1)

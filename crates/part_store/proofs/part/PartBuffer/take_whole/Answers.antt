@@ -1,5 +1,4 @@
 use Rattle.std.proofs.Common.{subst}
-use Rattle.df_core.specs.Places.{image_of}
 use Rattle.df_core.specs.Rights.{tokens_of}
 use Rattle.store_buf.specs.Stores.{asked_of}
 use Rattle.part_store.specs.Calls.{request_of, PartSubmitSo}

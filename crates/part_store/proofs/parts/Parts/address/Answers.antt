@@ -1,8 +1,6 @@
-use Rattle.std.proofs.Common.{List, ap, sym, subst}
-use Rattle.ws_isa.specs.Image.{Token}
+use Rattle.std.proofs.Common.{ap}
 use Rattle.df_core.specs.Places.{image_of}
 use Rattle.df_core.specs.Rights.{tokens_of}
-use Rattle.part_store.specs.Parts.{AddressLeads}
 use Rattle.part_store.proofs.parts.Parts.address.Goals as goal
 
 pub returns-else-lets-clause-leads : goal.returns-else-lets-clause-leads

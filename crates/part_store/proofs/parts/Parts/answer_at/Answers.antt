@@ -1,4 +1,4 @@
-use Rattle.std.proofs.Common.{arith, ◌≡◌, ◌∙◌, [], Some, slice_set, refl, ap}
+use Rattle.std.proofs.Common.{arith, ◌≡◌, ◌∙◌, [], slice_set, refl, ap}
 use Rattle.store_buf.specs.declared.kept.Kept.{Kept}
 use Rattle.store_buf.specs.Ordering.{no_request, kept_at}
 use Rattle.store_buf.proofs.Lists.{or_any}

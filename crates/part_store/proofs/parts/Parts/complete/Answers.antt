@@ -1,12 +1,8 @@
-use Rattle.std.proofs.Common.{List, ◌∙◌, ap, sym, subst}
-use Rattle.ws_isa.specs.Image.{Token}
+use Rattle.std.proofs.Common.{◌∙◌, ap}
 use Rattle.df_core.specs.Places.{image_of}
 use Rattle.df_core.specs.Rights.{tokens_of}
-use Rattle.store_buf.specs.Contents.{RightTokens}
-use Rattle.part_store.specs.Parts.{content_of}
 use Rattle.part_store.proofs.Moving.Draining as D
 use Rattle.part_store.proofs.parts.Parts.complete.Goals as goal
-use Rattle.part_store.specs.Calls.{PartSubmitSo}
 
 pub returns-clause-leads : goal.returns-clause-leads
 returns-clause-leads g c = λ world began formed sound right calm idle.

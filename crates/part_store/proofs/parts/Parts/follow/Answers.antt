@@ -1,4 +1,4 @@
-use Rattle.std.proofs.Common.{arith, ◌∙◌, refl}
+use Rattle.std.proofs.Common.{arith, ◌∙◌}
 use Rattle.df_core.specs.Places.{image_of}
 use Rattle.df_core.specs.Rights.{tokens_of}
 use Rattle.part_store.proofs.Moving.Followed as F

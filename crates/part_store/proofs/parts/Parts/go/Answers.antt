@@ -1,18 +1,14 @@
-use Rattle.std.proofs.Common.{ℕ, ◌<◌, ◌≡◌, ◌∙◌, ◌⊎◌, Bool, List, Some, refl, true}
-use Rattle.std.proofs.Common.{false, [], ◌∷◌, length, ap, sym, subst, inl, inr, arith}
+use Rattle.std.proofs.Common.{ℕ, ◌<◌, ◌≡◌, ◌∙◌, ◌⊎◌, Bool, refl, true}
+use Rattle.std.proofs.Common.{false, [], ◌∷◌, length, ap, sym, subst, arith}
 use Rattle.std.proofs.lemmas.List.{append-nil}
 use Rattle.std.proofs.lemmas.Result.{err_from_is_err_and}
 use Rattle.ws_isa.specs.declared.instr.Op.{Op}
-use Rattle.ws_isa.specs.Image.{Image, Token, instr_at, is_past_op, sends, tokens_to, array_of_op, array_at}
+use Rattle.ws_isa.specs.Image.{Image, instr_at, is_past_op, sends, tokens_to, array_of_op, array_at}
 use Rattle.df_core.specs.Places.{destinations, image_of}
-use Rattle.df_core.specs.Chains.{chain_of}
 use Rattle.df_core.specs.Rights.{tokens_of}
 use Rattle.store_buf.specs.declared.fault.Silent.{Silent}
-use Rattle.store_buf.specs.declared.fault.Silent.TheVariants.{Failed, NoMemory}
 use Rattle.store_buf.specs.declared.kept.Kept.{Kept}
-use Rattle.store_buf.specs.Outdoors.{PortIn, Performed, SilentAt, port_of}
-use Rattle.store_buf.specs.Contents.{PortWaits}
-use Rattle.store_buf.specs.Outers.{holding}
+use Rattle.store_buf.specs.Outdoors.{SilentAt}
 use Rattle.store_buf.specs.Ordering.{kept_at, ready_flag}
 use Rattle.store_buf.proofs.Within.{port_in}
 use Rattle.store_buf.proofs.Counted as C
@@ -20,8 +16,8 @@ use Rattle.store_buf.proofs.Silence.{port_waits}
 use Rattle.part_store.specs.declared.parts.Parts.{Parts}
 use Rattle.part_store.specs.Bares.{is_in}
 use Rattle.part_store.specs.Contents.{holds_op}
-use Rattle.part_store.specs.Rules.{Moves, is_past_at, operands_at}
-use Rattle.part_store.specs.Parts.{Calm, content_of, PartsSilentSo}
+use Rattle.part_store.specs.Rules.{is_past_at, operands_at}
+use Rattle.part_store.specs.Parts.{PartsSilentSo}
 use Rattle.part_store.proofs.Moving.Goes as G
 use Rattle.part_store.proofs.Moving.Sending as N
 use Rattle.part_store.proofs.Moving.Turning as U

@@ -1,7 +1,5 @@
-use Rattle.std.proofs.Common.{◌+◌, ◌≡◌, ◌≤◌, ◌++◌, ◌∷◌, [], List, Some, sym, subst, arith}
+use Rattle.std.proofs.Common.{◌+◌, ◌≡◌, ◌≤◌, ◌++◌, ◌∷◌, [], arith}
 use Rattle.store_buf.proofs.Earlies.{as_long}
-use Rattle.store_buf.specs.declared.kept.Kept.{Kept}
-use Rattle.store_buf.specs.Requests.{entry_of}
 use Rattle.part_store.proofs.Running.Coming as C
 use Rattle.part_store.proofs.parts.Parts.keep.Goals as goal
 use Rattle.ws_words.proofs.Results.{on_ok}

@@ -1,6 +1,5 @@
-use Rattle.std.proofs.Common.{◌≡◌, Some, None, List, sym, subst}
+use Rattle.std.proofs.Common.{◌≡◌, None}
 use Rattle.df_core.specs.Places.{image_of}
-use Rattle.store_buf.specs.declared.kept.Kept.{Kept}
 use Rattle.store_buf.specs.Requests.{entry_of}
 use Rattle.part_store.proofs.Running.Coming as C
 use Rattle.part_store.proofs.parts.Parts.keep_bare.Goals as goal

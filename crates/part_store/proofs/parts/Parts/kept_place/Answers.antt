@@ -1,4 +1,4 @@
-use Rattle.std.proofs.Common.{ℕ, ◌≡◌, ◌∙◌, ◌<◌, Some, None, false, length, sym, subst}
+use Rattle.std.proofs.Common.{◌≡◌, ◌∙◌, Some, None, sym}
 use Rattle.std.proofs.lemmas.Bool.{both_ways}
 use Rattle.part_store.specs.Parts.{kept_flag}
 use Rattle.part_store.proofs.Moving.Answering as A

@@ -1,4 +1,4 @@
-use Rattle.std.proofs.Common.{true, refl, inl}
+use Rattle.std.proofs.Common.{refl, inl}
 use Rattle.df_core.specs.Places.{image_of}
 use Rattle.part_store.proofs.Running.Coming as C
 use Rattle.part_store.proofs.parts.Parts.put_by_address.Goals as goal

@@ -1,8 +1,7 @@
-use Rattle.std.proofs.Common.{arith, ℕ, ◌≡◌, ◌∙◌, Option, Some, true, slice_set, refl, ap, sym, subst}
+use Rattle.std.proofs.Common.{arith, ℕ, ◌≡◌, ◌∙◌, true, slice_set, refl, ap, sym, subst}
 use Rattle.ws_isa.specs.Image.{instr_at}
-use Rattle.df_core.specs.Core.{same_key, with_key}
+use Rattle.df_core.specs.Core.{same_key}
 use Rattle.store_buf.specs.declared.kept.Kept.{Kept}
-use Rattle.store_buf.specs.Requests.{entry_of}
 use Rattle.store_buf.specs.Ordering.{no_request, kept_at}
 use Rattle.store_buf.proofs.Lists.{or_any}
 use Rattle.part_store.specs.Bares.{is_in}

@@ -1,9 +1,7 @@
-use Rattle.std.proofs.Common.{List, ap, sym, subst}
-use Rattle.ws_isa.specs.Image.{Token}
+use Rattle.std.proofs.Common.{ap}
 use Rattle.df_core.specs.Places.{image_of}
 use Rattle.df_core.specs.Rights.{tokens_of}
 use Rattle.part_store.proofs.parts.Parts.submit.Goals as goal
-use Rattle.part_store.specs.Parts.{PartsSubmitLeads}
 
 pub returns-else-lets-clause-leads : goal.returns-else-lets-clause-leads
 returns-else-lets-clause-leads g c = let image = image_of c.args.program.now in

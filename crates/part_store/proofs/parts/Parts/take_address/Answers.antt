@@ -1,10 +1,8 @@
-use Rattle.std.proofs.Common.{List, ◌++◌, ◌∙◌, true, refl, ap, sym, subst, inl}
+use Rattle.std.proofs.Common.{List, ◌++◌, ◌∙◌, refl, ap, sym, subst, inl}
 use Rattle.ws_isa.specs.Image.{Token}
 use Rattle.df_core.specs.Places.{image_of}
 use Rattle.df_core.specs.Rights.{tokens_of}
 use Rattle.store_buf.specs.Contents.{RightTokens}
-use Rattle.part_store.specs.Calls.{AddressSo}
-use Rattle.part_store.specs.Parts.{content_of}
 use Rattle.part_store.proofs.Running.Coming as C
 use Rattle.part_store.proofs.parts.Parts.take_address.Goals as goal
 

@@ -4,10 +4,8 @@ use Rattle.df_core.specs.Places.{image_of}
 use Rattle.df_core.specs.Rights.{tokens_of}
 use Rattle.store_buf.specs.Contents.{RightTokens}
 use Rattle.part_store.specs.Bares.{is_in}
-use Rattle.part_store.specs.Parts.{content_of}
 use Rattle.part_store.proofs.Running.Coming as C
 use Rattle.part_store.proofs.parts.Parts.take_request.Goals as goal
-use Rattle.part_store.specs.Calls.{PartSubmitSo}
 
 pub returns-in-Ok-clause-leads : goal.returns-in-Ok-clause-leads
 returns-in-Ok-clause-leads g c = λ world began formed sound right calm idle.

@@ -1,8 +1,4 @@
-use Rattle.std.proofs.Common.{sym, subst}
-use Rattle.ws_isa.specs.Walk.{opening_memory}
-use Rattle.store_buf.specs.Contents.{IsBuffer}
 use Rattle.store_buf.proofs.Opening as O
-use Rattle.part_store.specs.Contents.{PartContent, whole_of}
 use Rattle.part_store.proofs.quiet.Quiet.begin.Goals as goal
 
 pub returns-in-Ok-clause-stands : goal.returns-in-Ok-clause-stands

@@ -1,7 +1,4 @@
-use Rattle.std.proofs.Common.{◌≡◌, None, false, subst}
-use Rattle.ws_words.specs.Outside.{Outside}
 use Rattle.df_core.specs.Core.{has}
-use Rattle.store_buf.specs.Contents.{Content, Idle, IsBuffer}
 use Rattle.part_store.proofs.Told.Wholly as W
 use Rattle.part_store.proofs.quiet.QuietMemoryOrder.facts.Goals as goal
 

@@ -1,8 +1,4 @@
-use Rattle.std.proofs.Common.{arith, subst}
-use Rattle.df_core.specs.Rights.{tokens_of}
-use Rattle.store_buf.specs.Contents.{Content, SubmitSo, with_tokens}
-use Rattle.store_buf.specs.Stores.{asked_of}
-use Rattle.part_store.specs.Contents.{whole_of}
+use Rattle.std.proofs.Common.{arith}
 use Rattle.part_store.proofs.Told.Quieting as Q
 use Rattle.part_store.proofs.quiet.QuietMemoryOrder.take_in.Goals as goal
 

@@ -1,8 +1,7 @@
 use Rattle.std.proofs.Common.{ℕ, ◌≡◌, ◌∙◌, ◌&&◌, Bool, true, false, not, cond, List, Option, None, refl, ap}
-use Rattle.std.proofs.Common.{subst}
 use Rattle.ws_isa.specs.Image.{instr_at}
 use Rattle.store_buf.specs.Requests.{issued_in}
-use Rattle.store_buf.specs.Contents.{Content, answer_of, gives_word}
+use Rattle.store_buf.specs.Contents.{gives_word}
 use Rattle.part_store.specs.declared.entry.Queued.{Queued}
 use Rattle.part_store.specs.Queues.{is_queued}
 use Rattle.part_store.proofs.Told.Wholly as W
