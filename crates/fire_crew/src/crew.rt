@@ -18,7 +18,6 @@ use crate::finish::{CrewEnd, crew_end};
 use crate::judge::{Ending, find_owed};
 use crate::share::Shared;
 use crate::shares::fitting;
-use crate::solo::{go_alone, run_solo};
 use df_core::{Code, Job, TokenList};
 use match_table::{Tables, fired};
 use port_set::{Port, Slots};
@@ -123,16 +122,7 @@ impl<'a, G: Gate, R: Threads + Wait + Sync> Crew<'a, G, R> {
                     phases,
                 };
             }
-            let left = go_alone(
-                self.alloc,
-                code,
-                left.tables,
-                left.buffer,
-                left.tokens,
-                self.budget,
-                most,
-                self.gate,
-            );
+            let left = self.go_alone(code, left.tables, left.buffer, left.tokens, most);
             if let Some(ending) = left.ending {
                 return CrewLeft {
                     tables: left.tables,
@@ -215,7 +205,7 @@ impl<'a, G: Gate, R: Threads + Wait + Sync> Crew<'a, G, R> {
             (self.now.budget - length (part_of result.tables).fired) result.buffer result.ending }
     {
         if self.workers == 1 {
-            return run_solo(self.alloc, code, tables, buffer, self.budget, self.gate);
+            return self.run_solo(code, tables, buffer);
         }
         self.run_on(code, tables, buffer)
     }

@@ -6,8 +6,9 @@ ghost use Rattle.match_table.specs.Rows.{Fits, contents};
 
 use crate::crew::Crew;
 use crate::gate::Gate;
-use crate::work::work;
-use df_core::{Code, Job, Token};
+use crate::hand::InHand;
+use crate::work::Worker;
+use df_core::{Code, Job, Token, TokenList};
 use match_table::{Quotas, Row, Tables};
 use port_set::Port;
 use ready_pool::{Seat, SeatList};
@@ -58,7 +59,17 @@ impl<'a, G: Gate, R: Threads + Wait + Sync> Crew<'a, G, R> {
             rt,
             deal,
             &|seat: Seat<Token<J>>| -> bool {
-                work(rt, alloc, seat, counted, shared, behind, code, gate)
+                let worker = Worker {
+                    rt,
+                    seat,
+                    hand: InHand::empty(alloc),
+                    let_go: TokenList::empty(alloc),
+                    row: shared,
+                    buffer: behind,
+                    code,
+                    gate,
+                };
+                worker.work(counted)
             },
         );
         let starved = match back {

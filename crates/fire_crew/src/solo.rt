@@ -13,7 +13,7 @@ ghost use Rattle.fire_crew.specs.Solo.{AsksSo, GoesOn, Paid, ending_of};
 ghost use Rattle.fire_crew.specs.Verdicts.{EndingSo};
 
 use crate::Gate;
-use crate::crew::CrewLeft;
+use crate::crew::{Crew, CrewLeft};
 use crate::ends::{all_run, some_run};
 use crate::judge::Ending;
 use df_core::{Code, Job, Request, Token, TokenList, start};
@@ -44,93 +44,93 @@ pub struct SoloLeft<J: Job, P: Port> {
     pub ending: Option<Ending>,
 }
 
-/// Brings tokens to tables, from the start pulse on, until none is on the way, so many instances have fired,
-/// or the buffer takes no more requests.
-pub fn run_solo<J: Job, P: Port, G: Gate>(
-    alloc: Global,
-    code: &Code<'_, J>,
-    tables: Tables<J>,
-    buffer: Buffer<J, P>,
-    budget: u64,
-    gate: &G,
-) -> CrewLeft<J, P>
-    requires serve { AllServe tables }
-    requires fresh { length (part_of tables).fired ≡ 0 }
-    requires going { IsGoing buffer }
-    requires none { buffer.kept ≡ [] }
-    ensures serve { AllServe result.tables }
-    ensures grow { AllGrow (contents tables) (contents result.tables) }
-    ensures within { length (part_of result.tables).fired ≤ budget }
-    ensures ended { EndingSo J.image J.world J.began (part_of result.tables).fired
-        (budget - length (part_of result.tables).fired) result.buffer result.ending }
-{
-    let Ok(tokens) = start(alloc, code) else {
-        return CrewLeft {
+impl<'a, G: Gate, R> Crew<'a, G, R> {
+    /// Brings tokens to tables, from the start pulse on, until none is on the way, so many instances have
+    /// fired, or the buffer takes no more requests.
+    pub fn run_solo<J: Job, P: Port>(
+        &self,
+        code: &Code<'_, J>,
+        tables: Tables<J>,
+        buffer: Buffer<J, P>,
+    ) -> CrewLeft<J, P>
+        requires serve { AllServe tables }
+        requires fresh { length (part_of tables).fired ≡ 0 }
+        requires going { IsGoing buffer }
+        requires none { buffer.kept ≡ [] }
+        ensures serve { AllServe result.tables }
+        ensures grow { AllGrow (contents tables) (contents result.tables) }
+        ensures within { length (part_of result.tables).fired ≤ self.now.budget }
+        ensures ended { EndingSo J.image J.world J.began (part_of result.tables).fired
+            (self.now.budget - length (part_of result.tables).fired) result.buffer result.ending }
+    {
+        let Ok(tokens) = start(self.alloc, code) else {
+            return CrewLeft {
+                tables,
+                buffer,
+                ending: Ending::Starved,
+                phases: 0,
+            };
+        };
+        let left = self.go_alone(code, tables, buffer, tokens, u64::MAX);
+        match left.ending {
+            Some(ending) => CrewLeft {
+                tables: left.tables,
+                buffer: left.buffer,
+                ending,
+                phases: 0,
+            },
+            None => CrewLeft {
+                tables: left.tables,
+                buffer: left.buffer,
+                ending: Ending::Starved,
+                phases: 0,
+            },
+        }
+    }
+
+    /// Brings these tokens, which are on the way, and what comes of them, so many at most, until none is on
+    /// the way, so many instances have fired, or the buffer takes no more requests. Tokens go in rounds by
+    /// wave, and the first result of a firing is brought at once if it is of the round.
+    pub fn go_alone<J: Job, P: Port>(
+        &self,
+        code: &Code<'_, J>,
+        tables: Tables<J>,
+        buffer: Buffer<J, P>,
+        tokens: TokenList<J>,
+        most: u64,
+    ) -> SoloLeft<J, P>
+        requires serve { AllServe tables }
+        requires within { length (part_of tables).fired ≤ self.now.budget }
+        requires going { IsGoing buffer }
+        requires paid { Paid J.image (part_of tables) buffer tokens }
+        ensures serve { AllServe result.tables }
+        ensures grow { AllGrow (contents tables) (contents result.tables) }
+        ensures within { length (part_of result.tables).fired ≤ self.now.budget }
+        ensures goes { GoesOn J.image J.world J.began (part_of result.tables)
+            (self.now.budget - length (part_of result.tables).fired) result.buffer result.tokens
+            result.ending }
+    {
+        let alloc = self.alloc;
+        let left = self.budget - fired(&tables);
+        let mut run = Solo {
             tables,
             buffer,
-            ending: Ending::Starved,
-            phases: 0,
+            way: Rounds::none(alloc),
+            results: Results::none(),
+            answers: BufferAnswers::none(alloc),
+            left,
         };
-    };
-    let left = go_alone(alloc, code, tables, buffer, tokens, budget, u64::MAX, gate);
-    match left.ending {
-        Some(ending) => CrewLeft {
-            tables: left.tables,
-            buffer: left.buffer,
-            ending,
-            phases: 0,
-        },
-        None => CrewLeft {
-            tables: left.tables,
-            buffer: left.buffer,
-            ending: Ending::Starved,
-            phases: 0,
-        },
+        let Ok(()) = run.way.pour(tokens) else {
+            return SoloLeft {
+                tables: run.tables,
+                buffer: run.buffer,
+                tokens: TokenList::empty(alloc),
+                ending: Some(Ending::Starved),
+            };
+        };
+        let ending = go_on(code, &mut run, most, self.gate);
+        leave(alloc, run, ending)
     }
-}
-
-/// Brings these tokens, which are on the way, and what comes of them, so many at most, until none is on the
-/// way, so many instances have fired, or the buffer takes no more requests. Tokens go in rounds by wave, and
-/// the first result of a firing is brought at once if it is of the round.
-pub fn go_alone<J: Job, P: Port, G: Gate>(
-    alloc: Global,
-    code: &Code<'_, J>,
-    tables: Tables<J>,
-    buffer: Buffer<J, P>,
-    tokens: TokenList<J>,
-    budget: u64,
-    most: u64,
-    gate: &G,
-) -> SoloLeft<J, P>
-    requires serve { AllServe tables }
-    requires within { length (part_of tables).fired ≤ budget }
-    requires going { IsGoing buffer }
-    requires paid { Paid J.image (part_of tables) buffer tokens }
-    ensures serve { AllServe result.tables }
-    ensures grow { AllGrow (contents tables) (contents result.tables) }
-    ensures within { length (part_of result.tables).fired ≤ budget }
-    ensures goes { GoesOn J.image J.world J.began (part_of result.tables)
-        (budget - length (part_of result.tables).fired) result.buffer result.tokens result.ending }
-{
-    let left = budget - fired(&tables);
-    let mut run = Solo {
-        tables,
-        buffer,
-        way: Rounds::none(alloc),
-        results: Results::none(),
-        answers: BufferAnswers::none(alloc),
-        left,
-    };
-    let Ok(()) = run.way.pour(tokens) else {
-        return SoloLeft {
-            tables: run.tables,
-            buffer: run.buffer,
-            tokens: TokenList::empty(alloc),
-            ending: Some(Ending::Starved),
-        };
-    };
-    let ending = go_on(code, &mut run, most, gate);
-    leave(alloc, run, ending)
 }
 
 // What is left where one worker stops.

@@ -5,7 +5,7 @@ use Rattle.match_table.specs.Together.{part_of}
 use Rattle.match_table.proofs.Growth.{all_grow_same}
 use Rattle.store_buf.proofs.Paying.{pay_more}
 use Rattle.fire_crew.specs.Solo.{Knows, Owes, Paid}
-use Rattle.fire_crew.proofs.solo.go_alone.Goals as goal
+use Rattle.fire_crew.proofs.crew.Crew.go_alone.Goals as goal
 
 pub returns-in_default-clause-grow : goal.returns-in_default-clause-grow
 returns-in_default-clause-grow g c = all_grow_same (contents c.args.tables)

@@ -7,7 +7,7 @@ use Rattle.match_table.proofs.Growth.{all_grow_same}
 use Rattle.store_buf.specs.Runs.{Covers}
 use Rattle.store_buf.proofs.Reaching.{covers_self}
 use Rattle.fire_crew.proofs.Alone.{come_start}
-use Rattle.fire_crew.proofs.solo.run_solo.Goals as goal
+use Rattle.fire_crew.proofs.crew.Crew.run_solo.Goals as goal
 
 pub returns-in_default-clause-grow : goal.returns-in_default-clause-grow
 returns-in_default-clause-grow g c = all_grow_same (contents c.args.tables)
