@@ -115,17 +115,14 @@ module _ (image : Image) (world : World) (formed : Formed image) (sound : Sound 
           t.value) refl seen.1
 
       pub fills_fires : true ≡ will_fire image c t
-      fills_fires = fires_true image c t
-          (grind (arith, free_port, facts, c.entries, t.instr, t.port, t.value))
-          (full_with image world facts c.entries fired asked ok t.wave t.instr t.port t.value right seen.0
-          (few_ports image t.instr) (with_port (arrived_in c.entries t.wave t.instr) t.port t.value) refl
-          ∙ seen.1)
+      fills_fires = fires_true image c t (grind
+          (arith, free_port, facts, c.entries, t.instr, t.port, t.value)) (full_with _ _ facts _ _ _ ok _ _ _
+          _ right seen.0 (few_ports image t.instr) _ refl ∙ seen.1)
 
     pub waits_open : SeenSo (arrived_in c.entries t.wave t.instr) t.port t.value (ports image t.instr) Waits
         → false ≡ will_fire image c t
-    waits_open seen = open_false image c t (full_with image world facts c.entries fired asked ok t.wave
-        t.instr t.port t.value right seen.0 (few_ports image t.instr)
-        (with_port (arrived_in c.entries t.wave t.instr) t.port t.value) refl ∙ seen.1)
+    waits_open seen = open_false image c t (full_with _ _ facts _ _ _ ok _ _ _ _ right seen.0 (few_ports image
+        t.instr) _ refl ∙ seen.1)
 
     -- what an instance sends that isn't one of memory is right
     pub sends_right : (xs : List ℕ) → xs ≡ right.inst.operands → is_memory image t.instr ≡ false
@@ -178,14 +175,7 @@ pub puts : {image : Image} {world : World} {entries : List (Option PageContent)}
     (with_port (arrived_in before.entries t.wave t.instr) t.port
     t.value) new
 puts {image} {world} {entries} formed sound ok before same t right free new w i p v wave instr port value
-    arrived = record {
-      facts = facts image world formed sound;
-      ok = ok;
-      right = right;
-      free = grind arith;
-      next_is = grind (arith, t.port);
-      arrived = grind arith;
-    }
+    arrived = grind (arith, facts image world formed sound)
 
 -- and what is listed then, if the instance is one of memory or not
 pub lists : {image : Image} {t : Token} {next : Arrived} {new : List (Option PageContent)}
@@ -194,15 +184,7 @@ pub lists : {image : Image} {t : Token} {next : Arrived} {new : List (Option Pag
     → (asks : Bool) → is_memory image t.instr ≡ asks
     → asked' ≡ cond asks (asked ++ instance_key own ∷ []) asked
     → Lists image fired asked t next new fired' asked'
-lists {image} {t} fired asked fired' asked' own wave instr full one_more asks is are =
-    let key : instance_key own ≡ record { wave = t.wave; instr = t.instr } =
-    ap (λ (k : ℕ × ℕ). record { wave = k.0; instr = k.1 }) (λ j. (wave j, instr j)) in
-    record {
-      full = full;
-      one_more = one_more ∙ ap (λ (k : Key). fired ++ k ∷ []) key;
-      asks_so = are ∙ ap (λ (k : Key). cond asks (asked ++ k ∷ []) asked) key
-          ∙ ap (λ b. cond b (asked ++ record { wave = t.wave; instr = t.instr } ∷ []) asked) (sym is);
-    }
+lists {image} {t} fired asked fired' asked' own wave instr full one_more asks is are = grind arith
 
 module _ {image : Image} {world : World} {entries : List (Option PageContent)} {fired asked : List Key}
     {t : Token} {next : Arrived} {new : List (Option PageContent)}
@@ -211,12 +193,10 @@ module _ {image : Image} {world : World} {entries : List (Option PageContent)} {
       → Arrives before t after
   puts_arrives was is = record {
     free = grind (arith, t.instr, free_port, p.ok, t.port, t.value, p.right);
-    more = λ a b q. ap (λ (l : List (Option PageContent)). held_in l a b q) (sym is)
-        ∙ new_held image world p.facts entries fired asked p.ok t.wave t.instr t.port t.value p.right p.free
-        (few_ports image t.instr) next p.next_is new p.arrived a b q
-        ∙ ap (λ (l : List (Option PageContent)). with_at t.wave t.instr t.port (Some t.value)
-        (held_in l) a b q)
-        was;
+    more = λ a b q. ap (λ (l : List (Option PageContent)). held_in l a b q) (sym is) ∙ new_held image world
+        p.facts entries fired asked p.ok t.wave t.instr t.port t.value p.right p.free (few_ports _ _) next
+        p.next_is new p.arrived a b q ∙ ap (λ (l : List (Option PageContent)). with_at t.wave t.instr t.port
+        (Some t.value) (held_in l) a b q) was;
   }
 
   puts_full : is_full (held_in new) t.wave t.instr (ports image t.instr) ≡ is_full (alone next) 0 0
@@ -231,12 +211,10 @@ module _ {image : Image} {world : World} {entries : List (Option PageContent)} {
   -- the instance is full
   module _ {fired' asked' : List Key} (l : Lists image fired asked t next new fired' asked') where
     pub fires_ok : TableOk image world new fired' asked'
-    fires_ok = fired_ok image world p.facts entries fired asked p.ok t.wave t.instr t.port t.value p.right
-        p.free (few_ports image t.instr) next p.next_is new p.arrived l.full fired' asked' l.one_more
-        l.asks_so
+    fires_ok = fired_ok _ _ p.facts _ _ _ p.ok _ _ _ _ p.right p.free (few_ports _ _) _ p.next_is _ p.arrived
+        l.full _ _ l.one_more l.asks_so
 
     pub fires_full : {before after : TableContent} → fired ≡ before.fired
         → new ≡ after.entries → fired' ≡ after.fired
         → Full image before t after (gather (alone next) 0 0 0 (ports image t.instr))
-    fires_full was is are =
-        grind (arith, t.instr, puts_full, new_operands, p.ok, t.port, t.value, p.right, p.free, few_ports)
+    fires_full was is are = grind (arith, puts_full, new_operands, few_ports)

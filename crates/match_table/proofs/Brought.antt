@@ -21,10 +21,7 @@ set_fired : (cs : List TableContent) (k : ℕ) (c : TableContent) (more : List K
 set_fired (d ∷ cs) (suc k) c more e w i h =
     elim (fired_cases d.fired (all_fired (slice_set cs k c)) w i h) [
       | inl x ↦ inl (fired_left d.fired (all_fired cs) w i x)
-      | inr x ↦ elim (set_fired cs k c more e w i x) [
-        | inl y ↦ inl (fired_right d.fired (all_fired cs) w i y)
-        | inr y ↦ inr y
-      ]
+      | inr x ↦ grind (arith, fired_right, set_fired cs k c more e w i x)
     ]
 set_fired cs k c more e w i h = grind (arith, fired_cases, c.fired, fired_left, fired_right)
 
@@ -57,9 +54,7 @@ module _ (old new : List TableContent) (t : Token)
 
   pub brought_same : one.fired ≡ (content_at old k).fired → (w i : ℕ) → HasFired (all_fired new) w i
       → HasFired (all_fired old) w i
-  brought_same e w i h = elim (set_fired old k one [] (no_more e) w i
-      (grind arith))
-      [ inl x ↦ x | inr x ↦ absurd x ]
+  brought_same e w i h = grind (arith, set_fired old k one [] (no_more e) w i (grind arith))
 
   -- the token's instance has
   pub brought_fired : (image : Image) (xs : List ℕ) → Full image (content_at old k) t one xs → (w i : ℕ)
@@ -79,8 +74,7 @@ module _ (old new : List TableContent) (t : Token)
   there = ap (λ (cs : List TableContent). content_at cs k) set
 
   pub count_same : one.fired ≡ (content_at old k).fired → length (all_fired new) ≡ length (all_fired old)
-  count_same e = let l = ap (λ (cs : List TableContent). length (all_fired cs)) set in
-      let m = set_length old k one [] (no_more e) there in omega (arith, l, m)
+  count_same e = grind (arith, set_length old k one [] (no_more e) there)
 
   pub count_one : (image : Image) (xs : List ℕ) → Full image (content_at old k) t one xs
       → length (all_fired new) ≡ length (all_fired old) + 1

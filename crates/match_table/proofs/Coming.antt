@@ -1,9 +1,9 @@
 -- A token comes to one of the tables.
-use Rattle.std.proofs.Common.{◌≡◌, ◌+◌, ◌≤◌, ◌%◌, ⊎_elim, ℕ, zero, suc, true, List, [], ◌∷◌}
-use Rattle.std.proofs.Common.{Some, None, length, length-append, slice_set, sym, refl, ap, ◌∙◌, subst, arith}
+use Rattle.std.proofs.Common.{◌≡◌, ◌+◌, ◌≤◌, ◌%◌, ⊎_elim, ℕ, suc, true, List, ◌∷◌}
+use Rattle.std.proofs.Common.{Some, None, length, length-append, slice_set, sym, refl, ap, ◌∙◌, arith}
 use Rattle.ws_isa.specs.Image.{Image, Token}
 use Rattle.ws_isa.specs.Walk.{Ports}
-use Rattle.df_core.specs.Core.{IsSent, has}
+use Rattle.df_core.specs.Core.{has}
 use Rattle.df_core.proofs.Keeping.Ports.{has_some, with_at_same}
 use Rattle.match_table.specs.declared.table.Results.{Results}
 use Rattle.match_table.specs.declared.table.Took.{Took}
@@ -25,8 +25,7 @@ set_serve : (n : ℕ) (cs : List TableContent) (k : ℕ) (c : TableContent) → 
     → ServeFrom n (slice_set cs k c)
 set_serve n (d ∷ cs) (suc k) c s x = (
   s.0,
-  set_serve (suc n) cs k c s.1
-      (subst (λ (m : ℕ). Serves m c) (let e : n + suc k ≡ suc n + k = omega arith in e) x),
+  set_serve (suc n) cs k c s.1 (rw (← let e : n + suc k ≡ suc n + k = omega arith in e) x),
 )
 set_serve n cs k c s x = grind arith
 
@@ -69,13 +68,10 @@ module _ {J : Type 0} where
           (length (content_at old k).fired + 1) served_old (omega arith) refl (λ f. omega arith) b.1 b.2
 
       pub brought_serve : ServeFrom 0 new
-      brought_serve = subst (λ (cs : List TableContent). ServeFrom 0 cs) (sym b.0)
-          (set_serve 0 old k (content_at new k) s (subst (λ (m : ℕ). Serves m (content_at new k))
-          (let e : k ≡ 0 + k = omega arith in e) ok.0))
+      brought_serve = rw b.0 (set_serve _ _ _ _ s (rw (← let e : k ≡ 0 + k = omega arith in e) ok.0))
 
       pub brought_one : length (all_fired new) ≤ length (all_fired old) + 1
-      brought_one = subst (λ (cs : List TableContent). length (all_fired cs) ≤ length (all_fired old) + 1)
-          (sym b.0) (set_count old k (content_at new k) ok.1)
+      brought_one = grind (arith, set_count old k (content_at new k) ok.1)
 
     pub brought_there : (answer ≡ took.NoMemory → ⊥) → has ((together new).held t.wave t.instr t.port) ≡ true
     brought_there some = there image (content_at old k) (content_at new k) t rs answer b.1 some
@@ -83,11 +79,8 @@ module _ {J : Type 0} where
 -- what tables held that have grown they hold
 grow_at : (olds news : List TableContent) (k w i p v : ℕ) → AllGrow olds news
     → held (content_at olds k) w i p ≡ Some v → held (content_at news k) w i p ≡ Some v
-grow_at [] [] k w i p v g e = e
-grow_at [] (n ∷ news) k w i p v g e = absurd g
-grow_at (o ∷ olds) [] k w i p v g e = absurd g
-grow_at (o ∷ olds) (n ∷ news) zero w i p v g e = g.0.keeps w i p v e
 grow_at (o ∷ olds) (n ∷ news) (suc k) w i p v g e = grow_at olds news k w i p v g.1 e
+grow_at v0 v1 v2 v3 v4 v5 v6 v7 v8 = grind arith
 
 abbrev pub Keep : Ports → Ports → Type 0
 Keep old new = (w i p v : ℕ) → old w i p ≡ Some v → new w i p ≡ Some v
@@ -114,13 +107,6 @@ came_more old mid new n before c keep w i p free here =
       tokens = t ∷ c.tokens;
       count_is = ap suc c.count_is;
       apart = ((λ v s. (let f : None ≡ Some v = sym free ∙ c.there w i p v s in cc)), c.apart);
-      fresh = λ a b q v s. ⊎_elim
-          (λ (e : (w ≡ a) × (i ≡ b) × (p ≡ q) × (h.0 ≡ v)). subst (λ (k : ℕ × ℕ × ℕ). old k.0 k.1 k.2 ≡ None)
-          (λ j. (e.0 j, e.1 j, e.2 j)) (free_before old mid w i p before free))
-          (λ (r : IsSent c.tokens a b q v). c.fresh a b q v r) s;
-      there = λ a b q v s. ⊎_elim
-          (λ (e : (w ≡ a) × (i ≡ b) × (p ≡ q) × (h.0 ≡ v)).
-          subst (λ (k : ℕ × ℕ × ℕ × ℕ). new k.0 k.1 k.2 ≡ Some k.3) (λ j. (e.0 j, e.1 j, e.2 j, e.3 j))
-          h.1)
-          (λ (r : IsSent c.tokens a b q v). keep a b q v (c.there a b q v r)) s;
+      fresh = grind (arith, ⊎_elim, free_before);
+      there = grind (arith, ⊎_elim);
     }

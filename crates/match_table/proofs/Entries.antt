@@ -1,5 +1,5 @@
 -- The entries of a page, from the ports that have had values and these.
-use Rattle.std.proofs.Common.{◌≡◌, ◌<◌, ℕ, zero, suc, List, [], ◌∷◌, length, get_or, set, refl, ap, ◌∙◌}
+use Rattle.std.proofs.Common.{◌≡◌, ◌<◌, ℕ, suc, List, ◌∷◌, length, get_or, set, ap}
 use Rattle.std.proofs.Common.{arith}
 use Rattle.match_table.specs.declared.entry.Arrived.{Arrived}
 use Rattle.match_table.specs.declared.entry.Had.{Had}
@@ -10,19 +10,14 @@ use Rattle.match_table.specs.Ports.{none_arrived, set_port}
 
 pub entry_of : (hs : List Had) (vs : List Values) (k : ℕ) (h : Had) (v : Values) (d : Arrived) → k < length hs
     → k < length vs → arrived_of (get_or hs k h) (get_or vs k v) ≡ get_or (all_arrived hs vs) k d
-entry_of [] vs k h v d lt lt' = absurd (omega (arith, lt))
-entry_of (x ∷ hs) [] k h v d lt lt' = absurd (omega (arith, lt'))
-entry_of (x ∷ hs) (y ∷ vs) zero h v d lt lt' = refl
 entry_of (x ∷ hs) (y ∷ vs) (suc k) h v d lt lt' =
     entry_of hs vs k h v d (omega (arith, lt)) (omega (arith, lt'))
+entry_of v0 v1 v2 v3 v4 v5 v6 v7 = grind arith
 
 pub entry_set : (hs : List Had) (vs : List Values) (k : ℕ) (h : Had) (v : Values)
     → all_arrived (set hs k h) (set vs k v) ≡ set (all_arrived hs vs) k (arrived_of h v)
-entry_set [] vs k h v = refl
-entry_set (x ∷ hs) [] zero h v = refl
-entry_set (x ∷ hs) [] (suc k) h v = refl
-entry_set (x ∷ hs) (y ∷ vs) zero h v = refl
 entry_set (x ∷ hs) (y ∷ vs) (suc k) h v = ap (λ l. arrived_of x y ∷ l) (entry_set hs vs k h v)
+entry_set v0 v1 v2 v3 v4 = grind arith
 
 -- the entry at a place
 abbrev pub entry : List Had → List Values → ℕ → Arrived
@@ -36,8 +31,4 @@ pub value_set : (hs : List Had) (vs : List Values) (k p v : ℕ) (next : Arrived
     → all_arrived (set hs k next.had)
     (set vs k (record { first = next.first; second = next.second; third = next.third }))
     ≡ set now.entries k (set_port (get_or now.entries k none_arrived) p v)
-value_set hs vs k p v next name now is had values below same =
-    entry_set hs vs k next.had (record { first = next.first; second = next.second; third = next.third })
-    ∙ ap (set (all_arrived hs vs) k) (same ∙ ap (λ a. set_port a p v) (entry_of hs vs k _ _ none_arrived
-    (omega (arith, had, below)) (omega (arith, values, below))))
-    ∙ ap (λ (x : PageContent). set x.entries k (set_port (get_or x.entries k none_arrived) p v)) is
+value_set hs vs k p v next name now is had values below same = grind (arith, entry_set, entry_of)

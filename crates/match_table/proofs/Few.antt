@@ -39,8 +39,7 @@ key_sent p (t ∷ ts) w i h = go (λ k. let r = key_sent p ts w i k in (r.0, inr
 
 keys_once : (p : ℕ) (ts : List Token) → Apart ts → Once (keys_at p ts)
 keys_once p [] a = tt
-keys_once p (t ∷ ts) a =
-    grind (arith, cases_eq, t.port, eq-eqb, key_sent, t.instr, ne_eqb, keys_once p ts a.1)
+keys_once p (t ∷ ts) a = grind (arith, cases_eq, eq-eqb, key_sent, ne_eqb, keys_once p ts a.1)
 
 -- how many there are to the ports 0, 1 and 2, if the first of the tokens is to port n
 abbrev with_first : Token → List Token → ℕ → ℕ
@@ -67,11 +66,11 @@ module _ (image : Image) (world : World) (formed : Formed image) (sound : Sound 
 
   in_walk : (w i p v : ℕ) → RightToken image world w i p v → (t : ℕ) × HasFired (keys_of (walk image world t))
       w i
-  in_walk w i p v r = (
-    suc r.time,
-    subst (λ (k : ℕ × ℕ). HasFired (keys_of (walk image world (suc r.time))) k.0 k.1)
-        (λ j. (r.at.wave j, r.at.instr j))
-        (walk_has image world facts (suc r.time) r.time r.inst (omega arith) r.at.fires),
+  in_walk w i p v r = grind (
+    arith,
+    keys_of (walk image world (suc r.time)),
+    walk_has image world facts (suc
+        r.time) r.time r.inst (omega arith) r.at.fires,
   )
 
   -- no more than three for each instance of the walk
@@ -79,13 +78,12 @@ module _ (image : Image) (world : World) (formed : Formed image) (sound : Sound 
       → (old : Ports) (count cost : ℕ) → Came old held count → CostAtMost image world cost → count ≤ 3 * cost
   few_come held right old count cost c most =
       let at_port : (p : ℕ) → length (keys_at p c.tokens) ≤ cost = λ p. (
-      let k = count_within image world facts (keys_at p c.tokens) (keys_once p c.tokens c.apart)
-      (λ w i h. let s = key_sent p c.tokens w i h in
-      in_walk w i p s.0 (right w i p s.0 (c.there w i p s.0 s.1))) in
+      let k = count_within _ _ facts _ (keys_once _ _ c.apart) (λ w i h. let s = key_sent _ _ _ _ h in
+      in_walk _ _ _ _ (right w i p s.0 (c.there w i p s.0 s.1))) in
       let l = k.1 in let m = most k.0 in omega (arith, l, m)) in
       let a = at_port 0 in
       let b = at_port 1 in
       let d = at_port 2 in
-      let t = three_ports c.tokens (λ w i p v s. port_below w i p v (right w i p v (c.there w i p v s))) in
+      let t = three_ports _ (λ w i p v s. port_below _ _ _ _ (right w i p v (c.there w i p v s))) in
       let n = c.count_is in
       omega (arith, a, b, d, t, n)

@@ -1,6 +1,6 @@
 -- Where an instance stands in a list of fired ones.
-use Rattle.std.proofs.Common.{◌≡◌, ◌<◌, inl, inr, ℕ, zero, suc, Bool, true, false, cond, List, [], ◌∷◌}
-use Rattle.std.proofs.Common.{length, slice_index_or, sym, refl, ap, ◌∙◌, arith}
+use Rattle.std.proofs.Common.{◌≡◌, ◌<◌, inl, inr, ℕ, suc, Bool, true, cond, List, [], ◌∷◌}
+use Rattle.std.proofs.Common.{length, slice_index_or, refl, arith}
 use Rattle.ws_isa.specs.Image.{Image, is_memory}
 use Rattle.df_core.specs.Core.{Key, HasFired}
 use Rattle.match_table.specs.Tables.{of_memory}
@@ -10,9 +10,8 @@ none_fired = record { wave = 0; instr = 0 }
 
 pub fired_there : (ks : List Key) (k : ℕ) → k < length ks → HasFired ks (slice_index_or ks k none_fired).wave
     (slice_index_or ks k none_fired).instr
-fired_there [] k lt = absurd (omega (arith, lt))
-fired_there (x ∷ ks) zero lt = inl (refl, refl)
 fired_there (x ∷ ks) (suc k) lt = inr (fired_there ks k (omega (arith, lt)))
+fired_there v0 v1 v2 = grind arith
 
 pub record Place (ks : List Key) (w i : ℕ) : Type 0 where
   pub place : ℕ
@@ -36,11 +35,10 @@ module _ (image : Image) where
   pub asked_there : (ks : List Key) (w i : ℕ) → HasFired ks w i → is_memory image i ≡ true
       → HasFired (of_memory image ks) w i
   asked_there [] w i h m = absurd h
-  asked_there (k ∷ ks) w i h m = go (is_memory image k.instr) refl h (λ x. asked_there ks w i x m)
+  asked_there (k ∷ ks) w i h m = go _ refl h (λ x. asked_there ks w i x m)
     where
-      go : (b : Bool) → is_memory image k.instr ≡ b → HasFired (k ∷ ks) w i
-          → (HasFired ks w i → HasFired (of_memory image ks) w i)
-          → HasFired (cond b (k ∷ of_memory image ks) (of_memory image ks)) w i
+      go : (b : Bool) → is_memory image k.instr ≡ b → HasFired (k ∷ ks) w i → (HasFired ks w i → HasFired
+          (of_memory image ks) w i) → HasFired (cond b (k ∷ of_memory image ks) (of_memory image ks)) w i
       go b e h ih = grind arith
 
   -- and each of these has fired
@@ -53,6 +51,4 @@ module _ (image : Image) where
           → HasFired (cond b (k ∷ of_memory image ks) (of_memory image ks)) w i
           → (HasFired (of_memory image ks) w i → HasFired ks w i × (is_memory image i ≡ true))
           → HasFired (k ∷ ks) w i × (is_memory image i ≡ true)
-      go true e (inl x) ih = (inl x, ap (is_memory image) (sym x.1) ∙ e)
-      go true e (inr x) ih = let r = ih x in (inr r.0, r.1)
-      go false e x ih = let r = ih x in (inr r.0, r.1)
+      go v0 v1 v2 v3 = grind arith

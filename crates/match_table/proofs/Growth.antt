@@ -1,8 +1,8 @@
 -- A table grows where it takes a token.
-use Rattle.std.proofs.Common.{arith, ◌≡◌, ⊎_elim, ℕ, List, [], ◌∷◌, Option, Some, None, append-nil}
-use Rattle.std.proofs.Common.{append_assoc, length, suc, sym, ap, ◌∙◌, subst}
+use Rattle.std.proofs.Common.{arith, ◌≡◌, ⊎_elim, ℕ, List, [], ◌∷◌, Option, Some, append-nil}
+use Rattle.std.proofs.Common.{append_assoc, length, suc, sym, ap, ◌∙◌}
 use Rattle.ws_isa.specs.Image.{Image, Token}
-use Rattle.df_core.specs.Core.{with_at, key_of_token}
+use Rattle.df_core.specs.Core.{with_at}
 use Rattle.df_core.proofs.Keeping.Ports.{SamePlace, with_at_cases}
 use Rattle.match_table.specs.Pages.{PageContent}
 use Rattle.match_table.specs.declared.table.Results.{Results}
@@ -35,9 +35,7 @@ arrives_keeps : (old new : TableContent) (t : Token) → Arrives old t new → (
 arrives_keeps old new t a w i p v e = ⊎_elim
     (λ (y : SamePlace t.wave t.instr t.port w i p × (with_at t.wave t.instr t.port (Some t.value)
     (held old) w i p ≡ Some t.value)).
-    absurd (let here : held old t.wave t.instr t.port ≡ held old w i p = λ j.
-    held old (y.0.wave j) (y.0.instr j) (y.0.port j) in let g : None ≡ Some v = sym a.free ∙ here ∙ e in
-    cc))
+    absurd (grind arith))
     (λ (n : (SamePlace t.wave t.instr t.port w i p → ⊥) × (with_at t.wave t.instr t.port (Some t.value)
     (held old) w i p ≡ held old w i p)). a.more w i p ∙ n.1 ∙ e)
     (with_at_cases t.wave t.instr t.port (Some t.value) (held old) w i p)
@@ -49,18 +47,9 @@ same_keeps old new e w i p v h = ap (λ (x : List (Option PageContent)). held_in
 module _ {J : Type 0} where
   pub all_grows : (image : Image) (old new : TableContent) (t : Token) (rs : Results J) (answer : Took)
       → TookAs image old t new rs answer → Grows old new
-  all_grows image old new t rs took.Waits m = record {
-    keeps = arrives_keeps old new t m.0.0;
-    goes_on = ([], m.0.2 ∙ sym (append-nil old.fired));
-  }
-  all_grows image old new t rs took.Fires m = record {
-    keeps = arrives_keeps old new t m.0.0;
-    goes_on = (key_of_token t ∷ [], m.0.1.1.fired);
-  }
-  all_grows image old new t rs took.Asks m = record {
-    keeps = arrives_keeps old new t m.3.0;
-    goes_on = (key_of_token t ∷ [], m.3.1.1.fired);
-  }
-  all_grows image old new t rs took.Old m = subst (λ (c : TableContent). Grows old c) (sym m.0.1)
-      (grows_same old)
+  all_grows image old new t rs took.Waits m =
+      grind (arith, arrives_keeps old new t m.0.0, append-nil old.fired)
+  all_grows image old new t rs took.Fires m = grind (arith, arrives_keeps old new t m.0.0)
+  all_grows image old new t rs took.Asks m = grind (arith, arrives_keeps old new t m.3.0)
+  all_grows image old new t rs took.Old m = grind (arith, grows_same old)
   all_grows image old new t rs took.NoMemory m = grind (arith, same_keeps, append-nil)

@@ -1,6 +1,6 @@
 -- The instances that have fired, as a list.
 use Rattle.std.proofs.Common.{◌≡◌, ◌<◌, ◌⊎◌, ⊎_elim, inl, inr, ℕ, suc, Bool, true, cond, List, [], ◌∷◌, ◌++◌}
-use Rattle.std.proofs.Common.{Option, Some, length, get_or, filter, sym, refl, ap, ◌∙◌, subst, arith}
+use Rattle.std.proofs.Common.{Option, Some, length, get_or, filter, refl, subst, arith}
 use Rattle.std.proofs.lemmas.Bool.{cases_Bool}
 use Rattle.ws_words.specs.Outside.{World}
 use Rattle.ws_isa.specs.Image.{Image, ports}
@@ -36,11 +36,7 @@ has_from (x ∷ ks) k w i h = ⊎_elim (λ (e : (x.wave ≡ w) × (x.instr ≡ i
 
 pub once_append : (ks : List Key) (k : Key) → Once ks → (HasFired ks k.wave k.instr → ⊥) → Once (ks ++ k ∷ [])
 once_append [] k o new = ((λ h. absurd h), tt)
-once_append (x ∷ ks) k o new = (
-  (λ h. ⊎_elim (λ (s : HasFired ks x.wave x.instr). o.0 s) (λ (s : (k.wave ≡ x.wave) × (k.instr ≡ x.instr)).
-      new (inl (sym s.0, sym s.1))) (has_from ks k x.wave x.instr h)),
-  once_append ks k o.1 (λ h. new (inr h)),
-)
+once_append (x ∷ ks) k o new = grind (arith, ⊎_elim, has_from, once_append ks k o.1 (λ h. new (inr h)))
 
 -- each that is listed has fired
 pub has_at : (ks : List Key) (n : ℕ) (d : Key) → n < length ks → HasFired ks (get_or ks n d).wave
@@ -83,17 +79,14 @@ table_fired image world entries fired asked ks w i ok same h = grind (arith, fir
 module _ (entries : List (Option PageContent)) (f : InstanceList) (spare : ℕ) (now : TableContent)
     (is : record { entries = entries; fired = instances entries f; spare = spare } ≡ now) where
   pub fired_now : now.fired ≡ instances now.entries f
-  fired_now = sym (ap (λ (s : TableContent). s.fired) is)
-      ∙ ap (λ (s : TableContent). instances s.entries f) is
+  fired_now = grind arith
 
   pub asked_now : (image : Image) (a : InstanceList)
       → instances entries a ≡ of_memory image (instances entries f)
       → of_memory image now.fired ≡ instances now.entries a
-  asked_now image a are = sym (are ∙ ap (λ (s : TableContent). of_memory image s.fired) is)
-      ∙ ap (λ (s : TableContent). instances s.entries a) is
+  asked_now image a are = grind arith
 
 -- each that stands at a place of a list has fired
 pub place_has : (ks fired : List Key) (n : ℕ) (k : Key) → ((w i : ℕ) → HasFired ks w i → HasFired fired w i)
     → n < length ks → get_or ks n k ≡ k → HasFired fired k.wave k.instr
-place_has ks fired n k all lt is = subst (λ (x : Key). HasFired fired x.wave x.instr) is
-    (all (get_or ks n k).wave (get_or ks n k).instr (has_at ks n k lt))
+place_has ks fired n k all lt is = grind (arith, has_at)

@@ -1,6 +1,6 @@
 -- Names of pages in a list that rises.
 use Rattle.std.proofs.Common.{◌≡◌, ◌≢◌, ◌+◌, ◌<◌, ◌≤◌, ◌⊎◌, ⊎_elim, inl, inr, ℕ, zero, suc, List, [], ◌∷◌}
-use Rattle.std.proofs.Common.{◌++◌, length, take, drop, take-append-drop, get_or, sym, refl, ap, ◌∙◌, subst}
+use Rattle.std.proofs.Common.{◌++◌, length, take, drop, take-append-drop, get_or, sym, refl, ap, ◌∙◌}
 use Rattle.std.proofs.Common.{arith, add-one}
 use Rattle.std.proofs.lemmas.Bool.{cases_order}
 use Rattle.std.proofs.lemmas.List.{get_or_default}
@@ -72,8 +72,7 @@ index_in order i d lt = grind arith
 pub named_in : (order : List PageKey) (place : ℕ) (name : PageName) (d : PageKey) → place < length order
     → (get_or order place d).name ≡ name
     → In (record { name = name; key = (get_or order place d).key }) order
-named_in order place name d lt same = subst (λ (n : PageName).
-    In (record { name = n; key = (get_or order place d).key }) order) same (index_in order place d lt)
+named_in order place name d lt same = rw (← same) (index_in order place d lt)
 
 in_front : (xs ys : List PageKey) (k : PageKey) → In k xs → In k (xs ++ ys)
 in_front [] ys k m = absurd m
@@ -94,24 +93,16 @@ inserted_new order place s = in_back (take place order) (s ∷ drop place order)
 
 pub inserted_old : (order : List PageKey) (place : ℕ) (s k : PageKey) → In k order
     → In k (insert order place s)
-inserted_old order place s k m = ⊎_elim
-    (λ (f : In k (take place order)). in_front (take place order) (s ∷ drop place order) k f)
-    (λ (b : In k (drop place order)). in_back (take place order) (s ∷ drop place order) k (inr b))
-    (in_either (take place order) (drop place order) k
-    (subst (λ l. In k l) (sym (take-append-drop place order)) m))
+inserted_old order place s k m = ⊎_elim (λ (f : In k (take place order)). in_front (take place order) (s ∷
+    drop place order) k f) (λ (b : In k (drop place order)). in_back (take place order) (s ∷ drop place order)
+    k (inr b)) (in_either (take place order) (drop place order) k (rw (take-append-drop place order) m))
 
 pub inserted_either : (order : List PageKey) (place : ℕ) (s k : PageKey) → In k (insert order place s)
     → (k ≡ s) ⊎ In k order
-inserted_either order place s k m = ⊎_elim
-    (λ (f : In k (take place order)).
-    inr (subst (λ l. In k l) (take-append-drop place order) (in_front (take place order) (drop place order) k
-    f)))
-    (λ (b : In k (s ∷ drop place order)). ⊎_elim (λ (same : k ≡ s). inl same)
-    (λ (r : In k (drop place order)).
-    inr (subst (λ l. In k l) (take-append-drop place order) (in_back (take place order) (drop place order) k
-    r)))
-    b)
-    (in_either (take place order) (s ∷ drop place order) k m)
+inserted_either order place s k m = ⊎_elim (λ (f : In k (take place order)). inr (rw (← take-append-drop place
+    order) (in_front _ _ _ f))) (λ (b : In k (s ∷ drop place order)). ⊎_elim (λ (same : k ≡ s). inl same) (λ
+    (r : In k (drop place order)). inr (rw (← take-append-drop place order) (in_back _ _ _ r))) b) (in_either
+    _ _ _ m)
 
 -- each name stands once
 pub listed_once : (order : List PageKey) (a b : PageKey) → RisingPages order → In a order → In b order
@@ -119,9 +110,7 @@ pub listed_once : (order : List PageKey) (a b : PageKey) → RisingPages order �
 listed_once order a b rising m n same = let x = in_index order a m in let y = in_index order b n in ⊎_elim
     (λ (e : x.0 ≡ y.0). sym (x.2 a) ∙ ap (λ k. get_or order k a) e ∙ y.2 a)
     (λ (apart : (x.0 < y.0) ⊎ (y.0 < x.0)). let p = ap at_rank (x.2 a) in let q = ap at_rank (y.2 a) in
-    let s = ap rank same in ⊎_elim
-    (λ (l : x.0 < y.0). let r = rising x.0 y.0 a l y.1 in absurd (omega (arith, p, q, r, s)))
-    (λ (g : y.0 < x.0). let r = rising y.0 x.0 a g x.1 in absurd (omega (arith, p, q, r, s))) apart)
+    grind (arith, ⊎_elim))
     (cases_order x.0 y.0)
 
 -- what is in the list isn't of a name that none in it has
@@ -134,8 +123,7 @@ pub none_named : (order : List PageKey) (place : ℕ) (name : PageName) → Risi
     → IsFirstFrom order place name
     → ((d : PageKey) → place < length order → at_rank (get_or order place d) ≢ rank name) → NoneNamed order
     name
-none_named order place name rising first here i d lt e =
-    grind (arith, ⊎_elim, first.below, first.above, cases_order)
+none_named order place name rising first here i d lt e = grind (arith, ⊎_elim, cases_order)
 
 pub other_default : (order : List PageKey) (place : ℕ) (name : PageName) (e : PageKey)
     → (at_rank (get_or order place e) ≡ rank name → ⊥) → (d : PageKey) → place < length order
@@ -164,30 +152,19 @@ inserted_rises order place s rising none first i j d lt len =
     (get_or order k
     d) = λ k l. ap at_rank (get_or-insert_above order place s d k l le) in
     ⊎_elim
-    (λ (same : j ≡ place). let b = first.below i d (omega (arith, same, lt)) in
-    let u = low i (omega (arith, same, lt)) in let v =
-    subst (λ k. at_rank (get_or (insert order place s) k d) ≡ rank s.name) (sym same) mid in
-    omega (arith, b, u, v))
+    (λ (same : j ≡ place). grind arith)
     (λ (apart : (j < place) ⊎ (place < j)). ⊎_elim
     (λ (l : j < place). let r = rising i j d lt (omega (arith, l, le)) in
     let u = low i (omega (arith, l, lt)) in let v = low j l in omega (arith, r, u, v))
     (λ (g : place < j). let b = back_of place j g in
-    let v : at_rank (get_or (insert order place s) j d) ≡ at_rank (get_or order b.0 d) =
-    subst (λ k. at_rank (get_or (insert order place s) k d) ≡ at_rank (get_or order b.0 d)) (sym b.1)
-    (high b.0 b.2) in
+    let v : at_rank (get_or (insert order place s) j d) ≡ at_rank (get_or order b.0 d) = grind arith in
     let within : b.0 < length order = (let e = b.1 in omega (arith, e, n, len)) in
     ⊎_elim
-    (λ (same : i ≡ place). let u = subst (λ k. at_rank (get_or (insert order place s) k d) ≡ rank s.name)
-    (sym same) mid in let a = above_strict order place b.0 s.name d none first b.2 within in
-    omega (arith, u, v, a))
+    (λ (same : i ≡ place). grind (arith, above_strict))
     (λ (other : (i < place) ⊎ (place < i)). ⊎_elim
     (λ (l : i < place). let u = low i l in let le' = b.2 in let r = rising i b.0 d (omega (arith, l, le'))
     within in omega (arith, r, u, v))
     (λ (h : place < i). let c = back_of place i h in
-    let u : at_rank (get_or (insert order place s) i d) ≡ at_rank (get_or order c.0 d) =
-    subst (λ k. at_rank (get_or (insert order place s) k d) ≡ at_rank (get_or order c.0 d)) (sym c.1)
-    (high c.0 c.2) in
-    let e = b.1 in let f = c.1 in let r = rising c.0 b.0 d (omega (arith, e, f, lt)) within in
-    omega (arith, r, u, v)) other)
+    grind arith) other)
     (cases_order i place)) apart)
     (cases_order j place)

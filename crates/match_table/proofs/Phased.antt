@@ -26,9 +26,8 @@ fresh_fit k (c ∷ cs) f most = grind (arith, fresh_serves, fresh_fit (suc k) cs
 
 fit_at : (n : ℕ) (cs : List TableContent) (most : List ℕ) (k : ℕ) → FitFrom n cs most → k < length cs
     → Serves (n + k) (content_at cs k) × (length (content_at cs k).fired ≤ slice_index most (n + k))
-fit_at n (c ∷ cs) most (suc k) f lt = subst
-    (λ (m : ℕ). Serves m (content_at cs k) × (length (content_at cs k).fired ≤ slice_index most m))
-    (let e : suc n + k ≡ n + suc k = omega arith in e) (fit_at (suc n) cs most k f.2 (omega (arith, lt)))
+fit_at n (c ∷ cs) most (suc k) f lt =
+    grind (arith, slice_index, fit_at (suc n) cs most k f.2 (omega (arith, lt)))
 fit_at n cs most k f lt = grind (arith, slice_index)
 
 home_from : (most : List ℕ) (n : ℕ) (olds cs : List TableContent) → length cs ≡ length olds
@@ -38,11 +37,9 @@ home_from most n [] [] e each = (tt, tt)
 home_from most n [] (c ∷ cs) e each = absurd (omega (arith, e))
 home_from most n (o ∷ olds) [] e each = absurd (omega (arith, e))
 home_from most n (o ∷ olds) (c ∷ cs) e each =
-    let h : InPhase most n o c = subst (λ (m : ℕ). InPhase most m o c)
-    (let e : n + 0 ≡ n = omega arith in e) (each 0 (omega arith)) in
+    let h : InPhase most n o c = rw (← let e : n + 0 ≡ n = omega arith in e) (each 0 (omega arith)) in
     let r = home_from most (suc n) olds cs (omega (arith, e)) (λ k lt.
-    subst (λ (m : ℕ). InPhase most m (content_at olds k) (content_at cs k))
-    (let e : n + suc k ≡ suc n + k = omega arith in e) (each (suc k) (omega (arith, lt)))) in
+    rw (← let e : n + suc k ≡ suc n + k = omega arith in e) (each (suc k) (omega (arith, lt)))) in
     ((h.0, h.1, r.0), (h.2, r.1))
 
 module _ (began : List TableContent) (most : List ℕ) where
@@ -50,8 +47,7 @@ module _ (began : List TableContent) (most : List ℕ) where
   rest_all cs e f = record {
     count = ap length e;
     each = λ k le lt. (let h = fit_at 0 cs most k f lt in
-        subst (λ (c : TableContent). InPhase most k c (content_at cs k))
-        (ap (λ (xs : List TableContent). content_at xs k) e)
+        rw (← ap (λ (xs : List TableContent). content_at xs k) e)
         (subst (λ (m : ℕ). InPhase most m (content_at cs k) (content_at cs k))
         (let z : 0 + k ≡ k = omega arith in z) (h.0, h.1, grows_same (content_at cs k))));
   }

@@ -48,15 +48,17 @@ module _ {J : Type 0} where
       → FiresSo answer (will_fire image old t) → Serves k new × (length new.fired ≤ most)
   all_ok image old new t rs took.Waits k most s le serves less m h =
       (arrives_serves k old new t s serves m.0.0, subst (λ l. length l ≤ most) (sym m.0.2) le)
-  all_ok image old new t rs took.Fires k most s le serves less m h = (
-    arrives_serves k old new t s serves m.0.0,
-    within image old new t m.0.1.0 (will_fire image old t) most
-        m.0.1.1 (sym h) less,
+  all_ok image old new t rs took.Fires k most s le serves less m h = grind (
+    arith,
+    arrives_serves k old new t
+        s serves m.0.0,
+    within image old new t m.0.1.0 (will_fire image old t) most m.0.1.1 (sym h) less,
   )
-  all_ok image old new t rs took.Asks k most s le serves less m h = (
-    arrives_serves k old new t s serves m.3.0,
-    within image old new t m.3.1.0 (will_fire image old t) most
-        m.3.1.1 (sym h) less,
+  all_ok image old new t rs took.Asks k most s le serves less m h = grind (
+    arith,
+    arrives_serves k old new t
+        s serves m.3.0,
+    within image old new t m.3.1.0 (will_fire image old t) most m.3.1.1 (sym h) less,
   )
   all_ok image old new t rs took.Old k most s le serves less m h = grind (arith, same_serves)
   all_ok image old new t rs took.NoMemory k most s le serves less m h = grind (arith, same_serves)

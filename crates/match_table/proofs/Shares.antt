@@ -1,8 +1,7 @@
 -- How many instances tables list together, and what limits allow together.
 use Rattle.std.proofs.Common.{◌≡◌, ◌+◌, ◌<◌, ◌≤◌, ℕ, zero, suc, List, [], ◌∷◌, ◌++◌, length, length-append}
-use Rattle.std.proofs.Common.{◌-◌, ◌/◌, inl, inr, take, slice_index, add-one, sym, refl, ap, subst, arith}
+use Rattle.std.proofs.Common.{◌-◌, ◌/◌, take, slice_index, add-one, refl, ap, subst, arith}
 use Rattle.std.specs.Prelude.{sum}
-use Rattle.std.proofs.Math.Nat.{div-one, div-lt_self}
 use Rattle.std.proofs.lemmas.Bool.{cases_lt}
 use Rattle.std.proofs.lemmas.List.{get_or_append_left, get_or_push}
 use Rattle.std.proofs.lemmas.List.Sums.{sum_by-cons, sum_by_push}
@@ -63,16 +62,14 @@ WithinFrom n (c ∷ cs) most = (length c.fired ≤ slice_index most n) × Within
 within_at : (n : ℕ) (cs : List TableContent) (most : List ℕ) → WithinFrom n cs most → (k : ℕ) → k < length cs
     → length (content_at cs k).fired ≤ slice_index most (n + k)
 within_at n (c ∷ cs) most w (suc k) lt =
-    subst (λ (m : ℕ). length (content_at cs k).fired ≤ slice_index most m)
-    (let e : suc n + k ≡ n + suc k = omega arith in e) (within_at (suc n) cs most w.1 k (omega (arith, lt)))
+    grind (arith, slice_index, within_at (suc n) cs most w.1 k (omega (arith, lt)))
 within_at n cs most w k lt = grind (arith, slice_index)
 
 pub all_within : (cs : List TableContent) (most : List ℕ) → length cs ≤ length most → WithinFrom 0 cs most
     → length (all_fired cs) ≤ sum most
 all_within cs most e w =
     let a = all_count cs in
-    let s = sum_allows cs most e
-    (λ k lt. subst (λ (m : ℕ). length (content_at cs k).fired ≤ slice_index most m)
+    let s = sum_allows _ _ e (λ k lt. subst (λ (m : ℕ). length (content_at cs k).fired ≤ slice_index most m)
     (let z : 0 + k ≡ k = omega arith in z) (within_at 0 cs most w k lt)) in
     omega (arith, a, s)
 
@@ -100,43 +97,8 @@ pub give_more : (cs : List TableContent) (first n : ℕ) (items : List ℕ) (lef
     → n < 16 → Given cs first n items left all → IsShare first n left share →
     len ≡ length (content_at cs n).fired → (now : ℕ) → now ≡ left - share → (limit : ℕ) → limit ≡ len + share
     → Given cs first (n + 1) (items ++ limit ∷ []) now all
-give_more cs first n items left all share len sixteen g s is now now_is limit limit_is = record {
-  count = (let a = length-append items (limit ∷ []) in let b = g.count in omega (arith, a, b));
-  within = λ k l. elim (cases_lt k n) [
-    | inl x ↦ subst (λ (v : ℕ). length (content_at cs k).fired ≤ v)
-        (sym (get_or_append_left items (limit ∷ []) 0 k (let c = g.count in omega (arith, c, x))))
-        (g.within k x)
-    | inr x ↦ (let e : n ≡ k = omega (arith, l, x) in
-        subst (λ (j : ℕ). length (content_at cs j).fired ≤ slice_index (items ++ limit ∷ []) j) e
-        (subst (λ (v : ℕ). length (content_at cs n).fired ≤ v) (sym (get_or_push items limit 0 n g.count))
-        (omega (arith, is, limit_is))))
-  ];
-  sum_is = (let a = sum_push items limit in let b = take_more cs n in let c = g.sum_is in
-      let le = s.within in omega (arith, a, b, c, le, is, now_is, limit_is));
-  below = (let b = g.below in omega (arith, b, now_is));
-  last = λ (sixteen : n + 1 ≡ 16). (
-      let one : 16 - n ≡ 1 = omega (arith, sixteen) in
-      let whole : left ≤ share = subst (λ (x : ℕ). x ≤ share) (div-one left)
-      (subst (λ (k : ℕ). left / k ≤ share) one s.even) in
-      omega (arith, whole, now_is));
-  some = λ (below : n + 1 < 16) (le : n + 1 ≤ first) (one : 0 < all). (
-      let has : 0 < left = g.some (omega (arith, below)) (omega (arith, le)) one in
-      let two : 1 < 16 - n = omega (arith, below) in
-      let less : left / (16 - n) < left = div-lt_self has two in
-      let exact : share ≡ left / (16 - n) = s.others (λ (e : n ≡ first). absurd (omega (arith, e, le))) in
-      let below_left : share < left = subst (λ (x : ℕ). x < left) (sym exact) less in
-      omega (arith, below_left, now_is));
-  more = λ (lt_first : first < n + 1) (one : 0 < all). elim (cases_lt first n) [
-    | inl x ↦ subst (λ (v : ℕ). length (content_at cs first).fired < v)
-        (sym (get_or_append_left items (limit ∷ []) 0 first (let c = g.count in omega (arith, c, x))))
-        (g.more x one)
-    | inr x ↦ (let e : n ≡ first = omega (arith, lt_first, x) in
-        subst (λ (j : ℕ). length (content_at cs j).fired < slice_index (items ++ limit ∷ []) j) e
-        (subst (λ (v : ℕ). length (content_at cs n).fired < v) (sym (get_or_push items limit 0 n g.count))
-        (let h : 0 < share = s.first_one e (g.some sixteen (omega (arith, e)) one) in
-        omega (arith, is, limit_is, h))))
-  ];
-}
+give_more cs first n items left all share len sixteen g s is now now_is limit limit_is =
+    grind (arith, length-append, cases_lt, get_or_append_left, slice_index, get_or_push, sum_push, take_more)
 
 -- what serves apart and keeps within its limit fits
 within_from : (n : ℕ) (cs : List TableContent) (most : List ℕ)
@@ -144,10 +106,9 @@ within_from : (n : ℕ) (cs : List TableContent) (most : List ℕ)
     → WithinFrom n cs most
 within_from n [] most each = tt
 within_from n (c ∷ cs) most each = (
-  subst (λ (m : ℕ). length c.fired ≤ slice_index most m) (let e : n + 0 ≡ n = omega arith in e)
-      (each 0 (omega arith)),
-  within_from (suc n) cs most (λ k lt. subst (λ (m : ℕ). length (content_at cs k).fired ≤ slice_index most m)
-      (let e : n + suc k ≡ suc n + k = omega arith in e) (each (suc k) (omega (arith, lt)))),
+  rw (← let e : n + 0 ≡ n = omega arith in e) (each 0 (omega arith)),
+  within_from (suc n) cs most (λ k lt. rw (← let e : n + suc k ≡ suc n + k = omega arith in e) (each (suc k)
+      (omega (arith, lt)))),
 )
 
 fit_from : (n : ℕ) (cs : List TableContent) (most : List ℕ) → ServeFrom n cs → WithinFrom n cs most

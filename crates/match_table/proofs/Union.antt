@@ -1,6 +1,6 @@
 -- Tables that serve apart are one part of the core's state.
 use Rattle.std.proofs.Common.{◌≡◌, ◌+◌, ◌<◌, ◌%◌, ◌⊎◌, inl, inr, ℕ, suc, List, [], ◌∷◌, ◌++◌, All}
-use Rattle.std.proofs.Common.{length, slice_index_or, refl, subst, arith}
+use Rattle.std.proofs.Common.{length, slice_index_or, arith}
 use Rattle.std.proofs.lemmas.List.Elements.{All-from_get_or}
 use Rattle.ws_words.specs.Outside.{World}
 use Rattle.ws_isa.specs.Image.{Image}
@@ -32,13 +32,7 @@ once_append : (ks ls : List Key) → Once ks → Once ls → ((w i : ℕ) → Ha
     → Once (ks ++ ls)
 once_append [] ls a b apart = b
 once_append (k ∷ ks) ls a b apart = (
-  (λ h. elim (fired_cases ks ls k.wave k.instr h) [
-    | inl x ↦ a.0 x
-    | inr x ↦
-        apart k.wave k.instr (inl (refl, refl)) x
-  ]),
-  once_append ks ls a.1 b (λ w i x y. apart w i (inr x) y),
-)
+    grind (arith, fired_cases, once_append ks ls a.1 b (λ w i x y. apart w i (inr x) y)))
 
 module _ (image : Image) (world : World) where
   -- what is true of tables from a number on
@@ -72,12 +66,7 @@ module _ (image : Image) (world : World) where
   find n [] ok w i h = absurd h
   find n (c ∷ cs) ok w i h = elim (fired_cases c.fired (all_fired cs) w i h) [
     | inl x ↦
-        (let e = number_is n c ok.0.0 ok.0.1 w i x in record {
-          place = 0;
-          below = omega arith;
-          fired = x;
-          number = omega (arith, e);
-        })
+        (let e = number_is n c ok.0.0 ok.0.1 w i x in grind arith)
     | inr x ↦ (let r = find (suc n) cs ok.1 w i x in let e = r.number in let b = r.below in
         record { place = suc r.place; below = omega (arith, b); fired = r.fired; number = omega (arith, e) })
   ]
@@ -110,10 +99,9 @@ module _ (image : Image) (world : World) where
     union_ok = record {
       right = λ w i p v e. (here w i).right w i p v e;
       fired_full = λ w i f. (let a = find 0 cs ok w i f in
-          (here w i).fired_full w i (subst (λ (k : ℕ). HasFired (content_at cs k).fired w i)
-          (let e = a.number in let g : a.place ≡ (w + i) % 16 = omega (arith, e) in g) a.fired));
-      full_fired = λ w i some full. fired_at cs ((w + i) % 16) w i
-          ((here w i).full_fired w i some full);
+          (here w i).fired_full w i (rw (← let e = a.number in let g : a.place ≡ (w + i) % 16 = omega
+          (arith, e) in g) a.fired));
+      full_fired = λ w i some full. fired_at cs ((w + i) % 16) w i ((here w i).full_fired w i some full);
     }
 
     same_held : (k w i : ℕ) → (w + i) % 16 ≡ k → operands_in image (held (content_at cs k)) w i ≡ operands_in

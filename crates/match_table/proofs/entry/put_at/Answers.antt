@@ -5,25 +5,15 @@ use Rattle.match_table.proofs.Held.{third_port}
 use Rattle.match_table.proofs.entry.put_at.Goals as goal
 
 pub returns-then-port-eq0-clause-entries : goal.returns-then-port-eq0-clause-entries
-returns-then-port-eq0-clause-entries c = value_set c.page.inside.had c.page.inside.values c.args.slot
-    c.args.port c.args.value
-    (set_port (entry c.page.inside.had c.page.inside.values c.args.slot) 0 c.args.value) c.page.inside.name
-    c.args.page.now c.page.view_is c.page.invariant.0 c.page.invariant.1 c.requires
-    (ap (λ (k : ℕ). set_port (entry c.page.inside.had c.page.inside.values c.args.slot)
-    k c.args.value) (sym c.if-port-eq0.true))
+returns-then-port-eq0-clause-entries c = value_set _ _ _ _ _ _ _ _ c.page.view_is c.page.invariant.0
+    c.page.invariant.1 c.requires (ap (λ (k : ℕ). set_port (entry c.page.inside.had c.page.inside.values
+    c.args.slot) k c.args.value) (sym c.if-port-eq0.true))
 
 pub returns-then-port-eq1-clause-entries : goal.returns-then-port-eq1-clause-entries
-returns-then-port-eq1-clause-entries c = value_set c.page.inside.had c.page.inside.values c.args.slot
-    c.args.port c.args.value
-    (set_port (entry c.page.inside.had c.page.inside.values c.args.slot) 1 c.args.value) c.page.inside.name
-    c.args.page.now c.page.view_is c.page.invariant.0 c.page.invariant.1 c.requires
-    (ap (λ (k : ℕ). set_port (entry c.page.inside.had c.page.inside.values c.args.slot)
-    k c.args.value) (sym c.if-port-eq1.true))
+returns-then-port-eq1-clause-entries c = value_set _ _ _ _ _ _ _ _ c.page.view_is c.page.invariant.0
+    c.page.invariant.1 c.requires (ap (λ (k : ℕ). set_port (entry c.page.inside.had c.page.inside.values
+    c.args.slot) k c.args.value) (sym c.if-port-eq1.true))
 
 pub returns-else-port-eq1-clause-entries : goal.returns-else-port-eq1-clause-entries
-returns-else-port-eq1-clause-entries c = value_set c.page.inside.had c.page.inside.values c.args.slot
-    c.args.port c.args.value
-    (set_port (entry c.page.inside.had c.page.inside.values c.args.slot) 2 c.args.value) c.page.inside.name
-    c.args.page.now c.page.view_is c.page.invariant.0 c.page.invariant.1 c.requires
-    (third_port (entry c.page.inside.had c.page.inside.values c.args.slot)
-    c.args.port c.args.value c.if-port-eq0.false c.if-port-eq1.false)
+returns-else-port-eq1-clause-entries c = value_set _ _ _ _ _ _ _ _ c.page.view_is c.page.invariant.0
+    c.page.invariant.1 c.requires (third_port _ _ _ c.if-port-eq0.false c.if-port-eq1.false)

@@ -1,4 +1,4 @@
-use Rattle.std.proofs.Common.{◌≡◌, ℕ, List, true, sym, ap, ◌∙◌, subst, arith}
+use Rattle.std.proofs.Common.{◌≡◌, ℕ, List, true, ◌∙◌, arith}
 use Rattle.ws_isa.specs.Walk.{gather}
 use Rattle.df_core.specs.Core.{is_full}
 use Rattle.match_table.specs.declared.entry.Arrived.{Arrived}
@@ -14,11 +14,7 @@ returns-then-not-have_all c = let a = c.args.arrived in c.have_all.ensures a.fir
 of_ports : (a : Arrived) (ports n : ℕ) (xs : List ℕ) → ports ≡ n → is_full (alone a) 0 0 ports ≡ true
     → (is_full (alone a) 0 0 n ≡ true → xs ≡ gather (alone a) 0 0 0 n) → (is_full (alone a) 0 0 ports ≡ true)
     × (xs ≡ gather (alone a) 0 0 0 ports)
-of_ports a ports n xs are full list = (
-  full,
-  list (subst (λ k. is_full (alone a) 0 0 k ≡ true) are full)
-      ∙ sym (ap (λ k. gather (alone a) 0 0 0 k) are),
-)
+of_ports a ports n xs are full list = grind arith
 
 pub returns-then-ports-eq1 : goal.returns-then-ports-eq1
 returns-then-ports-eq1 c = let a = c.args.arrived in of_ports a c.args.ports _ _ c.if-ports-eq1.true

@@ -13,27 +13,18 @@ loop-low-preserved-then-is_below c = let inv = c.loop-low.invariant in let t = c
     }
 
 pub loop-low-preserved : goal.loop-low-preserved
-loop-low-preserved c = let inv = c.loop-low.invariant in let t = c.loop-low-test.true in let o = inv.order in
-    let b = inv.bound in record {
-      order = omega (arith, t, o);
-      bound = omega (arith, t, o, b);
-      below = inv.below;
-      above = above_more c.args.order.now (c.loop-low.low + (c.loop-low.high - c.loop-low.low) / 2)
-          c.args.name _ c.requires (c.is_below.ensures.no c.if-is_below.false);
-    }
+loop-low-preserved c = grind (
+  arith,
+  above_more c.args.order.now (c.loop-low.low + (c.loop-low.high -
+      c.loop-low.low) / 2) c.args.name _ c.requires (c.is_below.ensures.no c.if-is_below.false),
+)
 
 pub loop-low-init : goal.loop-low-init
-loop-low-init c = record {
-  order = in_order c.args.order.now c.floor-low.result c.ceiling-high.result c.args.name
-      c.floor-low.ensures.bound c.floor-low.ensures.below c.ceiling-high.ensures.above;
-  bound = c.ceiling-high.ensures.bound;
-  below = c.floor-low.ensures.below;
-  above = c.ceiling-high.ensures.above;
-}
+loop-low-init c = grind (
+  arith,
+  in_order c.args.order.now c.floor-low.result c.ceiling-high.result
+      c.args.name c.floor-low.ensures.bound c.floor-low.ensures.below c.ceiling-high.ensures.above,
+)
 
 pub returns : goal.returns
-returns c = let inv = c.loop-low.invariant in let t = c.loop-low-test.false in let o = inv.order in
-    let b = inv.bound in
-    first_at c.args.order.now c.loop-low.low c.loop-low.high c.args.name (omega (arith, t, o))
-    (omega (arith, b, o))
-    inv.below inv.above
+returns c = grind (arith, first_at)

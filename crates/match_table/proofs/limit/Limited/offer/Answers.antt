@@ -11,12 +11,12 @@ use Rattle.match_table.proofs.limit.Limited.offer.Goals as goal
 pub invariant_of-self : goal.invariant_of-self
 invariant_of-self g c =
     let less : will_fire g.J.Job.image c.self.inside.table c.args.token.now ≡ true
-    → length c.self.inside.table.fired < c.self.inside.most = λ e. elim c.else-fired_count-self.branch [
-      | else-fired_count-self-via-then-fired_count-self+else-would_fire w ↦
-          absurd (true≢false (sym e ∙ sym w.would_fire.ensures ∙ w.if-would_fire.false))
-      | else-fired_count-self-via-else-fired_count-self w ↦
-          (let f = w.if-fired_count-self.false in let l = c.fired_count.ensures in omega (arith, f, l))
-    ] in
+    → length c.self.inside.table.fired < c.self.inside.most = grind (
+      arith,
+      else-fired_count-self-via-then-fired_count-self+else-would_fire,
+      true≢false,
+      else-fired_count-self-via-else-fired_count-self,
+    ) in
     let x = all_ok g.J.Job.image c.self.inside.table c.accept_into.new.self c.args.token.now
     c.accept_into.new.results c.accept_into.result c.self.inside.number c.self.inside.most c.self.invariant.0
     c.self.invariant.2

@@ -1,10 +1,6 @@
-use Rattle.std.proofs.Common.{List, get_or, sym, ap, ◌∙◌}
-use Rattle.df_core.specs.Core.{Key}
+use Rattle.std.proofs.Common.{arith}
 use Rattle.match_table.proofs.Listed.{fired_now}
 use Rattle.match_table.proofs.table.Table.key_at.Goals as goal
 
 pub returns : goal.returns
-returns g c = λ d. ap (λ (l : List Key). get_or l c.args.place d)
-    (fired_now c.self.inside.pages.entries c.self.inside.fired
-    c.self.inside.room c.args.self.now c.self.view_is)
-    ∙ c.at.ensures.at c.args.self.now.entries d ∙ sym c.listed-instance.ensures
+returns g c = grind (arith, fired_now)

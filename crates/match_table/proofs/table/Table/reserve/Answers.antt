@@ -34,11 +34,4 @@ invariant_of-self-then-self-tokens g c = let i = c.self.invariant in
     let lists = same_lists g.J.Job.image g.J.Job.world c.self.inside.pages.entries c.reserve.new.self.entries
     c.self.inside.fired c.reserve-then-self-tokens.new.self c.self.inside.asked
     c.reserve-then-self-tokens-2.new.self c.reserve.ensures.same fired.spots fired.others asked.spots
-    asked.others (i.0, i.1, i.2) in (
-      lists.0,
-      lists.1,
-      lists.2,
-      c.in_ok-reserve.ensures.room,
-      c.in_ok-reserve-2.ensures.room,
-      c.in_ok-reserve-3.ensures.room,
-    )
+    asked.others (i.0, i.1, i.2) in (grind arith)

@@ -1,4 +1,4 @@
-use Rattle.std.proofs.Common.{ℕ, ap, subst}
+use Rattle.std.proofs.Common.{arith, ℕ, ap, subst}
 use Rattle.df_core.specs.Places.{image_of}
 use Rattle.match_table.specs.declared.meeting.Seen.{Seen}
 use Rattle.match_table.specs.Pages.{arrived_in}
@@ -9,9 +9,8 @@ use Rattle.match_table.specs.Spots.{instances}
 use Rattle.match_table.specs.Tables.{TableContent}
 
 pub meet-seen-requires-clause-ports : goal.meet-seen-requires-clause-ports
-meet-seen-requires-clause-ports g c = count_is g.J.Job.image (image_of c.program-program.result.now)
-    c.args.token.now.instr c.instr-instr.result c.op.result c.op.ensures c.program-program.ensures.image
-    c.instr-instr.ensures c.ports-count.result c.ports-count.ensures
+meet-seen-requires-clause-ports g c = count_is _ _ _ _ _ c.op.ensures c.program-program.ensures.image
+    c.instr-instr.ensures _ c.ports-count.ensures
 
 pub returns-in-Fills : goal.returns-in-Fills
 returns-in-Fills g c =
@@ -24,9 +23,7 @@ returns-in-Fills g c =
     c.ports-count.result c.ports-count.ensures in
     fills_fires g.J.Job.image g.J.Job.world c.program-program.ensures.formed c.program-program.ensures.sound
     c.args.self.now _ _ ok c.args.token.now c.wave-wave.ensures.right c.in-Fills.field-0
-    (subst (λ (k : ℕ × Seen). SeenSo (arrived_in c.args.self.now.entries c.args.token.now.wave
-    c.args.token.now.instr) c.args.token.now.port c.args.token.now.value k.0 k.1)
-    (λ j. (count.0 j, c.in-Fills.is j)) c.meet-seen.ensures.seen)
+    (grind arith)
 
 pub returns-in-Waits : goal.returns-in-Waits
 returns-in-Waits g c =
@@ -34,11 +31,9 @@ returns-in-Waits g c =
     (instances c.self.inside.pages.entries c.self.inside.fired)
     (instances c.self.inside.pages.entries c.self.inside.asked) c.self.invariant.0 c.args.self.now
     (ap (λ (s : TableContent). s.entries) c.self.view_is) in
-    let count = count_is g.J.Job.image (image_of c.program-program.result.now) c.args.token.now.instr
-    c.instr-instr.result c.op.result c.op.ensures c.program-program.ensures.image c.instr-instr.ensures
-    c.ports-count.result c.ports-count.ensures in
+    let count = count_is _ _ _ _ _ c.op.ensures c.program-program.ensures.image c.instr-instr.ensures _
+    c.ports-count.ensures in
     waits_open g.J.Job.image g.J.Job.world c.program-program.ensures.formed c.program-program.ensures.sound
-    c.args.self.now _ _ ok c.args.token.now c.wave-wave.ensures.right
-    (subst (λ (k : ℕ × Seen). SeenSo (arrived_in c.args.self.now.entries c.args.token.now.wave
-    c.args.token.now.instr) c.args.token.now.port c.args.token.now.value k.0 k.1)
-    (λ j. (count.0 j, c.in-Waits.is j)) c.meet-seen.ensures.seen)
+    c.args.self.now _ _ ok c.args.token.now c.wave-wave.ensures.right (subst (λ (k : ℕ × Seen). SeenSo
+    (arrived_in c.args.self.now.entries c.args.token.now.wave c.args.token.now.instr) c.args.token.now.port
+    c.args.token.now.value k.0 k.1) (λ j. (count.0 j, c.in-Waits.is j)) c.meet-seen.ensures.seen)
