@@ -1,8 +1,8 @@
 -- A request comes to the buffer of a crew of one, and what is known of the run stays true.
-use Rattle.std.proofs.Common.{ℕ, ◌≡◌, ◌⊎◌, false, List, [], ◌++◌, Option, Some, None}
+use Rattle.std.proofs.Common.{arith, ℕ, ◌≡◌, ◌⊎◌, false, List, [], ◌++◌, Option, Some, None}
 use Rattle.std.proofs.Common.{is_some, refl, sym, ap, ◌∙◌, subst, inl, inr}
 use Rattle.ws_words.specs.Outside.{Outside, World}
-use Rattle.ws_isa.specs.Image.{Image, Token, ports, answer, sends}
+use Rattle.ws_isa.specs.Image.{Image, Token, ports, sends}
 use Rattle.ws_isa.specs.Walk.{Ports, start_tokens}
 use Rattle.df_core.specs.Core.{HasFired}
 use Rattle.df_core.specs.Shown.{Buffer, Tables as Part, owed, plain_tokens, op_tokens, waits_if}
@@ -11,7 +11,7 @@ use Rattle.df_core.specs.Rights.{Asked, operands_of}
 use Rattle.df_core.proofs.Telling.Owing.{nothing}
 use Rattle.df_core.proofs.Keeping.Ports.{SameKey, with_key_cases}
 use Rattle.store_buf.specs.declared.kept.Kept.{Kept}
-use Rattle.store_buf.specs.Requests.{entry_of, issued_in, issued_keys, kept_in, operands_if, answer_if}
+use Rattle.store_buf.specs.Requests.{issued_in, issued_keys, kept_in, operands_if, answer_if}
 use Rattle.store_buf.specs.Holds.{Issues, Issued, stays, goes, stops}
 use Rattle.store_buf.specs.Contents.{Content, Comes, IsBuffer, Submitted, buffer_in}
 use Rattle.store_buf.specs.Runs.{AllReach, Covers}
@@ -24,19 +24,14 @@ use Rattle.fire_crew.proofs.Paid.{come_append, come_ops, come_plain}
 use Rattle.ws_words.specs.Items.{or_else}
 
 asked_kept : (o : Option ℕ) (k : Option (List ℕ)) (xs : List ℕ) → waits_if o k None ≡ Some xs → k ≡ Some xs
-asked_kept (Some a) k xs e = absurd (nothing xs e)
-asked_kept None (Some ys) xs e = e
-asked_kept None None xs e = absurd (nothing xs e)
+asked_kept v0 v1 v2 v3 = grind (arith, nothing)
 
 some_kept : (image : Image) (o : Option Kept) → is_some (operands_if image o) ≡ is_some o
-some_kept image None = refl
-some_kept image (Some k) = refl
+some_kept v0 v1 = grind arith
 
 -- what isn't kept isn't issued
 none_issued : (image : Image) (o : Option Kept) → operands_if image o ≡ None → answer_if o ≡ None
-none_issued image None e = refl
-none_issued image (Some k) e =
-    absurd (nothing (operands_of (ports image k.instr) k.first k.second) (sym e))
+none_issued v0 v1 v2 = grind (arith, nothing)
 
 module _ (image : Image) (f : Ports) (way : List Token) where
   -- each issued operation has told its result tokens
@@ -46,27 +41,12 @@ module _ (image : Image) (f : Ports) (way : List Token) where
 
   issued_told : (b c : Buffer) (w i : ℕ) (some : List Token) → Issued image b w i some c → Covers some way →
       Told b → Told c
-  issued_told b c w i some n sent told u j a xs k e =
-      elim (with_key_cases w i (Some (answer image i n.operands b.memory)) b.issued u j) [
-        | inl h ↦ (let is : Some (answer image i n.operands b.memory) ≡ Some a =
-            sym h.1 ∙ sym (n.issued u j) ∙ e in
-            let word : answer image i n.operands b.memory ≡ a = cc in
-            let kept : Some n.operands ≡ Some xs =
-            sym (asked_kept (b.issued w i) (b.kept w i) n.operands n.waits)
-            ∙ ap (λ (q : ℕ × ℕ). b.kept q.0 q.1) (λ m. (h.0.wave m, h.0.instr m)) ∙ sym (n.kept u j) ∙ k in
-            let ops : n.operands ≡ xs = cc in
-            let all : Covers (sends image w i n.operands (answer image i n.operands b.memory)) way =
-            subst (λ (ts : List Token). Covers ts way) n.tokens_are sent in
-            subst (λ (q : ℕ × ℕ × List ℕ × ℕ). AllReach f way (sends image q.0 q.1 q.2 q.3))
-            (λ m. (h.0.wave m, h.0.instr m, ops m, word m)) (R.reach_all f _ way all))
-        | inr h ↦ told u j a xs (sym (n.kept u j) ∙ k) (sym h.1 ∙ sym (n.issued u j) ∙ e)
-      ]
+  issued_told b c w i some n sent told u j a xs k e = grind (arith, with_key_cases, asked_kept, R.reach_all)
 
   issues_told : (b d : Buffer) (ts : List Token) → Issues image b ts d → Covers ts way → Told b → Told d
   issues_told b d ts stays sent told = told
-  issues_told b d ts (goes {c = c} {some = some} {rest = rest} w i n r) sent told =
-      issues_told c d rest r (R.covers_right some rest way sent)
-      (issued_told b c w i some n (R.covers_left some rest way sent) told)
+  issues_told b d ts (goes {c = c} {some = some} {rest = rest} w i n r) sent told = issues_told _ _ _ r
+      (R.covers_right _ _ _ sent) (issued_told _ _ _ _ _ n (R.covers_left _ _ _ sent) told)
   issues_told b d ts (stops {c = c} w i n r) sent told = issues_told c d ts r sent
       (λ u j a xs k e. told u j a xs (sym (n.kept u j) ∙ k) (sym (n.issued u j) ∙ e))
 
@@ -83,22 +63,15 @@ module _ (image : Image) (world : World) (began : List (Option Began)) (old new 
       × (kept_in image new.kept w i ≡ Some (operands_of (ports image r.instr) r.first r.second)))
       ⊎ ((SameKey r.wave r.instr w i → ⊥) × (kept_in image new.kept w i ≡ kept_in image old.kept w i))
   kept_new w i =
-      let e = issues_kept image s.arrived (buffer_in image new s.memory) ts s.issues w i
-      ∙ s.arrives.kept w i in
+      let e = issues_kept _ _ _ _ s.issues _ _ ∙ s.arrives.kept w i in
       elim (with_key_cases r.wave r.instr (Some (operands_of (ports image r.instr) r.first r.second))
       (kept_in image old.kept) w i) [ inl h ↦ inl (h.0, e ∙ h.1) | inr h ↦ inr (h.0, e ∙ h.1) ]
 
   stays_known : (w i : ℕ) → Knows old w i → Knows new w i
-  stays_known w i h = sym (some_kept image (entry_of new.kept w i)) ∙ elim (kept_new w i) [
-    | inl e ↦ ap is_some e.1
-    | inr e ↦ ap is_some e.1 ∙ some_kept image (entry_of old.kept w i) ∙ h
-  ]
+  stays_known w i h = grind (arith, some_kept, kept_new, is_some)
 
   pub now_known : Knows new r.wave r.instr
-  now_known = sym (some_kept image (entry_of new.kept r.wave r.instr)) ∙ elim (kept_new r.wave r.instr) [
-    | inl e ↦ ap is_some e.1
-    | inr e ↦ absurd (e.0 (record { wave = refl; instr = refl }))
-  ]
+  now_known = grind (arith, some_kept, kept_new, is_some)
 
   arrived_told : (f : Ports) (way : List Token) → Told image f way (buffer_in image old m) →
       Told image f way s.arrived
@@ -106,10 +79,7 @@ module _ (image : Image) (world : World) (began : List (Option Began)) (old new 
       let is : issued_in old.kept w i ≡ Some a = sym (s.arrives.issued w i) ∙ e in
       elim (with_key_cases r.wave r.instr (Some (operands_of (ports image r.instr) r.first r.second))
       (kept_in image old.kept) w i) [
-        | inl h ↦ (let none : issued_in old.kept w i ≡ None =
-            subst (λ (q : ℕ × ℕ). issued_in old.kept q.0 q.1 ≡ None) (λ n. (h.0.wave n, h.0.instr n))
-            (none_issued image (entry_of old.kept r.wave r.instr) s.arrives.fresh) in
-            absurd (nothing a (sym none ∙ is)))
+        | inl h ↦ (grind (arith, none_issued, nothing))
         | inr h ↦ told w i a xs (sym h.1 ∙ sym (s.arrives.kept w i) ∙ k) is
       ]
 
@@ -119,12 +89,10 @@ module _ (image : Image) (world : World) (began : List (Option Began)) (old new 
       let up = pay_more image (Knows old) (Owes image old) t way more keep paid in
       let before : Told image t.held more (buffer_in image old m) =
       λ w i a xs k e. up.answered (sends image w i xs a) (w, i, a, xs, k, e, refl) in
-      let after : Told image t.held more (buffer_in image new s.memory) =
-      issues_told image t.held more s.arrived (buffer_in image new s.memory) ts s.issues sent
-      (arrived_told t.held more before) in
-      pay_buffer image t (Knows old) (Knows new) (Owes image old) (Owes image new) more stays_known
-      (λ us o. subst (λ (vs : List Token). AllReach t.held more vs) (sym o.6)
-      (after o.0 o.1 o.2 o.3 o.4 o.5)) up
+      let after : Told image t.held more (buffer_in image new s.memory) = issues_told image t.held more
+      s.arrived (buffer_in image new s.memory) ts s.issues sent (arrived_told t.held more before) in
+      pay_buffer image t (Knows old) (Knows new) (Owes image old) (Owes image new) more stays_known (λ us o.
+      rw o.6 (after o.0 o.1 o.2 o.3 o.4 o.5)) up
 
 module _ (image : Image) (world : World) (began : List (Option Began)) (old new : Content) (r : Asked)
     (going : IsGoing old) where

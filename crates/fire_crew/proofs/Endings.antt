@@ -81,28 +81,25 @@ module _ (image : Image) (world : World) (formed : Formed image) (sound : Sound 
   owes known come = record { tokens = come; requests = requests known }
 
   whole_only : c.fault ≡ None → WholeRun image world s ⊎ AtFault image world s → WholeRun image world s
-  whole_only e (inl w) = w
-  whole_only e (inr f) = absurd (both_ways _ (not_stopped e) f.stopped)
+  whole_only v0 v1 = grind (arith, both_ways, not_stopped)
 
   pub all_run : c.fault ≡ None → WholeRun image world s ⊎ AtFault image world s
       → ((w : WholeRun image world s) (n : ℕ) → length (walk image world n) ≤ length s.fired)
       → (n : ℕ) × (length s.fired ≤ length (walk image world n)) → AllRun image world began t.fired c.outside
   all_run e either counted f =
       let w = whole_only e either in
-      let all : (n : ℕ) → length (walk image world n) ≤ length t.fired =
-      λ n. subst (λ ks. length (walk image world n) ≤ length ks) fired_is (counted w n) in
+      let all : (n : ℕ) → length (walk image world n) ≤ length t.fired = λ n. rw (← fired_is) (counted w n) in
       record {
         no_fault = w.within;
         cost = all;
         steps = f.0;
         count = (let a = all f.0 in let d : length t.fired ≤ length (walk image world f.0) =
-            subst (λ ks. length ks ≤ length (walk image world f.0)) fired_is f.1 in omega (arith, a, d));
-        all = λ n x fx. subst (λ ks. HasFired ks x.wave x.instr) fired_is (w.fired n x fx);
-        left = λ n l. out_at n (
-            let quiet : NoOp image world n (n + w.end) = none_fires image world (length t.fired) n (n + w.end)
-            all l in
-            sym (mem_same image world facts n (n + w.end) (omega arith)
-            (no_op_no_write image world n (n + w.end) quiet)) ∙ w.memory (n + w.end) (omega arith));
+            rw (← fired_is) f.1 in omega (arith, a, d));
+        all = λ n x fx. rw (← fired_is) (w.fired n x fx);
+        left = λ n l. out_at _ (
+            let quiet : NoOp image world n (n + w.end) = none_fires _ _ _ _ _ all l in
+            sym (mem_same _ _ facts _ _ (omega arith)
+            (no_op_no_write _ _ _ _ quiet)) ∙ w.memory (n + w.end) (omega arith));
       }
 
   -- nothing may be issued
@@ -111,12 +108,7 @@ module _ (image : Image) (world : World) (formed : Formed image) (sound : Sound 
   unfolding shown
   none_issues known none w i e = elim (waits_cases (b.issued w i) (b.kept w i) _ e.0 e.1.waits) [
     | inl h ↦
-        none w i e.0 h (record {
-          going = e.1.issuable.going;
-          current = e.1.issuable.current;
-          fresh = e.1.issuable.fresh;
-          turn = e.1.issuable.turn;
-        })
+        none w i e.0 h (grind arith)
     | inr h ↦
         (let q = and_parts (lists t.fired w i) (is_memory image i)
         (some_only _ (operands_in image t.held w i) e.0 h.1) in
@@ -128,9 +120,7 @@ module _ (image : Image) (world : World) (formed : Formed image) (sound : Sound 
   pub not_fired : (x : Token) (right : IsRight image world x) → IsMissing t.held x
       → HasFired s.fired right.inst.wave right.inst.instr → ⊥
   not_fired x right missing h =
-      let f = tok.fired_full x.wave x.instr (subst (λ (k : ℕ × ℕ). HasFired t.fired k.0 k.1)
-      (λ j. (right.at.wave j, right.at.instr j))
-      (subst (λ ks. HasFired ks right.inst.wave right.inst.instr) fired_is h)) in
+      let f = tok.fired_full x.wave x.instr (grind (arith, fired_is)) in
       let l = nth_short right.inst.operands x.port x.value right.operand in
       let n : length right.inst.operands ≡ ports image x.instr = facts.filled right.time right.inst
       right.at.fires ∙ ap (ports image) right.at.instr in
@@ -150,10 +140,7 @@ module _ (image : Image) (world : World) (formed : Formed image) (sound : Sound 
       let of : StepsOf image world s.fired = steps_of image world facts s.fired shown_once fired_at in
       let count : length (ops image world q.1.memory.steps) ≡ q.0 = q.1.memory.count in
       record {
-        dear = λ cost. (let l : length t.fired < length (walk image world r.0) =
-            subst (λ ks. length ks < length (walk image world r.0)) fired_is r.1 in
-            let k : length (walk image world r.0) ≤ length t.fired = cost r.0 in
-            absurd (omega (arith, l, k)));
+        dear = λ cost. (grind (arith, fired_is));
         steps = of.steps;
         firing = of.firing;
         listed_there = λ n x at fx. subst (λ ks. HasFired ks x.wave x.instr) fired_is (of.only n x at fx);
@@ -174,8 +161,7 @@ module _ (image : Image) (world : World) (formed : Formed image) (sound : Sound 
   fault_run array e at same =
       let f = subst (λ (o : Option ℕ). FaultIs image world o) e is.fault in
       let times : at.time ≡ f.0 = one_fault image world facts at.time f.0 at.fault f.1 in
-      let left : Effect image world (length (ops image world f.0)) s.memory =
-      subst (λ (n : ℕ). Effect image world (length (ops image world n)) s.memory) times at.memory in
+      let left : Effect image world (length (ops image world f.0)) s.memory = rw (← times) at.memory in
       let here : Effect image world (length (ops image world f.0)) (effect_of (mem image world f.0)) =
       record { steps = f.0; count = refl; left = refl } in
       record {

@@ -1,5 +1,5 @@
 -- What a run leaves of which the whole walk hasn't been run, by its buffer alone.
-use Rattle.std.proofs.Common.{ℕ, ◌≡◌, ◌<◌, ◌≤◌, true, List, Option, Some, None, sym, ap, ◌∙◌, subst, inl, inr}
+use Rattle.std.proofs.Common.{arith, ℕ, ◌≡◌, ◌<◌, ◌≤◌, true, List, Option, Some, None, sym, ap, ◌∙◌, subst, inl, inr}
 use Rattle.std.proofs.lemmas.Bool.{cases_Bool, cases_lt}
 use Rattle.ws_words.specs.Outside.{Outside, World}
 use Rattle.ws_isa.specs.Image.{Image, ports, is_memory, instr_at, note_of}
@@ -29,21 +29,19 @@ module _ (image : Image) (world : World) (began : List (Option Began)) (c : Cont
   -- of steps whose operations are all passed
   passed_within : (t : ℕ) → ((u : ℕ) (x : Inst) → u < t → fires image world u ≡ Some x →
       is_memory image x.instr ≡ true → u < is.ok.legal.cut) → FirstWithin image world t
-  passed_within t below u x l fx = past_is image x ∙ elim (cases_Bool (is_memory image x.instr)) [
-    | inl mx ↦ is.ok.legal.ordered.within u x (below u x l fx mx) fx mx
-    | inr mx ↦ plain_within image x.instr x.operands mx
-  ]
+  passed_within t below u x l fx = grind (arith, past_is, cases_Bool, plain_within)
 
   out_at : (t : ℕ) → effect_at image world t ≡ m → HoldsOut began (mem image world t) c.outside
   out_at t e = out_of began (mem image world t) c.outside
       (subst (λ (o : Outside). HoldsOut began o c.outside) (sym e ∙ effect_is image world t) is.outside)
 
   pub front_run : FrontRun image world began c.outside
-  front_run = record {
-    front = is.ok.legal.cut;
-    within = passed_within is.ok.legal.cut (λ u x l fx mx. l);
-    left = out_at is.ok.legal.cut (sym is.ok.legal.ordered.memory);
-  }
+  front_run = grind (
+    arith,
+    passed_within is.ok.legal.cut (λ u x l fx mx. l),
+    out_at is.ok.legal.cut (sym
+        is.ok.legal.ordered.memory),
+  )
 
   module _ (formed : Formed image) (sound : Sound image) (port : ℕ)
       (waits : PortWaits image c.kept c.chain port) where
@@ -61,15 +59,7 @@ module _ (image : Image) (world : World) (began : List (Option Began)) (c : Cont
     fresh = ap answer_if waits.is_kept ∙ waits.waits
 
     from : is.ok.legal.cut ≤ right.time
-    from = elim (cases_lt right.time is.ok.legal.cut) [
-      | inl l ↦ absurd (let e : issued_in c.kept waits.request.wave waits.request.instr
-          ≡ Some right.inst.result =
-          subst (λ (k : ℕ × ℕ). issued_in c.kept k.0 k.1 ≡ Some right.inst.result)
-          (λ j. (right.at.wave j, right.at.instr j))
-          (is.ok.legal.ordered.passed right.time right.inst l right.at.fires memory) in
-          let f : None ≡ Some right.inst.result = sym fresh ∙ e in cc)
-      | inr l ↦ l
-    ]
+    from = grind (arith, cases_lt, memory, fresh)
 
     next : IsNext (chain_at image world is.ok.legal.cut) (note_of image right.inst.instr)
     next = subst (λ (q : Chain × ℕ). IsNext q.0 (note_of image q.1))
@@ -85,12 +75,11 @@ module _ (image : Image) (world : World) (began : List (Option Began)) (c : Cont
       inst = right.inst;
       fires = right.at.fires;
       port_is = ap (λ (n : ℕ). port_of (instr_at image n).op) right.at.instr ∙ waits.port_is;
-      within = passed_within right.time (λ u x l fx mx. elim (cases_lt u is.ok.legal.cut) [
+      within = passed_within _ (λ u x l fx mx. elim (cases_lt u is.ok.legal.cut) [
         | inl k ↦ k
         | inr k ↦ absurd (none u x k l fx mx)
       ]);
-      left = out_at right.time
-          (mem_same image world facts is.ok.legal.cut right.time from
-          (no_op_no_write image world is.ok.legal.cut right.time none) ∙ sym is.ok.legal.ordered.memory);
+      left = out_at _ (mem_same _ _ facts _ _ from (no_op_no_write _ _ _ _ none) ∙ sym
+          is.ok.legal.ordered.memory);
       rose = rose;
     }

@@ -1,6 +1,6 @@
 -- How many phases there have been.
-use Rattle.std.proofs.Common.{◌≡◌, ◌+◌, ◌∙◌, ◌<◌, ◌≤◌, ℕ, suc, Bool, true, false, cond, List, [], ◌∷◌, inl}
-use Rattle.std.proofs.Common.{inr, length, length-append, refl, ap, arith}
+use Rattle.std.proofs.Common.{◌≡◌, ◌+◌, ◌<◌, ◌≤◌, ℕ, suc, Bool, true, false, cond, List, ◌∷◌, inl}
+use Rattle.std.proofs.Common.{inr, length, length-append, refl, arith}
 use Rattle.std.proofs.lemmas.Bool.{cases_lt}
 use Rattle.match_table.specs.Growth.{AllGrow}
 use Rattle.match_table.proofs.Growth.{all_grow_same, all_grow_on}
@@ -22,51 +22,31 @@ pub record Steady (old new : List TableContent) (budget phases : ℕ) : Type 0 w
 
 pub steady_start : (cs : List TableContent) (budget : ℕ) → ServeFrom 0 cs → length (all_fired cs) ≤ budget
     → Steady cs cs budget 0
-steady_start cs budget s w = record {
-  serve = s;
-  within = w;
-  grow = all_grow_same cs;
-  count = 0;
-  few = omega arith;
-  room = λ r. omega arith;
-  came = came_none (together cs).held;
-}
+steady_start cs budget s w = grind (arith, all_grow_same, came_none)
 
 -- as many have fired as before, and more
 fired_more : (xs ys : List TableContent) → AllGrow xs ys → length (all_fired xs) ≤ length (all_fired ys)
-fired_more [] [] g = omega arith
-fired_more [] (y ∷ ys) g = absurd g
-fired_more (x ∷ xs) [] g = absurd g
-fired_more (x ∷ xs) (y ∷ ys) g =
-    let ih = fired_more xs ys g.1 in
-    let a = length-append x.fired (all_fired xs) in
-    let b = length-append y.fired (all_fired ys) in
-    let m = g.0.goes_on in
-    let n : length y.fired ≡ length x.fired + length m.0 = ap length m.1 ∙ length-append x.fired m.0 in
-    omega (arith, ih, a, b, n)
+fired_more (x ∷ xs) (y ∷ ys) g = grind (arith, length-append, fired_more xs ys g.1)
+fired_more v0 v1 v2 = grind arith
 
 -- tables grow in no phase
 pub steady_on : (old mid new : List TableContent) (budget phases : ℕ) → Steady old mid budget phases
     → AllGrow mid new → ServeFrom 0 new → length (all_fired new) ≤ budget → Steady old new budget phases
-steady_on old mid new budget phases s grow serve within = record {
-  serve = serve;
-  within = within;
-  grow = all_grow_on old mid new s.grow grow;
-  count = s.count;
-  few = s.few;
-  room = λ r. s.room (let m = fired_more mid new grow in omega (arith, m, r));
-  came = came_keep (together old).held (together mid).held (together new).held s.count s.came
-      (grow_keep mid new grow);
-}
+steady_on old mid new budget phases s grow serve within = grind (
+  arith,
+  all_grow_on old mid new s.grow grow,
+  fired_more mid new grow,
+  came_keep (together old).held (together mid).held (together new).held s.count
+      s.came (grow_keep mid new grow),
+)
 
 -- where tables have grown in no phase
 pub steady_left : (old mid new : List TableContent) (budget phases : ℕ) → Steady old mid budget phases
     → AllGrow mid new → MovedOn (together old).held (together new).held phases
-steady_left old mid new budget phases s grow = (
-  s.count,
-  s.few,
-  came_keep (together old).held (together mid).held (together new).held s.count s.came
-      (grow_keep mid new grow),
+steady_left old mid new budget phases s grow = grind (
+  arith,
+  came_keep (together old).held (together
+      mid).held (together new).held s.count s.came (grow_keep mid new grow),
 )
 
 -- there has been a phase, or none, and the run has ended
@@ -74,11 +54,10 @@ pub steady_end : (old mid new : List TableContent) (budget phases : ℕ) (is_pha
     → Steady old mid budget phases → AllGrow mid new
     → (is_phase ≡ true → length (all_fired mid) < budget)
     → MovedOn (together old).held (together new).held (cond is_phase (phases + 1) phases)
-steady_end old mid new budget phases true s grow some = (
-  s.count,
-  (let n = s.room (some refl) in omega (arith, n)),
-  came_keep (together old).held (together mid).held (together new).held s.count s.came
-      (grow_keep mid new grow),
+steady_end old mid new budget phases true s grow some = grind (
+  arith,
+  came_keep (together old).held (together
+      mid).held (together new).held s.count s.came (grow_keep mid new grow),
 )
 steady_end old mid new budget phases false s grow some = steady_left old mid new budget phases s grow
 
@@ -89,33 +68,29 @@ pub steady_next : (old mid new : List TableContent) (budget phases : ℕ) (is_ph
     → (is_phase ≡ true → length (all_fired new) < budget
     → BroughtOne (together mid).held (together new).held)
     → Steady old new budget (cond is_phase (phases + 1) phases)
-steady_next old mid new budget phases false s grow serve within some moved =
-    steady_on old mid new budget phases s grow serve within
+steady_next old mid new budget phases false s grow serve within some moved = grind (arith, steady_on)
 steady_next old mid new budget phases true s grow serve within some moved =
     let n = s.room (some refl) in
     elim (cases_lt (length (all_fired new)) budget) [
       | inl x ↦ (let b = moved refl x in record {
         serve = serve;
         within = within;
-        grow = all_grow_on old mid new s.grow grow;
+        grow = all_grow_on _ _ _ s.grow grow;
         count = suc s.count;
         few = omega (arith, n);
         room = λ r. omega (arith, n);
-        came = came_more (together old).held (together mid).held (together new).held s.count
-            (grow_keep old mid s.grow) s.came (grow_keep mid new grow) b.0 b.1 b.2 b.3 b.4;
+        came = came_more _ _ _ _ (grow_keep _ _ s.grow) s.came (grow_keep _ _ grow) _ _ _ b.3 b.4;
       })
       | inr x ↦ record {
         serve = serve;
         within = within;
-        grow = all_grow_on old mid new s.grow grow;
+        grow = all_grow_on _ _ _ s.grow grow;
         count = s.count;
         few = omega (arith, n);
         room = λ r. absurd (omega (arith, r, x));
-        came = came_keep (together old).held (together mid).held (together new).held s.count s.came
-            (grow_keep mid new grow);
+        came = came_keep _ _ _ _ s.came (grow_keep _ _ grow);
       }
     ]
 
 pub counted_most : (b : Bool) (phases round : ℕ) → phases ≤ round → cond b (phases + 1) phases ≤ round + 1
-counted_most true phases round le = omega (arith, le)
-counted_most false phases round le = omega (arith, le)
+counted_most v0 v1 v2 v3 = grind arith

@@ -1,10 +1,9 @@
 -- What tables and a buffer owe is right.
-use Rattle.std.proofs.Common.{◌≡◌, ◌<◌, ◌≤◌, ℕ, suc, Bool, true, false, cond, List, Some, length, All}
-use Rattle.std.proofs.Common.{slice_index_or, slice_index, refl, sym, ap, ◌∙◌, subst}
+use Rattle.std.proofs.Common.{arith, ◌≡◌, ◌<◌, ℕ, suc, Bool, true, false, cond, List, Some, length, All}
+use Rattle.std.proofs.Common.{slice_index_or, slice_index, sym, ap, ◌∙◌, subst}
 use Rattle.std.proofs.lemmas.List.Elements.{All-get_or}
 use Rattle.ws_words.specs.Outside.{Outside, World}
 use Rattle.ws_isa.specs.declared.instr.Op.{Op}
-use Rattle.ws_isa.specs.declared.instr.Op.TheVariants.{Load, Store, Input, Output, Give, Take, Nop, Halt}
 use Rattle.ws_isa.specs.declared.instr.Dest.{Dest}
 use Rattle.ws_isa.specs.Image.{Image, instr_at, ports, is_memory, is_memory_op, is_advance_op, selector_of}
 use Rattle.ws_isa.specs.Image.{result_of, result_of_op, sends, tokens_to}
@@ -36,8 +35,7 @@ use Rattle.match_table.proofs.Answered.{memory_two, request_operands as two_oper
 -- whether the instruction that the code has looked up is one of memory
 pub code_memory : (image im : Image) (i : ℕ) (op : Op) (b : Bool) → op ≡ (instr_at im i).op → im ≡ image
     → b ≡ is_memory_op op → is_memory image i ≡ b
-code_memory image im i op b is same e = memory_is_op image i
-    ∙ ap (λ (x : Image). is_memory_op (instr_at x i).op) (sym same) ∙ ap is_memory_op (sym is) ∙ sym e
+code_memory image im i op b is same e = grind (arith, memory_is_op)
 
 pub code_op : (image im : Image) (i : ℕ) (op : Op) → op ≡ (instr_at im i).op → im ≡ image
     → op ≡ (instr_at image i).op
@@ -49,12 +47,7 @@ pub code_sent : (image im : Image) (w i : ℕ) (op : Op) (number word choice : �
     → dests ≡ destinations im i choice → im ≡ image →
     tokens_to number word dests ≡ tokens_to (cond (is_advance_op (instr_at image i).op) (suc w) w) word
     (destinations image i choice)
-code_sent image im w i op number word choice dests o n d same =
-    ap (λ (k : ℕ × List Dest). tokens_to k.0 word k.1)
-    (λ j. (
-      (n ∙ ap (λ (x : Op). cond (is_advance_op x) (suc w) w) o) j,
-      (d ∙ ap (λ (x : Image). destinations x i choice) same) j,
-    ))
+code_sent image im w i op number word choice dests o n d same = grind arith
 
 module _ (image : Image) (w i : ℕ) where
   -- the tokens of an instance as the code makes them
@@ -62,32 +55,16 @@ module _ (image : Image) (w i : ℕ) where
       → choice ≡ selector_of op xs → word ≡ result_of_op op xs →
       tokens_to (cond (is_advance_op (instr_at image i).op) (suc w) w) word (destinations image i choice)
       ≡ sends image w i xs (result_of image i xs)
-  sent_is op xs choice word o c v =
-      ap (λ (k : ℕ × ℕ). tokens_to (cond (is_advance_op (instr_at image i).op) (suc w) w) k.0
-      (destinations image i k.1))
-      (λ j. (
-        (v ∙ ap (λ (x : Op). result_of_op x xs) o ∙ sym (result_is_op image i xs)) j,
-        (c ∙ ap (λ (x : Op). selector_of x xs) o) j,
-      ))
-      ∙ sends_are image w i xs (result_of image i xs)
+  sent_is op xs choice word o c v = grind (arith, result_is_op, sends_are)
 
   no_choice : (op : Op) (xs : List ℕ) → is_memory_op op ≡ true → 0 ≡ selector_of op xs
-  no_choice (Load a) xs e = refl
-  no_choice (Store a) xs e = refl
-  no_choice Input xs e = refl
-  no_choice Output xs e = refl
-  no_choice (Give p) xs e = refl
-  no_choice (Take p) xs e = refl
-  no_choice Nop xs e = refl
-  no_choice Halt xs e = refl
-  no_choice _ xs e = cc
+  no_choice v0 v1 v2 = grind arith
 
   pub answer_is : (xs : List ℕ) (word : ℕ) → is_memory image i ≡ true →
       tokens_to (cond (is_advance_op (instr_at image i).op) (suc w) w) word (destinations image i 0)
       ≡ sends image w i xs word
   answer_is xs word m = ap (λ (k : ℕ). tokens_to (cond (is_advance_op (instr_at image i).op) (suc w) w) word
-      (destinations image i k)) (no_choice (instr_at image i).op xs (sym (memory_is_op image i) ∙ m))
-      ∙ sends_are image w i xs word
+      (destinations image i k)) (no_choice _ _ (sym (memory_is_op _ _) ∙ m)) ∙ sends_are _ _ _ _ _
 
 module _ (image : Image) (world : World) (formed : Formed image) (sound : Sound image) where
   facts : WalkFacts image world
@@ -118,27 +95,19 @@ module _ (image : Image) (world : World) (formed : Formed image) (sound : Sound 
         (operands : listed f.operands ≡ operands_in image t.held f.wave f.instr) where
       pub asks_right : is_memory image f.instr ≡ true → RightRequest image world f.wave f.instr
           (listed f.operands)
-      asks_right m = let l = listed_inst f.wave f.instr fired in
-          record {
-            time = l.time;
-            inst = l.inst;
-            at = l.at;
-            operands = sym l.operands ∙ sym operands;
-            memory = m;
-          }
+      asks_right m = grind (arith, listed_inst f.wave f.instr fired)
 
       pub sends_right : is_memory image f.instr ≡ false → (w i p v : ℕ)
           → IsSent (sends image f.wave f.instr (listed f.operands)
           (result_of image f.instr (listed f.operands))) w i p v → RightToken image world w i p v
       sends_right m w i p v s =
-          let l = listed_inst f.wave f.instr fired in
+          let l = listed_inst _ _ fired in
           let ops : listed f.operands ≡ l.inst.operands = operands ∙ l.operands in
           let res : result_of image f.instr (listed f.operands) ≡ l.inst.result =
           ap (λ (k : ℕ × List ℕ). result_of image k.0 k.1) (λ j. (sym l.at.instr j, ops j))
           ∙ sym (facts.plain l.time l.inst l.at.fires (ap (is_memory image) l.at.instr ∙ m)) in
-          facts.sent l.time l.inst l.at.fires w i p v
-          (subst (λ (k : ℕ × ℕ × List ℕ × ℕ). IsSent (sends image k.0 k.1 k.2 k.3) w i p v)
-          (λ j. (sym l.at.wave j, sym l.at.instr j, ops j, res j)) s)
+          facts.sent l.time l.inst l.at.fires w i p v (subst (λ (k : ℕ × ℕ × List ℕ × ℕ). IsSent (sends image
+          k.0 k.1 k.2 k.3) w i p v) (λ j. (sym l.at.wave j, sym l.at.instr j, ops j, res j)) s)
 
   -- its request as the code makes it
   pub request_right : (w i first second : ℕ) (o : Operands) → RightRequest image world w i (listed o)
@@ -147,12 +116,7 @@ module _ (image : Image) (world : World) (formed : Formed image) (sound : Sound 
   request_right w i first second o r a b =
       let n : ports image i ≡ length (listed o) = sym (ap (ports image) r.at.instr)
       ∙ sym (facts.filled r.time r.inst r.at.fires) ∙ ap length r.operands in
-      let two : ports image i ≤ 2 =
-      rw (ports_is_op image i)
-      (memory_two (instr_at image i).op (sym (memory_is_op image i) ∙ r.memory)) in
-      subst (λ (xs : List ℕ). RightRequest image world w i xs)
-      (sym (ap (λ (k : ℕ × ℕ). operands_of (ports image i) k.0 k.1) (λ j. (a j, b j))
-      ∙ two_operands o (ports image i) n two)) r
+      grind (arith, ports_is_op, memory_two, memory_is_op, two_operands)
 
   -- the result tokens of an issued operation
   pub answers_right : (b : Buffer) → BufferOk image world b → (w i a : ℕ) (xs : List ℕ) → b.kept w i ≡ Some xs
@@ -161,13 +125,11 @@ module _ (image : Image) (world : World) (formed : Formed image) (sound : Sound 
   answers_right b ok w i a xs k e u j p v s =
       let r : RightRequest image world w i xs = ok.right w i xs k in
       let op = ok.legal.ordered.others w i a e in
-      let same : op.inst ≡ r.inst = same_inst image world facts w i op.time r.time op.inst r.inst op.at
-      r.at in
+      let same : op.inst ≡ r.inst = same_inst _ _ facts _ _ _ _ _ _ op.at r.at in
       let ops : xs ≡ r.inst.operands = sym r.operands in
       let res : a ≡ r.inst.result = op.answer ∙ ap (λ (y : Inst). y.result) same in
-      facts.sent r.time r.inst r.at.fires u j p v
-      (subst (λ (k : ℕ × ℕ × List ℕ × ℕ). IsSent (sends image k.0 k.1 k.2 k.3) u j p v)
-      (λ j. (sym r.at.wave j, sym r.at.instr j, ops j, res j)) s)
+      facts.sent r.time r.inst r.at.fires u j p v (subst (λ (k : ℕ × ℕ × List ℕ × ℕ). IsSent (sends image k.0
+      k.1 k.2 k.3) u j p v) (λ j. (sym r.at.wave j, sym r.at.instr j, ops j, res j)) s)
 
   module _ (c : TableContent) (ok : TablesOk image world (part c)) (f : Fired)
       (operands : listed f.operands ≡ operands_in image (held c) f.wave f.instr) (k : ℕ) where
@@ -178,8 +140,7 @@ module _ (image : Image) (world : World) (formed : Formed image) (sound : Sound 
     pub asks_at : k < length (of_memory image c.fired)
         → ((d : Key) → slice_index_or (of_memory image c.fired) k d ≡ key_of f)
         → RightRequest image world f.wave f.instr (listed f.operands)
-    asks_at lt at = let h = asked_fired image c.fired f.wave f.instr
-        (there (of_memory image c.fired) lt at) in asks_right (part c) ok f h.0 operands h.1
+    asks_at lt at = let h = asked_fired _ _ _ _ (there _ lt at) in asks_right _ ok _ h.0 operands h.1
 
     pub sends_at : k < length c.fired → ((d : Key) → slice_index_or c.fired k d ≡ key_of f)
         → is_memory image f.instr ≡ false → (w i p v : ℕ)
@@ -194,9 +155,7 @@ module _ (image : Image) (world : World) (formed : Formed image) (sound : Sound 
     this = slice_index_or ks j no_request
 
     own : entry_of c.kept this.wave this.instr ≡ Some this
-    own = All-get_or (λ (k : Kept). entry_of c.kept k.wave k.instr ≡ Some k) ks j no_request lt
-        (subst (λ (l : List Kept). All (λ (k : Kept). entry_of c.kept k.wave k.instr ≡ Some k) l) (sym is)
-        once)
+    own = grind (arith, All-get_or)
 
     pub memory_at : is_memory image this.instr ≡ true
     memory_at = let r : RightRequest image world this.wave this.instr
@@ -206,6 +165,5 @@ module _ (image : Image) (world : World) (formed : Formed image) (sound : Sound 
     pub answers_at : (a w i p v : ℕ) → this.answer ≡ Some a
         → IsSent (sends image this.wave this.instr (operands_of (ports image this.instr) this.first
         this.second) a) w i p v → RightToken image world w i p v
-    answers_at a w i p v e s = answers_right (buffer_in image c m) ok this.wave this.instr a
-        (operands_of (ports image this.instr) this.first this.second) (ap (operands_if image) own)
-        (ap answer_if own ∙ e) w i p v s
+    answers_at a w i p v e s = answers_right _ ok _ _ _ _ (ap (operands_if image) own) (ap answer_if own ∙ e)
+        _ _ _ _ s

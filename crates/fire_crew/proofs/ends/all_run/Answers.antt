@@ -16,14 +16,10 @@ returns g c =
     let fit = c.shown_is_fit.ensures image world formed sound t (buffer_in image c.args.buffer.now m)
     c.facts.ensures.part is.ok in
     let s = shown image t (buffer_in image c.args.buffer.now m) in
-    let rest = c.owing_nothing_is_rest.ensures image t (buffer_in image c.args.buffer.now m)
-    (E.owes image world formed sound g.J.Job.began t c.facts.ensures.part c.facts.ensures.once
-    c.args.buffer.now m is fit c.requires.known (c.requires.come m))
-    (c.facts-2.ensures.idle c.requires.going.1 c.requires.going.2 m) in
-    E.all_run image world formed sound g.J.Job.began t c.facts.ensures.part c.facts.ensures.once
-    c.args.buffer.now m is fit c.requires.going.0 (c.every_list_of_events.ensures.rest image world formed
-    sound s fit rest)
-    (λ w n. c.counts.ensures.rest image world formed sound s fit w n)
-    (c.counts.ensures.fired image world formed sound s fit
-    (E.shown_once image world formed sound g.J.Job.began t c.facts.ensures.part c.facts.ensures.once
-    c.args.buffer.now m is fit))
+    let rest = c.owing_nothing_is_rest.ensures image t (buffer_in image c.args.buffer.now m) (E.owes _ _
+    formed sound _ _ c.facts.ensures.part c.facts.ensures.once _ _ is fit c.requires.known (c.requires.come
+    m)) (c.facts-2.ensures.idle c.requires.going.1 c.requires.going.2 m) in
+    E.all_run _ _ formed sound _ _ c.facts.ensures.part c.facts.ensures.once _ _ is fit c.requires.going.0
+    (c.every_list_of_events.ensures.rest image world formed sound s fit rest) (λ w n. c.counts.ensures.rest
+    image world formed sound s fit w n) (c.counts.ensures.fired image world formed sound s fit (E.shown_once _
+    _ formed sound _ _ c.facts.ensures.part c.facts.ensures.once _ _ is fit))

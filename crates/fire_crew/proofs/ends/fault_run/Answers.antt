@@ -16,9 +16,7 @@ returns g c =
     let fit = c.shown_is_fit.ensures image world formed sound t (buffer_in image c.args.buffer.now m)
     c.facts.ensures.part is.ok in
     let s = shown image t (buffer_in image c.args.buffer.now m) in
-    E.fault_run image world formed sound g.J.Job.began t c.facts.ensures.part c.facts.ensures.once
-    c.args.buffer.now m is fit c.args.array c.requires.fault
-    (c.every_list_of_events.ensures.stopped image world formed sound s fit
-    (E.stopped_so image world formed sound g.J.Job.began t c.facts.ensures.part c.facts.ensures.once
-    c.args.buffer.now m is fit c.args.array c.requires.fault))
-    (λ p one other x y. c.counts.ensures.effect image world formed sound p one other x y)
+    E.fault_run _ _ formed sound _ _ c.facts.ensures.part c.facts.ensures.once _ _ is fit _ c.requires.fault
+    (c.every_list_of_events.ensures.stopped image world formed sound s fit (E.stopped_so _ _ formed sound _ _
+    c.facts.ensures.part c.facts.ensures.once _ _ is fit _ c.requires.fault)) (λ p one other x y.
+    c.counts.ensures.effect image world formed sound p one other x y)

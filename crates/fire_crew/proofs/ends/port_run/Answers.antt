@@ -5,5 +5,4 @@ pub returns : goal.returns
 returns g c =
     let failed = c.facts.ensures.failed c.args.port c.requires.failed in
     let stands = c.facts.ensures.stands in
-    port_run g.J.Job.image g.J.Job.world g.J.Job.began c.args.buffer.now stands.0 stands.1
-    c.facts-2.ensures.formed c.facts-2.ensures.sound c.args.port failed.0 failed.1
+    port_run _ _ _ _ _ stands.1 c.facts-2.ensures.formed c.facts-2.ensures.sound _ failed.0 failed.1

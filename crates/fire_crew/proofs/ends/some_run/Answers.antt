@@ -17,15 +17,11 @@ returns g c =
     c.facts.ensures.part is.ok in
     let s = shown image t (buffer_in image c.args.buffer.now m) in
     let right = c.facts-4.ensures.right in
-    E.some_run image world formed sound g.J.Job.began t c.facts.ensures.part c.facts.ensures.once
-    c.args.buffer.now m is fit
-    (c.counts.ensures.fewer image world formed sound s fit
-    (E.shown_once image world formed sound g.J.Job.began t c.facts.ensures.part c.facts.ensures.once
-    c.args.buffer.now m is fit) right.time right.inst right.at.fires
-    (E.not_fired image world formed sound g.J.Job.began t c.facts.ensures.part c.facts.ensures.once
-    c.args.buffer.now m is fit c.args.token.now right c.requires.missing))
-    (c.counts.ensures.passed image world formed sound s fit
-    (E.not_stopped image world formed sound g.J.Job.began t c.facts.ensures.part c.facts.ensures.once
-    c.args.buffer.now m is fit c.requires.going.0) (E.none_issues image world formed sound g.J.Job.began t
-    c.facts.ensures.part c.facts.ensures.once c.args.buffer.now m is fit c.requires.known
-    (c.facts-2.ensures.idle c.requires.going.1 c.requires.going.2 m)))
+    E.some_run _ _ formed sound _ _ c.facts.ensures.part c.facts.ensures.once _ _ is fit
+    (c.counts.ensures.fewer image world formed sound s fit (E.shown_once _ _ formed sound _ _
+    c.facts.ensures.part c.facts.ensures.once _ _ is fit) right.time right.inst right.at.fires (E.not_fired
+    image world formed sound g.J.Job.began t c.facts.ensures.part c.facts.ensures.once c.args.buffer.now m is
+    fit c.args.token.now right c.requires.missing)) (c.counts.ensures.passed image world formed sound s fit
+    (E.not_stopped _ _ formed sound _ _ c.facts.ensures.part c.facts.ensures.once _ _ is fit
+    c.requires.going.0) (E.none_issues _ _ formed sound _ _ c.facts.ensures.part c.facts.ensures.once _ _ is
+    fit c.requires.known (c.facts-2.ensures.idle c.requires.going.1 c.requires.going.2 m)))

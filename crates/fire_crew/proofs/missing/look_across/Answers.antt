@@ -1,4 +1,4 @@
-use Rattle.std.proofs.Common.{◌+◌, ◌<◌, ◌≤◌, ◌∙◌, inl, inr, ℕ, length, slice_index_or, subst, arith}
+use Rattle.std.proofs.Common.{◌+◌, ◌<◌, ◌≤◌, ◌∙◌, ℕ, length, slice_index_or, subst, arith}
 use Rattle.std.proofs.lemmas.Bool.{cases_lt}
 use Rattle.std.proofs.lemmas.List.{length-set}
 use Rattle.match_table.specs.Growth.{content_at}
@@ -36,12 +36,8 @@ loop-number-preserved g c =
       (λ all k lt. set_each (λ (j x : ℕ). j < n + 1 → length (content_at cs j).fired ≤ x) places n to within
           (λ l. subst (λ (t : TableContent). length t.fired ≤ to) c.table_at-table.ensures
           (c.in_ok-to.ensures.all all)) k
-          (λ apart l. old.3 all k (elim (cases_lt k n) [
-            | inl x ↦ x
-            | inr x ↦ absurd (apart (omega (arith, l, x)))
-          ])) lt),
+          (λ apart l. old.3 all k (grind (arith, cases_lt))) lt),
     )
 
 pub returns-clause-all : goal.returns-clause-all
-returns-clause-all g c = λ w k lt. c.loop-number.invariant.3 w k (let t = c.loop-number-test.false in
-    let n = c.count_of-number-end.ensures.count in omega (arith, t, n, lt))
+returns-clause-all g c = grind arith

@@ -1,5 +1,4 @@
 use Rattle.std.proofs.Common.{length, ap, arith}
-use Rattle.store_buf.specs.Ordering.{no_request}
 use Rattle.match_table.specs.Together.{part_of}
 use Rattle.fire_crew.specs.Owing.{AnswersReach}
 use Rattle.fire_crew.proofs.Paid.{one_more, all_done}
@@ -23,8 +22,7 @@ loop-kept-preserved g c = (
   c.in_ok-look_up.ensures.missing,
   λ way e. (let a = c.in_ok-look_up.ensures.reach way e in let b = c.loop-kept.invariant.1 way a.0 in (
     b.0,
-    one_more (AnswersReach g.J.Job.image (part_of c.args.tables.now).held way)
-        c.kept-kept-items.result.now c.args.buffer.now.kept c.loop-kept.kept-index no_request
+    one_more (AnswersReach g.J.Job.image (part_of c.args.tables.now).held way) _ _ _ _
         c.kept-kept-items.ensures c.loop-kept-test.true b.1 a.1,
   )),
 )

@@ -1,6 +1,4 @@
-use Rattle.std.proofs.Common.{List, refl, subst}
-use Rattle.ws_isa.specs.Image.{Token}
-use Rattle.store_buf.specs.Runs.{AllReach}
+use Rattle.std.proofs.Common.{refl}
 use Rattle.match_table.specs.Together.{part_of}
 use Rattle.match_table.specs.Growth.{content_at}
 use Rattle.match_table.specs.Rows.{contents}
@@ -13,8 +11,7 @@ loop-left-init g c = (
   c.in_ok-look_last.ensures.missing,
   λ way k. (let e = c.in_ok-keep.ensures.reach way
       (λ w i p v h. k w i p v (c.in_ok-look_last.ensures.more w i p v h)) in (
-        subst (λ (ts : List Token). AllReach (part_of c.args.tables.now).held way ts)
-            c.in_ok-start.ensures e.1,
+        rw (← c.in_ok-start.ensures) e.1,
         c.begin-places.ensures way,
       )),
 )
@@ -28,11 +25,10 @@ loop-left-preserved g c = (
 
 pub returns-clause-paid : goal.returns-clause-paid
 returns-clause-paid g c = λ few. (let way = c.look_back.new.found in
-    let r = c.in_ok-look_back.ensures.reach way (covers_self way) in
+    let r = c.in_ok-look_back.ensures.reach way (covers_self _) in
     let last = c.in_ok-look_across-2.ensures in
     let l = last.reach way r.0 in
     let b = c.loop-left.invariant.1 way l.0 in
-    all_paid g.J.Job.image (contents c.args.tables.now) c.facts.ensures.operands way c.args.buffer.now b.0
-    (λ k lt. told_all g.J.Job.image (part_of c.args.tables.now).held way _
-    (content_at (contents c.args.tables.now) k) (last.all refl k lt) (l.1 b.1 k lt))
-    r.1 c.requires.known)
+    all_paid g.J.Job.image (contents c.args.tables.now) c.facts.ensures.operands way c.args.buffer.now b.0 (λ
+    k lt. told_all g.J.Job.image (part_of c.args.tables.now).held way _ (content_at (contents
+    c.args.tables.now) k) (last.all refl k lt) (l.1 b.1 k lt)) r.1 c.requires.known)

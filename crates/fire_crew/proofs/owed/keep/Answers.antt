@@ -1,4 +1,4 @@
-use Rattle.std.proofs.Common.{◌≡◌, ℕ, [], ◌∷◌, ◌++◌, List, true, false, ap, sym, ◌∙◌}
+use Rattle.std.proofs.Common.{arith, ◌≡◌, [], ◌∷◌, ◌++◌, List, true, false}
 use Rattle.std.proofs.lemmas.List.{append_assoc}
 use Rattle.ws_isa.specs.Image.{Token}
 use Rattle.df_core.specs.Core.{has}
@@ -8,17 +8,13 @@ use Rattle.fire_crew.proofs.owed.keep.Goals as goal
 
 split_on : (all front rest mid : List Token) (t : Token) → all ≡ front ++ rest → front ≡ mid ++ t ∷ []
     → all ≡ mid ++ t ∷ rest
-split_on all front rest mid t is e =
-    is ∙ ap (λ (l : List Token). l ++ rest) e ∙ append_assoc mid (t ∷ []) rest
+split_on all front rest mid t is e = grind (arith, append_assoc)
 
 pub loop-token-preserved : goal.loop-token-preserved
 loop-token-preserved g c =
     let held = (part_of c.args.tables.now).held in
     let t = c.in-Some.token in
-    let h : has (held t.wave t.instr t.port) ≡ true =
-    sym (ap (λ (k : ℕ × ℕ × ℕ). has (held k.0 k.1 k.2))
-    (λ j. (c.wave.ensures.wave j, c.instr.ensures j, c.port.ensures j))) ∙ sym c.holds.ensures
-    ∙ c.if-not-holds.false in
+    let h : has (held t.wave t.instr t.port) ≡ true = grind arith in
     let i = c.loop-token.invariant in (
       i.0,
       (
@@ -33,10 +29,7 @@ pub loop-token-preserved-in-Continue-1 : goal.loop-token-preserved-in-Continue-1
 loop-token-preserved-in-Continue-1 g c =
     let held = (part_of c.args.tables.now).held in
     let t = c.in-Some.token in
-    let h : has (held t.wave t.instr t.port) ≡ false =
-    sym (ap (λ (k : ℕ × ℕ × ℕ). has (held k.0 k.1 k.2))
-    (λ j. (c.wave.ensures.wave j, c.instr.ensures j, c.port.ensures j))) ∙ sym c.holds.ensures
-    ∙ c.if-not-holds.true in
+    let h : has (held t.wave t.instr t.port) ≡ false = grind arith in
     let n : c.push.new.self ≡ c.loop-token.found ++ t ∷ [] = c.in_ok-push.ensures.ok in
     let i = c.loop-token.invariant in (
       found_missing held c.loop-token.found c.push.new.self t n h i.0,

@@ -1,4 +1,4 @@
-use Rattle.std.proofs.Common.{◌≡◌, ◌++◌, ◌∷◌, [], List, All, slice_index_or, sym, ap, ◌∙◌, subst}
+use Rattle.std.proofs.Common.{arith, ◌≡◌, ◌++◌, ◌∷◌, [], List, All, slice_index_or, sym, ap, ◌∙◌, subst}
 use Rattle.ws_isa.specs.declared.instr.Dest.{Dest}
 use Rattle.ws_isa.specs.Image.{Token}
 use Rattle.df_core.proofs.Sizes.Sends.{sent_at}
@@ -10,9 +10,7 @@ use Rattle.fire_crew.proofs.owed.keep_sent.Goals.{then-not-holds+in_ok-push, els
 use Rattle.fire_crew.proofs.owed.keep_sent.Goals as goal
 
 pub right-requires : goal.right-requires
-right-requires g c =
-    c.requires.right _ _ _ _ (sent_at c.args.wave c.args.word c.args.dests.now c.loop-dest.dest-index _
-    c.loop-dest-test.true)
+right-requires g c = grind (arith, sent_at)
 
 pub loop-dest-preserved : goal.loop-dest-preserved
 loop-dest-preserved g c =
@@ -28,8 +26,7 @@ loop-dest-preserved g c =
             λ way k. (let f = is_found held way c.loop-dest.found c.if-not-holds.found t n k in
                 let r = i.1 way f.0 in (
                   r.0,
-                  reach_sent held way c.args.wave c.args.word c.args.dests.now c.loop-dest.dest-index
-                      (record { instr = 0; port = 0 }) c.loop-dest-test.true f.1 r.1,
+                  reach_sent _ _ _ _ _ _ _ c.loop-dest-test.true f.1 r.1,
                 )),
           ))
       | else-not-holds w ↦ (

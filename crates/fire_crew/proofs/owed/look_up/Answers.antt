@@ -1,7 +1,5 @@
-use Rattle.std.proofs.Common.{◌≡◌, ℕ, List, Some, ap, sym, ◌∙◌, subst}
-use Rattle.ws_isa.specs.Image.{Token, ports, sends}
-use Rattle.df_core.specs.Core.{IsSent}
-use Rattle.df_core.specs.Places.{image_of}
+use Rattle.std.proofs.Common.{arith, ◌≡◌, List, Some, sym, ◌∙◌, subst}
+use Rattle.ws_isa.specs.Image.{Token, ports}
 use Rattle.df_core.specs.Rights.{operands_of}
 use Rattle.match_table.specs.Together.{part_of}
 use Rattle.store_buf.specs.Runs.{AllReach}
@@ -11,15 +9,7 @@ use Rattle.fire_crew.proofs.owed.look_up.Goals as goal
 pub keep_sent-requires-clause-right : goal.keep_sent-requires-clause-right
 keep_sent-requires-clause-right g c =
     λ w i p v s. c.requires.right c.in-Some.word w i p v c.in-Some.is
-    (subst (λ (ts : List Token). IsSent ts w i p v)
-    (code_sent g.J.Job.image (image_of c.program-program.result.now) c.args.kept.wave c.args.kept.instr
-    c.op.result c.in-Some-number_of.number c.in-Some.word 0 c.destinations.result.now
-    (code_op g.J.Job.image (image_of c.program-program.result.now) c.args.kept.instr c.op.result
-    c.op.ensures c.program-program.ensures.image) c.in-Some-number_of.ensures.number
-    c.destinations.ensures c.program-program.ensures.image
-    ∙ answer_is g.J.Job.image c.args.kept.wave c.args.kept.instr
-    (operands_of (ports g.J.Job.image c.args.kept.instr) c.args.kept.first c.args.kept.second)
-    c.in-Some.word c.requires.memory) s)
+    (grind (arith, code_sent, code_op, answer_is))
 
 pub returns-clause-reach : goal.returns-clause-reach
 returns-clause-reach g c = λ way k. (let r = c.in_ok-keep_sent.ensures.reach way k in (
@@ -28,11 +18,5 @@ returns-clause-reach g c = λ way k. (let r = c.in_ok-keep_sent.ensures.reach wa
       c.args.kept.second in
       let word : c.in-Some.word ≡ a = (let q : Some c.in-Some.word ≡ Some a = sym c.in-Some.is ∙ is in cc) in
       subst (λ (ts : List Token). AllReach (part_of c.args.tables.now).held way ts)
-      (code_sent g.J.Job.image (image_of c.program-program.result.now) c.args.kept.wave c.args.kept.instr
-      c.op.result c.in-Some-number_of.number c.in-Some.word 0 c.destinations.result.now
-      (code_op g.J.Job.image (image_of c.program-program.result.now) c.args.kept.instr c.op.result
-      c.op.ensures c.program-program.ensures.image) c.in-Some-number_of.ensures.number
-      c.destinations.ensures c.program-program.ensures.image
-      ∙ answer_is g.J.Job.image c.args.kept.wave c.args.kept.instr xs c.in-Some.word c.requires.memory
-      ∙ ap (λ (n : ℕ). sends g.J.Job.image c.args.kept.wave c.args.kept.instr xs n) word) r.1),
+      (grind (arith, code_sent, code_op, answer_is)) r.1),
 ))

@@ -1,7 +1,5 @@
-use Rattle.std.proofs.Common.{ℕ, List, subst}
 use Rattle.match_table.specs.Tables.{key_of}
 use Rattle.match_table.specs.Together.{part_of}
-use Rattle.fire_crew.specs.Owing.{ResultsReach}
 use Rattle.fire_crew.proofs.Paid.{told_key}
 use Rattle.fire_crew.proofs.Rights.{sends_at}
 use Rattle.fire_crew.proofs.owed.see_at.Goals as goal
@@ -16,7 +14,5 @@ returns-clause-reach g c = λ way k. (let r = c.in_ok-look_at.ensures.reach way 
     let held = (part_of c.args.tables.now).held in (
       r.0,
       told_key g.J.Job.image held way c.args.place c.args.table.now (key_of c.fired_at.result)
-          c.fired_at.ensures.at
-          (subst (λ (xs : List ℕ). ResultsReach g.J.Job.image held way xs (key_of c.fired_at.result))
-          c.fired_at.ensures.operands r.1),
+          c.fired_at.ensures.at (rw (← c.fired_at.ensures.operands) r.1),
     ))

@@ -7,7 +7,4 @@ pub returns-clause-serve : goal.returns-clause-serve
 returns-clause-serve g c = fit_serve 0 (contents c.args.tables.now) c.args.limits.now c.requires.fits
 
 pub returns-clause-within : goal.returns-clause-within
-returns-clause-within g c = all_within (contents c.args.tables.now) c.args.limits.now
-    (let n = c.count_of.ensures.count in let m = c.count_of.ensures.most in let l = c.requires.count in
-    omega (arith, n, m, l))
-    (fit_within 0 (contents c.args.tables.now) c.args.limits.now c.requires.fits)
+returns-clause-within g c = grind (arith, all_within, fit_within)

@@ -1,20 +1,14 @@
-use Rattle.std.proofs.Common.{◌≡◌, ◌++◌, ◌-◌, ℕ, List, sym, ap, ◌∙◌, subst, arith}
-use Rattle.ws_isa.specs.Image.{Token}
+use Rattle.std.proofs.Common.{◌≡◌, ◌-◌, ℕ, sym, ap, ◌∙◌, subst, arith}
 use Rattle.df_core.specs.Rights.{Asked}
 use Rattle.match_table.specs.Rows.{contents}
 use Rattle.match_table.specs.Together.{together}
-use Rattle.match_table.specs.Tables.{TableContent}
 use Rattle.match_table.proofs.Brought.{count_same, count_one}
-use Rattle.fire_crew.specs.Solo.{Knows, Paid}
+use Rattle.fire_crew.specs.Solo.{Knows}
 use Rattle.fire_crew.proofs.Alone.{come_waits, come_fires, come_asks, come_old, come_on}
 use Rattle.fire_crew.proofs.solo.bring_on.Goals as goal
 
 pub returns-in-Waits-clause-count : goal.returns-in-Waits-clause-count
-returns-in-Waits-clause-count g c =
-    let b = c.in-Waits.ensures.brought in
-    let n = count_same (contents c.args.run.now.tables) (contents c.bring-took.new.tables) c.args.token b.0
-    b.1.0.2 in
-    omega (arith, n)
+returns-in-Waits-clause-count g c = grind (arith, count_same)
 
 pub returns-in-Waits-clause-goes : goal.returns-in-Waits-clause-goes
 returns-in-Waits-clause-goes g c =
@@ -23,8 +17,7 @@ returns-in-Waits-clause-goes g c =
     let way = c.args.run.now.way in
     let new = contents c.bring-took.new.tables in (
       c.requires.going,
-      subst (λ (ts : List Token). Paid g.J.Job.image (together new) buffer (ts ++ way)) (sym b.1.1.0)
-          (come_waits g.J.Job.image g.J.Job.world c.facts.ensures.formed c.facts.ensures.sound
+      rw b.1.1.0 (come_waits g.J.Job.image g.J.Job.world c.facts.ensures.formed c.facts.ensures.sound
           (contents c.args.run.now.tables) new c.args.token b.0 buffer way c.facts-3.ensures.part
           c.facts-2.ensures.right c.requires.paid b.1.0.0 b.1.0.2),
     )
@@ -59,18 +52,10 @@ returns-in-Some-clause-count g c =
     omega (arith, n, some)
 
 pub returns-in-Old-clause-count : goal.returns-in-Old-clause-count
-returns-in-Old-clause-count g c =
-    let b = c.in-Old.ensures.brought in
-    let n = count_same (contents c.args.run.now.tables) (contents c.bring-took.new.tables) c.args.token b.0
-    (ap (λ (d : TableContent). d.fired) b.1.0.1) in
-    omega (arith, n)
+returns-in-Old-clause-count g c = grind (arith, count_same)
 
 pub returns-in-NoMemory-clause-count : goal.returns-in-NoMemory-clause-count
-returns-in-NoMemory-clause-count g c =
-    let b = c.in-NoMemory.ensures.brought in
-    let n = count_same (contents c.args.run.now.tables) (contents c.bring-took.new.tables) c.args.token b.0
-    b.1.0.2 in
-    omega (arith, n)
+returns-in-NoMemory-clause-count g c = grind (arith, count_same)
 
 pub returns-in-Some-clause-goes : goal.returns-in-Some-clause-goes
 returns-in-Some-clause-goes g c =
@@ -96,8 +81,7 @@ returns-in-Old-clause-goes g c =
     let way = c.args.run.now.way in
     let new = contents c.bring-took.new.tables in (
       c.requires.going,
-      subst (λ (ts : List Token). Paid g.J.Job.image (together new) buffer (ts ++ way)) (sym b.1.1.0)
-          (come_old g.J.Job.image g.J.Job.world c.facts.ensures.formed c.facts.ensures.sound
-          (contents c.args.run.now.tables) new c.args.token b.0 buffer way c.facts-3.ensures.part
+      rw b.1.1.0 (come_old g.J.Job.image g.J.Job.world c.facts.ensures.formed c.facts.ensures.sound (contents
+          c.args.run.now.tables) new c.args.token b.0 buffer way c.facts-3.ensures.part
           c.facts-2.ensures.right c.requires.paid b.1.0.1 b.1.0.2),
     )

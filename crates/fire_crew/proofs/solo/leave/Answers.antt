@@ -1,7 +1,5 @@
-use Rattle.std.proofs.Common.{◌++◌, List, Option, subst}
-use Rattle.ws_isa.specs.Image.{Token}
+use Rattle.std.proofs.Common.{◌++◌, Option, subst}
 use Rattle.match_table.specs.Together.{part_of}
-use Rattle.store_buf.specs.Runs.{Covers}
 use Rattle.store_buf.proofs.Paying.{pay_more}
 use Rattle.fire_crew.specs.Ends.{IsGoing}
 use Rattle.fire_crew.specs.Solo.{GoesOn, Knows, Owes, Paid}
@@ -17,7 +15,5 @@ returns-in-Ok-clause-goes g c =
     run.left run.buffer ts o) c.in_default.is c.requires in (
       r.0,
       pay_more g.J.Job.image (Knows run.buffer) (Owes g.J.Job.image run.buffer) (part_of run.tables) ts
-          c.pour_way.new.tokens
-          (subst (λ (us : List Token). Covers (us ++ run.way) c.pour_way.new.tokens)
-          c.listed-tokens.ensures c.in-Ok.ensures) r.1,
+          c.pour_way.new.tokens (rw (← c.listed-tokens.ensures) c.in-Ok.ensures) r.1,
     )

@@ -8,10 +8,9 @@ use Rattle.fire_crew.proofs.Paid.{is_come, reach_sent}
 use Rattle.fire_crew.proofs.told.have_come.Goals as goal
 
 pub loop-dest-preserved : goal.loop-dest-preserved
-loop-dest-preserved g c = λ way word. reach_sent (part_of c.args.tables.now).held way c.args.wave word
-    c.args.dests.now c.loop-dest.dest-index (record { instr = 0; port = 0 }) c.loop-dest-test.true
-    (is_come (part_of c.args.tables.now).held way _ _ _ (sym c.holds.ensures ∙ c.if-not-holds.false))
-    (c.loop-dest.invariant way word)
+loop-dest-preserved g c = λ way word. reach_sent _ _ _ _ _ _ _ c.loop-dest-test.true (is_come (part_of
+    c.args.tables.now).held way _ _ _ (sym c.holds.ensures ∙ c.if-not-holds.false)) (c.loop-dest.invariant way
+    word)
 
 pub returns : goal.returns
 returns g c = λ _ way word. subst

@@ -7,8 +7,7 @@ use Rattle.fire_crew.proofs.Paid.{all_done}
 use Rattle.fire_crew.proofs.unknown.note_all_unknown.Goals as goal
 
 pub note_unknown-requires : goal.note_unknown-requires
-note_unknown-requires g c = let t = c.loop-place-test.true in let count = c.asked_count-place-end.ensures in
-    omega (arith, t, count)
+note_unknown-requires g c = grind arith
 
 pub loop-place-preserved : goal.loop-place-preserved
 loop-place-preserved g c = λ e. (let a = c.in_ok-note_unknown.ensures e in
@@ -24,6 +23,5 @@ returns g c = λ e. (let b = c.loop-place.invariant e in
     let t = c.loop-place-test.false in
     let count = c.asked_count-place-end.ensures in (
       b.0,
-      all_done (IsKnown c.args.buffer.now.kept) (of_memory g.J.Job.image c.args.table.now.fired)
-          c.loop-place.place (omega (arith, t, count)) b.1,
+      all_done (IsKnown c.args.buffer.now.kept) _ _ (omega (arith, t, count)) b.1,
     ))

@@ -1,6 +1,5 @@
 use Rattle.std.proofs.Common.{All, arith}
 use Rattle.match_table.specs.Tables.{of_memory, TableContent}
-use Rattle.match_table.specs.Rows.{contents}
 use Rattle.fire_crew.specs.Owing.{IsKnown}
 use Rattle.fire_crew.proofs.Paid.{next_table, known_all}
 use Rattle.fire_crew.proofs.unknown.unknown.Goals as goal
@@ -8,10 +7,7 @@ use Rattle.fire_crew.proofs.unknown.unknown.Goals as goal
 pub loop-number-preserved : goal.loop-number-preserved
 loop-number-preserved g c = λ e. (let a = c.in_ok-note_all_unknown.ensures e in
     next_table (λ (x : TableContent). All (IsKnown c.args.buffer.now.kept) (of_memory g.J.Job.image x.fired))
-    (contents c.args.tables.now) c.loop-number.number c.table_at.result.now c.table_at.ensures
-    (c.loop-number.invariant a.0) a.1)
+    _ _ _ c.table_at.ensures (c.loop-number.invariant a.0) a.1)
 
 pub returns : goal.returns
-returns g c = λ e. known_all g.J.Job.image c.args.buffer.now.kept (contents c.args.tables.now)
-    (λ k lt. (let t = c.loop-number-test.false in let n = c.count_of-number-end.ensures.count in
-    c.loop-number.invariant e k (omega (arith, t, n, lt))))
+returns g c = grind (arith, known_all)

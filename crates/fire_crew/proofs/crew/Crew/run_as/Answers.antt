@@ -1,8 +1,5 @@
-use Rattle.std.proofs.Common.{List, Option, subst}
 use Rattle.port_set.specs.Slots.{contents}
-use Rattle.df_core.specs.Began.{Began}
 use Rattle.match_table.specs.Together.{part_of}
-use Rattle.fire_crew.specs.Finishes.{EndsSo}
 use Rattle.fire_crew.proofs.crew.Crew.run_as.Goals as goal
 
 pub returns-clause-tells : goal.returns-clause-tells
@@ -12,6 +9,4 @@ returns-clause-tells g c =
     let handed = contents g.P.Port.tells c.args.ports in
     let back = contents g.P.Port.tells end.ports in
     c.ends_are_told.ensures g.J.Job.image g.J.Job.world c.args.self.now.budget listed handed back end.finish
-    (subst (λ (b : List (Option Began)).
-    EndsSo g.J.Job.image g.J.Job.world b c.args.self.now.budget listed handed back end.finish)
-    c.requires.began c.run_job-end.ensures.finish)
+    (rw (← c.requires.began) c.run_job-end.ensures.finish)
