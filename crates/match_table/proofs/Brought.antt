@@ -1,14 +1,15 @@
 -- A token that comes to one of the tables comes to all of them together.
-use Rattle.std.proofs.Common.{◌≡◌, ◌+◌, ◌⊎◌, inl, inr, ℕ, suc, List, [], ◌∷◌, ◌++◌, Some}
+use Rattle.std.proofs.Common.{◌≡◌, ◌+◌, ◌%◌, ◌⊎◌, inl, inr, ℕ, suc, List, [], ◌∷◌, ◌++◌, Some}
 use Rattle.std.proofs.Common.{length, length-append, slice_set, sym, ap, ◌∙◌, arith}
 use Rattle.std.proofs.lemmas.Bool.{cases_eq}
 use Rattle.std.proofs.lemmas.List.{append-nil, get_or-set_other, set-get_or}
 use Rattle.ws_isa.specs.Image.{Image, Token}
+use Rattle.ws_isa.specs.Walk.{Ports}
 use Rattle.df_core.specs.Core.{Key, HasFired, operands_in, with_at}
 use Rattle.df_core.proofs.Keeping.Ports.{with_at_cases}
 use Rattle.df_core.proofs.Parts.StandsMatch.{gather_agree}
 use Rattle.match_table.specs.Matching.{Arrives, Full}
-use Rattle.match_table.specs.Tables.{TableContent}
+use Rattle.match_table.specs.Tables.{held, TableContent}
 use Rattle.match_table.specs.Growth.{content_at, no_content}
 use Rattle.match_table.specs.Together.{all_fired, together}
 use Rattle.match_table.specs.Coming.{served}
@@ -32,6 +33,16 @@ set_length (d ∷ cs) (suc k) c more e there =
     grind (arith, length-append, d.fired, slice_set, there, set_length cs k c more e there)
 set_length cs k c more e there = grind (arith, there, length-append, c.fired)
 
+-- what is held of a table's instances, where one table holds a value more
+more_in : (h : TableContent → Ports) (old new : List TableContent) (t : Token)
+    → new ≡ slice_set old (served t) (content_at new (served t))
+    → ((w i p : ℕ) → h (content_at new (served t)) w i p
+    ≡ with_at t.wave t.instr t.port (Some t.value) (h (content_at old (served t))) w i p) → (w i p : ℕ)
+    → h (content_at new ((w + i) % 16)) w i p ≡ with_at t.wave t.instr t.port (Some t.value)
+    (λ a b q. h (content_at old ((a + b) % 16)) a b q) w i p
+more_in h old new t set more w i p =
+    grind (arith, cases_eq, t.instr, t.port, more, get_or-set_other, with_at_cases)
+
 module _ (old new : List TableContent) (t : Token)
     (set : new ≡ slice_set old (served t) (content_at new (served t))) where
   abbrev k : ℕ
@@ -46,7 +57,7 @@ module _ (old new : List TableContent) (t : Token)
 
   pub brought_more : Arrives (content_at old k) t one → (w i p : ℕ) → (together new).held w i p
       ≡ with_at t.wave t.instr t.port (Some t.value) (together old).held w i p
-  brought_more a w i p = grind (arith, cases_eq, t.instr, t.port, a.more, get_or-set_other, with_at_cases)
+  brought_more a = more_in held old new t set a.more
 
   -- none more has fired
   no_more : one.fired ≡ (content_at old k).fired → one.fired ≡ (content_at old k).fired ++ []

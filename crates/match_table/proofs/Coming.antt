@@ -1,6 +1,6 @@
 -- A token comes to one of the tables.
-use Rattle.std.proofs.Common.{◌≡◌, ◌+◌, ◌≤◌, ◌%◌, ⊎_elim, ℕ, suc, true, List, ◌∷◌}
-use Rattle.std.proofs.Common.{Some, None, length, length-append, slice_set, sym, refl, ap, ◌∙◌, arith}
+use Rattle.std.proofs.Common.{◌≡◌, ◌+◌, ◌≤◌, ◌%◌, ⊎_elim, ℕ, zero, suc, true, List, [], ◌∷◌}
+use Rattle.std.proofs.Common.{Some, None, length, length-append, slice_set, sym, refl, ap, subst, ◌∙◌, arith}
 use Rattle.ws_isa.specs.Image.{Image, Token}
 use Rattle.ws_isa.specs.Walk.{Ports}
 use Rattle.df_core.specs.Core.{has}
@@ -13,13 +13,14 @@ use Rattle.match_table.specs.Tables.{held, TableContent}
 use Rattle.match_table.specs.Growth.{AllGrow, Grows, content_at}
 use Rattle.match_table.specs.Limits.{Serves}
 use Rattle.match_table.proofs.Growth.{all_grow_same, all_grows}
-use Rattle.match_table.proofs.Served.{all_ok, none_serves}
+use Rattle.match_table.proofs.Served.{all_ok, past_serves}
 use Rattle.match_table.specs.Together.{ServeFrom, all_fired, together}
 use Rattle.match_table.specs.Coming.{BroughtSo, Came, served}
 
 serve_at : (n : ℕ) (cs : List TableContent) (k : ℕ) → ServeFrom n cs → Serves (n + k) (content_at cs k)
 serve_at n (c ∷ cs) (suc k) s = grind (arith, serve_at (suc n) cs k s.1)
-serve_at n cs k s = grind (arith, none_serves)
+serve_at n (c ∷ cs) zero s = subst (λ m. Serves m c) (omega arith) s.0
+serve_at n [] k s = past_serves (n + k) k
 
 set_serve : (n : ℕ) (cs : List TableContent) (k : ℕ) (c : TableContent) → ServeFrom n cs → Serves (n + k) c
     → ServeFrom n (slice_set cs k c)
@@ -60,7 +61,7 @@ module _ {J : Type 0} where
 
     module _ (s : ServeFrom 0 old) where
       served_old : Serves k (content_at old k)
-      served_old = grind (arith, serve_at)
+      served_old = subst (λ n. Serves n (content_at old k)) (omega arith) (serve_at 0 old k s)
 
       ok : Serves k (content_at new k) × (length (content_at new k).fired ≤ length (content_at old k).fired
           + 1)

@@ -10,6 +10,7 @@ pub mod Kept
 pub mod Answered
 pub mod Events
 pub mod Growth
+pub mod Halves
 pub mod Served
 pub mod FiredPlaces
 pub mod Union

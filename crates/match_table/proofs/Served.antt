@@ -1,6 +1,7 @@
 -- A table of a phase keeps its facts where it takes a token.
-use Rattle.std.proofs.Common.{◌≡◌, ◌+◌, ◌<◌, ◌≤◌, ◌%◌, ⊎_elim, ℕ, Bool, true, List, Some}
-use Rattle.std.proofs.Common.{None, length, length-append, refl, sym, ◌∙◌, subst, arith}
+use Rattle.std.proofs.Common.{◌≡◌, ◌+◌, ◌<◌, ◌≤◌, ◌%◌, ⊎_elim, ℕ, Bool, true, List, [], Some}
+use Rattle.std.proofs.Common.{None, length, length-append, refl, ap, sym, ◌∙◌, subst, arith}
+use Rattle.std.proofs.lemmas.List.{get_or_past}
 use Rattle.ws_isa.specs.Image.{Image, Token}
 use Rattle.df_core.specs.Core.{with_at}
 use Rattle.df_core.proofs.Keeping.Ports.{SamePlace, with_at_cases}
@@ -10,7 +11,9 @@ use Rattle.match_table.specs.declared.table.Took.TheVariants as took
 use Rattle.match_table.specs.Matching.{Arrives, Full, TookAs, FiresSo, will_fire}
 use Rattle.match_table.specs.Tables.{held, TableContent}
 use Rattle.match_table.specs.Limits.{Serves}
-use Rattle.match_table.specs.Growth.{no_content}
+use Rattle.match_table.specs.Growth.{content_at, no_content}
+use Rattle.match_table.specs.Ports.{held_at}
+use Rattle.match_table.proofs.Halves.{nothing_in}
 
 arrives_serves : (k : ℕ) (old new : TableContent) (t : Token) → Serves k old → (t.wave + t.instr) % 16 ≡ k
     → Arrives old t new → Serves k new
@@ -29,8 +32,15 @@ same_serves k old new s e w i p v h = grind arith
 pub fresh_serves : (k : ℕ) (c : TableContent) → ((w i p : ℕ) → held c w i p ≡ None) → Serves k c
 fresh_serves k c none w i p v e = absurd (let g : None ≡ Some v = sym (none w i p) ∙ e in cc)
 
+pub nothing_held : (w i p : ℕ) → held no_content w i p ≡ None
+nothing_held w i p = ap (λ o. held_at o p) (nothing_in w i)
+
 pub none_serves : (k : ℕ) → Serves k no_content
-none_serves k = fresh_serves k no_content (λ w i p. refl)
+none_serves k = fresh_serves k no_content nothing_held
+
+pub past_serves : (n k : ℕ) → Serves n (content_at [] k)
+past_serves n k = let e : content_at [] k ≡ no_content = get_or_past [] k no_content (omega arith) in
+    subst (λ c. Serves n c) (sym e) (none_serves n)
 
 one_longer : (image : Image) (old new : TableContent) (t : Token) (xs : List ℕ) → Full image old t new xs
     → length new.fired ≡ length old.fired + 1

@@ -1,6 +1,6 @@
 -- Tables that serve apart are one part of the core's state.
-use Rattle.std.proofs.Common.{◌≡◌, ◌+◌, ◌<◌, ◌%◌, ◌⊎◌, inl, inr, ℕ, suc, List, [], ◌∷◌, ◌++◌, All}
-use Rattle.std.proofs.Common.{length, slice_index_or, arith}
+use Rattle.std.proofs.Common.{◌≡◌, ◌+◌, ◌<◌, ◌%◌, ◌⊎◌, inl, inr, ℕ, zero, suc, List, [], ◌∷◌, ◌++◌, All}
+use Rattle.std.proofs.Common.{length, slice_index_or, subst, arith}
 use Rattle.std.proofs.lemmas.List.Elements.{All-from_get_or}
 use Rattle.ws_words.specs.Outside.{World}
 use Rattle.ws_isa.specs.Image.{Image}
@@ -10,7 +10,9 @@ use Rattle.match_table.specs.Tables.{held, part, TableContent}
 use Rattle.match_table.specs.Limits.{Serves}
 use Rattle.match_table.proofs.FiredPlaces.{none_fired, fired_there}
 use Rattle.match_table.specs.Together.{ServeFrom, all_fired, together}
-use Rattle.match_table.proofs.Served.{none_serves}
+use Rattle.match_table.proofs.Served.{past_serves}
+use Rattle.match_table.proofs.Halves.{nothing_in}
+use Rattle.match_table.proofs.Kept.{fresh_ok, table_part}
 use Rattle.match_table.specs.Growth.{content_at, no_content}
 use Rattle.df_core.proofs.Parts.StandsMatch.{gather_agree as gather_same}
 
@@ -49,7 +51,7 @@ module _ (image : Image) (world : World) where
       ((s.0, h.0, h.1), parts_from (suc n) cs s.1 (λ k lt. each (suc k) (omega (arith, lt))))
 
   none_ok : TablesOk image world (part no_content)
-  none_ok = grind arith
+  none_ok = table_part image world [] [] [] (fresh_ok image world [] nothing_in)
 
   number_is : (n : ℕ) (c : TableContent) → Serves n c → TablesOk image world (part c) → (w i : ℕ)
       → HasFired c.fired w i → (w + i) % 16 ≡ n
@@ -83,7 +85,8 @@ module _ (image : Image) (world : World) where
 
   serves : (n : ℕ) (cs : List TableContent) → PartsOk n cs → (k : ℕ) → Serves (n + k) (content_at cs k)
   serves n (c ∷ cs) ok (suc k) = grind (arith, serves (suc n) cs ok.1 k)
-  serves n cs ok k = grind (arith, none_serves)
+  serves n (c ∷ cs) ok zero = subst (λ m. Serves m c) (omega arith) ok.0.0
+  serves n [] ok k = past_serves (n + k) k
 
   all_once : (n : ℕ) (cs : List TableContent) → PartsOk n cs → Once (all_fired cs)
   all_once n [] ok = tt

@@ -11,7 +11,7 @@ use Rattle.match_table.specs.Pages.{IsNamed, PageContent, name_for, under}
 -- the instance with this place in a page
 abbrev pub instance_of : Option PageContent → ℕ → Key
 instance_of None place = record { wave = 0; instr = 0 }
-instance_of (Some p) place = record { wave = p.name.wave * 4 + place; instr = p.name.part - place }
+instance_of (Some p) place = record { wave = p.name.wave * 4 + place; instr = p.name.part / 2 - place }
 
 -- the instance at a spot
 abbrev pub at_spot : List (Option PageContent) → ℕ → Key
@@ -19,7 +19,7 @@ at_spot slots s = instance_of (under slots (s / 4)) (s % 4)
 
 -- this is the spot of the instance
 pub record IsSpot (slots : List (Option PageContent)) (s w i : ℕ) : Type 0 where
-  pub page : IsNamed slots (s / 4) (name_for w i)
+  pub page : IsNamed slots (s / 4) (name_for w (2 * i))
   pub place : s % 4 ≡ w % 4
   pub wave : w < 2 ^ 64
   pub instr : i < 2 ^ 32

@@ -16,7 +16,8 @@ pub struct Course {
 // The place of a name's key.
 #[inline(always)]
 fn place_for(name: PageName) -> usize {
-    (name.part.wrapping_add(name.part / 16) % KEYS as u64) as usize
+    let part = name.part / 2;
+    (part.wrapping_add(part / 16) % KEYS as u64) as usize
 }
 
 impl Course {

@@ -1,6 +1,7 @@
 //! Lists of instances.
 
-ghost use Rattle.std.specs.Prelude.{◌≡◌, ◌+◌, ◌<◌, ◌≤◌, [], IfSome, IsOk, List, OnOk, Option, length};
+ghost use Rattle.std.specs.Prelude.{◌≡◌, ◌+◌, ◌*◌, ◌^◌, ◌<◌, ◌≤◌, [], IsOk, List, MatchOption, OnOk, Option};
+ghost use Rattle.std.specs.Prelude.{length};
 ghost use Rattle.std.specs.Prelude.{slice_index_or};
 ghost use Rattle.df_core.specs.Core.{Key};
 ghost use Rattle.match_table.specs.Pages.{IsNamed, PageContent, name_for};
@@ -44,8 +45,8 @@ const KEYS: usize = 1 << 30;
 // The spot of an instance whose page has this key, where that is a number of 32 bits.
 #[inline(always)]
 fn spot_of(key: usize, wave: u64, instr: u32) -> Option<u32>
-    ensures { (slots : List (Option PageContent)) → IsNamed slots key (name_for wave instr)
-        → IfSome result (λ s. IsSpot slots s wave instr) }
+    ensures { MatchOption result (2 ^ 30 ≤ key) (λ s. (slots : List (Option PageContent))
+        → IsNamed slots key (name_for wave (2 * instr)) → IsSpot slots s wave instr) }
 {
     let _ = instr;
     if key < KEYS {
@@ -93,8 +94,9 @@ impl Instances {
     pub fn push(&mut self, key: usize, instance: Instance)
         requires { 0 < self.old.spare }
         ensures listed { (slots : List (Option PageContent))
-            → IsNamed slots key (name_for instance.wave instance.instr) → AllPlaced slots self.old
+            → IsNamed slots key (name_for instance.wave (2 * instance.instr)) → AllPlaced slots self.old
             → IsListed slots self.old self.new instance }
+        ensures small { self.old.others ≡ [] → key < 2 ^ 30 → self.new.others ≡ [] }
         ensures room { self.old.spare ≤ self.new.spare + 1 }
     {
         if !self.others.is_empty() {

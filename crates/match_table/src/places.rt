@@ -1,20 +1,39 @@
 //! Places of pages in a list that rises in name.
 
-ghost use Rattle.std.specs.Prelude.{◌≡◌, ◌+◌, ◌<◌, ◌≤◌, ◌%◌, ℕ, true, false, length, slice_index_or, vec_len};
-ghost use Rattle.std.specs.Prelude.{vec_capacity, IfSome};
+ghost use Rattle.std.specs.Prelude.{◌≡◌, ◌+◌, ◌*◌, ◌<◌, ◌≤◌, ◌%◌, ◌^◌, ℕ, true, false, length};
+ghost use Rattle.std.specs.Prelude.{slice_index_or, vec_capacity, vec_len, IfSome};
 ghost use Rattle.std.specs.List.{insert};
-ghost use Rattle.match_table.specs.Pages.{IsFirstFrom, ListedAs, name_for, rank, RisingPages};
+ghost use Rattle.match_table.specs.Pages.{IsFirstFrom, ListedAs, name_for, rank, RisingPages, second_half};
 
 use crate::entry::{PageKey, PageName};
 
-// The name of an instance's page.
+// The number of an instance's first half.
 #[inline(always)]
-pub(crate) fn name_of(wave: u64, instr: u32) -> PageName
-    ensures { result ≡ name_for wave instr }
+pub(crate) fn first_half(instr: u32) -> u64
+    ensures number { result ≡ 2 * instr }
+    ensures below { result < 2 ^ 38 }
+{
+    2 * u64::from(instr)
+}
+
+// The number of an instance's second half.
+#[inline(always)]
+pub(crate) fn second_half(wave: u64, instr: u32) -> u64
+    ensures number { result ≡ second_half wave instr }
+    ensures below { result < 2 ^ 38 }
+{
+    2 * (16 * u64::from(instr) + wave % 16 + (3 - wave / 16 % 4)) + 1
+}
+
+// The name of the page that has half an instance.
+#[inline(always)]
+pub(crate) fn name_of(wave: u64, half: u64) -> PageName
+    requires { half < 2 ^ 38 }
+    ensures { result ≡ name_for wave half }
 {
     PageName {
         wave: wave / 4,
-        part: u64::from(instr) + wave % 4,
+        part: half + 2 * (wave % 4),
     }
 }
 

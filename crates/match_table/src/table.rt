@@ -160,12 +160,12 @@ impl<J: Job> Table<J> {
         ensures kept { self.old.spare ≤ self.new.spare }
         ensures succeeds { 0 < tokens → tokens ≤ self.old.spare → IsOk result }
     {
-        let tokens = tokens as usize;
-        if self.room < tokens {
+        let count = tokens as usize;
+        if self.room < count {
             self.pages.reserve(tokens)?;
-            self.fired.reserve(tokens)?;
-            self.asked.reserve(tokens)?;
-            self.room = tokens;
+            self.fired.reserve(count)?;
+            self.asked.reserve(count)?;
+            self.room = count;
         }
         Ok(())
     }

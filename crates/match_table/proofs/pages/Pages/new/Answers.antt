@@ -1,0 +1,7 @@
+use Rattle.std.proofs.Common.{ap, ◌∙◌}
+use Rattle.match_table.specs.Pages.{arrived_in}
+use Rattle.match_table.proofs.Halves.{nothing_in}
+use Rattle.match_table.proofs.pages.Pages.new.Goals as goal
+
+pub returns : goal.returns
+returns c = λ w i. ap (λ slots. arrived_in slots w i) c.new-2.ensures.empty ∙ nothing_in w i
