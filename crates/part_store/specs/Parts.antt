@@ -17,7 +17,8 @@ use Rattle.df_core.specs.Stands.{HasEarly, EarlyIssued}
 use Rattle.store_buf.specs.declared.kept.Kept.{Kept}
 use Rattle.store_buf.specs.Requests.{entry_of, issued_in}
 use Rattle.store_buf.specs.Ordering.{AllFiled, Room, IsForemost, NoneEarly, WaitsHere, kept_at}
-use Rattle.store_buf.specs.Ordering.{ready_flag, MayAt, SameEarly, early_of}
+use Rattle.store_buf.specs.Ordering.{ready_flag, MayAt, SameEarly, chain_in, early_of, requests_of}
+use Rattle.store_buf.specs.Ordering.{waiting_of}
 use Rattle.store_buf.specs.declared.fault.BufFault.{BufFault}
 use Rattle.store_buf.specs.declared.fault.BufFault.TheVariants as fault
 use Rattle.store_buf.specs.declared.fault.Silent.{Silent}
@@ -44,10 +45,10 @@ FrontsBut r j c = (e : Queued) (q l : ℕ) → front c.queued q l ≡ Some e →
 module _ {P : Type 0} where
   abbrev pub content_of : Parts P → PartContent
   content_of s = record {
-    kept = s.order.kept.items;
+    kept = requests_of s.order;
     bare = s.bare.set.keys;
     queued = s.queues.entries.items;
-    chain = chain_of s.order.chain;
+    chain = chain_of (chain_in s.order);
     fault = s.fault;
     failed = s.failed;
     starved = s.starved;
@@ -57,11 +58,12 @@ module _ {P : Type 0} where
   -- there is room for what all that waits leaves, and the queues are counted
   pub record PartsOk (s : Parts P) : Type 0 where
     pub early : Room s.order
-    pub printed : vec_len s.outer.printed + s.order.waiting ≤ vec_capacity s.outer.printed
-    pub queues : deque_len s.queues.entries + s.order.waiting ≤ deque_capacity s.queues.entries
-    pub lines : s.order.waiting ≤ spare s.queues.lines
+    pub printed : vec_len s.outer.printed + waiting_of s.order ≤ vec_capacity s.outer.printed
+    pub queues : deque_len s.queues.entries + waiting_of s.order ≤ deque_capacity s.queues.entries
+    pub lines : waiting_of s.order ≤ spare s.queues.lines
     pub counted : QueuesOk s.queues
-    pub bare : (w i : ℕ) → is_in s.bare w i ≡ true → (k : Kept) × (entry_of s.order.kept.items w i ≡ Some k)
+    pub bare : (w i : ℕ) → is_in s.bare w i ≡ true
+        → (k : Kept) × (entry_of (requests_of s.order) w i ≡ Some k)
 
   -- what waits is found, and addresses alone are those of stores
   pub record PartsFiled (image : Image) (s : Parts P) : Type 0 where
@@ -72,9 +74,9 @@ module _ {P : Type 0} where
   pub record PartsStand (image : Image) (world : World) (began : List (Option Began))
       (s : Parts P) : Type 0 where
     pub parting : Parting image world began (content_of s)
-    pub early_issued : EarlyIssued (issued_in s.order.kept.items) (chain_of s.order.chain)
+    pub early_issued : EarlyIssued (issued_in (requests_of s.order)) (chain_of (chain_in s.order))
         (early_of s.order)
-    pub early_all : HasEarly image world (issued_in s.order.kept.items) (chain_of s.order.chain)
+    pub early_all : HasEarly image world (issued_in (requests_of s.order)) (chain_of (chain_in s.order))
         (early_of s.order)
 
   -- and each queue's first entry is a store without data
@@ -93,7 +95,7 @@ module _ {P : Type 0} where
 
   -- none may go
   abbrev pub NoneGo : Image → Parts P → Type 0
-  NoneGo image s = (p : ℕ) → p < length s.order.kept.items → go_flag image s (kept_at s.order p) ≡ false
+  NoneGo image s = (p : ℕ) → p < length (requests_of s.order) → go_flag image s (kept_at s.order p) ≡ false
 
   pub record GoesAt (image : Image) (s : Parts P) (p : ℕ) : Type 0 where
     pub may : MayAt image s.order p
@@ -125,14 +127,14 @@ module _ {P : Type 0} where
   -- the operation on a port that doesn't answer is next, and its request waits
   abbrev pub PartsSilentSo : Image → Parts P → Parts P → Silent → Type 0
   PartsSilentSo image old new (Failed port) =
-      PortWaits image new.order.kept.items (chain_of new.order.chain) port
+      PortWaits image (requests_of new.order) (chain_of (chain_in new.order)) port
       × RoseAt port old.outer.ports new.outer.ports
   PartsSilentSo image old new (NoMemory port) =
-      PortWaits image new.order.kept.items (chain_of new.order.chain) port
+      PortWaits image (requests_of new.order) (chain_of (chain_in new.order)) port
 
   -- what is left to let go
   abbrev pub left_over : Parts P → ℕ
-  left_over s = s.order.waiting + cond (has s.fault) 0 1
+  left_over s = waiting_of s.order + cond (has s.fault) 0 1
 
   -- the same, where a port's count of faults may have risen at the end
   abbrev pub PartsLeadTo : Image → Parts P → Parts P → List Token → List Token → Type 0
@@ -143,8 +145,8 @@ module _ {P : Type 0} where
 
   -- it has these requests, and else nothing has changed
   pub record PartsKeep (old : Parts P) (kept : List Kept) (new : Parts P) : Type 0 where
-    pub kept_are : new.order.kept.items ≡ kept
-    pub chain : new.order.chain ≡ old.order.chain
+    pub kept_are : requests_of new.order ≡ kept
+    pub chain : chain_in new.order ≡ chain_in old.order
     pub early : early_of new.order ≡ early_of old.order
     pub outer : holding new.outer ≡ holding old.outer
     pub queued : new.queues.entries.items ≡ old.queues.entries.items
@@ -161,10 +163,10 @@ module _ {P : Type 0} where
       × (new.starved ≡ false)
   PartsSettledSo image old (Err (fault.Port port)) new = (new.fault ≡ None) × (new.failed ≡ Some port)
       × (new.starved ≡ false) × RoseAt port old.outer.ports new.outer.ports
-      × PortWaits image new.order.kept.items (chain_of new.order.chain) port
+      × PortWaits image (requests_of new.order) (chain_of (chain_in new.order)) port
   PartsSettledSo image old (Err fault.NoMemory) new = (new.fault ≡ None) × (new.failed ≡ old.failed)
       × (new.starved ≡ true)
-      × ((port : ℕ) × PortWaits image new.order.kept.items (chain_of new.order.chain) port)
+      × ((port : ℕ) × PortWaits image (requests_of new.order) (chain_of (chain_in new.order)) port)
   PartsSettledSo image old (Err _) new = ⊥
 
   -- a right address leads on as contracts say, and a calm buffer stays calm
@@ -178,9 +180,9 @@ module _ {P : Type 0} where
 
   -- the chain, the ports and what is kept in mind are as before, and as many wait
   pub record Beside (old new : Parts P) : Type 0 where
-    pub chain : new.order.chain ≡ old.order.chain
+    pub chain : chain_in new.order ≡ chain_in old.order
     pub early : SameEarly old.order new.order
-    pub waiting : new.order.waiting ≡ old.order.waiting
+    pub waiting : waiting_of new.order ≡ waiting_of old.order
     pub bare : new.bare ≡ old.bare
     pub ports : new.outer.ports ≡ old.outer.ports
     pub fault : new.fault ≡ old.fault
@@ -219,9 +221,9 @@ module _ {P : Type 0} where
   -- an address has its data
   pub record Filled (old : Parts P) (k : Kept) (new : Parts P) : Type 0 where
     pub fills : Fills (content_of old) k (content_of new)
-    pub same_chain : new.order.chain ≡ old.order.chain
+    pub same_chain : chain_in new.order ≡ chain_in old.order
     pub early : SameEarly old.order new.order
-    pub waiting : new.order.waiting ≡ old.order.waiting
+    pub waiting : waiting_of new.order ≡ waiting_of old.order
     pub queues : new.queues ≡ old.queues
     pub outer : new.outer ≡ old.outer
     pub failed : new.failed ≡ old.failed

@@ -9,7 +9,7 @@ ghost use Rattle.ws_isa.specs.Image.{Image};
 ghost use Rattle.df_core.specs.Places.{image_of};
 ghost use Rattle.df_core.specs.Rights.{tokens_of};
 ghost use Rattle.store_buf.specs.Requests.{entry_of};
-ghost use Rattle.store_buf.specs.Ordering.{kept_at};
+ghost use Rattle.store_buf.specs.Ordering.{kept_at, requests_of, waiting_of};
 ghost use Rattle.part_store.specs.declared.entry.Queued.{Queued};
 ghost use Rattle.store_buf.specs.declared.kept.Kept.{Kept};
 ghost use Rattle.part_store.specs.Queues.{front, without_first};
@@ -34,13 +34,13 @@ impl<P: Port> Parts<P> {
         requires ok { PartsOk self.old }
         requires filed { PartsFiled (image_of program.now) self.old }
         requires room { HasRoomFor told.old
-            (8 * (self.old.order.waiting + length self.old.queues.entries.items)) }
+            (8 * (waiting_of self.old.order + length self.old.queues.entries.items)) }
         ensures ok { PartsOk self.new }
         ensures filed { PartsFiled (image_of program.now) self.new }
         ensures leads { DrainLeads (image_of program.now) kept self.old self.new
             (tokens_of told.old.items) (tokens_of told.new.items) }
         ensures same { Beside self.old self.new }
-        ensures room { HasRoomFor told.new (8 * self.new.order.waiting) }
+        ensures room { HasRoomFor told.new (8 * waiting_of self.new.order) }
         ensures same_room { told.new.capacity ≡ told.old.capacity }
     {
         self.follow(program, row_of(program.op(kept.instr)), kept.first, told);
@@ -52,7 +52,7 @@ impl<P: Port> Parts<P> {
         requires ok { PartsOk self.old }
         requires filed { PartsFiled (image_of program.now) self.old }
         requires room { HasRoomFor told.old
-            (8 * (self.old.order.waiting + length self.old.queues.entries.items)) }
+            (8 * (waiting_of self.old.order + length self.old.queues.entries.items)) }
         ensures ok { PartsOk self.new }
         ensures filed { PartsFiled (image_of program.now) self.new }
         ensures leads { FollowsOn (image_of program.now) row index self.old self.new
@@ -60,7 +60,7 @@ impl<P: Port> Parts<P> {
         ensures none { (e : Queued) → front self.new.queues.entries.items row index ≡ Some e →
             is_in self.new.bare e.wave e.instr ≡ true }
         ensures same { Beside self.old self.new }
-        ensures room { HasRoomFor told.new (8 * self.new.order.waiting) }
+        ensures room { HasRoomFor told.new (8 * waiting_of self.new.order) }
         ensures same_room { told.new.capacity ≡ told.old.capacity }
     {
         while let Some(entry) = self.ready_front(program, row, index) {
@@ -97,7 +97,7 @@ impl<P: Port> Parts<P> {
         requires filed { PartsFiled (image_of program.now) self.old }
         requires first { front self.old.queues.entries.items entry.row entry.index ≡ Some entry }
         requires room { HasRoomFor told.old
-            (8 * (self.old.order.waiting + length self.old.queues.entries.items)) }
+            (8 * (waiting_of self.old.order + length self.old.queues.entries.items)) }
         ensures ok { PartsOk self.new }
         ensures filed { PartsFiled (image_of program.now) self.new }
         ensures leads { FinishLeads (image_of program.now) entry self.old self.new
@@ -108,14 +108,14 @@ impl<P: Port> Parts<P> {
             ≡ length self.old.queues.entries.items }
         ensures same { Beside self.old self.new }
         ensures room { HasRoomFor told.new
-            (8 * (self.new.order.waiting + length self.new.queues.entries.items)) }
+            (8 * (waiting_of self.new.order + length self.new.queues.entries.items)) }
         ensures same_room { told.new.capacity ≡ told.old.capacity }
     {
         self.queues.leave(entry);
         let Some(place) = self.issued_place(entry.wave, entry.instr) else {
             return;
         };
-        let kept = self.order.kept[place];
+        let kept = self.order.request(place);
         let word = use_cell(&mut self.outer, program.op(entry.instr), entry, kept.second);
         self.answer_at(place, word);
         tell(told, entry.wave, program.destinations(entry.instr, 0), word);
@@ -123,10 +123,10 @@ impl<P: Port> Parts<P> {
 
     // The place of the request of an instance that counts as issued.
     fn issued_place(&self, wave: u64, instr: u32) -> Option<usize>
-        ensures within { IfSome result (λ p. p < length self.now.order.kept.items) }
+        ensures within { IfSome result (λ p. p < length (requests_of self.now.order)) }
         ensures is { IfSome result (λ p. issued_flag self.now.order p wave instr ≡ true) }
         ensures none { IfNone result ((k : Kept) (a : ℕ) →
-            entry_of self.now.order.kept.items wave instr ≡ Some k → k.answer ≡ Some a → ⊥) }
+            entry_of (requests_of self.now.order) wave instr ≡ Some k → k.answer ≡ Some a → ⊥) }
     {
         match self.order.place(wave, instr) {
             Some(place) => {
@@ -142,11 +142,11 @@ impl<P: Port> Parts<P> {
 
     // Whether the request at a place is that of the instance, and counts as issued.
     fn is_issued_at(&self, place: usize, wave: u64, instr: u32) -> bool
-        ensures yes { result ≡ true → place < length self.now.order.kept.items }
-        ensures flag { place < length self.now.order.kept.items →
+        ensures yes { result ≡ true → place < length (requests_of self.now.order) }
+        ensures flag { place < length (requests_of self.now.order) →
             result ≡ issued_flag self.now.order place wave instr }
     {
-        match self.order.kept.get(place) {
+        match self.order.kept().get(place) {
             Some(kept) => kept.wave == wave && kept.instr == instr && kept.answer.is_some(),
             None => false,
         }
@@ -155,21 +155,24 @@ impl<P: Port> Parts<P> {
     // The request at a place, which counts as issued, has this answer.
     fn answer_at(&mut self, place: usize, word: u64)
         requires ok { PartsOk self.old }
-        requires within { place < length self.old.order.kept.items }
+        requires within { place < length (requests_of self.old.order) }
         requires issued { is_some (kept_at self.old.order place).answer ≡ true }
         ensures ok { PartsOk self.new }
         ensures filed { (image : Image) → PartsFiled image self.old → PartsFiled image self.new }
-        ensures kept { self.new.order.kept.items ≡ slice_set self.old.order.kept.items place
+        ensures kept { requests_of self.new.order ≡ slice_set (requests_of self.old.order) place
             (record (kept_at self.old.order place) { answer = Some word }) }
         ensures same { Beside self.old self.new }
         ensures outer { self.new.outer ≡ self.old.outer }
         ensures queues { self.new.queues ≡ self.old.queues }
     {
-        let kept = self.order.kept[place];
-        self.order.kept[place] = Kept {
-            answer: Some(word),
-            ..kept
-        };
+        let kept = self.order.request(place);
+        self.order.change(
+            place,
+            Kept {
+                answer: Some(word),
+                ..kept
+            },
+        );
     }
 }
 

@@ -8,7 +8,8 @@ ghost use Rattle.df_core.specs.Core.{has};
 ghost use Rattle.df_core.specs.Chains.{PassedOn, chain_of};
 ghost use Rattle.df_core.specs.Places.{image_of};
 ghost use Rattle.df_core.specs.Rights.{tokens_of};
-ghost use Rattle.store_buf.specs.Ordering.{MayAt, early_of, kept_at, with_near};
+ghost use Rattle.store_buf.specs.Ordering.{MayAt, chain_in, early_of, kept_at, requests_of, waiting_of};
+ghost use Rattle.store_buf.specs.Ordering.{with_near};
 ghost use Rattle.store_buf.specs.Outdoors.{FaultsGrow};
 ghost use Rattle.part_store.specs.Bares.{is_in};
 ghost use Rattle.part_store.specs.Queues.{joined};
@@ -40,7 +41,7 @@ impl<P: Port> Parts<P> {
         requires formed { Formed (image_of program.now) }
         requires ok { PartsOk self.old }
         requires filed { PartsFiled (image_of program.now) self.old }
-        requires room { HasRoomFor told.old (8 * self.old.order.waiting) }
+        requires room { HasRoomFor told.old (8 * waiting_of self.old.order) }
         ensures ok { PartsOk self.new }
         ensures filed { PartsFiled (image_of program.now) self.new }
         ensures lead { PartsLeadTo (image_of program.now) (record self.old { starved = false }) self.new
@@ -76,7 +77,7 @@ impl<P: Port> Parts<P> {
         requires formed { Formed (image_of program.now) }
         requires ok { PartsOk self.old }
         requires filed { PartsFiled (image_of program.now) self.old }
-        requires room { HasRoomFor told.old (8 * self.old.order.waiting) }
+        requires room { HasRoomFor told.old (8 * waiting_of self.old.order) }
         ensures ok { PartsOk self.new }
         ensures filed { PartsFiled (image_of program.now) self.new }
         ensures lead { PartsLeadTo (image_of program.now) self.old self.new
@@ -132,11 +133,11 @@ impl<P: Port> Parts<P> {
     fn may_go(&self, program: &Program<'_>, place: usize) -> bool
         requires ok { PartsOk self.now }
         requires filed { PartsFiled (image_of program.now) self.now }
-        ensures yes { result ≡ true → place < length self.now.order.kept.items }
-        ensures goes { place < length self.now.order.kept.items
+        ensures yes { result ≡ true → place < length (requests_of self.now.order) }
+        ensures goes { place < length (requests_of self.now.order)
             → result ≡ go_flag (image_of program.now) self.now (kept_at self.now.order place) }
     {
-        match self.order.kept.get(place) {
+        match self.order.kept().get(place) {
             Some(kept) => {
                 self.order.may_issue(program, place) && self.may_by_rules(program, *kept)
             }
@@ -195,7 +196,7 @@ impl<P: Port> Parts<P> {
         requires filed { PartsFiled (image_of program.now) self.old }
         requires goes { GoesAt (image_of program.now) self.old place }
         requires going { self.old.fault ≡ None }
-        requires room { HasRoomFor told.old (8 * self.old.order.waiting) }
+        requires room { HasRoomFor told.old (8 * waiting_of self.old.order) }
         ensures ok { PartsOk self.new }
         ensures filed { PartsFiled (image_of program.now) self.new }
         ensures leads { OnOk result (MovesOn (image_of program.now) self.old self.new
@@ -209,7 +210,7 @@ impl<P: Port> Parts<P> {
         ensures counted { FaultsGrow self.old.outer.ports self.new.outer.ports }
         ensures failed { self.new.failed ≡ self.old.failed }
         ensures starved { self.new.starved ≡ self.old.starved }
-        ensures room { HasRoomFor told.new (8 * self.new.order.waiting) }
+        ensures room { HasRoomFor told.new (8 * waiting_of self.new.order) }
         ensures same_room { told.new.capacity ≡ told.old.capacity }
     {
         let kept = self.order.request(place);
@@ -235,15 +236,15 @@ impl<P: Port> Parts<P> {
         requires may { MayAt (image_of program.now) self.old.order place }
         ensures ok { PartsOk self.new }
         ensures filed { PartsFiled (image_of program.now) self.new }
-        ensures kept { self.new.order.kept.items ≡ slice_set self.old.order.kept.items place
+        ensures kept { requests_of self.new.order ≡ slice_set (requests_of self.old.order) place
             (record (kept_at self.old.order place) { answer = Some 0 }) }
-        ensures passed { PassedOn (image_of program.now) (chain_of self.old.order.chain)
+        ensures passed { PassedOn (image_of program.now) (chain_of (chain_in self.old.order))
             (kept_at self.old.order place).instr (early_of self.old.order)
-            (chain_of self.new.order.chain) (early_of self.new.order) }
+            (chain_of (chain_in self.new.order)) (early_of self.new.order) }
         ensures queued { self.new.queues.entries.items ≡ joined
             (entry_at (image_of program.now) (kept_at self.old.order place))
             self.old.queues.entries.items }
-        ensures fewer { self.new.order.waiting < self.old.order.waiting }
+        ensures fewer { waiting_of self.new.order < waiting_of self.old.order }
         ensures bare { self.new.bare ≡ self.old.bare }
         ensures outer { self.new.outer ≡ self.old.outer }
         ensures fault { self.new.fault ≡ self.old.fault }

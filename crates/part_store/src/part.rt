@@ -190,7 +190,7 @@ impl<J: Job, P: Port> PartBuffer<J, P> {
     pub fn kept(&self) -> &[Kept]
         ensures { result.now ≡ self.now.kept }
     {
-        &self.parts.order.kept
+        self.parts.order.kept()
     }
 
     /// The word that a load, IN or GIVE gave.

@@ -7,6 +7,7 @@ ghost use Rattle.store_buf.specs.Contents.{stop_of};
 ghost use Rattle.df_core.specs.Chains.{chain_of, may_flag};
 ghost use Rattle.df_core.specs.Places.{image_of};
 ghost use Rattle.df_core.specs.Rights.{tokens_of};
+ghost use Rattle.store_buf.specs.Ordering.{chain_in, requests_of};
 ghost use Rattle.store_buf.specs.Requests.{entry_of};
 ghost use Rattle.part_store.specs.Bares.{is_in};
 ghost use Rattle.part_store.specs.Parted.{is_store_op};
@@ -14,7 +15,6 @@ ghost use Rattle.part_store.specs.Parts.{AddressLeads, PartsOk, PartsFiled, Part
 
 use crate::bare::Bare;
 use crate::queues::Queues;
-use crate::rows::is_load;
 use df_core::Program;
 use port_set::Port;
 use store_buf::{BufFault, Kept, Order, Outer, PlainTokens};
@@ -73,7 +73,7 @@ impl<P: Port> Parts<P> {
         match self.order.find(kept.wave, kept.instr) {
             Some(_) => Err(BufFault::Old),
             None => {
-                if self.starved || self.lets(program, kept) {
+                if self.starved || self.order.lets(program, kept) {
                     self.take_address(program, kept, told)
                 } else {
                     self.put_by_address(program, kept)
@@ -82,33 +82,17 @@ impl<P: Port> Parts<P> {
         }
     }
 
-    // Whether the chain lets the operation of a request or address issue: it is next, or a load before
-    // its turn.
-    fn lets(&self, program: &Program<'_>, kept: Kept) -> bool
-        ensures { result ≡ may_flag (image_of program.now) (chain_of self.now.order.chain)
-            kept.wave kept.instr kept.first }
-    {
-        let note = program.note(kept.instr);
-        let op = program.op(kept.instr);
-        let chain = self.order.chain;
-        kept.wave == chain.wave
-            && (chain.is_next(note)
-                || (is_load(op)
-                    && !program.is_past(op, kept.first)
-                    && note.ripple <= chain.position()))
-    }
-
     // Keeps an address that the chain doesn't let go, so that no rule is applicable then.
     fn put_by_address(&mut self, program: &Program<'_>, kept: Kept) -> Result<(), BufFault>
         requires ok { PartsOk self.old }
         requires filed { PartsFiled (image_of program.now) self.old }
-        requires fresh { entry_of self.old.order.kept.items kept.wave kept.instr ≡ None }
+        requires fresh { entry_of (requests_of self.old.order) kept.wave kept.instr ≡ None }
         requires waits { kept.answer ≡ None }
         requires store { is_store_op (instr_at (image_of program.now) kept.instr).op ≡ true }
         requires running { self.old.fault ≡ None }
         requires working { self.old.failed ≡ None }
         requires fed { self.old.starved ≡ false }
-        requires held { may_flag (image_of program.now) (chain_of self.old.order.chain)
+        requires held { may_flag (image_of program.now) (chain_of (chain_in self.old.order))
             kept.wave kept.instr kept.first ≡ false }
         ensures ok { PartsOk self.new }
         ensures filed { PartsFiled (image_of program.now) self.new }
@@ -130,7 +114,7 @@ impl<P: Port> Parts<P> {
         requires formed { Formed (image_of program.now) }
         requires ok { PartsOk self.old }
         requires filed { PartsFiled (image_of program.now) self.old }
-        requires fresh { entry_of self.old.order.kept.items kept.wave kept.instr ≡ None }
+        requires fresh { entry_of (requests_of self.old.order) kept.wave kept.instr ≡ None }
         requires waits { kept.answer ≡ None }
         requires store { is_store_op (instr_at (image_of program.now) kept.instr).op ≡ true }
         requires running { self.old.fault ≡ None }
@@ -145,7 +129,7 @@ impl<P: Port> Parts<P> {
         if self.make_room(told).is_err() {
             return Err(BufFault::NoMemory);
         }
-        let place = self.order.kept.len();
+        let place = self.order.kept().len();
         match self.keep_bare(program, kept) {
             Ok(()) => self.settle(program, Some(place), told),
             Err(_) => Err(BufFault::NoMemory),
@@ -175,7 +159,7 @@ impl<P: Port> Parts<P> {
         }
         match self.order.find(kept.wave, kept.instr) {
             None => {
-                if self.starved || self.lets(program, kept) {
+                if self.starved || self.order.lets(program, kept) {
                     self.take_request(program, kept, told)
                 } else {
                     self.put_by(program, kept)
@@ -195,12 +179,12 @@ impl<P: Port> Parts<P> {
     fn put_by(&mut self, program: &Program<'_>, kept: Kept) -> Result<(), BufFault>
         requires ok { PartsOk self.old }
         requires filed { PartsFiled (image_of program.now) self.old }
-        requires fresh { entry_of self.old.order.kept.items kept.wave kept.instr ≡ None }
+        requires fresh { entry_of (requests_of self.old.order) kept.wave kept.instr ≡ None }
         requires waits { kept.answer ≡ None }
         requires running { self.old.fault ≡ None }
         requires working { self.old.failed ≡ None }
         requires fed { self.old.starved ≡ false }
-        requires held { may_flag (image_of program.now) (chain_of self.old.order.chain)
+        requires held { may_flag (image_of program.now) (chain_of (chain_in self.old.order))
             kept.wave kept.instr kept.first ≡ false }
         ensures ok { PartsOk self.new }
         ensures filed { PartsFiled (image_of program.now) self.new }
@@ -222,7 +206,7 @@ impl<P: Port> Parts<P> {
         requires formed { Formed (image_of program.now) }
         requires ok { PartsOk self.old }
         requires filed { PartsFiled (image_of program.now) self.old }
-        requires fresh { entry_of self.old.order.kept.items kept.wave kept.instr ≡ None }
+        requires fresh { entry_of (requests_of self.old.order) kept.wave kept.instr ≡ None }
         requires waits { kept.answer ≡ None }
         requires running { self.old.fault ≡ None }
         requires working { self.old.failed ≡ None }
@@ -236,7 +220,7 @@ impl<P: Port> Parts<P> {
         if self.make_room(told).is_err() {
             return Err(BufFault::NoMemory);
         }
-        let place = self.order.kept.len();
+        let place = self.order.kept().len();
         match self.keep(program, kept) {
             Ok(()) => self.settle(program, Some(place), told),
             Err(_) => Err(BufFault::NoMemory),

@@ -1,18 +1,9 @@
-//! Loads and stores, and the rows of their arrays.
+//! The rows of the arrays of loads and stores.
 
 ghost use Rattle.std.specs.Prelude.{◌≡◌, ◌-◌};
-ghost use Rattle.ws_isa.specs.Image.{array_of_op, is_load_op};
+ghost use Rattle.ws_isa.specs.Image.{array_of_op};
 
 use ws_isa::Op;
-
-pub(crate) fn is_load(op: Op) -> bool
-    ensures { result ≡ is_load_op op }
-{
-    match op {
-        Op::Load(_) => true,
-        _ => false,
-    }
-}
 
 // The place of the array of a load or store, from 0.
 pub(crate) fn row_of(op: Op) -> usize

@@ -107,7 +107,7 @@ impl<J: Job, P: Port> MemoryOrder<J, P> for Buffer<J, P> {
     }
 
     fn kept(&self) -> &[Kept] {
-        &self.store.order.kept
+        self.store.order.kept()
     }
 
     fn word(&self, program: &Program<'_>, wave: u64, instr: u32) -> Option<u64> {

@@ -5,7 +5,8 @@ ghost use Rattle.ws_isa.specs.Image.{is_load_op};
 ghost use Rattle.df_core.specs.Places.{image_of};
 ghost use Rattle.df_core.specs.Chains.{chain_of, may_flag};
 ghost use Rattle.store_buf.specs.Ordering.{AllFiled, MayAt, NoneFound, NoneEarly, IsForemost, GoesEarly};
-ghost use Rattle.store_buf.specs.Ordering.{SameButNear, WaitsHere, kept_at, ready_flag, number_of, ripple_of};
+ghost use Rattle.store_buf.specs.Ordering.{SameButNear, WaitsHere, chain_in, kept_at, ready_flag, number_of};
+ghost use Rattle.store_buf.specs.Ordering.{requests_of, ripple_of};
 
 use crate::kept::Kept;
 use crate::order::Order;
@@ -126,8 +127,8 @@ impl Order {
 
     /// Whether the request at a place has no answer and the chain lets it issue.
     pub fn may_issue(&self, program: &Program<'_>, place: usize) -> bool
-        ensures yes { result ≡ true → place < length self.now.kept.items }
-        ensures ready { place < length self.now.kept.items
+        ensures yes { result ≡ true → place < length (requests_of self.now) }
+        ensures ready { place < length (requests_of self.now)
             → result ≡ ready_flag (image_of program.now) self.now (kept_at self.now place) }
     {
         match self.kept.get(place) {
@@ -139,7 +140,7 @@ impl Order {
     /// Whether the chain lets a request issue: it is next, or a load before its turn.
     #[inline(always)]
     pub fn lets(&self, program: &Program<'_>, kept: Kept) -> bool
-        ensures { result ≡ may_flag (image_of program.now) (chain_of self.now.chain)
+        ensures { result ≡ may_flag (image_of program.now) (chain_of (chain_in self.now))
             kept.wave kept.instr kept.first }
     {
         let note = program.note(kept.instr);

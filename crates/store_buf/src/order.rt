@@ -1,7 +1,7 @@
 //! The order of a buffer: its requests, and which of them may be issued.
 
 ghost use Rattle.std.specs.Prelude.{◌≡◌, ◌∷◌, ◌++◌, [], ℕ, ◌+◌, ◌<◌, ◌≤◌, Option, None, Some, length};
-ghost use Rattle.std.specs.Prelude.{slice_set, OnOk, OnErr};
+ghost use Rattle.std.specs.Prelude.{is_none, slice_set, OnOk, OnErr};
 ghost use Rattle.ws_isa.specs.Image.{Image};
 ghost use Rattle.df_core.specs.Places.{image_of};
 ghost use Rattle.df_core.specs.Chains.{chain_of, PassedOn};
@@ -27,27 +27,28 @@ use ws_words::NoMemory;
 /// are the issued loads that the chain hasn't passed.
 #[derive(Drop)]
 pub struct Order {
-    pub kept: Vec<Kept>,
-    pub waiting: usize,
+    pub(crate) kept: Vec<Kept>,
+    waiting: usize,
     pub(crate) index: Index,
     pub(crate) near: WavePlaces,
     pub(crate) later: Later,
     pub(crate) early: Early,
-    pub chain: Chain,
-    pub ghost ok: { Indexed kept.items index waiting chain.wave },
+    pub(crate) chain: Chain,
+    ghost ok: { Indexed kept.items index waiting chain.wave },
 }
 
 impl Order {
-    ghost use Rattle.store_buf.specs.Ordering.{AllFiled, Room, MayAt, early_of, early_room, kept_at};
-    ghost use Rattle.store_buf.specs.Ordering.{number_of, place_of_instance, ripple_of};
+    ghost use Rattle.store_buf.specs.Ordering.{AllFiled, Room, MayAt, SameEarly, chain_in, early_of};
+    ghost use Rattle.store_buf.specs.Ordering.{early_room, kept_at, number_of, place_of_instance};
+    ghost use Rattle.store_buf.specs.Ordering.{requests_of, ripple_of, waiting_of};
 
     /// No requests; the chain is at its start.
     pub fn new(alloc: Global) -> Order
         ensures filed { (image : Image) → AllFiled image result }
-        ensures kept { result.kept.items ≡ [] }
+        ensures kept { requests_of result ≡ [] }
         ensures early { early_of result ≡ [] }
-        ensures wave { result.chain.wave ≡ 1 }
-        ensures last { result.chain.last ≡ None }
+        ensures wave { (chain_in result).wave ≡ 1 }
+        ensures last { (chain_in result).last ≡ None }
     {
         Order {
             kept: Vec::new(alloc),
@@ -63,6 +64,22 @@ impl Order {
         }
     }
 
+    /// The requests, in the order in which they came.
+    #[inline(always)]
+    pub fn kept(&self) -> &[Kept]
+        ensures { result.now ≡ requests_of self.now }
+    {
+        &self.kept
+    }
+
+    /// How many of them wait.
+    #[inline(always)]
+    pub fn waiting(&self) -> usize
+        ensures { result ≡ waiting_of self.now }
+    {
+        self.waiting
+    }
+
     /// Where the index has an instance, or would have it.
     #[inline(always)]
     pub(crate) fn hook(&self, wave: u64, instr: u32) -> Hook
@@ -73,7 +90,7 @@ impl Order {
 
     /// The request of an instance.
     pub fn find(&self, wave: u64, instr: u32) -> Option<Kept>
-        ensures { result ≡ entry_of self.now.kept.items wave instr }
+        ensures { result ≡ entry_of (requests_of self.now) wave instr }
     {
         self.find_at(wave, instr, self.hook(wave, instr))
     }
@@ -82,7 +99,7 @@ impl Order {
     #[inline(always)]
     pub(crate) fn find_at(&self, wave: u64, instr: u32, hook: Hook) -> Option<Kept>
         requires { HookIn self.now.index wave instr hook }
-        ensures { result ≡ entry_of self.now.kept.items wave instr }
+        ensures { result ≡ entry_of (requests_of self.now) wave instr }
     {
         match self.index.place_at(wave, instr, hook) {
             None => None,
@@ -101,7 +118,7 @@ impl Order {
     // The request at a place, if it is of this instance.
     fn entry_at(&self, place: usize, wave: u64, instr: u32) -> Option<Kept>
         requires { place_of_instance self.now wave instr ≡ Some place }
-        ensures { result ≡ entry_of self.now.kept.items wave instr }
+        ensures { result ≡ entry_of (requests_of self.now) wave instr }
     {
         if place >= self.kept.len() {
             return None;
@@ -119,16 +136,16 @@ impl Order {
     /// Keeps a request of an instance that had none, and makes room for its answer.
     pub fn add(&mut self, program: &Program<'_>, kept: Kept) -> Result<(), NoMemory>
         requires filed { AllFiled (image_of program.now) self.old }
-        requires fresh { entry_of self.old.kept.items kept.wave kept.instr ≡ None }
+        requires fresh { entry_of (requests_of self.old) kept.wave kept.instr ≡ None }
         requires waits { kept.answer ≡ None }
         ensures filed { AllFiled (image_of program.now) self.new }
-        ensures kept { OnOk result (self.new.kept.items ≡ self.old.kept.items ++ kept ∷ []) }
+        ensures kept { OnOk result (requests_of self.new ≡ requests_of self.old ++ kept ∷ []) }
         ensures room { OnOk result (Room self.new) }
-        ensures unchanged { OnErr result (self.new.kept.items ≡ self.old.kept.items) }
+        ensures unchanged { OnErr result (requests_of self.new ≡ requests_of self.old) }
         ensures early { early_of self.new ≡ early_of self.old }
-        ensures chain { self.new.chain ≡ self.old.chain }
-        ensures waiting { OnOk result (self.new.waiting ≡ self.old.waiting + 1) }
-        ensures still { OnErr result (self.new.waiting ≡ self.old.waiting) }
+        ensures chain { chain_in self.new ≡ chain_in self.old }
+        ensures waiting { OnOk result (waiting_of self.new ≡ waiting_of self.old + 1) }
+        ensures still { OnErr result (waiting_of self.new ≡ waiting_of self.old) }
         ensures grown { early_room self.old ≤ early_room self.new }
     {
         let hook = self.hook(kept.wave, kept.instr);
@@ -144,17 +161,17 @@ impl Order {
         hook: Hook,
     ) -> Result<(), NoMemory>
         requires filed { AllFiled (image_of program.now) self.old }
-        requires fresh { entry_of self.old.kept.items kept.wave kept.instr ≡ None }
+        requires fresh { entry_of (requests_of self.old) kept.wave kept.instr ≡ None }
         requires waits { kept.answer ≡ None }
         requires hook { HookIn self.old.index kept.wave kept.instr hook }
         ensures filed { AllFiled (image_of program.now) self.new }
-        ensures kept { OnOk result (self.new.kept.items ≡ self.old.kept.items ++ kept ∷ []) }
+        ensures kept { OnOk result (requests_of self.new ≡ requests_of self.old ++ kept ∷ []) }
         ensures room { OnOk result (Room self.new) }
-        ensures unchanged { OnErr result (self.new.kept.items ≡ self.old.kept.items) }
+        ensures unchanged { OnErr result (requests_of self.new ≡ requests_of self.old) }
         ensures early { early_of self.new ≡ early_of self.old }
-        ensures chain { self.new.chain ≡ self.old.chain }
-        ensures waiting { OnOk result (self.new.waiting ≡ self.old.waiting + 1) }
-        ensures still { OnErr result (self.new.waiting ≡ self.old.waiting) }
+        ensures chain { chain_in self.new ≡ chain_in self.old }
+        ensures waiting { OnOk result (waiting_of self.new ≡ waiting_of self.old + 1) }
+        ensures still { OnErr result (waiting_of self.new ≡ waiting_of self.old) }
         ensures grown { early_room self.old ≤ early_room self.new }
     {
         if self.waiting >= usize::MAX - 1 {
@@ -174,10 +191,10 @@ impl Order {
     // Puts the place of a request among those of its wave.
     #[inline(always)]
     fn file(&mut self, program: &Program<'_>, kept: Kept, place: usize) -> Result<(), NoMemory>
-        ensures here { OnOk result (kept.wave ≤ self.old.chain.wave
+        ensures here { OnOk result (kept.wave ≤ (chain_in self.old).wave
             → IsFiled self.new.near (number_of (image_of program.now) kept)
             (ripple_of (image_of program.now) kept) place) }
-        ensures there { OnOk result (self.old.chain.wave < kept.wave
+        ensures there { OnOk result ((chain_in self.old).wave < kept.wave
             → IsFiledIn self.new.later kept.wave (number_of (image_of program.now) kept)
             (ripple_of (image_of program.now) kept) place) }
         ensures near { (n : ℕ) (r : Option ℕ) (p : ℕ)
@@ -198,10 +215,27 @@ impl Order {
     /// The request at a place.
     #[inline(always)]
     pub fn request(&self, place: usize) -> Kept
-        requires { place < length self.now.kept.items }
+        requires { place < length (requests_of self.now) }
         ensures { result ≡ kept_at self.now place }
     {
         self.kept[place]
+    }
+
+    /// The request at a place becomes this one, of the same instance. It waits where it waited before.
+    pub fn change(&mut self, place: usize, kept: Kept)
+        requires within { place < length (requests_of self.old) }
+        requires wave { kept.wave ≡ (kept_at self.old place).wave }
+        requires instr { kept.instr ≡ (kept_at self.old place).instr }
+        requires waits { is_none kept.answer ≡ is_none (kept_at self.old place).answer }
+        ensures filed { (image : Image) → ripple_of image kept ≡ ripple_of image (kept_at self.old place)
+            → AllFiled image self.old → AllFiled image self.new }
+        ensures kept { requests_of self.new ≡ slice_set (requests_of self.old) place kept }
+        ensures waiting { waiting_of self.new ≡ waiting_of self.old }
+        ensures chain { chain_in self.new ≡ chain_in self.old }
+        ensures early { SameEarly self.old self.new }
+        ensures places { (w i : ℕ) → place_of_instance self.new w i ≡ place_of_instance self.old w i }
+    {
+        self.kept[place] = kept;
     }
 
     /// The request at a place, which may be issued, has this answer. The chain passes what is next and
@@ -213,12 +247,12 @@ impl Order {
         requires room { Room self.old }
         ensures filed { AllFiled (image_of program.now) self.new }
         ensures room { Room self.new }
-        ensures kept { self.new.kept.items ≡ slice_set self.old.kept.items place
+        ensures kept { requests_of self.new ≡ slice_set (requests_of self.old) place
             (record (kept_at self.old place) { answer = Some word }) }
-        ensures passed { PassedOn (image_of program.now) (chain_of self.old.chain)
+        ensures passed { PassedOn (image_of program.now) (chain_of (chain_in self.old))
             (kept_at self.old place).instr (early_of self.old)
-            (chain_of self.new.chain) (early_of self.new) }
-        ensures fewer { self.new.waiting < self.old.waiting }
+            (chain_of (chain_in self.new)) (early_of self.new) }
+        ensures fewer { waiting_of self.new < waiting_of self.old }
     {
         let kept = self.kept[place];
         self.kept[place] = Kept {

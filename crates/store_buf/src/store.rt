@@ -122,7 +122,7 @@ impl<P: Port> Store<P> {
         if self.make_room(told).is_err() {
             return Err(BufFault::NoMemory);
         }
-        let place = self.order.kept.len();
+        let place = self.order.kept().len();
         match self.keep(program, kept, hook) {
             Ok(()) => {
                 let first = if lets { Some(place) } else { None };
@@ -138,7 +138,7 @@ impl<P: Port> Store<P> {
         ensures room { OnOk result (HasRoomFor told.new (8 * (self.now.order.waiting + 1))) }
         ensures grown { told.old.capacity ≤ told.new.capacity }
     {
-        let waiting = self.order.waiting;
+        let waiting = self.order.waiting();
         if waiting >= MOST_WAITING {
             return Err(NoMemory);
         }
@@ -161,7 +161,7 @@ impl<P: Port> Store<P> {
             kept.wave kept.instr kept.first ≡ true
             → MayAt image self.new.order (length self.old.order.kept.items)) }
     {
-        let waiting = self.order.waiting;
+        let waiting = self.order.waiting();
         if waiting >= MOST_WAITING {
             return Err(NoMemory);
         }

@@ -6,8 +6,6 @@ use Rattle.ws_isa.specs.declared.instr.Op.{Op}
 use Rattle.ws_isa.specs.Image.{Token, instr_at, tokens_to}
 use Rattle.df_core.specs.Places.{image_of}
 use Rattle.df_core.specs.Rights.{tokens_of}
-use Rattle.store_buf.specs.Ordering.{no_request, kept_at}
-use Rattle.store_buf.proofs.Lists.{or_any}
 use Rattle.part_store.specs.Contents.{cell}
 use Rattle.part_store.specs.Parted.{is_store_op}
 use Rattle.part_store.specs.Rules.{Moves}
@@ -52,8 +50,7 @@ returns-clause-leads g c = (
       let new = c.answer_at.new.self in
       let e = c.args.entry in
       let p = c.in-Some.place in
-      let k : c.index-kept.result.now ≡ kept_at old.order p = c.index-kept.ensures
-      ∙ or_any old.order.kept.items p c.index-kept.result.now no_request c.in-Some.ensures.within in
+      let k = c.request-kept.ensures in
       let word = c.use_cell-word.result in
       let word_is : word ≡ cond (is_store_op (instr_at image e.instr).op) 0
       (cell old.outer.cells e.row e.index) = c.use_cell-word.ensures.word
