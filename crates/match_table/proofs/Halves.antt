@@ -1,10 +1,10 @@
 -- What has come to an instance, from what its halves have.
-use Rattle.std.proofs.Common.{◌≡◌, ◌*◌, ◌/◌, ◌<◌, ⊎_elim, ℕ, cond, List, [], Option, Some, None}
+use Rattle.std.proofs.Common.{◌≡◌, ◌*◌, ◌<◌, ⊎_elim, ℕ, cond, List, [], Option, Some, None}
 use Rattle.std.proofs.Common.{refl, ap, sym, subst, ◌∙◌, arith}
 use Rattle.df_core.specs.Core.{same_key}
 use Rattle.match_table.specs.declared.entry.Arrived.{Arrived}
 use Rattle.match_table.specs.declared.entry.Half.{Half}
-use Rattle.match_table.specs.Pages.{PageContent, arrived_in, first_of, second_half, seen_in, whole}
+use Rattle.match_table.specs.Pages.{PageContent, arrived_in, first_of, second_half, second_wave, seen_in, whole}
 use Rattle.match_table.specs.Ports.{set_half, set_port, with_half, with_port}
 use Rattle.match_table.proofs.Arrivals.{key_cases}
 
@@ -44,11 +44,11 @@ module _ (old new : List (Option PageContent)) (w h p v : ℕ) (more : OneMore o
 
 -- an instance of which neither half has changed
 same_halves : (old new : List (Option PageContent)) (a b : ℕ) → seen_in new a (2 * b) ≡ seen_in old a (2 * b)
-    → seen_in new (a / 16) (second_half a b) ≡ seen_in old (a / 16) (second_half a b)
+    → seen_in new (second_wave a) (second_half a b) ≡ seen_in old (second_wave a) (second_half a b)
     → arrived_in new a b ≡ arrived_in old a b
 unfolding arrived_in
 same_halves old new a b first second =
-    ap (λ o. whole o (first_of (seen_in new (a / 16) (second_half a b)))) first
+    ap (λ o. whole o (first_of (seen_in new (second_wave a) (second_half a b)))) first
     ∙ ap (λ o. whole (seen_in old a (2 * b)) (first_of o)) second
 
 first_is : (o : Option Half) (v : ℕ) → first_of (Some (with_half o 0 v)) ≡ v
@@ -59,7 +59,7 @@ halves_apart : (w i b : ℕ) → second_half w i ≡ 2 * b → ⊥
 halves_apart w i b e = omega (arith, e)
 
 -- each instance has a second half of its own
-own_second : (w i a b : ℕ) → w / 16 ≡ a / 16 → second_half w i ≡ second_half a b → (w ≡ a) × (i ≡ b)
+own_second : (w i a b : ℕ) → second_wave w ≡ second_wave a → second_half w i ≡ second_half a b → (w ≡ a) × (i ≡ b)
 own_second w i a b e f = grind arith
 
 -- one instance has something else
@@ -75,42 +75,42 @@ pub near_arrived : (old new : List (Option PageContent)) (w i p v : ℕ) → One
 unfolding arrived_in
 near_arrived old new w i p v more lt = by_key (arrived_in new) (arrived_in old) w i
     (Some (with_port (arrived_in old w i) p v)) (
-      ap (λ o. whole o (first_of (seen_in new (w / 16) (second_half w i))))
+      ap (λ o. whole o (first_of (seen_in new (second_wave w) (second_half w i))))
       (own_half old new w (2 * i) p v more)
-      ∙ near_whole (seen_in old w (2 * i)) p v (first_of (seen_in new (w / 16) (second_half w i))) lt
+      ∙ near_whole (seen_in old w (2 * i)) p v (first_of (seen_in new (second_wave w) (second_half w i))) lt
       ∙ ap (λ o. Some (with_port (whole (seen_in old w (2 * i)) (first_of o)) p v)) (second w i)
     ) (λ a b apart. same_halves old new a b
       (other_half old new w (2 * i) p v more a (2 * b) (λ e. let o = e.1 in apart (e.0, omega (arith, o))))
       (second a b))
     where
-      second : (a b : ℕ) → seen_in new (a / 16) (second_half a b) ≡ seen_in old (a / 16) (second_half a b)
-      second a b = other_half old new w (2 * i) p v more (a / 16) (second_half a b)
+      second : (a b : ℕ) → seen_in new (second_wave a) (second_half a b) ≡ seen_in old (second_wave a) (second_half a b)
+      second a b = other_half old new w (2 * i) p v more (second_wave a) (second_half a b)
           (λ e. halves_apart a b i (sym e.1))
 
 -- or at the third
 pub far_arrived : (old mid new : List (Option PageContent)) (w i p v : ℕ) → OneMore old mid w (2 * i) p v
-    → OneMore mid new (w / 16) (second_half w i) 0 v → 1 < p
+    → OneMore mid new (second_wave w) (second_half w i) 0 v → 1 < p
     → (a b : ℕ) → arrived_in new a b ≡ cond (same_key w i a b) (Some (with_port (arrived_in old w i) p v))
     (arrived_in old a b)
 unfolding arrived_in
 far_arrived old mid new w i p v more last lt = by_key (arrived_in new) (arrived_in old) w i
     (Some (with_port (arrived_in old w i) p v)) (
-      ap (λ o. whole o (first_of (seen_in new (w / 16) (second_half w i))))
+      ap (λ o. whole o (first_of (seen_in new (second_wave w) (second_half w i))))
       (first w i ∙ own_half old mid w (2 * i) p v more)
       ∙ ap (λ t. whole (Some (with_half (seen_in old w (2 * i)) p v)) t)
-      (ap first_of (own_half mid new (w / 16) (second_half w i) 0 v last)
-      ∙ first_is (seen_in mid (w / 16) (second_half w i)) v)
-      ∙ far_whole (seen_in old w (2 * i)) p v (first_of (seen_in old (w / 16) (second_half w i))) lt
+      (ap first_of (own_half mid new (second_wave w) (second_half w i) 0 v last)
+      ∙ first_is (seen_in mid (second_wave w) (second_half w i)) v)
+      ∙ far_whole (seen_in old w (2 * i)) p v (first_of (seen_in old (second_wave w) (second_half w i))) lt
     ) (λ a b apart. same_halves old new a b
       (first a b ∙ other_half old mid w (2 * i) p v more a (2 * b)
       (λ e. let o = e.1 in apart (e.0, omega (arith, o))))
-      (other_half mid new (w / 16) (second_half w i) 0 v last (a / 16) (second_half a b)
+      (other_half mid new (second_wave w) (second_half w i) 0 v last (second_wave a) (second_half a b)
       (λ e. apart (own_second w i a b e.0 e.1))
-      ∙ other_half old mid w (2 * i) p v more (a / 16) (second_half a b)
+      ∙ other_half old mid w (2 * i) p v more (second_wave a) (second_half a b)
       (λ e. halves_apart a b i (sym e.1))))
     where
       first : (a b : ℕ) → seen_in new a (2 * b) ≡ seen_in mid a (2 * b)
-      first a b = other_half mid new (w / 16) (second_half w i) 0 v last a (2 * b)
+      first a b = other_half mid new (second_wave w) (second_half w i) 0 v last a (2 * b)
           (λ e. halves_apart w i b e.1)
 
 -- nothing has come where there is no page
@@ -122,14 +122,14 @@ nothing_in w i = refl
 pub none_whole : (slots : List (Option PageContent)) (w i : ℕ) → None ≡ seen_in slots w (2 * i)
     → None ≡ arrived_in slots w i
 unfolding arrived_in
-none_whole slots w i none = ap (λ o. whole o (first_of (seen_in slots (w / 16) (second_half w i)))) none
+none_whole slots w i none = ap (λ o. whole o (first_of (seen_in slots (second_wave w) (second_half w i)))) none
 
 -- what has come to an instance whose first half has this, and that has this third value
 pub whole_is : (slots : List (Option PageContent)) (w i : ℕ) (o : Option Half) (h : Half) (t : ℕ) → o ≡ Some h
     → o ≡ seen_in slots w (2 * i)
-    → t ≡ cond h.had.third (first_of (seen_in slots (w / 16) (second_half w i))) 0
+    → t ≡ cond h.had.third (first_of (seen_in slots (second_wave w) (second_half w i))) 0
     → Some (record { had = h.had; first = h.first; second = h.second; third = t }) ≡ arrived_in slots w i
 unfolding arrived_in
 whole_is slots w i o h t is has third =
     ap (λ n. Some (record { had = h.had; first = h.first; second = h.second; third = n })) third
-    ∙ ap (λ x. whole x (first_of (seen_in slots (w / 16) (second_half w i)))) (sym is ∙ has)
+    ∙ ap (λ x. whole x (first_of (seen_in slots (second_wave w) (second_half w i)))) (sym is ∙ has)

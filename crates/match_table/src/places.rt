@@ -3,7 +3,8 @@
 ghost use Rattle.std.specs.Prelude.{◌≡◌, ◌+◌, ◌*◌, ◌<◌, ◌≤◌, ◌%◌, ◌^◌, ℕ, true, false, length};
 ghost use Rattle.std.specs.Prelude.{slice_index_or, vec_capacity, vec_len, IfSome};
 ghost use Rattle.std.specs.List.{insert};
-ghost use Rattle.match_table.specs.Pages.{IsFirstFrom, ListedAs, name_for, rank, RisingPages, second_half};
+ghost use Rattle.match_table.specs.Pages.{IsFirstFrom, ListedAs, name_for, rank, RisingPages};
+ghost use Rattle.match_table.specs.Pages.{second_half, second_wave};
 
 use crate::entry::{PageKey, PageName};
 
@@ -14,6 +15,14 @@ pub(crate) fn first_half(instr: u32) -> u64
     ensures below { result < 2 ^ 38 }
 {
     2 * u64::from(instr)
+}
+
+// The wave number under which an instance's second half stands.
+#[inline(always)]
+pub(crate) fn second_wave(wave: u64) -> u64
+    ensures { result ≡ second_wave wave }
+{
+    64 * (wave / 64) + wave / 16 % 4
 }
 
 // The number of an instance's second half.
