@@ -18,7 +18,7 @@ impl<'i> Program<'i> {
     /// The program of an image.
     pub fn of(alloc: Global, image: &'i Image) -> Result<Program<'i>, NoMemory>
         requires few { length image.now.blocks.items < 2 ^ 32 - 1 }
-        ensures image { IfOk result (λ program. program.image.now ≡ image.now) }
+        ensures image { IfOk result (λ program. image_of program ≡ view.image image.now) }
     {
         let mut spots = Vec::new(alloc);
         let mut number = 0u32;

@@ -15,7 +15,7 @@ pub struct PlacedInstr<'i> {
 /// An image, with its instructions in order.
 #[derive(Drop)]
 pub struct Program<'i> {
-    pub image: &'i Image,
+    pub(crate) image: &'i Image,
     pub(crate) places: Vec<PlacedInstr<'i>>,
     pub(crate) ghost listed: { PlacesAre (view.image image.now) places.items },
 }

@@ -1,4 +1,4 @@
-use Rattle.std.proofs.Common.{◌≡◌, sym, ap, subst, ◌∙◌, arith}
+use Rattle.std.proofs.Common.{◌≡◌, sym, subst, ◌∙◌, arith}
 use Rattle.ws_words.specs.Plain.{world_of}
 use Rattle.ws_isa.specs.Image as plain
 use Rattle.ws_isa.specs.View as view
@@ -21,7 +21,7 @@ of-requires c =
 
 pub run_on-requires-clause-fired : goal.run_on-requires-clause-fired
 run_on-requires-clause-fired c =
-    let e : image_of c.in_ok-program.program ≡ c.args.image.now = ap view.image c.in_ok-program.ensures.image
+    let e : image_of c.in_ok-program.program ≡ c.args.image.now = c.in_ok-program.ensures.image
     ∙ c.image.ensures.image in
     let formed : Formed (image_of c.in_ok-program.program) = subst Formed (sym e) c.image.ensures.formed in
     let sound : Sound (image_of c.in_ok-program.program) = subst Sound (sym e) c.image.ensures.sound in
@@ -31,7 +31,7 @@ run_on-requires-clause-fired c =
 
 pub returns : goal.returns
 returns c =
-    let e : image_of c.in_ok-program.program ≡ c.args.image.now = ap view.image c.in_ok-program.ensures.image
+    let e : image_of c.in_ok-program.program ≡ c.args.image.now = c.in_ok-program.ensures.image
     ∙ c.image.ensures.image in
     let formed : Formed (image_of c.in_ok-program.program) = subst Formed (sym e) c.image.ensures.formed in
     let sound : Sound (image_of c.in_ok-program.program) = subst Sound (sym e) c.image.ensures.sound in
