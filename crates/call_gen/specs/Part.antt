@@ -6,6 +6,7 @@ use Rattle.std.specs.List.{AllByRecursion}
 use Rattle.cfg_core.specs.Graph.{Exit, Goto, Branch, Call, Return, Send, Stop, Block, GraphProc, Graph, spots}
 use Rattle.cfg_core.specs.Graph.{block_at, entry_of}
 use Rattle.cfg_core.specs.Rules.{Leads}
+use Rattle.cfg_core.specs.Tables.{graph_in}
 use Rattle.cfg_core.specs.View as view
 use Rattle.call_gen.specs.Reached.{Enters, Reached}
 use Rattle.call_gen.specs.declared.part.Part.{Part}
@@ -104,9 +105,9 @@ pub record Finding (g : Graph) (flags : List Bool) (waits : List ℕ) : Type 0 w
 
 -- the numbers that the part is made from
 pub record PartIs (part : Part) : Type 0 where
-  pub count : length part.flags.items ≡ length (spots (view.graph part.table.graph.now))
+  pub count : length part.flags.items ≡ length (spots (view.graph (graph_in part.table)))
   pub places : (b : ℕ) → b < length part.flags.items
       → slice_index part.places.items b ≡ before (flag_at part.flags.items) b
-  pub numbers : (f : ℕ) → f < length (view.graph part.table.graph.now).procs
-      → slice_index part.numbers.items f ≡ number (view.graph part.table.graph.now)
+  pub numbers : (f : ℕ) → f < length (view.graph (graph_in part.table)).procs
+      → slice_index part.numbers.items f ≡ number (view.graph (graph_in part.table))
       (flag_at part.flags.items) f

@@ -3,6 +3,7 @@
 use Rattle.std.specs.Prelude.{◌≡◌, ℕ, ◌+◌, ◌*◌, ◌<◌, ◌^◌, true, false, List, length, map, slice_index}
 use Rattle.std.specs.Prelude.{slice_index_or}
 use Rattle.cfg_core.specs.Graph.{Graph, spots, block_at}
+use Rattle.cfg_core.specs.Tables.{graph_in}
 use Rattle.cfg_core.specs.View as view
 use Rattle.call_gen.specs.Spelled.{callee_is, is_called, moved, address, first_cell, cells_in_all}
 use Rattle.call_gen.specs.declared.plan.CallPlan.{CallPlan}
@@ -22,16 +23,16 @@ abbrev pub CallPlaced : Graph → ℕ → ℕ → Type 0
 CallPlaced g b n = (f : ℕ) → f < length g.procs → callee_is (block_at g b).exit f ≡ true → n ≡ address g f b
 
 pub record PlanIs (plan : CallPlan) : Type 0 where
-  pub few : Few (view.graph plan.table.graph.now)
-  pub homes : plan.homes.items ≡ map (λ s. s.home) (spots (view.graph plan.table.graph.now))
-  pub count : length plan.places.items ≡ length (spots (view.graph plan.table.graph.now))
-  pub places : (b : ℕ) → b < length (spots (view.graph plan.table.graph.now))
-      → slice_index plan.places.items b ≡ moved (view.graph plan.table.graph.now) b
-  pub addresses : (b : ℕ) → b < length (spots (view.graph plan.table.graph.now))
-      → CallPlaced (view.graph plan.table.graph.now) b (slice_index plan.addresses.items b)
-  pub called : (f : ℕ) → f < length (view.graph plan.table.graph.now).procs
-      → slice_index_or plan.called.items f false ≡ is_called (view.graph plan.table.graph.now) f
-  pub cells : (f : ℕ) → f < length (view.graph plan.table.graph.now).procs
-      → slice_index plan.cells.items f ≡ first_cell (view.graph plan.table.graph.now) f
-  pub total : plan.total ≡ cells_in_all (view.graph plan.table.graph.now)
+  pub few : Few (view.graph (graph_in plan.table))
+  pub homes : plan.homes.items ≡ map (λ s. s.home) (spots (view.graph (graph_in plan.table)))
+  pub count : length plan.places.items ≡ length (spots (view.graph (graph_in plan.table)))
+  pub places : (b : ℕ) → b < length (spots (view.graph (graph_in plan.table)))
+      → slice_index plan.places.items b ≡ moved (view.graph (graph_in plan.table)) b
+  pub addresses : (b : ℕ) → b < length (spots (view.graph (graph_in plan.table)))
+      → CallPlaced (view.graph (graph_in plan.table)) b (slice_index plan.addresses.items b)
+  pub called : (f : ℕ) → f < length (view.graph (graph_in plan.table)).procs
+      → slice_index_or plan.called.items f false ≡ is_called (view.graph (graph_in plan.table)) f
+  pub cells : (f : ℕ) → f < length (view.graph (graph_in plan.table)).procs
+      → slice_index plan.cells.items f ≡ first_cell (view.graph (graph_in plan.table)) f
+  pub total : plan.total ≡ cells_in_all (view.graph (graph_in plan.table))
   pub some : plan.total < 2 ^ 32

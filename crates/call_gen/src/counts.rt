@@ -1,6 +1,7 @@
 //! Calls of a graph, counted.
 
 ghost use Rattle.std.specs.Prelude.{◌≡◌, ◌+◌, ◌≤◌, ◌&&◌, ◌||◌, ◌==◌, if◌then◌else◌, map, take, length, IfOk};
+ghost use Rattle.cfg_core.specs.Tables.{graph_in};
 ghost use Rattle.cfg_core.specs.Graph.{spots, spot_at, block_at};
 ghost use Rattle.cfg_core.specs.Rules.{calls};
 ghost use Rattle.cfg_core.specs.View as view;
@@ -30,7 +31,7 @@ fn calls_to(exit: &Leave, f: u32) -> bool
 
 /// Whether the block with this number calls.
 pub(crate) fn calls_at(table: &GraphTable<'_>, b: usize) -> bool
-    ensures { result ≡ calls (block_at (view.graph table.now.graph.now) b).exit }
+    ensures { result ≡ calls (block_at (view.graph (graph_in table.now)) b).exit }
 {
     match table.spot(b) {
         Some(spot) => calls(&spot.block.exit),
@@ -40,7 +41,7 @@ pub(crate) fn calls_at(table: &GraphTable<'_>, b: usize) -> bool
 
 /// Whether the block with this number calls this procedure.
 pub(crate) fn calls_to_at(table: &GraphTable<'_>, b: usize, f: u32) -> bool
-    ensures { result ≡ callee_is (block_at (view.graph table.now.graph.now) b).exit f }
+    ensures { result ≡ callee_is (block_at (view.graph (graph_in table.now)) b).exit f }
 {
     match table.spot(b) {
         Some(spot) => calls_to(&spot.block.exit, f),
@@ -59,7 +60,7 @@ fn callee(exit: &Leave) -> Option<u32>
 
 /// The procedure that the block with this number calls.
 pub(crate) fn callee_at(table: &GraphTable<'_>, b: usize) -> Option<u32>
-    ensures { result ≡ callee (block_at (view.graph table.now.graph.now) b).exit }
+    ensures { result ≡ callee (block_at (view.graph (graph_in table.now)) b).exit }
 {
     match table.spot(b) {
         Some(spot) => callee(&spot.block.exit),
@@ -69,8 +70,8 @@ pub(crate) fn callee_at(table: &GraphTable<'_>, b: usize) -> Option<u32>
 
 /// How many of the first so many blocks call this procedure.
 pub(crate) fn calls_before(table: &GraphTable<'_>, count: usize, f: u32) -> usize
-    requires { count ≤ length (spots (view.graph table.now.graph.now)) }
-    ensures count { result ≡ address (view.graph table.now.graph.now) f count }
+    requires { count ≤ length (spots (view.graph (graph_in table.now))) }
+    ensures count { result ≡ address (view.graph (graph_in table.now)) f count }
     ensures few { result ≤ count }
 {
     let mut found = 0;
@@ -82,15 +83,15 @@ pub(crate) fn calls_before(table: &GraphTable<'_>, count: usize, f: u32) -> usiz
 
 /// Whether some block calls this procedure.
 pub(crate) fn is_called(table: &GraphTable<'_>, f: u32) -> bool
-    ensures { result ≡ is_called (view.graph table.now.graph.now) f }
+    ensures { result ≡ is_called (view.graph (graph_in table.now)) f }
 {
     calls_before(table, table.block_count(), f) > 0
 }
 
 /// Whether some block of this procedure calls.
 pub(crate) fn is_calling(table: &GraphTable<'_>, homes: &[u32], f: u32) -> bool
-    requires { homes.now ≡ map (λ s. s.home) (spots (view.graph table.now.graph.now)) }
-    ensures { result ≡ is_calling (view.graph table.now.graph.now) f }
+    requires { homes.now ≡ map (λ s. s.home) (spots (view.graph (graph_in table.now))) }
+    ensures { result ≡ is_calling (view.graph (graph_in table.now)) f }
 {
     let mut found = false;
     for (b, home) in homes.iter().enumerate() {
@@ -102,7 +103,7 @@ pub(crate) fn is_calling(table: &GraphTable<'_>, homes: &[u32], f: u32) -> bool
 // Whether the block with this number, which stands in procedure `home`, calls and is one of
 // procedure f.
 fn calls_in(table: &GraphTable<'_>, b: usize, home: u32, f: u32) -> bool
-    ensures { result ≡ ((home == f) && calls (block_at (view.graph table.now.graph.now) b).exit) }
+    ensures { result ≡ ((home == f) && calls (block_at (view.graph (graph_in table.now)) b).exit) }
 {
     home == f && calls_at(table, b)
 }

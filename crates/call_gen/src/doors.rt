@@ -2,6 +2,7 @@
 
 ghost use Rattle.std.specs.Prelude.{◌≡◌, ◌+◌, ◌++◌, ◌∷◌, [], ◌<◌, if◌then◌else◌, map, length, IfOk, OnOk};
 ghost use Rattle.std.specs.List.{filter};
+ghost use Rattle.cfg_core.specs.Tables.{graph_in};
 ghost use Rattle.cfg_core.specs.Graph as plain;
 ghost use Rattle.cfg_core.specs.Graph.{entry_of};
 ghost use Rattle.cfg_core.specs.Rules.{IsGraph};
@@ -24,9 +25,9 @@ impl<'a> CallPlan<'a> {
         vars: u32,
     ) -> Result<GraphBlock, NoMemory>
         requires plan { PlanIs self.now }
-        requires rules { IsGraph (view.graph self.now.table.graph.now) }
-        requires there { f < length (view.graph self.now.table.graph.now).procs }
-        ensures { let g = view.graph self.now.table.graph.now in IfOk result (λ made.
+        requires rules { IsGraph (view.graph (graph_in self.now.table)) }
+        requires there { f < length (view.graph (graph_in self.now.table)).procs }
+        ensures { let g = view.graph (graph_in self.now.table) in IfOk result (λ made.
             view.block made ≡ record {
               named = (if spelled.is_called g f then spelled.below
                   params ++ vars ∷ [] else []);
@@ -54,9 +55,9 @@ impl<'a> CallPlan<'a> {
         vars: u32,
     ) -> Result<Vec<u32>, NoMemory>
         requires plan { PlanIs self.now }
-        requires there { f < length (view.graph self.now.table.graph.now).procs }
+        requires there { f < length (view.graph (graph_in self.now.table)).procs }
         ensures { IfOk result (λ names. names.items ≡
-            (if spelled.is_called (view.graph self.now.table.graph.now) f then spelled.below
+            (if spelled.is_called (view.graph (graph_in self.now.table)) f then spelled.below
             params ++ vars ∷ [] else [])) }
     {
         if !self.is_called(f) {
@@ -76,10 +77,10 @@ impl<'a> CallPlan<'a> {
         vars: u32,
     ) -> Result<GraphOps, NoMemory>
         requires plan { PlanIs self.now }
-        requires there { f < length (view.graph self.now.table.graph.now).procs }
-        requires entry { entry ≡ entry_of (view.graph self.now.table.graph.now) f }
+        requires there { f < length (view.graph (graph_in self.now.table)).procs }
+        requires entry { entry ≡ entry_of (view.graph (graph_in self.now.table)) f }
         ensures { IfOk result (λ ops. map view.op ops.items ≡
-            map spelled.clear (filter (spelled.is_unset (view.graph self.now.table.graph.now)
+            map spelled.clear (filter (spelled.is_unset (view.graph (graph_in self.now.table))
             self.now.live.now f params) (spelled.below vars))) }
     {
         let mut ops = Vec::new(alloc);
@@ -93,9 +94,9 @@ impl<'a> CallPlan<'a> {
     // Whether the variable is live at the start of a procedure and no call gives it.
     fn is_unset(&self, f: u32, entry: u32, params: u32, x: u32) -> bool
         requires plan { PlanIs self.now }
-        requires there { f < length (view.graph self.now.table.graph.now).procs }
-        requires entry { entry ≡ entry_of (view.graph self.now.table.graph.now) f }
-        ensures { result ≡ spelled.is_unset (view.graph self.now.table.graph.now) self.now.live.now
+        requires there { f < length (view.graph (graph_in self.now.table)).procs }
+        requires entry { entry ≡ entry_of (view.graph (graph_in self.now.table)) f }
+        ensures { result ≡ spelled.is_unset (view.graph (graph_in self.now.table)) self.now.live.now
             f params x }
     {
         self.live.has(entry, x) && (!self.is_called(f) || x >= params)

@@ -1,6 +1,7 @@
 //! The blocks that a walk may come to, found from main's first block on.
 
 ghost use Rattle.std.specs.Prelude.{◌≡◌, ◌<◌, length, IfOk, OnOk};
+ghost use Rattle.cfg_core.specs.Tables.{graph_in};
 ghost use Rattle.cfg_core.specs.Graph.{block_at};
 ghost use Rattle.cfg_core.specs.Rules.{IsGraph};
 ghost use Rattle.cfg_core.specs.View as view;
@@ -35,7 +36,8 @@ impl Finder {
     // Flags the blocks that an exit leads to.
     fn leave(&mut self, table: &GraphTable<'_>, exit: &Leave) -> Result<(), NoMemory>
         requires { NoSend (view.exit exit.now) }
-        ensures { OnOk result (FlagsMore (LeadsOrEnters (view.graph table.now.graph.now) (view.exit exit.now))
+        ensures { OnOk result (FlagsMore
+            (LeadsOrEnters (view.graph (graph_in table.now)) (view.exit exit.now))
             self.old.flags.items self.new.flags.items
             self.old.waits.items self.new.waits.items) }
     {
@@ -57,8 +59,8 @@ impl Finder {
 
     // Flags the blocks that block b leads to.
     fn look(&mut self, table: &GraphTable<'_>, b: usize) -> Result<(), NoMemory>
-        requires { HasNoSend (view.graph table.now.graph.now) }
-        ensures { let g = view.graph table.now.graph.now in
+        requires { HasNoSend (view.graph (graph_in table.now)) }
+        ensures { let g = view.graph (graph_in table.now) in
             OnOk result (FlagsMore (LeadsOrEnters g (block_at g b).exit)
             self.old.flags.items self.new.flags.items
             self.old.waits.items self.new.waits.items) }
@@ -72,9 +74,9 @@ impl Finder {
 
 /// Flags of the reached blocks.
 pub(crate) fn find(alloc: Global, table: &GraphTable<'_>) -> Result<Vec<bool>, NoMemory>
-    requires rules { IsGraph (view.graph table.now.graph.now) }
-    requires no_send { HasNoSend (view.graph table.now.graph.now) }
-    ensures { IfOk result (λ flags. AreReached (view.graph table.now.graph.now) flags.items) }
+    requires rules { IsGraph (view.graph (graph_in table.now)) }
+    requires no_send { HasNoSend (view.graph (graph_in table.now)) }
+    ensures { IfOk result (λ flags. AreReached (view.graph (graph_in table.now)) flags.items) }
 {
     let mut finder = Finder {
         flags: vec![in alloc; false; table.block_count()]?,

@@ -3,6 +3,7 @@
 ghost use Rattle.std.specs.Prelude.{◌≡◌, ◌+◌, ◌++◌, ◌∷◌, [], ◌<◌, ◌≤◌, ◌^◌, ℕ, suc, min, map, length, IfOk};
 ghost use Rattle.std.specs.Prelude.{OnOk};
 ghost use Rattle.std.specs.List.{AllByRecursion};
+ghost use Rattle.cfg_core.specs.Tables.{graph_in};
 ghost use Rattle.cfg_core.specs.Graph as plain;
 ghost use Rattle.cfg_core.specs.Graph.{spots, spots_in, block_at};
 ghost use Rattle.cfg_core.specs.Rules.{IsGraph, BlockNumbers};
@@ -37,13 +38,13 @@ fn add_block(
     block: &GraphBlock,
 ) -> Result<(), NoMemory>
     requires plan { PlanIs plan.now }
-    requires rules { IsGraph (view.graph plan.now.table.graph.now) }
-    requires there { home < length (view.graph plan.now.table.graph.now).procs }
+    requires rules { IsGraph (view.graph (graph_in plan.now.table)) }
+    requires there { home < length (view.graph (graph_in plan.now.table)).procs }
     requires few { vars + 1 < 2 ^ 32 }
-    requires block { b < length (spots (view.graph plan.now.table.graph.now)) }
-    requires numbers { BlockNumbers (view.graph plan.now.table.graph.now)
+    requires block { b < length (spots (view.graph (graph_in plan.now.table))) }
+    requires numbers { BlockNumbers (view.graph (graph_in plan.now.table))
         (record { home = home; vars = vars; block = view.block block.now }) }
-    ensures { let g = view.graph plan.now.table.graph.now in
+    ensures { let g = view.graph (graph_in plan.now.table) in
         OnOk result (map view.block blocks.new.items ≡
         map view.block blocks.old.items ++ (spelled.spelled_block g plan.now.live.now home vars b
         (view.block block.now) ∷ spelled.after g plan.now.live.now home vars
@@ -67,14 +68,14 @@ fn spelled_proc(
     proc: &GraphProc,
 ) -> Result<GraphProc, NoMemory>
     requires plan { PlanIs plan.now }
-    requires rules { IsGraph (view.graph plan.now.table.graph.now) }
-    requires there { f < length (view.graph plan.now.table.graph.now).procs }
+    requires rules { IsGraph (view.graph (graph_in plan.now.table)) }
+    requires there { f < length (view.graph (graph_in plan.now.table)).procs }
     requires blocks { first + length proc.now.blocks.items ≤ length
-        (spots (view.graph plan.now.table.graph.now)) }
-    requires numbers { AllByRecursion (BlockNumbers (view.graph plan.now.table.graph.now))
+        (spots (view.graph (graph_in plan.now.table))) }
+    requires numbers { AllByRecursion (BlockNumbers (view.graph (graph_in plan.now.table)))
         (spots_in f proc.now.vars (map view.block proc.now.blocks.items)) }
     ensures { IfOk result (λ made. view.proc made ≡
-        spelled.spelled_proc (view.graph plan.now.table.graph.now) plan.now.live.now f first
+        spelled.spelled_proc (view.graph (graph_in plan.now.table)) plan.now.live.now f first
         (view.proc proc.now)) }
 {
     let vars = proc.vars;
@@ -95,14 +96,14 @@ fn spelled_proc(
 
 fn spelled_procs(alloc: Global, plan: &CallPlan<'_>) -> Result<GraphProcs, NoMemory>
     requires plan { PlanIs plan.now }
-    requires rules { IsGraph (view.graph plan.now.table.graph.now) }
+    requires rules { IsGraph (view.graph (graph_in plan.now.table)) }
     ensures { IfOk result (λ procs. map view.proc procs.items ≡
-        spelled.spelled_procs (view.graph plan.now.table.graph.now) plan.now.live.now 0 0
-        (view.graph plan.now.table.graph.now).procs) }
+        spelled.spelled_procs (view.graph (graph_in plan.now.table)) plan.now.live.now 0 0
+        (view.graph (graph_in plan.now.table)).procs) }
 {
     let mut procs = Vec::new(alloc);
     let mut first = 0;
-    for (f, proc) in plan.table.graph.procs.iter().enumerate() {
+    for (f, proc) in plan.table.graph().procs.iter().enumerate() {
         procs.push(spelled_proc(alloc, plan, f as u32, first, proc)?)?;
         first += proc.blocks.len() as u32;
     }
@@ -114,7 +115,7 @@ fn add_hidden(plan: &CallPlan<'_>, arrays: &mut GraphArrays) -> Result<(), NoMem
     requires { PlanIs plan.now }
     ensures { OnOk result (map view.array arrays.new.items ≡
         map view.array arrays.old.items ++ spelled.hidden_arrays
-        (view.graph plan.now.table.graph.now)) }
+        (view.graph (graph_in plan.now.table))) }
 {
     for _ in 0..rows(plan.total) {
         arrays.push(GraphArray {
@@ -137,11 +138,11 @@ fn rows(total: u64) -> u64
 
 fn made(alloc: Global, plan: &CallPlan<'_>) -> Result<Graph, NoMemory>
     requires plan { PlanIs plan.now }
-    requires rules { IsGraph (view.graph plan.now.table.graph.now) }
+    requires rules { IsGraph (view.graph (graph_in plan.now.table)) }
     ensures { IfOk result (λ graph. view.graph graph ≡
-        spelled.spelled (view.graph plan.now.table.graph.now) plan.now.live.now) }
+        spelled.spelled (view.graph (graph_in plan.now.table)) plan.now.live.now) }
 {
-    let mut arrays = copy_arrays(alloc, &plan.table.graph.arrays)?;
+    let mut arrays = copy_arrays(alloc, &plan.table.graph().arrays)?;
     add_hidden(plan, &mut arrays)?;
     let procs = spelled_procs(alloc, plan)?;
     Ok(Graph { arrays, procs })

@@ -2,6 +2,7 @@
 
 ghost use Rattle.std.specs.Prelude.{◌≡◌, ◌+◌, ◌<◌, ◌≤◌, ◌^◌, ℕ, map, length, slice_index, slice_index_or};
 ghost use Rattle.std.specs.Prelude.{slice_set, replicate, ◌++◌, false, IfOk, OnOk};
+ghost use Rattle.cfg_core.specs.Tables.{graph_in};
 ghost use Rattle.cfg_core.specs.Graph.{spots};
 ghost use Rattle.cfg_core.specs.View as view;
 ghost use Rattle.call_gen.specs.Spelled.{is_called, moved, first_cell, own_cells, cells_in_all};
@@ -39,13 +40,13 @@ pub(crate) fn places(
     table: &GraphTable<'_>,
     homes: &[u32],
 ) -> Result<Vec<u32>, NoMemory>
-    requires homes { homes.now ≡ map (λ s. s.home) (spots (view.graph table.now.graph.now)) }
-    requires few { Few (view.graph table.now.graph.now) }
+    requires homes { homes.now ≡ map (λ s. s.home) (spots (view.graph (graph_in table.now))) }
+    requires few { Few (view.graph (graph_in table.now)) }
     ensures count { IfOk result (λ places. length places.items ≡
-        length (spots (view.graph table.now.graph.now))) }
+        length (spots (view.graph (graph_in table.now)))) }
     ensures places { IfOk result (λ places.
-        (b : ℕ) → b < length (spots (view.graph table.now.graph.now)) → slice_index places.items b ≡
-        moved (view.graph table.now.graph.now) b) }
+        (b : ℕ) → b < length (spots (view.graph (graph_in table.now))) → slice_index places.items b ≡
+        moved (view.graph (graph_in table.now)) b) }
 {
     let mut places = Vec::new(alloc);
     let mut calls = 0;
@@ -76,11 +77,11 @@ fn tally(counts: &mut Vec<u32>, f: u32) -> u32
 // The place of block b's call among those of its callee, where the counts are those of the blocks
 // before it; then they are those of the blocks before the next one.
 fn next_place(counts: &mut Vec<u32>, table: &GraphTable<'_>, b: usize) -> u32
-    requires few { Few (view.graph table.now.graph.now) }
-    requires there { b < length (spots (view.graph table.now.graph.now)) }
-    requires counts { Tallied (view.graph table.now.graph.now) counts.old.items b }
-    ensures place { CallPlaced (view.graph table.now.graph.now) b result }
-    ensures counts { Tallied (view.graph table.now.graph.now) counts.new.items (b + 1) }
+    requires few { Few (view.graph (graph_in table.now)) }
+    requires there { b < length (spots (view.graph (graph_in table.now))) }
+    requires counts { Tallied (view.graph (graph_in table.now)) counts.old.items b }
+    ensures place { CallPlaced (view.graph (graph_in table.now)) b result }
+    ensures counts { Tallied (view.graph (graph_in table.now)) counts.new.items (b + 1) }
 {
     match callee_at(table, b) {
         Some(f) => tally(counts, f),
@@ -90,9 +91,9 @@ fn next_place(counts: &mut Vec<u32>, table: &GraphTable<'_>, b: usize) -> u32
 
 /// The place of each block's call among those of its callee.
 pub(crate) fn addresses(alloc: Global, table: &GraphTable<'_>) -> Result<Vec<u32>, NoMemory>
-    requires { Few (view.graph table.now.graph.now) }
-    ensures { IfOk result (λ list. (b : ℕ) → b < length (spots (view.graph table.now.graph.now)) →
-        CallPlaced (view.graph table.now.graph.now) b (slice_index list.items b)) }
+    requires { Few (view.graph (graph_in table.now)) }
+    ensures { IfOk result (λ list. (b : ℕ) → b < length (spots (view.graph (graph_in table.now))) →
+        CallPlaced (view.graph (graph_in table.now)) b (slice_index list.items b)) }
 {
     let mut counts = vec![in alloc; 0; table.proc_count()]?;
     let mut list = Vec::new(alloc);
@@ -104,9 +105,9 @@ pub(crate) fn addresses(alloc: Global, table: &GraphTable<'_>) -> Result<Vec<u32
 
 /// Whether each procedure is called.
 pub(crate) fn called(alloc: Global, table: &GraphTable<'_>) -> Result<Vec<bool>, NoMemory>
-    requires { Few (view.graph table.now.graph.now) }
-    ensures { IfOk result (λ flags. (f : ℕ) → f < length (view.graph table.now.graph.now).procs →
-        slice_index_or flags.items f false ≡ is_called (view.graph table.now.graph.now) f) }
+    requires { Few (view.graph (graph_in table.now)) }
+    ensures { IfOk result (λ flags. (f : ℕ) → f < length (view.graph (graph_in table.now)).procs →
+        slice_index_or flags.items f false ≡ is_called (view.graph (graph_in table.now)) f) }
 {
     let mut flags = Vec::new(alloc);
     for f in 0..table.proc_count() as u32 {
@@ -121,12 +122,12 @@ pub(crate) fn cells(
     table: &GraphTable<'_>,
     homes: &[u32],
 ) -> Result<(Vec<u64>, u64), NoMemory>
-    requires homes { homes.now ≡ map (λ s. s.home) (spots (view.graph table.now.graph.now)) }
-    requires few { Few (view.graph table.now.graph.now) }
+    requires homes { homes.now ≡ map (λ s. s.home) (spots (view.graph (graph_in table.now))) }
+    requires few { Few (view.graph (graph_in table.now)) }
     ensures cells { IfOk result (λ made.
-        (f : ℕ) → f < length (view.graph table.now.graph.now).procs → slice_index made.0.items f ≡
-        first_cell (view.graph table.now.graph.now) f) }
-    ensures total { IfOk result (λ made. made.1 ≡ cells_in_all (view.graph table.now.graph.now)) }
+        (f : ℕ) → f < length (view.graph (graph_in table.now)).procs → slice_index made.0.items f ≡
+        first_cell (view.graph (graph_in table.now)) f) }
+    ensures total { IfOk result (λ made. made.1 ≡ cells_in_all (view.graph (graph_in table.now))) }
     ensures some { IfOk result (λ made. made.1 < 2 ^ 32) }
 {
     let mut starts = Vec::new(alloc);
@@ -139,8 +140,8 @@ pub(crate) fn cells(
 }
 
 fn own(table: &GraphTable<'_>, homes: &[u32], f: u32) -> u64
-    requires { homes.now ≡ map (λ s. s.home) (spots (view.graph table.now.graph.now)) }
-    ensures cells { result ≡ own_cells (view.graph table.now.graph.now) f }
+    requires { homes.now ≡ map (λ s. s.home) (spots (view.graph (graph_in table.now))) }
+    ensures cells { result ≡ own_cells (view.graph (graph_in table.now)) f }
     ensures some { result ≤ 2 ^ 32 }
 {
     if is_calling(table, homes, f) {

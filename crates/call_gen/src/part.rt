@@ -2,6 +2,7 @@
 
 ghost use Rattle.std.specs.Prelude.{◌≡◌, ◌+◌, ◌++◌, ◌∷◌, [], ◌<◌, ◌≤◌, map, length, if◌then◌else◌, IfOk};
 ghost use Rattle.std.specs.Prelude.{OnOk};
+ghost use Rattle.cfg_core.specs.Tables.{graph_in};
 ghost use Rattle.cfg_core.specs.Graph.{spots};
 ghost use Rattle.cfg_core.specs.Rules.{IsGraph};
 ghost use Rattle.cfg_core.specs.Shape.{IsShaped, ArmsAlone};
@@ -37,7 +38,7 @@ impl<'a> Part<'a> {
     // The new number of a block.
     fn place(&self, b: u32) -> u32
         requires part { PartIs self.now }
-        requires there { b < length (spots (view.graph self.now.table.graph.now)) }
+        requires there { b < length (spots (view.graph (graph_in self.now.table))) }
         ensures { result ≡ before (flag_at self.now.flags.items) b }
     {
         number_at(&self.places, b as usize) as u32
@@ -46,8 +47,8 @@ impl<'a> Part<'a> {
     // The new number of a procedure.
     fn number(&self, f: u32) -> u32
         requires part { PartIs self.now }
-        requires there { f < length (view.graph self.now.table.graph.now).procs }
-        ensures { result ≡ number (view.graph self.now.table.graph.now)
+        requires there { f < length (view.graph (graph_in self.now.table)).procs }
+        ensures { result ≡ number (view.graph (graph_in self.now.table))
             (flag_at self.now.flags.items) f }
     {
         number_at(&self.numbers, f as usize) as u32
@@ -56,9 +57,9 @@ impl<'a> Part<'a> {
     // An exit with the new numbers.
     fn exit(&self, alloc: Global, exit: &Leave) -> Result<Leave, NoMemory>
         requires part { PartIs self.now }
-        requires there { ExitThere (view.graph self.now.table.graph.now) (view.exit exit.now) }
+        requires there { ExitThere (view.graph (graph_in self.now.table)) (view.exit exit.now) }
         ensures { IfOk result (λ made. view.exit made ≡
-            name (view.graph self.now.table.graph.now) (flag_at self.now.flags.items)
+            name (view.graph (graph_in self.now.table)) (flag_at self.now.flags.items)
             (view.exit exit.now)) }
     {
         match exit {
@@ -86,10 +87,10 @@ impl<'a> Part<'a> {
 
     fn block(&self, alloc: Global, block: &GraphBlock) -> Result<GraphBlock, NoMemory>
         requires part { PartIs self.now }
-        requires there { ExitThere (view.graph self.now.table.graph.now)
+        requires there { ExitThere (view.graph (graph_in self.now.table))
             (view.block block.now).exit }
         ensures { IfOk result (λ made. view.block made ≡
-            part_block (name (view.graph self.now.table.graph.now)
+            part_block (name (view.graph (graph_in self.now.table))
             (flag_at self.now.flags.items)) (view.block block.now)) }
     {
         let named = copy_numbers(alloc, &block.named)?;
@@ -107,10 +108,10 @@ impl<'a> Part<'a> {
         block: &GraphBlock,
     ) -> Result<(), NoMemory>
         requires part { PartIs self.now }
-        requires there { ExitThere (view.graph self.now.table.graph.now)
+        requires there { ExitThere (view.graph (graph_in self.now.table))
             (view.block block.now).exit }
         ensures { let keep = flag_at self.now.flags.items in
-            let name = name (view.graph self.now.table.graph.now) keep in
+            let name = name (view.graph (graph_in self.now.table)) keep in
             OnOk result (map view.block blocks.new.items ≡ (if keep b
             then map view.block blocks.old.items ++ part_block name (view.block block.now) ∷ []
             else map view.block blocks.old.items)) }
@@ -130,10 +131,10 @@ impl<'a> Part<'a> {
     ) -> Result<GraphBlocks, NoMemory>
         requires part { PartIs self.now }
         requires count { first + length blocks.now ≤ length self.now.flags.items }
-        requires there { BlocksThere (view.graph self.now.table.graph.now)
+        requires there { BlocksThere (view.graph (graph_in self.now.table))
             (map view.block blocks.now) }
         ensures { let keep = flag_at self.now.flags.items in
-            let name = name (view.graph self.now.table.graph.now) keep in
+            let name = name (view.graph (graph_in self.now.table)) keep in
             IfOk result (λ made. map view.block made.items ≡
             part_blocks keep name first (map view.block blocks.now)) }
     {
@@ -154,10 +155,10 @@ impl<'a> Part<'a> {
     ) -> Result<(), NoMemory>
         requires part { PartIs self.now }
         requires count { first + length proc.now.blocks.items ≤ length self.now.flags.items }
-        requires there { BlocksThere (view.graph self.now.table.graph.now)
+        requires there { BlocksThere (view.graph (graph_in self.now.table))
             (map view.block proc.now.blocks.items) }
         ensures { let keep = flag_at self.now.flags.items in
-            let name = name (view.graph self.now.table.graph.now) keep in
+            let name = name (view.graph (graph_in self.now.table)) keep in
             OnOk result (map view.proc procs.new.items ≡ (if keep first
             then map view.proc procs.old.items ++
             part_proc keep name first (view.proc proc.now) ∷ []
@@ -176,15 +177,15 @@ impl<'a> Part<'a> {
 
     fn procs(&self, alloc: Global) -> Result<GraphProcs, NoMemory>
         requires part { PartIs self.now }
-        requires rules { IsGraph (view.graph self.now.table.graph.now) }
+        requires rules { IsGraph (view.graph (graph_in self.now.table)) }
         ensures { let keep = flag_at self.now.flags.items in
-            let g = view.graph self.now.table.graph.now in
+            let g = view.graph (graph_in self.now.table) in
             IfOk result (λ made. map view.proc made.items ≡
             part_procs keep (name g keep) 0 g.procs) }
     {
         let mut procs = Vec::new(alloc);
         let mut first = 0;
-        for proc in &self.table.graph.procs {
+        for proc in &self.table.graph().procs {
             self.add_proc(alloc, &mut procs, first, proc)?;
             first += proc.blocks.len();
         }
@@ -193,11 +194,11 @@ impl<'a> Part<'a> {
 
     fn graph(&self, alloc: Global) -> Result<Graph, NoMemory>
         requires part { PartIs self.now }
-        requires rules { IsGraph (view.graph self.now.table.graph.now) }
+        requires rules { IsGraph (view.graph (graph_in self.now.table)) }
         ensures { IfOk result (λ made. view.graph made ≡
-            part (view.graph self.now.table.graph.now) (flag_at self.now.flags.items)) }
+            part (view.graph (graph_in self.now.table)) (flag_at self.now.flags.items)) }
     {
-        let arrays = copy_arrays(alloc, &self.table.graph.arrays)?;
+        let arrays = copy_arrays(alloc, &self.table.graph().arrays)?;
         let procs = self.procs(alloc)?;
         Ok(Graph { arrays, procs })
     }

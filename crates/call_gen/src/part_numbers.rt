@@ -1,6 +1,7 @@
 //! The new numbers of the blocks and procedures that are kept.
 
 ghost use Rattle.std.specs.Prelude.{◌≡◌, ◌+◌, ◌<◌, ℕ, length, slice_index, IfOk};
+ghost use Rattle.cfg_core.specs.Tables.{graph_in};
 ghost use Rattle.cfg_core.specs.View as view;
 ghost use Rattle.call_gen.specs.Part.{before, number};
 ghost use Rattle.ws_words.specs.Items.{flag_at};
@@ -44,9 +45,9 @@ pub(crate) fn numbers(
     flags: &[bool],
 ) -> Result<Vec<usize>, NoMemory>
     ensures { IfOk result (λ numbers. (f : ℕ) →
-        f < length (view.graph table.now.graph.now).procs →
+        f < length (view.graph (graph_in table.now)).procs →
         slice_index numbers.items f ≡
-        number (view.graph table.now.graph.now) (flag_at flags.now) f) }
+        number (view.graph (graph_in table.now)) (flag_at flags.now) f) }
 {
     let mut numbers = Vec::new(alloc);
     let mut count = 0;

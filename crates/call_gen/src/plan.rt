@@ -2,6 +2,7 @@
 
 ghost use Rattle.std.specs.Prelude.{◌≡◌, ◌+◌, ◌<◌, IsTrue, length, ◌++◌, ◌∷◌, [], if◌then◌else◌, false, IfOk};
 ghost use Rattle.std.specs.Prelude.{OnOk};
+ghost use Rattle.cfg_core.specs.Tables.{graph_in};
 ghost use Rattle.cfg_core.specs.Graph.{spots};
 ghost use Rattle.cfg_core.specs.Rules.{IsGraph};
 ghost use Rattle.cfg_core.specs.View as view;
@@ -44,7 +45,7 @@ pub(crate) struct CellPlace {
 }
 
 fn is_few(table: &GraphTable<'_>) -> bool
-    ensures { IsTrue result → Few (view.graph table.now.graph.now) }
+    ensures { IsTrue result → Few (view.graph (graph_in table.now)) }
 {
     if table.block_count() >= MOST {
         return false;
@@ -52,7 +53,7 @@ fn is_few(table: &GraphTable<'_>) -> bool
     if table.proc_count() >= MOST {
         return false;
     }
-    table.graph.arrays.len() < MOST
+    table.graph().arrays.len() < MOST
 }
 
 impl<'a> CallPlan<'a> {
@@ -63,7 +64,7 @@ impl<'a> CallPlan<'a> {
         graph: &'a Graph,
         live: &'a LiveSets,
     ) -> Result<CallPlan<'a>, NoMemory>
-        ensures graph { IfOk result (λ plan. plan.table.graph.now ≡ graph.now) }
+        ensures graph { IfOk result (λ plan. graph_in plan.table ≡ graph.now) }
         ensures live { IfOk result (λ plan. plan.live.now ≡ live.now) }
         ensures plan { IfOk result (λ plan. PlanIs plan) }
     {
@@ -91,8 +92,8 @@ impl<'a> CallPlan<'a> {
     /// The new number of a block.
     pub(crate) fn place(&self, b: u32) -> u32
         requires plan { PlanIs self.now }
-        requires there { b < length (spots (view.graph self.now.table.graph.now)) }
-        ensures { result ≡ moved (view.graph self.now.table.graph.now) b }
+        requires there { b < length (spots (view.graph (graph_in self.now.table))) }
+        ensures { result ≡ moved (view.graph (graph_in self.now.table)) b }
     {
         self.places.get(b as usize).copied().unwrap_or(0)
     }
@@ -100,9 +101,9 @@ impl<'a> CallPlan<'a> {
     /// The number of a procedure's door.
     pub(crate) fn door(&self, f: u32) -> u32
         requires plan { PlanIs self.now }
-        requires rules { IsGraph (view.graph self.now.table.graph.now) }
-        requires there { f < length (view.graph self.now.table.graph.now).procs }
-        ensures { result ≡ door (view.graph self.now.table.graph.now) f }
+        requires rules { IsGraph (view.graph (graph_in self.now.table)) }
+        requires there { f < length (view.graph (graph_in self.now.table)).procs }
+        ensures { result ≡ door (view.graph (graph_in self.now.table)) f }
     {
         let entry = self.table.room(f as usize).entry;
         self.place(entry as u32) - 1
@@ -111,8 +112,8 @@ impl<'a> CallPlan<'a> {
     /// Whether a procedure is called.
     pub(crate) fn is_called(&self, f: u32) -> bool
         requires plan { PlanIs self.now }
-        requires there { f < length (view.graph self.now.table.graph.now).procs }
-        ensures { result ≡ is_called (view.graph self.now.table.graph.now) f }
+        requires there { f < length (view.graph (graph_in self.now.table)).procs }
+        ensures { result ≡ is_called (view.graph (graph_in self.now.table)) f }
     {
         self.called.get(f as usize).copied().unwrap_or(false)
     }
@@ -121,9 +122,9 @@ impl<'a> CallPlan<'a> {
     /// does too.
     pub(crate) fn address(&self, b: u32, f: u32) -> u32
         requires plan { PlanIs self.now }
-        requires block { b < length (spots (view.graph self.now.table.graph.now)) }
-        requires there { f < length (view.graph self.now.table.graph.now).procs }
-        ensures { result ≡ address (view.graph self.now.table.graph.now) f b }
+        requires block { b < length (spots (view.graph (graph_in self.now.table))) }
+        requires there { f < length (view.graph (graph_in self.now.table)).procs }
+        ensures { result ≡ address (view.graph (graph_in self.now.table)) f b }
     {
         if calls_to_at(&self.table, b as usize, f) {
             self.addresses.get(b as usize).copied().unwrap_or(0)
@@ -134,8 +135,8 @@ impl<'a> CallPlan<'a> {
 
     fn first_cell(&self, home: u32) -> u64
         requires plan { PlanIs self.now }
-        requires there { home < length (view.graph self.now.table.graph.now).procs }
-        ensures { result ≡ first_cell (view.graph self.now.table.graph.now) home }
+        requires there { home < length (view.graph (graph_in self.now.table)).procs }
+        ensures { result ≡ first_cell (view.graph (graph_in self.now.table)) home }
     {
         self.cells.get(home as usize).copied().unwrap_or(0)
     }
@@ -143,15 +144,15 @@ impl<'a> CallPlan<'a> {
     /// The hidden cell of a variable.
     pub(crate) fn cell(&self, home: u32, x: u32) -> CellPlace
         requires plan { PlanIs self.now }
-        requires there { home < length (view.graph self.now.table.graph.now).procs }
-        ensures array { result.array ≡ array_of (view.graph self.now.table.graph.now)
-            (cell (view.graph self.now.table.graph.now) home x) }
-        ensures index { result.index ≡ index_of (cell (view.graph self.now.table.graph.now) home
+        requires there { home < length (view.graph (graph_in self.now.table)).procs }
+        ensures array { result.array ≡ array_of (view.graph (graph_in self.now.table))
+            (cell (view.graph (graph_in self.now.table)) home x) }
+        ensures index { result.index ≡ index_of (cell (view.graph (graph_in self.now.table)) home
             x) }
     {
         let number = self.first_cell(home) + u64::from(x);
         CellPlace {
-            array: self.table.graph.arrays.len() as u32 + (number % HIDDEN_ARRAYS) as u32 + 1,
+            array: self.table.graph().arrays.len() as u32 + (number % HIDDEN_ARRAYS) as u32 + 1,
             index: number / HIDDEN_ARRAYS,
         }
     }
@@ -160,7 +161,7 @@ impl<'a> CallPlan<'a> {
     pub(crate) fn landings(&self, alloc: Global, f: u32) -> Result<Vec<u32>, NoMemory>
         requires { PlanIs self.now }
         ensures { IfOk result (λ points. points.items ≡
-            landings (view.graph self.now.table.graph.now) f) }
+            landings (view.graph (graph_in self.now.table)) f) }
     {
         let mut points = Vec::new(alloc);
         for (b, place) in self.places.iter().enumerate() {

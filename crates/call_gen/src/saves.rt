@@ -1,6 +1,7 @@
 //! Saves before a call, and the loads of what was saved.
 
 ghost use Rattle.std.specs.Prelude.{◌≡◌, ◌+◌, ◌++◌, ◌<◌, ◌^◌, map, length, IfOk, OnOk};
+ghost use Rattle.cfg_core.specs.Tables.{graph_in};
 ghost use Rattle.cfg_core.specs.View as view;
 ghost use Rattle.call_gen.specs.Spelled as spelled;
 ghost use Rattle.call_gen.specs.Plans.{PlanIs};
@@ -14,8 +15,8 @@ impl<'a> CallPlan<'a> {
     // Whether a call saves the variable.
     fn is_saved(&self, home: u32, vars: u32, target: Option<u32>, back: u32, x: u32) -> bool
         requires plan { PlanIs self.now }
-        requires there { home < length (view.graph self.now.table.graph.now).procs }
-        ensures { result ≡ spelled.is_saved (view.graph self.now.table.graph.now) self.now.live.now
+        requires there { home < length (view.graph (graph_in self.now.table)).procs }
+        ensures { result ≡ spelled.is_saved (view.graph (graph_in self.now.table)) self.now.live.now
             home vars target back x }
     {
         if x == vars {
@@ -35,10 +36,10 @@ impl<'a> CallPlan<'a> {
         back: u32,
     ) -> Result<Vec<u32>, NoMemory>
         requires plan { PlanIs self.now }
-        requires there { home < length (view.graph self.now.table.graph.now).procs }
+        requires there { home < length (view.graph (graph_in self.now.table)).procs }
         requires few { vars + 1 < 2 ^ 32 }
         ensures { IfOk result (λ list. list.items ≡
-            spelled.saved (view.graph self.now.table.graph.now) self.now.live.now home vars target
+            spelled.saved (view.graph (graph_in self.now.table)) self.now.live.now home vars target
             back) }
     {
         let mut list = Vec::new(alloc);
@@ -51,8 +52,8 @@ impl<'a> CallPlan<'a> {
 
     fn save(&self, home: u32, x: u32) -> GraphOp
         requires plan { PlanIs self.now }
-        requires there { home < length (view.graph self.now.table.graph.now).procs }
-        ensures { view.op result ≡ spelled.save (view.graph self.now.table.graph.now) home x }
+        requires there { home < length (view.graph (graph_in self.now.table)).procs }
+        ensures { view.op result ≡ spelled.save (view.graph (graph_in self.now.table)) home x }
     {
         let cell = self.cell(home, x);
         let index = Term::Number(Constant { value: cell.index });
@@ -61,8 +62,8 @@ impl<'a> CallPlan<'a> {
 
     fn load(&self, alloc: Global, home: u32, x: u32) -> Result<GraphOp, NoMemory>
         requires plan { PlanIs self.now }
-        requires there { home < length (view.graph self.now.table.graph.now).procs }
-        ensures { IfOk result (λ op. view.op op ≡ spelled.load (view.graph self.now.table.graph.now)
+        requires there { home < length (view.graph (graph_in self.now.table)).procs }
+        ensures { IfOk result (λ op. view.op op ≡ spelled.load (view.graph (graph_in self.now.table))
             home x) }
     {
         let cell = self.cell(home, x);
@@ -74,9 +75,9 @@ impl<'a> CallPlan<'a> {
     // Puts saves after operations.
     fn add_saves(&self, ops: &mut GraphOps, home: u32, xs: &[u32]) -> Result<(), NoMemory>
         requires plan { PlanIs self.now }
-        requires there { home < length (view.graph self.now.table.graph.now).procs }
+        requires there { home < length (view.graph (graph_in self.now.table)).procs }
         ensures { OnOk result (map view.op ops.new.items ≡ map view.op ops.old.items ++ map
-            (spelled.save (view.graph self.now.table.graph.now) home) xs.now) }
+            (spelled.save (view.graph (graph_in self.now.table)) home) xs.now) }
     {
         for x in xs {
             ops.push(self.save(home, *x))?;
@@ -86,9 +87,9 @@ impl<'a> CallPlan<'a> {
 
     pub(crate) fn loads(&self, alloc: Global, home: u32, xs: &[u32]) -> Result<GraphOps, NoMemory>
         requires plan { PlanIs self.now }
-        requires there { home < length (view.graph self.now.table.graph.now).procs }
+        requires there { home < length (view.graph (graph_in self.now.table)).procs }
         ensures { IfOk result (λ ops. map view.op ops.items ≡
-            map (spelled.load (view.graph self.now.table.graph.now) home) xs.now) }
+            map (spelled.load (view.graph (graph_in self.now.table)) home) xs.now) }
     {
         let mut ops = Vec::new(alloc);
         for x in xs {
@@ -106,10 +107,10 @@ impl<'a> CallPlan<'a> {
         exit: &Leave,
     ) -> Result<(), NoMemory>
         requires plan { PlanIs self.now }
-        requires there { home < length (view.graph self.now.table.graph.now).procs }
+        requires there { home < length (view.graph (graph_in self.now.table)).procs }
         requires few { vars + 1 < 2 ^ 32 }
         ensures { OnOk result (map view.op ops.new.items ≡
-            map view.op ops.old.items ++ spelled.saves (view.graph self.now.table.graph.now)
+            map view.op ops.old.items ++ spelled.saves (view.graph (graph_in self.now.table))
             self.now.live.now home vars (view.exit exit.now)) }
     {
         match exit {

@@ -1,6 +1,7 @@
 //! The blocks of the spelled graph.
 
 ghost use Rattle.std.specs.Prelude.{◌≡◌, ◌+◌, ◌++◌, ◌∷◌, [], ◌<◌, ◌^◌, map, length, IfOk};
+ghost use Rattle.cfg_core.specs.Tables.{graph_in};
 ghost use Rattle.cfg_core.specs.Graph as plain;
 ghost use Rattle.cfg_core.specs.Graph.{spots};
 ghost use Rattle.cfg_core.specs.Rules.{IsGraph, ExitIn};
@@ -24,13 +25,13 @@ impl<'a> CallPlan<'a> {
         exit: &Leave,
     ) -> Result<Leave, NoMemory>
         requires plan { PlanIs self.now }
-        requires rules { IsGraph (view.graph self.now.table.graph.now) }
-        requires there { home < length (view.graph self.now.table.graph.now).procs }
-        requires block { b < length (spots (view.graph self.now.table.graph.now)) }
-        requires exit_in { ExitIn (view.graph self.now.table.graph.now) home vars
+        requires rules { IsGraph (view.graph (graph_in self.now.table)) }
+        requires there { home < length (view.graph (graph_in self.now.table)).procs }
+        requires block { b < length (spots (view.graph (graph_in self.now.table))) }
+        requires exit_in { ExitIn (view.graph (graph_in self.now.table)) home vars
             (view.exit exit.now) }
         ensures { IfOk result (λ made. view.exit made ≡
-            spelled.left (view.graph self.now.table.graph.now) home vars b (view.exit exit.now)) }
+            spelled.left (view.graph (graph_in self.now.table)) home vars b (view.exit exit.now)) }
     {
         match exit {
             Leave::Goto(c) => Ok(Leave::Goto(self.place(*c))),
@@ -48,10 +49,10 @@ impl<'a> CallPlan<'a> {
     // A call: values and the return address to the callee's door.
     fn sent(&self, alloc: Global, b: u32, callee: u32, values: &[Term]) -> Result<Leave, NoMemory>
         requires plan { PlanIs self.now }
-        requires rules { IsGraph (view.graph self.now.table.graph.now) }
-        requires there { callee < length (view.graph self.now.table.graph.now).procs }
-        requires block { b < length (spots (view.graph self.now.table.graph.now)) }
-        ensures { let g = view.graph self.now.table.graph.now in IfOk result (λ made.
+        requires rules { IsGraph (view.graph (graph_in self.now.table)) }
+        requires there { callee < length (view.graph (graph_in self.now.table)).procs }
+        requires block { b < length (spots (view.graph (graph_in self.now.table))) }
+        ensures { let g = view.graph (graph_in self.now.table) in IfOk result (λ made.
             view.exit made ≡ plain.Send (plain.Number 0) (map view.term values.now ++ plain.Number
             (spelled.address g callee b) ∷ []) (spelled.door g callee ∷ [])) }
     {
@@ -71,9 +72,9 @@ impl<'a> CallPlan<'a> {
     // A return: the result to the return point at the return address.
     fn given_back(&self, alloc: Global, home: u32, vars: u32, t: &Term) -> Result<Leave, NoMemory>
         requires plan { PlanIs self.now }
-        requires there { home < length (view.graph self.now.table.graph.now).procs }
+        requires there { home < length (view.graph (graph_in self.now.table)).procs }
         ensures { IfOk result (λ made. view.exit made ≡
-            spelled.left (view.graph self.now.table.graph.now) home vars 0
+            spelled.left (view.graph (graph_in self.now.table)) home vars 0
             (plain.Return (view.term t.now))) }
     {
         let t = copy_term(alloc, t)?;
@@ -101,14 +102,14 @@ impl<'a> CallPlan<'a> {
         block: &GraphBlock,
     ) -> Result<GraphBlock, NoMemory>
         requires plan { PlanIs self.now }
-        requires rules { IsGraph (view.graph self.now.table.graph.now) }
-        requires there { home < length (view.graph self.now.table.graph.now).procs }
+        requires rules { IsGraph (view.graph (graph_in self.now.table)) }
+        requires there { home < length (view.graph (graph_in self.now.table)).procs }
         requires few { vars + 1 < 2 ^ 32 }
-        requires block { b < length (spots (view.graph self.now.table.graph.now)) }
-        requires exit_in { ExitIn (view.graph self.now.table.graph.now) home vars
+        requires block { b < length (spots (view.graph (graph_in self.now.table))) }
+        requires exit_in { ExitIn (view.graph (graph_in self.now.table)) home vars
             (view.block block.now).exit }
         ensures { IfOk result (λ made. view.block made ≡
-            spelled.spelled_block (view.graph self.now.table.graph.now) self.now.live.now home vars
+            spelled.spelled_block (view.graph (graph_in self.now.table)) self.now.live.now home vars
             b (view.block block.now)) }
     {
         let mut ops = copy_ops(alloc, &block.ops)?;
@@ -131,11 +132,11 @@ impl<'a> CallPlan<'a> {
         back: u32,
     ) -> Result<GraphBlock, NoMemory>
         requires plan { PlanIs self.now }
-        requires there { home < length (view.graph self.now.table.graph.now).procs }
+        requires there { home < length (view.graph (graph_in self.now.table)).procs }
         requires few { vars + 1 < 2 ^ 32 }
-        requires back { back < length (spots (view.graph self.now.table.graph.now)) }
+        requires back { back < length (spots (view.graph (graph_in self.now.table))) }
         ensures { IfOk result (λ made. view.block made ≡
-            spelled.return_block (view.graph self.now.table.graph.now) self.now.live.now home vars
+            spelled.return_block (view.graph (graph_in self.now.table)) self.now.live.now home vars
             target back) }
     {
         let xs = self.saved(alloc, home, vars, target, back)?;

@@ -9,10 +9,11 @@ use Rattle.cfg_core.specs.declared.table.GraphTable.{GraphTable}
 use Rattle.cfg_core.specs.Walk.{landed, values}
 use Rattle.std.specs.List.{AllByRecursion, filter}
 use Rattle.ws_words.specs.Items.{nth, or_else, In}
+use Rattle.cfg_core.specs.Tables.{graph_in}
 use Rattle.cfg_core.specs.Rules.{BlockNumbers, IsGraph}
 
 pub count_is : (table : GraphTable) → length table.spots.items
-    ≡ length (spots (view.graph table.graph.now))
+    ≡ length (spots (view.graph (graph_in table)))
 count_is table = grind (arith, spot_in_code, spot_in_graph, length-map, table.spots.items)
 
 pub landed_count : (names words vars : List ℕ) → length (landed names words vars) ≡ length vars
@@ -69,8 +70,8 @@ rooms_count first [] = refl
 rooms_count first (p ∷ procs) = ap suc (rooms_count (first + length p.blocks) procs)
 
 pub rooms_are : (table : GraphTable) → length table.rooms.items
-    ≡ length (view.graph table.graph.now).procs
-rooms_are table = ap length table.rooms_listed ∙ rooms_count 0 (view.graph table.graph.now).procs
+    ≡ length (view.graph (graph_in table)).procs
+rooms_are table = ap length table.rooms_listed ∙ rooms_count 0 (view.graph (graph_in table)).procs
 
 -- what is kept of all items is kept of the one at a place, and of what stands for one that isn't there
 pub each_at : {A : Type 0} (P : A → Type 0) (xs : List A) (none : A) → AllByRecursion P xs → P none → (k : ℕ)

@@ -10,3 +10,4 @@ pub mod Answer
 pub mod Samples
 pub mod Shape
 pub mod Weights
+pub mod Tables

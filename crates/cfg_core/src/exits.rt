@@ -2,6 +2,7 @@
 
 ghost use Rattle.std.specs.Prelude.{◌≡◌, ◌-◌, ◌++◌, ℕ, List, map, IfOk};
 ghost use Rattle.ws_words.specs.Outside.{zeros};
+ghost use Rattle.cfg_core.specs.Tables.{graph_in};
 ghost use Rattle.cfg_core.specs.Graph as plain;
 ghost use Rattle.cfg_core.specs.Walk as walks;
 ghost use Rattle.cfg_core.specs.View as view;
@@ -31,7 +32,7 @@ impl<'a> Walker<'a> {
         table: &GraphTable<'_>,
         b: usize,
     ) -> Result<Next, NoMemory>
-        ensures { let g = view.graph table.now.graph.now in
+        ensures { let g = view.graph (graph_in table.now) in
             IfOk result (λ next. Moved (passes g b) self.old next self.new) }
     {
         match table.spot(b) {
@@ -52,7 +53,7 @@ impl<'a> Walker<'a> {
         table: &GraphTable<'_>,
         exit: &Leave,
     ) -> Result<Next, NoMemory>
-        ensures { let way = walks.leave (view.graph table.now.graph.now) (view.exit exit.now) in
+        ensures { let way = walks.leave (view.graph (graph_in table.now)) (view.exit exit.now) in
             IfOk result (λ next. Moved way self.old next self.new) }
     {
         match exit {
@@ -148,7 +149,7 @@ fn choose(address: u64, landings: &[u32]) -> u32
 
 // The variables at a landing: the words in those that it names, and 0 in all others.
 fn land(alloc: Global, table: &GraphTable<'_>, b: usize, words: &Words) -> Result<Words, NoMemory>
-    ensures { let spot = plain.spot_at (view.graph table.now.graph.now) b in
+    ensures { let spot = plain.spot_at (view.graph (graph_in table.now)) b in
         IfOk result (λ vars. vars ≡ walks.landed spot.block.named words.now (zeros spot.vars)) }
 {
     match table.spot(b) {

@@ -3,6 +3,7 @@
 ghost use Rattle.std.specs.Prelude.{◌≡◌, ℕ, false, ◌≤◌, List, [], ◌++◌, map, IfOk, OnOk, IsTrue};
 ghost use Rattle.ws_words.specs.Outside.{Outside, zeros, opening_out};
 ghost use Rattle.ws_words.specs.Plain.{IfEnded, IfGoing, has_ended, has_faulted, world_of};
+ghost use Rattle.cfg_core.specs.Tables.{graph_in};
 ghost use Rattle.cfg_core.specs.Walk as walks;
 ghost use Rattle.cfg_core.specs.View as view;
 ghost use Rattle.cfg_core.specs.Rules.{IsGraph};
@@ -55,9 +56,9 @@ fn walk(
     walker: &mut Walker<'_>,
     start: usize,
 ) -> Result<bool, NoMemory>
-    requires rules { IsGraph (view.graph table.now.graph.now) }
+    requires rules { IsGraph (view.graph (graph_in table.now)) }
     requires held { Held walker.old }
-    ensures { let g = view.graph table.now.graph.now in
+    ensures { let g = view.graph (graph_in table.now) in
         IfOk result (λ ended. Walked g start walker.old ended walker.new) }
 {
     let mut at = start;

@@ -27,7 +27,7 @@ pub struct Room {
 /// A graph, with its blocks and its procedures in order.
 #[derive(Drop)]
 pub struct GraphTable<'a> {
-    pub graph: &'a Graph,
+    graph: &'a Graph,
     spots: Vec<Spot<'a>>,
     rooms: Vec<Room>,
     ghost spots_listed: { ListsSpots graph.now spots.items } by { lists_spots-prop graph.now spots.items },
@@ -36,10 +36,11 @@ pub struct GraphTable<'a> {
 
 impl<'a> GraphTable<'a> {
     ghost use Rattle.cfg_core.specs.Shows.{SpotIs};
+    ghost use Rattle.cfg_core.specs.Tables.{graph_in};
 
     /// The table of a graph.
     pub fn of(alloc: Global, graph: &'a Graph) -> Result<GraphTable<'a>, NoMemory>
-        ensures { IfOk result (λ table. table.graph.now ≡ graph.now) }
+        ensures { IfOk result (λ table. graph_in table ≡ graph.now) }
     {
         let mut spots = Vec::new(alloc);
         let mut rooms = Vec::new(alloc);
@@ -58,31 +59,38 @@ impl<'a> GraphTable<'a> {
         })
     }
 
+    /// The graph itself.
+    pub fn graph(&self) -> &'a Graph
+        ensures { result.now ≡ graph_in self.now }
+    {
+        self.graph
+    }
+
     /// How many blocks there are.
     pub fn block_count(&self) -> usize
-        ensures { result ≡ length (spots (view.graph self.now.graph.now)) }
+        ensures { result ≡ length (spots (view.graph (graph_in self.now))) }
     {
         self.spots.len()
     }
 
     /// How many procedures there are.
     pub fn proc_count(&self) -> usize
-        ensures { result ≡ length (view.graph self.now.graph.now).procs }
+        ensures { result ≡ length (view.graph (graph_in self.now)).procs }
     {
         self.rooms.len()
     }
 
     /// The block with this number, which is there.
     pub fn spot_there(&self, b: usize) -> Spot<'a>
-        requires { b < length (spots (view.graph self.now.graph.now)) }
-        ensures { SpotIs (spot_at (view.graph self.now.graph.now) b) result }
+        requires { b < length (spots (view.graph (graph_in self.now))) }
+        ensures { SpotIs (spot_at (view.graph (graph_in self.now)) b) result }
     {
         self.spots[b]
     }
 
     /// The block with this number.
     pub fn spot(&self, b: usize) -> Option<Spot<'a>>
-        ensures { let spot = spot_at (view.graph self.now.graph.now) b in
+        ensures { let spot = spot_at (view.graph (graph_in self.now)) b in
             MatchOption result (spot ≡ no_spot) (SpotIs spot) }
     {
         match self.spots.get(b) {
@@ -93,9 +101,9 @@ impl<'a> GraphTable<'a> {
 
     /// The procedure with this number; past the last one it has no blocks and no variables.
     pub fn room(&self, f: usize) -> Room
-        ensures entry { result.entry ≡ entry_of (view.graph self.now.graph.now) f }
-        ensures params { result.params ≡ (proc_at (view.graph self.now.graph.now) f).params }
-        ensures vars { result.vars ≡ (proc_at (view.graph self.now.graph.now) f).vars }
+        ensures entry { result.entry ≡ entry_of (view.graph (graph_in self.now)) f }
+        ensures params { result.params ≡ (proc_at (view.graph (graph_in self.now)) f).params }
+        ensures vars { result.vars ≡ (proc_at (view.graph (graph_in self.now)) f).vars }
     {
         match self.rooms.get(f) {
             Some(room) => *room,

@@ -1,6 +1,7 @@
 //! What a block reads first and what it writes, of the 64 variables from `low` on.
 
 ghost use Rattle.std.specs.Prelude.{◌≡◌, map};
+ghost use Rattle.cfg_core.specs.Tables.{graph_in};
 ghost use Rattle.cfg_core.specs.Graph.{block_at};
 ghost use Rattle.cfg_core.specs.View as view;
 ghost use Rattle.live_vars.specs.Live.{ReadsFirst};
@@ -37,9 +38,9 @@ fn uses_of(block: &GraphBlock, low: u32) -> Uses
 
 /// The same of the block with this number.
 pub(crate) fn uses_at(table: &GraphTable<'_>, b: usize, low: u32) -> Uses
-    ensures reads { let block = block_at (view.graph table.now.graph.now) b in
+    ensures reads { let block = block_at (view.graph (graph_in table.now)) b in
         Marks low result.reads (ReadsFirst block.ops block.exit) }
-    ensures writes { let block = block_at (view.graph table.now.graph.now) b in
+    ensures writes { let block = block_at (view.graph (graph_in table.now)) b in
         Marks low result.writes (Writes block.ops block.exit) }
 {
     match table.spot(b) {

@@ -3,6 +3,7 @@
 
 ghost use Rattle.std.specs.Prelude.{◌≡◌, ◌<◌, ℕ, IfOk, length};
 ghost use Rattle.std.specs.Bool.{MatchBool};
+ghost use Rattle.cfg_core.specs.Tables.{graph_in};
 ghost use Rattle.cfg_core.specs.Graph.{spots, block_at};
 ghost use Rattle.cfg_core.specs.View as view;
 ghost use Rattle.live_vars.specs.Marks.{Marks};
@@ -15,7 +16,7 @@ use ws_words::{NoMemory, Words};
 
 /// The words of all blocks.
 pub(crate) fn plane(alloc: Global, table: &GraphTable<'_>, low: u32) -> Result<Words, NoMemory>
-    ensures { IfOk result (λ words. IsPlane (view.graph table.now.graph.now) low words) }
+    ensures { IfOk result (λ words. IsPlane (view.graph (graph_in table.now)) low words) }
 {
     let mut live = Words::empty(alloc);
     let mut writes = Words::empty(alloc);
@@ -30,9 +31,9 @@ pub(crate) fn plane(alloc: Global, table: &GraphTable<'_>, low: u32) -> Result<W
 
 // Passes over all blocks until nothing changes.
 fn settle(table: &GraphTable<'_>, low: u32, writes: &Words, live: &mut Words)
-    requires { Flows (view.graph table.now.graph.now) low writes.now live.old }
-    ensures flows { Flows (view.graph table.now.graph.now) low writes.now live.new }
-    ensures closed { ClosedFrom (view.graph table.now.graph.now) low live.new 0 }
+    requires { Flows (view.graph (graph_in table.now)) low writes.now live.old }
+    ensures flows { Flows (view.graph (graph_in table.now)) low writes.now live.new }
+    ensures closed { ClosedFrom (view.graph (graph_in table.now)) low live.new 0 }
 {
     'settle: loop {
         if !pass(table, low, writes, live) {
@@ -43,10 +44,10 @@ fn settle(table: &GraphTable<'_>, low: u32, writes: &Words, live: &mut Words)
 
 // Visits each block, the last one first, and says whether a word changed.
 fn pass(table: &GraphTable<'_>, low: u32, writes: &Words, live: &mut Words) -> bool
-    requires { Flows (view.graph table.now.graph.now) low writes.now live.old }
-    ensures flows { Flows (view.graph table.now.graph.now) low writes.now live.new }
+    requires { Flows (view.graph (graph_in table.now)) low writes.now live.old }
+    ensures flows { Flows (view.graph (graph_in table.now)) low writes.now live.new }
     ensures progress { MatchBool result (room live.new < room live.old)
-        (ClosedFrom (view.graph table.now.graph.now) low live.new 0) }
+        (ClosedFrom (view.graph (graph_in table.now)) low live.new 0) }
 {
     let count = live.len();
     let mut changed = false;
@@ -61,11 +62,11 @@ fn pass(table: &GraphTable<'_>, low: u32, writes: &Words, live: &mut Words) -> b
 
 // What is live after a block and not written in it is live at its start. Says whether that is new.
 fn visit(table: &GraphTable<'_>, low: u32, writes: &Words, live: &mut Words, b: usize) -> bool
-    requires flows { Flows (view.graph table.now.graph.now) low writes.now live.old }
-    requires there { b < length (spots (view.graph table.now.graph.now)) }
-    ensures flows { Flows (view.graph table.now.graph.now) low writes.now live.new }
+    requires flows { Flows (view.graph (graph_in table.now)) low writes.now live.old }
+    requires there { b < length (spots (view.graph (graph_in table.now))) }
+    ensures flows { Flows (view.graph (graph_in table.now)) low writes.now live.new }
     ensures progress { MatchBool result (room live.new < room live.old) ((live.new ≡ live.old) ×
-        ClosedAt (view.graph table.now.graph.now) low live.new b) }
+        ClosedAt (view.graph (graph_in table.now)) low live.new b) }
 {
     let old = live.word(b);
     let new = old | (onward(table, live, b) & !writes.word(b));
@@ -76,7 +77,7 @@ fn visit(table: &GraphTable<'_>, low: u32, writes: &Words, live: &mut Words, b: 
 // What is live after the block with this number.
 fn onward(table: &GraphTable<'_>, live: &Words, b: usize) -> u64
     ensures { (low : ℕ) →
-        Marks low result (Carried (block_at (view.graph table.now.graph.now) b).exit low live.now) }
+        Marks low result (Carried (block_at (view.graph (graph_in table.now)) b).exit low live.now) }
 {
     match table.spot(b) {
         Some(spot) => carried(&spot.block.exit, live),

@@ -1,6 +1,7 @@
 //! The short branches of a graph.
 
 ghost use Rattle.std.specs.Prelude.{◌≡◌, ◌+◌, ◌<◌, false, None, Some, map, MatchOption};
+ghost use Rattle.cfg_core.specs.Tables.{graph_in};
 ghost use Rattle.cfg_core.specs.Graph.{block_at};
 ghost use Rattle.cfg_core.specs.View as view;
 ghost use Rattle.cfg_core.specs.Weights.{term_nodes};
@@ -139,7 +140,7 @@ fn is_arm(block: &GraphBlock, j: u32) -> bool
 
 // The operations of block b, if it is an arm that goes on to j.
 fn arm_to<'a>(table: &GraphTable<'a>, b: u32, j: u32) -> Option<&'a [GraphOp]>
-    ensures { let block = block_at (view.graph table.now.graph.now) b in
+    ensures { let block = block_at (view.graph (graph_in table.now)) b in
         MatchOption result (short.is_arm block j ≡ false)
         (λ ops. ArmIs block j (map view.op ops.now)) }
 {
@@ -157,7 +158,7 @@ fn arm_to<'a>(table: &GraphTable<'a>, b: u32, j: u32) -> Option<&'a [GraphOp]>
 
 // The same, if it is small enough beside no other arm.
 fn lone_arm<'a>(table: &GraphTable<'a>, b: u32, j: u32) -> Option<&'a [GraphOp]>
-    ensures { let block = block_at (view.graph table.now.graph.now) b in
+    ensures { let block = block_at (view.graph (graph_in table.now)) b in
         MatchOption result (short.is_lone_arm block j ≡ false)
         (λ ops. LoneArmIs block j (map view.op ops.now)) }
 {
@@ -169,7 +170,7 @@ fn lone_arm<'a>(table: &GraphTable<'a>, b: u32, j: u32) -> Option<&'a [GraphOp]>
 
 // The block that block b goes on to alone.
 fn goal(table: &GraphTable<'_>, b: u32) -> Option<u32>
-    ensures { result ≡ short.goal (block_at (view.graph table.now.graph.now) b).exit }
+    ensures { result ≡ short.goal (block_at (view.graph (graph_in table.now)) b).exit }
 {
     match table.spot(b as usize) {
         Some(spot) => match &spot.block.exit {
@@ -182,7 +183,7 @@ fn goal(table: &GraphTable<'_>, b: u32) -> Option<u32>
 
 // The branch whose arms are both blocks.
 fn two_arms<'a>(table: &GraphTable<'a>, test: &'a Term, c: u32, d: u32) -> Option<ShortBranch<'a>>
-    ensures { let g = view.graph table.now.graph.now in
+    ensures { let g = view.graph (graph_in table.now) in
         let found = short.two_arms g (view.term test.now) c d (short.goal (block_at g c).exit) in
         FoundIs found result }
 {
@@ -212,7 +213,7 @@ fn two_arms<'a>(table: &GraphTable<'a>, test: &'a Term, c: u32, d: u32) -> Optio
 
 // The branch to blocks c and d, if it is short.
 fn short_to<'a>(table: &GraphTable<'a>, test: &'a Term, c: u32, d: u32) -> Option<ShortBranch<'a>>
-    ensures { let g = view.graph table.now.graph.now in
+    ensures { let g = view.graph (graph_in table.now) in
         FoundIs (short.short_to g (view.term test.now) c d) result }
 {
     if c == d {
@@ -244,7 +245,7 @@ fn short_to<'a>(table: &GraphTable<'a>, test: &'a Term, c: u32, d: u32) -> Optio
 
 /// The short branch that an exit is, if it is one.
 pub(crate) fn short<'a>(table: &GraphTable<'a>, exit: &'a Leave) -> Option<ShortBranch<'a>>
-    ensures { let g = view.graph table.now.graph.now in
+    ensures { let g = view.graph (graph_in table.now) in
         FoundIs (short.short g (view.exit exit.now)) result }
 {
     match exit {

@@ -1,6 +1,7 @@
 //! The graph with its short branches joined.
 
 ghost use Rattle.std.specs.Prelude.{◌≡◌, ◌<◌, ◌^◌, ℕ, map, IfOk};
+ghost use Rattle.cfg_core.specs.Tables.{graph_in};
 ghost use Rattle.cfg_core.specs.Rules.{IsGraph};
 ghost use Rattle.cfg_core.specs.Shape.{ArmsAlone};
 ghost use Rattle.cfg_core.specs.Shown.{SameWalks, SameArrays};
@@ -30,7 +31,7 @@ fn joined_block(
     block: &GraphBlock,
 ) -> Result<GraphBlock, NoMemory>
     requires { joined.more_vars vars < 2 ^ 32 }
-    ensures { let g = view.graph table.now.graph.now in let block = view.block block.now in
+    ensures { let g = view.graph (graph_in table.now) in let block = view.block block.now in
         IfOk result (λ made. view.block made ≡ joined.joined_block g live.now vars block) }
 {
     let named = copy_numbers(alloc, &block.named)?;
@@ -69,7 +70,7 @@ fn joined_proc(
     live: &LiveSets,
     proc: &GraphProc,
 ) -> Result<GraphProc, NoMemory>
-    ensures { let g = view.graph table.now.graph.now in
+    ensures { let g = view.graph (graph_in table.now) in
         IfOk result (λ made. view.proc made ≡ joined.joined_proc g live.now (view.proc proc.now)) }
 {
     let vars = more_vars(proc.vars)?;
@@ -89,21 +90,21 @@ fn joined_procs(
     table: &GraphTable<'_>,
     live: &LiveSets,
 ) -> Result<GraphProcs, NoMemory>
-    ensures { let g = view.graph table.now.graph.now in let proc = joined.joined_proc g live.now in
+    ensures { let g = view.graph (graph_in table.now) in let proc = joined.joined_proc g live.now in
         IfOk result (λ procs. map view.proc procs.items ≡ map proc g.procs) }
 {
     let mut procs = Vec::new(alloc);
-    for proc in &table.graph.procs {
+    for proc in &table.graph().procs {
         procs.push(joined_proc(alloc, table, live, proc)?)?;
     }
     Ok(procs)
 }
 
 fn joined_graph(alloc: Global, table: &GraphTable<'_>, live: &LiveSets) -> Result<Graph, NoMemory>
-    ensures { let g = view.graph table.now.graph.now in
+    ensures { let g = view.graph (graph_in table.now) in
         IfOk result (λ made. view.graph made ≡ joined.joined g live.now) }
 {
-    let arrays = copy_arrays(alloc, &table.graph.arrays)?;
+    let arrays = copy_arrays(alloc, &table.graph().arrays)?;
     let procs = joined_procs(alloc, table, live)?;
     Ok(Graph { arrays, procs })
 }

@@ -2,6 +2,7 @@
 //! return points.
 
 ghost use Rattle.std.specs.Prelude.{◌≡◌, ◌≤◌, ◌<◌, ◌↔◌, ℕ, true, length, slice_set, IfOk};
+ghost use Rattle.cfg_core.specs.Tables.{graph_in};
 ghost use Rattle.cfg_core.specs.Graph.{spots, block_at};
 ghost use Rattle.cfg_core.specs.View as view;
 ghost use Rattle.wave_cut.specs.Cut.{BeginsWave};
@@ -16,10 +17,10 @@ use ws_words::NoMemory;
 /// For each block whether a wave begins there whatever waves there are.
 pub(crate) fn begins(alloc: Global, table: &GraphTable<'_>) -> Result<Vec<bool>, NoMemory>
     ensures count { IfOk result (λ flags. length flags.items ≡
-        length (spots (view.graph table.now.graph.now))) }
+        length (spots (view.graph (graph_in table.now)))) }
     ensures begins { IfOk result (λ flags.
-        (b : ℕ) → b < length (spots (view.graph table.now.graph.now)) →
-        Set flags.items b ↔ BeginsWave (view.graph table.now.graph.now) b) }
+        (b : ℕ) → b < length (spots (view.graph (graph_in table.now))) →
+        Set flags.items b ↔ BeginsWave (view.graph (graph_in table.now)) b) }
 {
     let count = table.block_count();
     let mut flags = vec![in alloc; false; count]?;
@@ -34,7 +35,7 @@ pub(crate) fn begins(alloc: Global, table: &GraphTable<'_>) -> Result<Vec<bool>,
 
 // The blocks of which the block with this number says that a wave begins there.
 fn mark_at(table: &GraphTable<'_>, flags: &mut Vec<bool>, b: usize)
-    ensures { Marked (Says (block_at (view.graph table.now.graph.now) b).exit b) flags.old.items
+    ensures { Marked (Says (block_at (view.graph (graph_in table.now)) b).exit b) flags.old.items
         flags.new.items }
 {
     match table.spot(b) {

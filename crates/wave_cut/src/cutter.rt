@@ -1,6 +1,7 @@
 //! The cut of one block after another.
 
 ghost use Rattle.std.specs.Prelude.{◌≡◌, ◌+◌, ◌++◌, ◌∷◌, [], ◌<◌, ◌^◌, IfOk, OnOk, true, length, slice_set};
+ghost use Rattle.cfg_core.specs.Tables.{graph_in};
 ghost use Rattle.cfg_core.specs.Graph.{spots, block_at};
 ghost use Rattle.cfg_core.specs.View as view;
 ghost use Rattle.wave_cut.specs.Cutting.{Cutting, number, heads_with, left_begins, left_from, entered_begins};
@@ -22,11 +23,11 @@ pub(crate) struct Cutter {
 impl Cutter {
     /// The wave of one block more, and what its edges say of later ones.
     pub(crate) fn advance(&mut self, table: &GraphTable<'_>, b: u32) -> Result<(), NoMemory>
-        requires there { b < length (spots (view.graph table.now.graph.now)) }
+        requires there { b < length (spots (view.graph (graph_in table.now))) }
         requires few { b + 1 < 2 ^ 32 }
-        requires cutting { Cutting (view.graph table.now.graph.now) b self.old.begins.items
+        requires cutting { Cutting (view.graph (graph_in table.now)) b self.old.begins.items
             self.old.from.items self.old.waves.items self.old.heads.items }
-        ensures cutting { OnOk result (Cutting (view.graph table.now.graph.now)
+        ensures cutting { OnOk result (Cutting (view.graph (graph_in table.now))
             (b + 1) self.new.begins.items self.new.from.items self.new.waves.items
             self.new.heads.items) }
     {
@@ -63,10 +64,10 @@ impl Cutter {
     // The edges of a block, which lies in this wave.
     fn pass(&mut self, table: &GraphTable<'_>, b: u32, wave: u32)
         ensures begins { self.new.begins.items ≡
-            left_begins (block_at (view.graph table.now.graph.now) b).exit wave
+            left_begins (block_at (view.graph (graph_in table.now)) b).exit wave
             self.old.begins.items self.old.from.items }
         ensures from { self.new.from.items ≡
-            left_from (block_at (view.graph table.now.graph.now) b).exit wave self.old.from.items }
+            left_from (block_at (view.graph (graph_in table.now)) b).exit wave self.old.from.items }
         ensures waves { self.new.waves.items ≡ self.old.waves.items }
         ensures heads { self.new.heads.items ≡ self.old.heads.items }
     {

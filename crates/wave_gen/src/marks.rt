@@ -1,6 +1,7 @@
 //! Blocks that are an arm of a branch, or where a Send lands, and how many names there are.
 
 ghost use Rattle.std.specs.Prelude.{◌≡◌, ◌<◌, ◌||◌, ℕ, eqb, length, IfOk};
+ghost use Rattle.cfg_core.specs.Tables.{graph_in};
 ghost use Rattle.cfg_core.specs.Graph.{spots, spot_at, block_at};
 ghost use Rattle.cfg_core.specs.View as view;
 ghost use Rattle.wave_gen.specs.Plans.{is_among};
@@ -65,7 +66,7 @@ fn mark_landings_at(table: &GraphTable<'_>, flags: &mut Vec<bool>, i: usize)
     ensures count { length flags.new.items ≡ length flags.old.items }
     ensures marked { (c : ℕ) → c < length flags.old.items → flag_at flags.new.items c ≡
         (flag_at flags.old.items c ||
-        is_among c (landings_of (block_at (view.graph table.now.graph.now) i).exit)) }
+        is_among c (landings_of (block_at (view.graph (graph_in table.now)) i).exit)) }
 {
     match table.spot(i) {
         Some(spot) => mark_landings(flags, &spot.block.exit),
@@ -78,7 +79,7 @@ fn mark_arms_at(table: &GraphTable<'_>, flags: &mut Vec<bool>, i: usize)
     ensures count { length flags.new.items ≡ length flags.old.items }
     ensures marked { (c : ℕ) → c < length flags.old.items → flag_at flags.new.items c ≡
         (flag_at flags.old.items c ||
-        is_among c (arms_of (block_at (view.graph table.now.graph.now) i).exit)) }
+        is_among c (arms_of (block_at (view.graph (graph_in table.now)) i).exit)) }
 {
     match table.spot(i) {
         Some(spot) => mark_arms(flags, &spot.block.exit),
@@ -88,7 +89,7 @@ fn mark_arms_at(table: &GraphTable<'_>, flags: &mut Vec<bool>, i: usize)
 
 /// For each block whether a Send lands there.
 pub(crate) fn landed(alloc: Global, table: &GraphTable<'_>) -> Result<Vec<bool>, NoMemory>
-    ensures { let all = spots (view.graph table.now.graph.now) in
+    ensures { let all = spots (view.graph (graph_in table.now)) in
         IfOk result (λ flags. (b : ℕ) → b < length all →
         flag_at flags.items b ≡ in_some landings_of all b) }
 {
@@ -101,7 +102,7 @@ pub(crate) fn landed(alloc: Global, table: &GraphTable<'_>) -> Result<Vec<bool>,
 
 /// For each block whether it is an arm of a branch.
 pub(crate) fn arms(alloc: Global, table: &GraphTable<'_>) -> Result<Vec<bool>, NoMemory>
-    ensures { let all = spots (view.graph table.now.graph.now) in
+    ensures { let all = spots (view.graph (graph_in table.now)) in
         IfOk result (λ flags. (b : ℕ) → b < length all →
         flag_at flags.items b ≡ in_some arms_of all b) }
 {
@@ -113,7 +114,7 @@ pub(crate) fn arms(alloc: Global, table: &GraphTable<'_>) -> Result<Vec<bool>, N
 }
 
 fn vars_at(table: &GraphTable<'_>, i: usize) -> u32
-    ensures { result ≡ (spot_at (view.graph table.now.graph.now) i).vars }
+    ensures { result ≡ (spot_at (view.graph (graph_in table.now)) i).vars }
 {
     match table.spot(i) {
         Some(spot) => spot.vars,
@@ -123,7 +124,7 @@ fn vars_at(table: &GraphTable<'_>, i: usize) -> u32
 
 /// How many names there are for the pulse and the variables.
 pub(crate) fn width(table: &GraphTable<'_>) -> usize
-    ensures { result ≡ width_of (view.graph table.now.graph.now) }
+    ensures { result ≡ width_of (view.graph (graph_in table.now)) }
 {
     let mut most = 0;
     for i in (0..table.block_count()).rev() {

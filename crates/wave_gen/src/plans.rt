@@ -2,6 +2,7 @@
 
 ghost use Rattle.std.specs.Prelude.{◌≡◌, ◌<◌, ◌∷◌, ◌++◌, ◌||◌, not, cond, eqb, [], suc, length, map, IfOk};
 ghost use Rattle.std.specs.Prelude.{OnOk};
+ghost use Rattle.cfg_core.specs.Tables.{graph_in};
 ghost use Rattle.cfg_core.specs.Graph.{spots};
 ghost use Rattle.cfg_core.specs.View as view;
 ghost use Rattle.live_vars.specs.Marks.{has};
@@ -62,7 +63,7 @@ impl<'a> PlanGround<'a> {
         live: &'a LiveSets,
         waves: &'a Waves,
     ) -> Result<PlanGround<'a>, NoMemory>
-        ensures graph { IfOk result (λ made. made.table.graph.now ≡ graph.now) }
+        ensures graph { IfOk result (λ made. graph_in made.table ≡ graph.now) }
         ensures live { IfOk result (λ made. made.live.now ≡ live.now) }
         ensures waves { IfOk result (λ made. made.waves.now ≡ waves.now) }
         ensures outline { IfOk result (λ made. OutlineIs made) }
@@ -128,8 +129,8 @@ impl<'a> PlanGround<'a> {
     // The plan of a block that is there.
     fn plan(&self, alloc: Global, b: u32) -> Result<Plan, NoMemory>
         requires outline { OutlineIs self.now }
-        requires there { b < length (spots (view.graph self.now.table.graph.now)) }
-        ensures { let g = view.graph self.now.table.graph.now in IfOk result (λ made.
+        requires there { b < length (spots (view.graph (graph_in self.now.table))) }
+        ensures { let g = view.graph (graph_in self.now.table) in IfOk result (λ made.
             plans.plan made ≡ plan_of g (has self.now.live.now)
             (listing.turned g self.now.waves.now) (is_first self.now.waves.now)
             (place_of g self.now.waves.now) (width_of g) b) }
@@ -151,7 +152,7 @@ impl<'a> PlanGround<'a> {
     /// The plans of all blocks, in the draft's order.
     pub(crate) fn plans(&self, alloc: Global) -> Result<Plans, NoMemory>
         requires { OutlineIs self.now }
-        ensures { let g = view.graph self.now.table.graph.now in IfOk result (λ made.
+        ensures { let g = view.graph (graph_in self.now.table) in IfOk result (λ made.
             map plans.plan made.items ≡ plans_of g (has self.now.live.now) self.now.waves.now) }
     {
         let mut list = Vec::new(alloc);

@@ -4,6 +4,7 @@ use Rattle.std.proofs.Common.{◌∷◌, ◌++◌, length, map, append_assoc, ar
 use Rattle.cfg_core.specs.Graph.{Block, spots, spot_at}
 use Rattle.cfg_core.specs.View as view
 use Rattle.cfg_core.specs.Shows.{SpotIs}
+use Rattle.cfg_core.specs.Tables.{graph_in}
 use Rattle.cfg_core.specs.declared.table.Spot as code
 use Rattle.live_vars.specs.Marks.{has}
 use Rattle.wave_cut.specs.Cut.{is_first}
@@ -44,8 +45,8 @@ ExitOf f width x = (gen_exit f (gen_ops width x.ops).next x.exit).exit
 abbrev TestOf : ℕ → Block → ℕ
 TestOf width x = exit_next (gen_ops width x.ops).next x.exit
 
-pub plan_made : (o : PlanGround) → OutlineIs o → (b : ℕ) → b < length (spots (view.graph o.table.graph.now))
-    → (x : code.Spot) → SpotIs (spot_at (view.graph o.table.graph.now) b) x → (p : Plan) →
+pub plan_made : (o : PlanGround) → OutlineIs o → (b : ℕ) → b < length (spots (view.graph (graph_in o.table)))
+    → (x : code.Spot) → SpotIs (spot_at (view.graph (graph_in o.table)) b) x → (p : Plan) →
     p.wave ≡ turned_at o.waves.now o.start b → p.first ≡ is_first o.waves.now b
     → p.joined ≡ not (is_first o.waves.now b || flag_at o.arms.items b) →
     p.entries.items ≡ cond (is_first o.waves.now b) (pulse ∷ live_from (has o.live.now b) 0 x.vars) [] →
@@ -54,7 +55,7 @@ pub plan_made : (o : PlanGround) → OutlineIs o → (b : ℕ) → b < length (s
     map shown.item p.items.items ≡ ItemsOf (place o.order) o.width (view.block x.block.now) →
     shown.leaves p.exit ≡ ExitOf (place o.order) o.width (view.block x.block.now) →
     p.test ≡ TestOf o.width (view.block x.block.now) →
-    shown.plan p ≡ plan_of (view.graph o.table.graph.now) (has o.live.now)
-    (turned (view.graph o.table.graph.now) o.waves.now) (is_first o.waves.now)
-    (place_of (view.graph o.table.graph.now) o.waves.now) (width_of (view.graph o.table.graph.now)) b
+    shown.plan p ≡ plan_of (view.graph (graph_in o.table)) (has o.live.now)
+    (turned (view.graph (graph_in o.table)) o.waves.now) (is_first o.waves.now)
+    (place_of (view.graph (graph_in o.table)) o.waves.now) (width_of (view.graph (graph_in o.table))) b
 plan_made o h b l x s p w f j e d i c t = grind (arith, plan_is)

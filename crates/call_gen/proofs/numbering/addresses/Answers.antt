@@ -1,6 +1,7 @@
 use Rattle.std.proofs.Common.{◌≡◌, length, replicate, ap, arith}
 use Rattle.std.proofs.lemmas.List.{length_push}
 use Rattle.live_vars.proofs.Planes.{pushed}
+use Rattle.cfg_core.specs.Tables.{graph_in}
 use Rattle.cfg_core.specs.View as view
 use Rattle.call_gen.specs.Plans.{CallPlaced}
 use Rattle.call_gen.proofs.Spelled.Tallying.{tallied_none}
@@ -8,7 +9,7 @@ use Rattle.call_gen.proofs.numbering.addresses.Goals as goal
 
 pub loop-b-init : goal.loop-b-init
 loop-b-init c =
-    let t = c.args.table.now in let g = view.graph t.graph.now in let n = c.proc_count.result in
+    let t = c.args.table.now in let g = view.graph (graph_in t) in let n = c.proc_count.result in
     let items : c.in_ok-counts.counts.items ≡ replicate n 0 = c.in_ok-counts.ensures.items_if_clones_equal
     (λ y e. e) in
     record {
@@ -25,7 +26,7 @@ next_place-requires-clause-counts c = c.loop-b.invariant.tallied
 
 pub loop-b-preserved : goal.loop-b-preserved
 loop-b-preserved c =
-    let g = view.graph c.args.table.now.graph.now in let b = c.loop-b.b in let i = c.loop-b.invariant in
+    let g = view.graph (graph_in c.args.table.now) in let b = c.loop-b.b in let i = c.loop-b.invariant in
     let n = c.next_place.result in
     rw c.in_ok-push.ensures.items (record {
       count = omega (arith, length_push c.loop-b.list.items n, i.count);

@@ -1,4 +1,5 @@
 use Rattle.std.proofs.Common.{ℕ, ◌≡◌, ◌<◌, length, slice_index}
+use Rattle.cfg_core.specs.Tables.{graph_in}
 use Rattle.cfg_core.specs.View as view
 use Rattle.call_gen.specs.Plans.{Tallied, CallPlaced}
 use Rattle.call_gen.proofs.numbering.addresses.Given as goal
@@ -6,6 +7,6 @@ use Rattle.call_gen.proofs.numbering.addresses.Given as goal
 abbrev pub invariant-loop-b : goal.invariant-loop-b
 invariant-loop-b l = record {
   count : length l.list.items ≡ l.b;
-  tallied : Tallied (view.graph l.table.graph.now) l.counts.items l.b;
-  list : (k : ℕ) → k < l.b → CallPlaced (view.graph l.table.graph.now) k (slice_index l.list.items k);
+  tallied : Tallied (view.graph (graph_in l.table)) l.counts.items l.b;
+  list : (k : ℕ) → k < l.b → CallPlaced (view.graph (graph_in l.table)) k (slice_index l.list.items k);
 }

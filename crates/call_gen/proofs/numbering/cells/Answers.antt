@@ -1,4 +1,5 @@
 use Rattle.std.proofs.Common.{arith}
+use Rattle.cfg_core.specs.Tables.{graph_in}
 use Rattle.cfg_core.specs.View as view
 use Rattle.call_gen.proofs.Spelled.Planning.{cells_all}
 use Rattle.call_gen.proofs.numbering.cells.Goals as goal
@@ -12,5 +13,5 @@ returns-clause-cells c = λ f lt. c.loop-f.invariant.starts f
 
 pub returns-clause-total : goal.returns-clause-total
 returns-clause-total c = Rattle.std.proofs.Common.◌∙◌ c.loop-f.invariant.total
-    (cells_all (view.graph c.args.table.now.graph.now) c.loop-f.f
+    (cells_all (view.graph (graph_in c.args.table.now)) c.loop-f.f
     (omega (arith, c.proc_count-f-end.ensures)))

@@ -2,6 +2,7 @@ use Rattle.std.proofs.Common.{◌≡◌, ◌-◌, length, List, ◌∙◌, ap, m
 use Rattle.ws_words.specs.Plain.{world_of}
 use Rattle.cfg_core.specs.View as view
 use Rattle.cfg_core.specs.Shown.{shown_cells}
+use Rattle.cfg_core.specs.Tables.{graph_in}
 use Rattle.cfg_core.specs.declared.blocks.GraphArray.{GraphArray}
 use Rattle.cfg_core.proofs.Cost.{not_both}
 use Rattle.cfg_core.proofs.Walking.{opened, ended_is, going_is, in_time, ends_so}
@@ -13,7 +14,7 @@ overflow_sub-result c =
     let w = c.walk.new.walker in
     let main : c.saturating_sub.result ≡ length c.args.graph.now.procs.items - 1 =
     omega (arith, c.args.graph.now.procs.ok.0) in
-    let answer = opened c.in_ok-table.table.graph.now c.args.graph.now world c.args.turns
+    let answer = opened (graph_in c.in_ok-table.table) c.args.graph.now world c.args.turns
     c.saturating_sub.result c.room-main.result.entry c.room-main.result.vars c.in_ok-walk.field-0 w
     c.in_ok-table.ensures main c.room-main.ensures.entry c.room-main.ensures.vars
     (c.in_ok-walk.ensures _ _ _ c.in_ok-walker.ensures) in
@@ -26,7 +27,7 @@ returns-then-branch-clause-ended c =
     let w = c.walk.new.walker in
     let main : c.saturating_sub.result ≡ length c.args.graph.now.procs.items - 1 =
     omega (arith, c.args.graph.now.procs.ok.0) in
-    let answer = opened c.in_ok-table.table.graph.now c.args.graph.now world c.args.turns
+    let answer = opened (graph_in c.in_ok-table.table) c.args.graph.now world c.args.turns
     c.saturating_sub.result c.room-main.result.entry c.room-main.result.vars c.in_ok-walk.field-0 w
     c.in_ok-table.ensures main c.room-main.ensures.entry c.room-main.ensures.vars
     (c.in_ok-walk.ensures _ _ _ c.in_ok-walker.ensures) in
@@ -41,7 +42,7 @@ returns-clause-going c =
     let w = c.walk.new.walker in
     let main : c.saturating_sub.result ≡ length c.args.graph.now.procs.items - 1 =
     omega (arith, c.args.graph.now.procs.ok.0) in
-    let answer = opened c.in_ok-table.table.graph.now c.args.graph.now world c.args.turns
+    let answer = opened (graph_in c.in_ok-table.table) c.args.graph.now world c.args.turns
     c.saturating_sub.result c.room-main.result.entry c.room-main.result.vars c.in_ok-walk.field-0 w
     c.in_ok-table.ensures main c.room-main.ensures.entry c.room-main.ensures.vars
     (c.in_ok-walk.ensures _ _ _ c.in_ok-walker.ensures) in
@@ -53,7 +54,7 @@ returns-clause-ends_in_time c = λ n o le ends.
     let w = c.walk.new.walker in
     let main : c.saturating_sub.result ≡ length c.args.graph.now.procs.items - 1 =
     omega (arith, c.args.graph.now.procs.ok.0) in
-    let answer = opened c.in_ok-table.table.graph.now c.args.graph.now world c.args.turns
+    let answer = opened (graph_in c.in_ok-table.table) c.args.graph.now world c.args.turns
     c.saturating_sub.result c.room-main.result.entry c.room-main.result.vars c.in_ok-walk.field-0 w
     c.in_ok-table.ensures main c.room-main.ensures.entry c.room-main.ensures.vars
     (c.in_ok-walk.ensures _ _ _ c.in_ok-walker.ensures) in

@@ -2,6 +2,7 @@ use Rattle.std.proofs.Common.{ap, ◌∙◌, map, ℕ, List, ◌≡◌}
 use Rattle.ws_isa.specs.View as image
 use Rattle.ws_isa.specs.Image.{Array}
 use Rattle.cfg_core.specs.Graph.{Graph}
+use Rattle.cfg_core.specs.Tables.{graph_in}
 use Rattle.cfg_core.specs.View as view
 use Rattle.live_vars.specs.Marks.{has}
 use Rattle.wave_cut.specs.Cut.{Cut}
@@ -17,7 +18,7 @@ pub make_draft-requires : goal.make_draft-requires
 make_draft-requires c =
     let g = view.graph c.args.graph.now in let cut = c.args.waves.now in
     let o = c.in_ok-outline.outline in let h = c.in_ok-outline.ensures in let r = c.requires in
-    let same : view.graph o.table.graph.now ≡ g = ap view.graph h.graph in
+    let same : view.graph (graph_in o.table) ≡ g = ap view.graph h.graph in
     let plans : map shown.plan c.deref.result.now ≡ plans_of g (has c.args.live.now) cut =
     ap (λ (ps : List declared.Plan). map shown.plan ps) c.deref.ensures.value ∙ c.in_ok-plans.ensures
     ∙ ap (λ (k : Graph). plans_of k (has o.live.now) o.waves.now) same
@@ -30,7 +31,7 @@ pub returns : goal.returns
 returns c =
     let g = view.graph c.args.graph.now in let cut = c.args.waves.now in
     let o = c.in_ok-outline.outline in let h = c.in_ok-outline.ensures in let r = c.requires in
-    let same : view.graph o.table.graph.now ≡ g = ap view.graph h.graph in
+    let same : view.graph (graph_in o.table) ≡ g = ap view.graph h.graph in
     let width : o.width ≡ width_of g = h.outline.width ∙ ap width_of same in
     let plans : map shown.plan c.deref.result.now ≡ plans_of g (has c.args.live.now) cut =
     ap (λ (ps : List declared.Plan). map shown.plan ps) c.deref.ensures.value ∙ c.in_ok-plans.ensures

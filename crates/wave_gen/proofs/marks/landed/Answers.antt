@@ -1,4 +1,5 @@
 use Rattle.std.proofs.Common.{◌<◌, ◌∙◌, length, arith}
+use Rattle.cfg_core.specs.Tables.{graph_in}
 use Rattle.cfg_core.specs.View as view
 use Rattle.wave_gen.specs.Listing.{landings_of}
 use Rattle.wave_gen.proofs.Tables.Marked.{some_next}
@@ -7,7 +8,7 @@ use Rattle.ws_words.specs.Items.{flag_at}
 
 pub loop-i-preserved : goal.loop-i-preserved
 loop-i-preserved c =
-    let t = c.args.table.now in let g = view.graph t.graph.now in let h = c.loop-i.invariant in
+    let t = c.args.table.now in let g = view.graph (graph_in t) in let h = c.loop-i.invariant in
     record {
       count = c.mark_landings_at.ensures.count ∙ h.count;
       marked = λ b l. (let m : b < length c.loop-i.flags.items = omega (arith, l, h.count) in

@@ -1,9 +1,10 @@
 use Rattle.std.proofs.Common.{◌≡◌, ◌++◌, map, drop}
+use Rattle.cfg_core.specs.Tables.{graph_in}
 use Rattle.cfg_core.specs.View as view
 use Rattle.call_gen.specs.Spelled.{save}
 use Rattle.call_gen.proofs.plan.CallPlan.add_saves.Given as goal
 
 abbrev pub invariant-loop-x : goal.invariant-loop-x
-invariant-loop-x l = map view.op l.ops.items ++ map (save (view.graph l.self.table.graph.now) l.home)
+invariant-loop-x l = map view.op l.ops.items ++ map (save (view.graph (graph_in l.self.table)) l.home)
     (drop l.x-index l.xs) ≡ map view.op l.initial.ops.items ++ map
-    (save (view.graph l.self.table.graph.now) l.home) l.xs
+    (save (view.graph (graph_in l.self.table)) l.home) l.xs

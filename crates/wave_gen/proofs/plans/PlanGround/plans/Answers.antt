@@ -1,5 +1,6 @@
 use Rattle.std.proofs.Common.{ℕ, ◌≤◌, ◌∙◌, ap, map, length, drop, get_or, refl, arith}
 use Rattle.cfg_core.specs.Graph.{spots}
+use Rattle.cfg_core.specs.Tables.{graph_in}
 use Rattle.cfg_core.specs.View as view
 use Rattle.live_vars.specs.Marks.{has}
 use Rattle.wave_cut.specs.Cut.{is_first}
@@ -12,14 +13,14 @@ use Rattle.ws_words.proofs.Lists.{drop_all, slid}
 
 pub plan-requires-clause-there : goal.plan-requires-clause-there
 plan-requires-clause-there c =
-    let o = c.args.self.now in let g = view.graph o.table.graph.now in let xs = c.deref-b-items.result.now in
+    let o = c.args.self.now in let g = view.graph (graph_in o.table) in let xs = c.deref-b-items.result.now in
     listed_below g o.waves.now (length (spots g)) xs refl (c.deref-b-items.ensures.value
     ∙ c.requires.order.blocks) (get_or xs c.loop-b.b-index 0) (in_at xs c.loop-b.b-index 0 (omega arith))
 
 pub returns : goal.returns
 unfolding plans_of
 returns c =
-    let o = c.args.self.now in let g = view.graph o.table.graph.now in
+    let o = c.args.self.now in let g = view.graph (graph_in o.table) in
     let all : ℕ → Plan = plan_of g (has o.live.now) (turned g o.waves.now) (is_first o.waves.now)
     (place_of g o.waves.now) (width_of g) in
     let xs = o.order.blocks.items in
