@@ -4,7 +4,8 @@ use Rattle.std.proofs.Common.{refl, ap, sym, subst, ◌∙◌, arith}
 use Rattle.df_core.specs.Core.{same_key}
 use Rattle.match_table.specs.declared.entry.Arrived.{Arrived}
 use Rattle.match_table.specs.declared.entry.Half.{Half}
-use Rattle.match_table.specs.Pages.{PageContent, arrived_in, first_of, second_half, second_wave, seen_in, whole}
+use Rattle.match_table.specs.Pages.{PageContent, arrived_in, first_of, second_half, second_wave, seen_in}
+use Rattle.match_table.specs.Pages.{whole}
 use Rattle.match_table.specs.Ports.{set_half, set_port, with_half, with_port}
 use Rattle.match_table.proofs.Arrivals.{key_cases}
 
@@ -59,7 +60,8 @@ halves_apart : (w i b : ℕ) → second_half w i ≡ 2 * b → ⊥
 halves_apart w i b e = omega (arith, e)
 
 -- each instance has a second half of its own
-own_second : (w i a b : ℕ) → second_wave w ≡ second_wave a → second_half w i ≡ second_half a b → (w ≡ a) × (i ≡ b)
+own_second : (w i a b : ℕ) → second_wave w ≡ second_wave a → second_half w i ≡ second_half a b
+    → (w ≡ a) × (i ≡ b)
 own_second w i a b e f = grind arith
 
 -- one instance has something else
@@ -83,7 +85,8 @@ near_arrived old new w i p v more lt = by_key (arrived_in new) (arrived_in old) 
       (other_half old new w (2 * i) p v more a (2 * b) (λ e. let o = e.1 in apart (e.0, omega (arith, o))))
       (second a b))
     where
-      second : (a b : ℕ) → seen_in new (second_wave a) (second_half a b) ≡ seen_in old (second_wave a) (second_half a b)
+      second : (a b : ℕ) → seen_in new (second_wave a) (second_half a b)
+          ≡ seen_in old (second_wave a) (second_half a b)
       second a b = other_half old new w (2 * i) p v more (second_wave a) (second_half a b)
           (λ e. halves_apart a b i (sym e.1))
 
@@ -122,7 +125,8 @@ nothing_in w i = refl
 pub none_whole : (slots : List (Option PageContent)) (w i : ℕ) → None ≡ seen_in slots w (2 * i)
     → None ≡ arrived_in slots w i
 unfolding arrived_in
-none_whole slots w i none = ap (λ o. whole o (first_of (seen_in slots (second_wave w) (second_half w i)))) none
+none_whole slots w i none =
+    ap (λ o. whole o (first_of (seen_in slots (second_wave w) (second_half w i)))) none
 
 -- what has come to an instance whose first half has this, and that has this third value
 pub whole_is : (slots : List (Option PageContent)) (w i : ℕ) (o : Option Half) (h : Half) (t : ℕ) → o ≡ Some h
