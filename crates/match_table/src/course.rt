@@ -2,30 +2,44 @@
 
 use crate::entry::PageName;
 
-// How many keys a course knows.
+// How many keys a course knows, of pages of first halves and of second ones.
 const KEYS: usize = 64;
 
-/// Where pages were found last: keys by a part of their names, and a place in the list. Whatever it says
+const SECOND_KEYS: usize = 16;
+
+/// Where pages were found last: keys by a part of their names, and places in the list. Whatever it says
 /// serves; where it is right a page is found at once.
 #[derive(Clone, Copy)]
 pub struct Course {
-    keys: [usize; KEYS],
+    keys: [usize; KEYS + SECOND_KEYS],
     near: usize,
+    near_second: usize,
+}
+
+// Whether a page has second halves.
+#[inline(always)]
+fn is_second(name: PageName) -> bool {
+    name.part % 2 == 1
 }
 
 // The place of a name's key.
 #[inline(always)]
 fn place_for(name: PageName) -> usize {
-    let part = name.part / 2;
-    (part.wrapping_add(part / 16) % KEYS as u64) as usize
+    let number = name.part / 2;
+    if is_second(name) {
+        KEYS + (number / 16) as usize % SECOND_KEYS
+    } else {
+        number.wrapping_add(number / 16) as usize % KEYS
+    }
 }
 
 impl Course {
     /// Where nothing is known of the pages.
     pub fn none() -> Course {
         Course {
-            keys: [0; KEYS],
+            keys: [0; KEYS + SECOND_KEYS],
             near: 0,
+            near_second: 0,
         }
     }
 
@@ -40,14 +54,22 @@ impl Course {
 
     // The place from which on the page with a name is looked for.
     #[inline(always)]
-    pub(crate) fn near(&self) -> usize {
-        self.near
+    pub(crate) fn near(&self, name: PageName) -> usize {
+        if is_second(name) {
+            self.near_second
+        } else {
+            self.near
+        }
     }
 
     // A name stands at this place, or would.
     #[inline(always)]
-    pub(crate) fn at(&mut self, place: usize) {
-        self.near = place;
+    pub(crate) fn at(&mut self, name: PageName, place: usize) {
+        if is_second(name) {
+            self.near_second = place;
+        } else {
+            self.near = place;
+        }
     }
 
     // The page with a name has this key.
