@@ -32,6 +32,13 @@ impl<'i> Program<'i> {
         })
     }
 
+    /// The image itself.
+    pub fn image(&self) -> &'i Image
+        ensures { view.image result.now ≡ image_of self.now }
+    {
+        self.image
+    }
+
     /// The instruction with this number, counted from 1.
     pub fn place(&self, number: u32) -> Option<PlacedInstr<'i>>
         ensures { MatchOption result (instr_at (image_of self.now) number ≡ no_instr)

@@ -60,7 +60,7 @@ impl<J: Job, P: Port> Buffer<J, P> {
             contents P.tells slots ≡ contents P.tells ports) }
     {
         every_list_of_events();
-        let cells = match empty_cells(alloc, &code.program().image.arrays) {
+        let cells = match empty_cells(alloc, &code.program().image().arrays) {
             Ok(cells) => cells,
             Err(_) => return Err(ports),
         };
