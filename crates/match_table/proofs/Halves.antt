@@ -77,18 +77,18 @@ pub near_arrived : (old new : List (Option PageContent)) (w i p v : ℕ) → One
 unfolding arrived_in
 near_arrived old new w i p v more lt = by_key (arrived_in new) (arrived_in old) w i
     (Some (with_port (arrived_in old w i) p v)) (
-      ap (λ o. whole o (first_of (seen_in new (second_wave w) (second_half w i))))
-      (own_half old new w (2 * i) p v more)
-      ∙ near_whole (seen_in old w (2 * i)) p v (first_of (seen_in new (second_wave w) (second_half w i))) lt
-      ∙ ap (λ o. Some (with_port (whole (seen_in old w (2 * i)) (first_of o)) p v)) (second w i)
+    ap (λ o. whole o (first_of (seen_in new (second_wave w) (second_half w i))))
+    (own_half old new w (2 * i) p v more)
+    ∙ near_whole (seen_in old w (2 * i)) p v (first_of (seen_in new (second_wave w) (second_half w i))) lt
+    ∙ ap (λ o. Some (with_port (whole (seen_in old w (2 * i)) (first_of o)) p v)) (second w i)
     ) (λ a b apart. same_halves old new a b
-      (other_half old new w (2 * i) p v more a (2 * b) (λ e. let o = e.1 in apart (e.0, omega (arith, o))))
-      (second a b))
-    where
-      second : (a b : ℕ) → seen_in new (second_wave a) (second_half a b)
-          ≡ seen_in old (second_wave a) (second_half a b)
-      second a b = other_half old new w (2 * i) p v more (second_wave a) (second_half a b)
-          (λ e. halves_apart a b i (sym e.1))
+    (other_half old new w (2 * i) p v more a (2 * b) (λ e. let o = e.1 in apart (e.0, omega (arith, o))))
+    (second a b))
+  where
+    second : (a b : ℕ) → seen_in new (second_wave a) (second_half a b)
+        ≡ seen_in old (second_wave a) (second_half a b)
+    second a b = other_half old new w (2 * i) p v more (second_wave a) (second_half a b)
+        (λ e. halves_apart a b i (sym e.1))
 
 -- or at the third
 pub far_arrived : (old mid new : List (Option PageContent)) (w i p v : ℕ) → OneMore old mid w (2 * i) p v
@@ -98,23 +98,23 @@ pub far_arrived : (old mid new : List (Option PageContent)) (w i p v : ℕ) → 
 unfolding arrived_in
 far_arrived old mid new w i p v more last lt = by_key (arrived_in new) (arrived_in old) w i
     (Some (with_port (arrived_in old w i) p v)) (
-      ap (λ o. whole o (first_of (seen_in new (second_wave w) (second_half w i))))
-      (first w i ∙ own_half old mid w (2 * i) p v more)
-      ∙ ap (λ t. whole (Some (with_half (seen_in old w (2 * i)) p v)) t)
-      (ap first_of (own_half mid new (second_wave w) (second_half w i) 0 v last)
-      ∙ first_is (seen_in mid (second_wave w) (second_half w i)) v)
-      ∙ far_whole (seen_in old w (2 * i)) p v (first_of (seen_in old (second_wave w) (second_half w i))) lt
+    ap (λ o. whole o (first_of (seen_in new (second_wave w) (second_half w i))))
+    (first w i ∙ own_half old mid w (2 * i) p v more)
+    ∙ ap (λ t. whole (Some (with_half (seen_in old w (2 * i)) p v)) t)
+    (ap first_of (own_half mid new (second_wave w) (second_half w i) 0 v last)
+    ∙ first_is (seen_in mid (second_wave w) (second_half w i)) v)
+    ∙ far_whole (seen_in old w (2 * i)) p v (first_of (seen_in old (second_wave w) (second_half w i))) lt
     ) (λ a b apart. same_halves old new a b
-      (first a b ∙ other_half old mid w (2 * i) p v more a (2 * b)
-      (λ e. let o = e.1 in apart (e.0, omega (arith, o))))
-      (other_half mid new (second_wave w) (second_half w i) 0 v last (second_wave a) (second_half a b)
-      (λ e. apart (own_second w i a b e.0 e.1))
-      ∙ other_half old mid w (2 * i) p v more (second_wave a) (second_half a b)
-      (λ e. halves_apart a b i (sym e.1))))
-    where
-      first : (a b : ℕ) → seen_in new a (2 * b) ≡ seen_in mid a (2 * b)
-      first a b = other_half mid new (second_wave w) (second_half w i) 0 v last a (2 * b)
-          (λ e. halves_apart w i b e.1)
+    (first a b ∙ other_half old mid w (2 * i) p v more a (2 * b)
+    (λ e. let o = e.1 in apart (e.0, omega (arith, o))))
+    (other_half mid new (second_wave w) (second_half w i) 0 v last (second_wave a) (second_half a b)
+    (λ e. apart (own_second w i a b e.0 e.1))
+    ∙ other_half old mid w (2 * i) p v more (second_wave a) (second_half a b)
+    (λ e. halves_apart a b i (sym e.1))))
+  where
+    first : (a b : ℕ) → seen_in new a (2 * b) ≡ seen_in mid a (2 * b)
+    first a b = other_half mid new (second_wave w) (second_half w i) 0 v last a (2 * b)
+        (λ e. halves_apart w i b e.1)
 
 -- nothing has come where there is no page
 pub nothing_in : (w i : ℕ) → arrived_in [] w i ≡ None
