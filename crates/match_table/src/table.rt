@@ -205,4 +205,4 @@ impl<J: Job> Table<J> {
 // For how many tokens room is made at first, and then at once: lists of so many grow where they lie.
 const FIRST: u32 = 64;
 
-const MORE: u32 = 8192;
+const MORE: u32 = 4096;
