@@ -1,6 +1,6 @@
 pub mod Entries
 pub mod Phased
-pub mod Names
+pub mod Trees
 pub mod Arrivals
 pub mod Store
 pub mod Spots

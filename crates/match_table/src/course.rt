@@ -7,13 +7,11 @@ const KEYS: usize = 64;
 
 const SECOND_KEYS: usize = 16;
 
-/// Where pages were found last: keys by a part of their names, and places in the list. Whatever it says
-/// serves; where it is right a page is found at once.
+/// Where pages were found last: keys by a part of their names. Whatever it says serves; where it is right a page
+/// is found at once.
 #[derive(Clone, Copy)]
 pub struct Course {
     keys: [usize; KEYS + SECOND_KEYS],
-    near: usize,
-    near_second: usize,
 }
 
 // Whether a page has second halves.
@@ -38,8 +36,6 @@ impl Course {
     pub fn none() -> Course {
         Course {
             keys: [0; KEYS + SECOND_KEYS],
-            near: 0,
-            near_second: 0,
         }
     }
 
@@ -49,26 +45,6 @@ impl Course {
         match self.keys.get(place_for(name)) {
             Some(key) => *key,
             None => 0,
-        }
-    }
-
-    // The place from which on the page with a name is looked for.
-    #[inline(always)]
-    pub(crate) fn near(&self, name: PageName) -> usize {
-        if is_second(name) {
-            self.near_second
-        } else {
-            self.near
-        }
-    }
-
-    // A name stands at this place, or would.
-    #[inline(always)]
-    pub(crate) fn at(&mut self, name: PageName, place: usize) {
-        if is_second(name) {
-            self.near_second = place;
-        } else {
-            self.near = place;
         }
     }
 

@@ -10,10 +10,11 @@
 //! holds; `fired_count` and `fired_at` what it lists, each instance with the operands that it holds, and
 //! `asked_count` and `asked_at` those of memory among them. With room for a token (`reserve`, `spare`)
 //! `accept` isn't want of memory below the last wave number, and takes room for one at most. A table keeps
-//! pages in a slab, each with the entries of four instances, of four waves in a row: of each wave the
-//! instruction before that of the wave before it. As facts of its type a list of the pages' names rises and
-//! has the key of each page, under which the page with that name stands. Its lists name an instance by where
-//! it stands in a page, in a number of 32 bits as long as keys allow that. What it holds is right, and an
+//! pages in a slab, each with the entries of eight instances, of four waves in a row and the four that are
+//! sixteen further: of each wave in a row the instruction before that of the wave before it. As facts of its
+//! type each page is found in its tree, where the bits of a number tell the way that its name gives, and each
+//! search ends. Its lists name an instance by where it stands in a page, in a number of 32 bits as long as keys
+//! allow that. What it holds is right, and an
 //! instance fires once, exactly when it is full (`facts`).
 //!
 //! `Limited` is a table that serves the instances whose wave number plus instruction is its number modulo 16,
@@ -45,13 +46,14 @@ mod lent;
 mod limit;
 mod looking;
 mod meeting;
+mod names;
 mod ops;
 mod pages;
-mod places;
 mod row;
 mod table;
 mod tables;
 mod together;
+mod tree;
 
 pub use bringing::bring;
 pub use course::Course;

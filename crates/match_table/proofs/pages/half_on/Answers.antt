@@ -7,4 +7,4 @@ returns-in_default c = grind (arith, absent_is)
 
 pub returns : goal.returns
 returns c = found_is _ _ c.requires.stand _ _ _ _ _ _ _ _ refl c.name_of.ensures c.in-Some.ensures
-    c.index.ensures c.slot_of.ensures.place c.half_at.ensures
+    c.index.ensures c.place_of.ensures.place c.half_at.ensures

@@ -1,9 +1,8 @@
-use Rattle.std.proofs.Common.{arith, ◌≡◌, ◌%◌, ap, ◌∙◌, sym, set, get_or}
-use Rattle.match_table.specs.Pages.{PageContent}
-use Rattle.match_table.specs.Pages.{name_for}
+use Rattle.std.proofs.Common.{arith, ◌≡◌, ap, ◌∙◌, sym, set, get_or}
+use Rattle.match_table.specs.Pages.{PageContent, name_for, place_of}
 use Rattle.match_table.specs.Ports.{none_half, set_half}
 use Rattle.match_table.proofs.Spots.{changed_names}
-use Rattle.match_table.proofs.Store.{named_is, port_seen, set_changed, set_ok, still_clean, still_four}
+use Rattle.match_table.proofs.Store.{named_is, port_seen, set_changed, set_ok, still_clean, still_eight}
 use Rattle.ws_words.proofs.Options.{some_same}
 use Rattle.match_table.proofs.pages.Pages.set_port.Goals as goal
 
@@ -13,26 +12,39 @@ own_name c = grind (arith, named_is)
 
 -- and has the value at the port
 own_entries : (c : goal.After-self-1) → c.put_at.new.page.entries ≡ set c.index_mut.result.now.entries
-    (c.args.wave % 4) (set_half (get_or c.index_mut.result.now.entries (c.args.wave % 4) none_half)
+    (place_of c.args.wave) (set_half (get_or c.index_mut.result.now.entries (place_of c.args.wave) none_half)
     c.args.port
     c.args.value)
-own_entries c = grind arith
+own_entries c = ap (λ (x : PageContent). x.entries) c.put_at.ensures
+    ∙ ap (λ k. set c.index_mut.result.now.entries k (set_half (get_or c.index_mut.result.now.entries k
+    none_half) c.args.port c.args.value)) c.place_of.ensures.place
+
+same_name : (c : goal.After-self-1) → c.put_at.new.page.name ≡ c.index_mut.result.now.name
+same_name c = ap (λ (x : PageContent). x.name) c.put_at.ensures
+
+same_even : (c : goal.After-self-1) → c.put_at.new.page.even ≡ c.index_mut.result.now.even
+same_even c = ap (λ (x : PageContent). x.even) c.put_at.ensures
+
+same_odd : (c : goal.After-self-1) → c.put_at.new.page.odd ≡ c.index_mut.result.now.odd
+same_odd c = ap (λ (x : PageContent). x.odd) c.put_at.ensures
 
 pub invariant_of-self : goal.invariant_of-self
-invariant_of-self c = let order = c.self.inside.order.items in let slots = c.self.inside.pages.slots in
+invariant_of-self c = let roots = c.self.inside.roots.items in let slots = c.self.inside.pages.slots in
     let u : PageContent = c.index_mut.result.now in let v : PageContent = c.put_at.new.page in
-    let at = c.index_mut.ensures.value in let name = c.put_at.ensures.name in
-    set_ok order slots c.self.invariant c.args.key u v at name (still_four _ _ c.self.invariant _ _ _ _ _ _ _
-    at (own_name c) name (own_entries c)) (still_clean order slots c.self.invariant c.args.key c.args.wave
-    c.args.half c.args.port c.args.value u v at (own_name c) name (own_entries c))
+    let at = c.index_mut.ensures.value in let ok = c.self.invariant in
+    set_ok slots c.args.key u v at (same_name c) (same_even c) (same_odd c) roots ok (still_eight roots slots ok
+    c.args.key c.args.wave c.args.half c.args.port c.args.value u v at (own_name c) (same_name c)
+    (same_even c) (same_odd c) (own_entries c)) (still_clean roots slots ok c.args.key c.args.wave
+    c.args.half c.args.port c.args.value u v at (own_name c) (same_name c) (same_even c) (same_odd c)
+    (own_entries c))
 
 pub returns-clause-seen : goal.returns-clause-seen
 returns-clause-seen c = rw (← c.self.view_is)
-    (port_seen c.self.inside.order.items c.self.inside.pages.slots c.self.invariant c.args.key c.args.wave
+    (port_seen c.self.inside.roots.items c.self.inside.pages.slots c.self.invariant c.args.key c.args.wave
     c.args.half c.args.port c.args.value c.index_mut.result.now c.put_at.new.page c.index_mut.ensures.value
-    (own_name c) c.put_at.ensures.name (own_entries c))
+    (own_name c) (same_name c) (same_even c) (same_odd c) (own_entries c))
 
 pub returns-clause-stay : goal.returns-clause-stay
 returns-clause-stay c = rw (← c.self.view_is) (changed_names _ _ _ _ (set_changed _ _ _ _
     c.index_mut.ensures.value) (λ d there. ap (λ (x : PageContent). x.name) (some_same (sym there ∙
-    c.index_mut.ensures.value)) ∙ sym c.put_at.ensures.name))
+    c.index_mut.ensures.value)) ∙ sym (same_name c)))
