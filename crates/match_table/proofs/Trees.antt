@@ -1,13 +1,11 @@
 -- What the trees of pages say of a name, also where they grow.
-use Rattle.std.proofs.Common.{◌≡◌, ◌≢◌, ◌+◌, ◌/◌, ◌%◌, ◌⊎◌, ⊎_elim, inl, inr, ℕ, zero, suc, true, false, cond, eqb}
-use Rattle.std.proofs.Common.{List, Option, Some, None, count_by, sym, refl, ap, ◌∙◌, subst, arith}
-use Rattle.std.specs.Prelude.{is_some}
-use Rattle.std.proofs.lemmas.Bool.{cases_Bool, cases_eq}
+use Rattle.std.proofs.Common.{◌≡◌, ◌≢◌, ◌+◌, ◌/◌, ◌⊎◌, ⊎_elim, inl, inr, ℕ, zero, suc, true, false}
+use Rattle.std.proofs.Common.{List, Option, Some, None, sym, refl, ap, ◌∙◌, subst, arith}
+use Rattle.std.proofs.lemmas.Bool.{cases_eq}
 use Rattle.match_table.specs.declared.entry.PageName.{PageName}
-use Rattle.match_table.specs.Pages.{IsAbsent, IsNamed, Leads, PageContent, Stays, answer_at, found, has_name}
-use Rattle.match_table.specs.Pages.{next_in, next_of, nowhere, path_of, root_of, under, walk, with_next}
+use Rattle.match_table.specs.Pages.{IsNamed, Leads, PageContent, Stays, answer_at, found, has_name}
+use Rattle.match_table.specs.Pages.{next_in, next_of, under, walk}
 use Rattle.match_table.proofs.Arrivals.{key_cases, some_none}
-use Rattle.ws_words.proofs.Options.{some_same}
 
 -- a page has the name, or another
 pub named_cases : (p : PageContent) (name : PageName) → ((p.name ≡ name) × (has_name p name ≡ true))
@@ -45,19 +43,6 @@ pub begins : (slots : List (Option PageContent)) (n at path k : ℕ) (name : Pag
     → walk slots n at path name ≡ Some (Some k) → FoundAt slots at
 begins slots zero at path k name e = absurd (some_none (Some k) (sym e))
 begins slots (suc n) at path k name e = grind (arith, ⊎_elim, there_or_none, at_none)
-
-pub is_found : (slots : List (Option PageContent)) (n at path k : ℕ) (name : PageName)
-    → walk slots n at path name ≡ Some (Some k) → IsNamed slots k name
-is_found slots zero at path k name e = absurd (some_none (Some k) (sym e))
-is_found slots (suc n) at path k name e =
-    let b = begins slots (suc n) at path k name e in ⊎_elim
-    (λ (own : (b.page.name ≡ name) × (has_name b.page name ≡ true)).
-    let same : at ≡ k = some_same (some_same (sym (at_own slots n at path name b.page b.there own.0) ∙ e)) in
-    record { page = b.page; at = ap (under slots) (sym same) ∙ b.there; is = own.0 })
-    (λ (other : (b.page.name ≡ name → ⊥) × (has_name b.page name ≡ false)).
-    is_found slots n (next_of b.page path) (path / 2) k name
-    (sym (at_other slots n at path name b.page b.there other.0) ∙ e))
-    (named_cases b.page name)
 
 -- with more steps the answer is the same
 pub one_more : (slots : List (Option PageContent)) (n at path : ℕ) (name : PageName) (r : Option ℕ)
@@ -106,12 +91,13 @@ module _ (old new : List (Option PageContent)) (stays : Stays old new) where
       sym (at_other old n at path name b.page b.there other.0) ∙ e in
       let r = begins old n (next_of b.page path) (path / 2) k name f in
       at_other new n at path name q.page q.at (λ e'. other.0 (sym q.is ∙ e'))
-      ∙ ap (λ j. walk new n j (path / 2) name) (stays.behind at path b.page q.page r.page b.there q.at r.there)
+      ∙ ap (λ j. walk new n j (path / 2) name)
+      (stays.behind at path b.page q.page r.page b.there q.at r.there)
       ∙ still_found n (next_of b.page path) (path / 2) k name f)
       (named_cases b.page name)
 
--- A page is new, with none behind it; what stood behind the others still does, or there was none and it is the
--- new one.
+-- A page is new, with none behind it; what stood behind the others still does, or there was none and it is
+-- the new one.
 pub record Grown (old new : List (Option PageContent)) (key : ℕ) (v : PageContent) : Type 0 where
   pub fresh : under old key ≡ None
   pub at : under new key ≡ Some v
@@ -131,7 +117,8 @@ module _ (old new : List (Option PageContent)) (key : ℕ) (v : PageContent) (g 
   }
 
   -- a search that comes to the new page ends there, or behind it
-  pub at_new : (n path : ℕ) (name : PageName) → (r : Option ℕ) × (walk new (suc (suc n)) key path name ≡ Some r)
+  pub at_new : (n path : ℕ) (name : PageName)
+      → (r : Option ℕ) × (walk new (suc (suc n)) key path name ≡ Some r)
   at_new n path name = ⊎_elim
       (λ (own : (v.name ≡ name) × (has_name v name ≡ true)).
       (Some key, at_own new (suc n) key path name v g.at own.0))
@@ -148,7 +135,8 @@ module _ (old new : List (Option PageContent)) (key : ℕ) (v : PageContent) (g 
   still_ends zero at path name e = absurd (some_none None (sym e))
   still_ends (suc n) at path name e = ⊎_elim
       (λ (none : under old at ≡ None). ⊎_elim
-      (λ (same : at ≡ key). subst (λ k. (r : Option ℕ) × (walk new (suc (suc n)) k path name ≡ Some r)) (sym same)
+      (λ (same : at ≡ key).
+      subst (λ k. (r : Option ℕ) × (walk new (suc (suc n)) k path name ≡ Some r)) (sym same)
       (at_new n path name))
       (λ (apart : at ≡ key → ⊥). (None, at_none new (suc n) at path name (g.others at apart none)))
       (key_same at))
@@ -158,7 +146,8 @@ module _ (old new : List (Option PageContent)) (key : ℕ) (v : PageContent) (g 
       (λ (other : (b.page.name ≡ name → ⊥) × (has_name b.page name ≡ false)).
       let f : walk old n (next_of b.page path) (path / 2) name ≡ Some None =
       sym (at_other old n at path name b.page b.there other.0) ∙ e in
-      let step : walk new (suc (suc n)) at path name ≡ walk new (suc n) (next_of q.page path) (path / 2) name =
+      let step : walk new (suc (suc n)) at path name
+      ≡ walk new (suc n) (next_of q.page path) (path / 2) name =
       at_other new (suc n) at path name q.page q.at (λ e'. other.0 (sym q.is ∙ e')) in
       behind_it n path (next_of b.page path) (next_of q.page path) name
       (still_ends n (next_of b.page path) (path / 2) name) f

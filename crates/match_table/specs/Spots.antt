@@ -1,6 +1,6 @@
 -- Instances by where they stand. A spot is the key of an instance's page, times eight, and the place of its
 -- wave in the page.
-use Rattle.std.specs.Prelude.{◌≡◌, ◌+◌, ◌*◌, ◌/◌, ◌%◌, ◌-◌, ◌^◌, ◌<◌, ℕ, List, [], ◌∷◌, ◌++◌, map, All}
+use Rattle.std.specs.Prelude.{◌-◌, ◌≡◌, ◌+◌, ◌*◌, ◌/◌, ◌%◌, ◌^◌, ◌<◌, ℕ, List, [], ◌∷◌, ◌++◌, map, All}
 use Rattle.std.specs.Prelude.{Option, Some, None, ⊤}
 use Rattle.df_core.specs.Core.{Key}
 use Rattle.match_table.specs.declared.entry.Instance.{Instance}

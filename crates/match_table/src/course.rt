@@ -7,8 +7,8 @@ const KEYS: usize = 64;
 
 const SECOND_KEYS: usize = 16;
 
-/// Where pages were found last: keys by a part of their names. Whatever it says serves; where it is right a page
-/// is found at once.
+/// Where pages were found last: keys by a part of their names. Whatever it says serves; where it is right
+/// a page is found at once.
 #[derive(Clone, Copy)]
 pub struct Course {
     keys: [usize; KEYS + SECOND_KEYS],

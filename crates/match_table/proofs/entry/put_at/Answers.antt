@@ -1,5 +1,4 @@
-use Rattle.std.proofs.Common.{◌≡◌, ℕ, List, sym, refl, ap, arith}
-use Rattle.match_table.specs.declared.entry.Half.{Half}
+use Rattle.std.proofs.Common.{ℕ, sym, ap, arith}
 use Rattle.match_table.specs.Pages.{PageContent}
 use Rattle.match_table.specs.Ports.{set_half}
 use Rattle.match_table.proofs.Entries.{entry, page_is, third_set, value_set}

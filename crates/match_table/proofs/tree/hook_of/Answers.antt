@@ -1,5 +1,5 @@
-use Rattle.std.proofs.Common.{◌≡◌, ◌-◌, ◌/◌, suc, Some, None, sym, ap, ◌∙◌, subst, arith}
-use Rattle.match_table.specs.Pages.{HookIs, Leads, PageContent, next_of, root_of, under, walk}
+use Rattle.std.proofs.Common.{◌-◌, ◌≡◌, ◌/◌, suc, Some, sym, ap, ◌∙◌, subst, arith}
+use Rattle.match_table.specs.Pages.{Leads, PageContent, next_of, root_of, under, walk}
 use Rattle.match_table.proofs.Trees.{at_other, leads_on}
 use Rattle.match_table.proofs.tree.hook_of.Goals as goal
 

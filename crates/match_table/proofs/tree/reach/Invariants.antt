@@ -1,4 +1,4 @@
-use Rattle.std.proofs.Common.{◌≡◌, ◌-◌, ◌+◌, length, vec_capacity}
+use Rattle.std.proofs.Common.{◌-◌, ◌≡◌, ◌+◌, length, vec_capacity}
 use Rattle.match_table.specs.declared.entry.PageName.{PageName}
 use Rattle.match_table.specs.Pages.{root_of}
 use Rattle.match_table.proofs.tree.reach.Given as goal

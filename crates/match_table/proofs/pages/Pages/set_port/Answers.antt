@@ -32,11 +32,11 @@ pub invariant_of-self : goal.invariant_of-self
 invariant_of-self c = let roots = c.self.inside.roots.items in let slots = c.self.inside.pages.slots in
     let u : PageContent = c.index_mut.result.now in let v : PageContent = c.put_at.new.page in
     let at = c.index_mut.ensures.value in let ok = c.self.invariant in
-    set_ok slots c.args.key u v at (same_name c) (same_even c) (same_odd c) roots ok (still_eight roots slots ok
-    c.args.key c.args.wave c.args.half c.args.port c.args.value u v at (own_name c) (same_name c)
-    (same_even c) (same_odd c) (own_entries c)) (still_clean roots slots ok c.args.key c.args.wave
-    c.args.half c.args.port c.args.value u v at (own_name c) (same_name c) (same_even c) (same_odd c)
-    (own_entries c))
+    set_ok slots c.args.key u v at (same_name c) (same_even c) (same_odd c) roots ok
+    (still_eight roots slots ok c.args.key c.args.wave c.args.half c.args.port c.args.value u v at
+    (own_name c) (same_name c) (same_even c) (same_odd c) (own_entries c))
+    (still_clean roots slots ok c.args.key c.args.wave c.args.half c.args.port c.args.value u v at
+    (own_name c) (same_name c) (same_even c) (same_odd c) (own_entries c))
 
 pub returns-clause-seen : goal.returns-clause-seen
 returns-clause-seen c = rw (← c.self.view_is)
