@@ -191,18 +191,9 @@ impl<J: Job> Table<J> {
         if self.room > 0 {
             return Ok(());
         }
-        self.reserve(self.more())
-    }
-
-    // For how many tokens room is made at once.
-    fn more(&self) -> u32
-        ensures { 0 < result }
-    {
-        if self.fired.len() == 0 { FIRST } else { MORE }
+        self.reserve(MORE)
     }
 }
 
-// For how many tokens room is made at first, and then at once: lists of so many grow where they lie.
-const FIRST: u32 = 64;
-
+// For how many tokens room is made at once: lists of so many grow where they lie.
 const MORE: u32 = 4096;
