@@ -1,6 +1,6 @@
 -- A table that takes a token: what it holds, and what is true of it.
 use Rattle.std.proofs.Common.{◌≡◌, ◌<◌, ◌≤◌, ℕ, suc, Bool, true, false, cond, List, [], ◌∷◌, ◌++◌}
-use Rattle.std.proofs.Common.{Option, Some, None, length, slice_index, sym, refl, ap, ◌∙◌, subst, arith}
+use Rattle.std.proofs.Common.{Some, None, length, slice_index, sym, refl, ap, ◌∙◌, subst, arith}
 use Rattle.ws_words.specs.Outside.{World}
 use Rattle.ws_isa.specs.declared.instr.Op.{Op}
 use Rattle.ws_isa.specs.Image.{Image, Token, ports, ports_of, instr_at, is_memory, is_memory_op}
@@ -18,7 +18,7 @@ use Rattle.df_core.proofs.Walked.PortsThere.{ports_there}
 use Rattle.df_core.proofs.Parts.Arriving.{ports_is_op, memory_is_op, sends_are, result_is_op}
 use Rattle.df_core.specs.Rights.{IsRight, operands_of}
 use Rattle.match_table.specs.declared.entry.Arrived.{Arrived}
-use Rattle.match_table.specs.Pages.{PageContent}
+use Rattle.match_table.specs.Pages.{Paged}
 use Rattle.match_table.specs.declared.meeting.Operands.{Operands}
 use Rattle.match_table.specs.declared.meeting.Seen.TheVariants.{Waits, Fills}
 use Rattle.match_table.specs.Pages.{arrived_in}
@@ -92,7 +92,7 @@ pub request_operands : (o : Operands) (n : ℕ) → n ≡ length (listed o) → 
 request_operands o n is le = grind arith
 
 -- what is true of a table, by its fields and by its value
-pub ok_now : (image : Image) (world : World) (entries : List (Option PageContent)) (fired asked : List Key)
+pub ok_now : (image : Image) (world : World) (entries : Paged) (fired asked : List Key)
     → TableOk image world entries fired asked → (c : TableContent) → entries ≡ c.entries
     → TableOk image world c.entries fired asked
 ok_now image world entries fired asked ok c same = subst (λ l. TableOk image world l fired asked) same ok
@@ -145,8 +145,8 @@ module _ (image : Image) (world : World) (formed : Formed image) (sound : Sound 
     request_right operands is memory = grind (arith, asks_right)
 
 -- a right token comes to a port that has had none, and an entry of its instance is put that has it
-pub record Puts (image : Image) (world : World) (entries : List (Option PageContent)) (fired asked : List Key)
-    (t : Token) (next : Arrived) (new : List (Option PageContent)) : Type 0 where
+pub record Puts (image : Image) (world : World) (entries : Paged) (fired asked : List Key)
+    (t : Token) (next : Arrived) (new : Paged) : Type 0 where
   pub facts : WalkFacts image world
   pub ok : TableOk image world entries fired asked
   pub right : IsRight image world t
@@ -157,7 +157,7 @@ pub record Puts (image : Image) (world : World) (entries : List (Option PageCont
 
 -- the instance is full, and is listed
 pub record Lists (image : Image) (fired asked : List Key) (t : Token) (next : Arrived)
-    (new : List (Option PageContent)) (fired' asked' : List Key) : Type 0 where
+    (new : Paged) (fired' asked' : List Key) : Type 0 where
   pub full : is_full (alone next) 0 0 (ports image t.instr) ≡ true
   pub one_more : fired' ≡ fired ++ record { wave = t.wave; instr = t.instr } ∷ []
   pub asks_so : asked' ≡ cond (is_memory image t.instr) (asked ++ record { wave = t.wave; instr = t.instr } ∷
@@ -165,11 +165,11 @@ pub record Lists (image : Image) (fired asked : List Key) (t : Token) (next : Ar
       asked
 
 -- what a call of `put` leaves
-pub puts : {image : Image} {world : World} {entries : List (Option PageContent)} {fired asked : List Key}
+pub puts : {image : Image} {world : World} {entries : Paged} {fired asked : List Key}
     → Formed image → Sound image → TableOk image world entries fired asked → (before : TableContent)
     → entries ≡ before.entries → (t : Token) → IsRight image world t →
     is_taken (arrived_in before.entries t.wave t.instr) t.port ≡ false
-    → (new : List (Option PageContent)) (w i p v : ℕ) → w ≡ t.wave → i ≡ t.instr → p ≡ t.port → v ≡ t.value →
+    → (new : Paged) (w i p v : ℕ) → w ≡ t.wave → i ≡ t.instr → p ≡ t.port → v ≡ t.value →
     ((a b : ℕ) → arrived_in new a b ≡ cond (same_key w i a b) (Some (with_port (arrived_in entries w i) p v))
     (arrived_in entries a b)) → Puts image world entries fired asked t
     (with_port (arrived_in before.entries t.wave t.instr) t.port
@@ -178,7 +178,7 @@ puts {image} {world} {entries} formed sound ok before same t right free new w i 
     arrived = grind (arith, facts image world formed sound)
 
 -- and what is listed then, if the instance is one of memory or not
-pub lists : {image : Image} {t : Token} {next : Arrived} {new : List (Option PageContent)}
+pub lists : {image : Image} {t : Token} {next : Arrived} {new : Paged}
     (fired asked fired' asked' : List Key) (own : Instance) → own.wave ≡ t.wave → own.instr ≡ t.instr
     → is_full (alone next) 0 0 (ports image t.instr) ≡ true → fired' ≡ fired ++ instance_key own ∷ []
     → (asks : Bool) → is_memory image t.instr ≡ asks
@@ -186,16 +186,16 @@ pub lists : {image : Image} {t : Token} {next : Arrived} {new : List (Option Pag
     → Lists image fired asked t next new fired' asked'
 lists {image} {t} fired asked fired' asked' own wave instr full one_more asks is are = grind arith
 
-module _ {image : Image} {world : World} {entries : List (Option PageContent)} {fired asked : List Key}
-    {t : Token} {next : Arrived} {new : List (Option PageContent)}
+module _ {image : Image} {world : World} {entries : Paged} {fired asked : List Key}
+    {t : Token} {next : Arrived} {new : Paged}
     (p : Puts image world entries fired asked t next new) where
   pub puts_arrives : {before after : TableContent} → entries ≡ before.entries → new ≡ after.entries
       → Arrives before t after
   puts_arrives was is = record {
     free = grind (arith, t.instr, free_port, p.ok, t.port, t.value, p.right);
-    more = λ a b q. ap (λ (l : List (Option PageContent)). held_in l a b q) (sym is) ∙ new_held image world
+    more = λ a b q. ap (λ (l : Paged). held_in l a b q) (sym is) ∙ new_held image world
         p.facts entries fired asked p.ok t.wave t.instr t.port t.value p.right p.free (few_ports _ _) next
-        p.next_is new p.arrived a b q ∙ ap (λ (l : List (Option PageContent)). with_at t.wave t.instr t.port
+        p.next_is new p.arrived a b q ∙ ap (λ (l : Paged). with_at t.wave t.instr t.port
         (Some t.value) (held_in l) a b q) was;
   }
 

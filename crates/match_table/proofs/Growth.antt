@@ -1,10 +1,10 @@
 -- A table grows where it takes a token.
-use Rattle.std.proofs.Common.{arith, ◌≡◌, ⊎_elim, ℕ, List, [], ◌∷◌, Option, Some, append-nil}
+use Rattle.std.proofs.Common.{arith, ◌≡◌, ⊎_elim, ℕ, List, [], ◌∷◌, Some, append-nil}
 use Rattle.std.proofs.Common.{append_assoc, length, suc, sym, ap, ◌∙◌}
 use Rattle.ws_isa.specs.Image.{Image, Token}
 use Rattle.df_core.specs.Core.{with_at}
 use Rattle.df_core.proofs.Keeping.Ports.{SamePlace, with_at_cases}
-use Rattle.match_table.specs.Pages.{PageContent}
+use Rattle.match_table.specs.Pages.{Paged}
 use Rattle.match_table.specs.declared.table.Results.{Results}
 use Rattle.match_table.specs.declared.table.Took.{Took}
 use Rattle.match_table.specs.declared.table.Took.TheVariants as took
@@ -42,7 +42,7 @@ arrives_keeps old new t a w i p v e = ⊎_elim
 
 same_keeps : (old new : TableContent) → new.entries ≡ old.entries → (w i p v : ℕ) → held old w i p ≡ Some v
     → held new w i p ≡ Some v
-same_keeps old new e w i p v h = ap (λ (x : List (Option PageContent)). held_in x w i p) e ∙ h
+same_keeps old new e w i p v h = ap (λ (x : Paged). held_in x w i p) e ∙ h
 
 module _ {J : Type 0} where
   pub all_grows : (image : Image) (old new : TableContent) (t : Token) (rs : Results J) (answer : Took)

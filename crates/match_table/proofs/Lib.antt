@@ -1,4 +1,5 @@
 pub mod Entries
+pub mod Codes
 pub mod Phased
 pub mod Trees
 pub mod Arrivals

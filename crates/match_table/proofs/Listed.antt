@@ -1,6 +1,6 @@
 -- The instances that have fired, as a list.
 use Rattle.std.proofs.Common.{◌≡◌, ◌<◌, ◌⊎◌, ⊎_elim, inl, inr, ℕ, suc, Bool, true, cond, List, [], ◌∷◌, ◌++◌}
-use Rattle.std.proofs.Common.{Option, Some, length, get_or, filter, refl, subst, arith}
+use Rattle.std.proofs.Common.{Some, length, get_or, filter, refl, subst, arith}
 use Rattle.std.proofs.lemmas.Bool.{cases_Bool}
 use Rattle.ws_words.specs.Outside.{World}
 use Rattle.ws_isa.specs.Image.{Image, ports}
@@ -9,7 +9,7 @@ use Rattle.df_core.specs.Core.{Key, HasFired, Once, is_full, operands_in}
 use Rattle.df_core.proofs.Walked.FromSound.{has_port}
 use Rattle.df_core.proofs.Keeping.Ports.{full_all}
 use Rattle.match_table.specs.declared.entry.Arrived.{Arrived}
-use Rattle.match_table.specs.Pages.{PageContent}
+use Rattle.match_table.specs.Pages.{Paged}
 use Rattle.match_table.specs.Pages.{arrived_in}
 use Rattle.match_table.specs.Ports.{alone}
 use Rattle.match_table.specs.Spots.{InstanceList, instances}
@@ -58,32 +58,32 @@ has_filtered test (k ∷ ks) w i h = ⊎_elim
     (cases_Bool (test k))
 
 -- what has come to an instance that has fired
-pub record FiredAs (image : Image) (entries : List (Option PageContent)) (w i : ℕ) : Type 0 where
+pub record FiredAs (image : Image) (entries : Paged) (w i : ℕ) : Type 0 where
   pub arrived : Arrived
   pub is : arrived_in entries w i ≡ Some arrived
   pub full : is_full (alone arrived) 0 0 (ports image i) ≡ true
   pub operands : gather (alone arrived) 0 0 0 (ports image i) ≡ operands_in image (held_in entries) w i
 
-pub fired_as : (image : Image) (entries : List (Option PageContent)) (w i : ℕ) → 0 < ports image i
+pub fired_as : (image : Image) (entries : Paged) (w i : ℕ) → 0 < ports image i
     → is_full (held_in entries) w i (ports image i) ≡ true → FiredAs image entries w i
 fired_as image entries w i some_port full = grind (arith, full_all, some_none, full_same, gather_same)
 
 -- what has come to one that a table lists
-pub table_fired : (image : Image) (world : World) (entries : List (Option PageContent))
+pub table_fired : (image : Image) (world : World) (entries : Paged)
     (fired asked ks : List Key)
     (w i : ℕ)
     → TableOk image world entries fired asked → fired ≡ ks → HasFired ks w i → FiredAs image entries w i
 table_fired image world entries fired asked ks w i ok same h = grind (arith, fired_as, has_port)
 
 -- what a table lists, where this is what it shows
-module _ (entries : List (Option PageContent)) (f : InstanceList) (spare : ℕ) (now : TableContent)
-    (is : record { entries = entries; fired = instances entries f; spare = spare } ≡ now) where
-  pub fired_now : now.fired ≡ instances now.entries f
+module _ (entries : Paged) (f : InstanceList) (spare : ℕ) (now : TableContent)
+    (is : record { entries = entries; fired = instances entries.slots f; spare = spare } ≡ now) where
+  pub fired_now : now.fired ≡ instances now.entries.slots f
   fired_now = grind arith
 
   pub asked_now : (image : Image) (a : InstanceList)
-      → instances entries a ≡ of_memory image (instances entries f)
-      → of_memory image now.fired ≡ instances now.entries a
+      → instances entries.slots a ≡ of_memory image (instances entries.slots f)
+      → of_memory image now.fired ≡ instances now.entries.slots a
   asked_now image a are = grind arith
 
 -- each that stands at a place of a list has fired

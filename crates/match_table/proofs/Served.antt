@@ -1,6 +1,6 @@
 -- A table of a phase keeps its facts where it takes a token.
 use Rattle.std.proofs.Common.{◌≡◌, ◌+◌, ◌<◌, ◌≤◌, ◌%◌, ⊎_elim, ℕ, Bool, true, List, [], Some}
-use Rattle.std.proofs.Common.{None, length, length-append, refl, ap, sym, ◌∙◌, subst, arith}
+use Rattle.std.proofs.Common.{None, length, length-append, ap, sym, ◌∙◌, subst, arith}
 use Rattle.std.proofs.lemmas.List.{get_or_past}
 use Rattle.ws_isa.specs.Image.{Image, Token}
 use Rattle.df_core.specs.Core.{with_at}
@@ -33,7 +33,7 @@ pub fresh_serves : (k : ℕ) (c : TableContent) → ((w i p : ℕ) → held c w 
 fresh_serves k c none w i p v e = absurd (let g : None ≡ Some v = sym (none w i p) ∙ e in cc)
 
 pub nothing_held : (w i p : ℕ) → held no_content w i p ≡ None
-nothing_held w i p = ap (λ o. held_at o p) (nothing_in w i)
+nothing_held w i p = ap (λ o. held_at o p) (nothing_in [] w i)
 
 pub none_serves : (k : ℕ) → Serves k no_content
 none_serves k = fresh_serves k no_content nothing_held

@@ -3,7 +3,7 @@ use Rattle.std.proofs.Common.{◌≡◌, ◌≢◌, ◌+◌, ◌/◌, ◌⊎◌,
 use Rattle.std.proofs.Common.{List, Option, Some, None, sym, refl, ap, ◌∙◌, subst, arith}
 use Rattle.std.proofs.lemmas.Bool.{cases_eq}
 use Rattle.match_table.specs.declared.entry.PageName.{PageName}
-use Rattle.match_table.specs.Pages.{IsNamed, Leads, PageContent, Stays, answer_at, found, has_name}
+use Rattle.match_table.specs.Pages.{IsNamed, Leads, PageContent, Stays, answer_at, has_name}
 use Rattle.match_table.specs.Pages.{next_in, next_of, under, walk}
 use Rattle.match_table.proofs.Arrivals.{key_cases, some_none}
 

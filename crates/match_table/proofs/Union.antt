@@ -51,7 +51,8 @@ module _ (image : Image) (world : World) where
       ((s.0, h.0, h.1), parts_from (suc n) cs s.1 (λ k lt. each (suc k) (omega (arith, lt))))
 
   none_ok : TablesOk image world (part no_content)
-  none_ok = table_part image world [] [] [] (fresh_ok image world [] nothing_in)
+  none_ok = table_part image world no_content.entries [] []
+      (fresh_ok image world no_content.entries (nothing_in []))
 
   number_is : (n : ℕ) (c : TableContent) → Serves n c → TablesOk image world (part c) → (w i : ℕ)
       → HasFired c.fired w i → (w + i) % 16 ≡ n

@@ -16,7 +16,7 @@ AllGrow olds news = ⊥
 
 -- stands for a table that isn't there
 abbrev pub no_content : TableContent
-no_content = record { entries = []; fired = []; spare = 0 }
+no_content = record { entries = record { slots = []; wide = [] }; fired = []; spare = 0 }
 
 abbrev pub content_at : List TableContent → ℕ → TableContent
 content_at cs k = slice_index_or cs k no_content

@@ -121,8 +121,8 @@ impl<J: Job> Table<J> {
     // An instance that is listed so.
     #[inline(always)]
     fn listed(&self, listed: Listed) -> Instance
-        requires { PlacedSo self.now.entries listed }
-        ensures { instance_key result ≡ key_in self.now.entries listed }
+        requires { PlacedSo self.now.entries.slots listed }
+        ensures { instance_key result ≡ key_in self.now.entries.slots listed }
     {
         match listed {
             Listed::Spot(spot) => self.pages.instance(spot),

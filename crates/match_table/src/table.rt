@@ -130,7 +130,7 @@ impl<J: Job> Model for Table<J> {
 
     ghost view = { λ t. record {
       entries = t.pages.entries;
-      fired = instances t.pages.entries t.fired;
+      fired = instances t.pages.entries.slots t.fired;
       spare = t.room;
     } };
 

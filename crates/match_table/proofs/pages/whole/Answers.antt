@@ -1,5 +1,5 @@
 use Rattle.std.proofs.Common.{ap, cond, sym, ◌∙◌}
-use Rattle.match_table.specs.Pages.{first_of, second_half, second_wave, seen_in}
+use Rattle.match_table.specs.Pages.{first_of, second_half, second_wave, seen}
 use Rattle.match_table.proofs.Halves.{none_whole, whole_is}
 use Rattle.match_table.proofs.pages.whole.Goals as goal
 use Rattle.match_table.proofs.pages.whole.Goals.{then-half, else-half}
@@ -8,8 +8,9 @@ pub returns-in_default : goal.returns-in_default
 returns-in_default c = none_whole _ _ _ (sym c.in_default.is ∙ c.requires.half)
 
 pub returns : goal.returns
-returns c = let third = first_of (seen_in c.args.pages.now.slots (second_wave c.args.wave)
-    (second_half c.args.wave c.args.instr)) in whole_is _ _ _ _ _ _ c.in-Some.is c.requires.half
+returns c = let third = first_of (seen (record { slots = c.args.pages.now.slots; wide = c.args.wide.now })
+    (second_wave c.args.wave) (second_half c.args.wave c.args.instr)) in
+    whole_is _ _ _ _ _ _ c.in-Some.is c.requires.half
     (elim c.if-half.branch [
       | then-half w ↦ w.third-is ∙ w.third-third.ensures ∙ ap (λ b. cond b third 0) (sym w.if-half.true)
       | else-half w ↦ w.third-is ∙ ap (λ b. cond b third 0) (sym w.if-half.false)

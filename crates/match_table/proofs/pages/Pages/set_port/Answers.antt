@@ -1,50 +1,42 @@
-use Rattle.std.proofs.Common.{arith, ◌≡◌, ap, ◌∙◌, sym, set, get_or}
-use Rattle.match_table.specs.Pages.{PageContent, name_for, place_of}
-use Rattle.match_table.specs.Ports.{none_half, set_half}
-use Rattle.match_table.proofs.Spots.{changed_names}
-use Rattle.match_table.proofs.Store.{named_is, port_seen, set_changed, set_ok, still_clean, still_eight}
-use Rattle.ws_words.proofs.Options.{some_same}
+use Rattle.std.proofs.Common.{◌≡◌, ◌++◌, ◌+◌, ℕ, List, ◌∷◌, [], Option, Some, true, cond}
+use Rattle.std.proofs.Common.{ap, ◌∙◌, subst, arith}
+use Rattle.df_core.specs.Core.{same_key}
+use Rattle.match_table.specs.Pages.{AllCoded, PageContent, PageStore, all_values, code_of, narrow, seen_in}
+use Rattle.match_table.specs.Pages.{value_of}
+use Rattle.match_table.specs.Ports.{with_half}
+use Rattle.match_table.proofs.Codes.{last_value, more_values, no_value, own_value, still_values}
 use Rattle.match_table.proofs.pages.Pages.set_port.Goals as goal
 
--- the page that is found under the key is the instance's
-own_name : (c : goal.After-self-1) → c.index_mut.result.now.name ≡ name_for c.args.wave c.args.half
-own_name c = grind (arith, named_is)
+pub returns-then-port-lt2-clause-seen : goal.returns-then-port-lt2-clause-seen
+returns-then-port-lt2-clause-seen c = let was = c.args.self.now.entries in
+    let new = c.set_word-then-port-lt2.new.self.entries in let v = c.args.value in
+    let wide = c.set_word-then-port-lt2.ensures.wide ∙ c.list-place.ensures.wide in
+    let within : AllCoded was.wide was.slots =
+    subst (λ (s : PageStore). AllCoded s.entries.wide s.entries.slots) c.self.view_is c.self.invariant.1 in
+    more_values was.wide new.wide was.slots new.slots c.args.wave c.args.half c.args.port
+    (code_of true c.list-place.result) v
+    (λ a b. ap (λ (x : List ℕ). all_values x (seen_in was.slots a b)) wide
+    ∙ still_values was.wide (v ∷ []) (seen_in was.slots a b) (within a b))
+    (λ o. ap (with_half o c.args.port)
+    (ap (λ (x : List ℕ). value_of x (code_of true c.list-place.result)) wide
+    ∙ ap (λ (n : ℕ). value_of (was.wide ++ v ∷ []) (narrow + n)) c.list-place.ensures.place
+    ∙ last_value was.wide v))
+    (λ a b. subst (λ (x : List (Option PageContent)). seen_in new.slots a b
+    ≡ cond (same_key c.args.wave c.args.half a b) (Some (with_half (seen_in x c.args.wave c.args.half)
+    c.args.port (code_of true c.list-place.result))) (seen_in x a b)) c.list-place.ensures.slots
+    (c.set_word-then-port-lt2.ensures.seen a b))
 
--- and has the value at the port
-own_entries : (c : goal.After-self-1) → c.put_at.new.page.entries ≡ set c.index_mut.result.now.entries
-    (place_of c.args.wave) (set_half (get_or c.index_mut.result.now.entries (place_of c.args.wave) none_half)
-    c.args.port
-    c.args.value)
-own_entries c = ap (λ (x : PageContent). x.entries) c.put_at.ensures
-    ∙ ap (λ k. set c.index_mut.result.now.entries k (set_half (get_or c.index_mut.result.now.entries k
-    none_half) c.args.port c.args.value)) c.place_of.ensures.place
+pub returns-then-value-lt-NARROW-clause-seen : goal.returns-then-value-lt-NARROW-clause-seen
+returns-then-value-lt-NARROW-clause-seen c = let was = c.args.self.now.entries in
+    let new = c.set_word.new.self.entries in let v = c.args.value in let low = c.if-value-lt-NARROW.true in
+    more_values was.wide new.wide was.slots new.slots c.args.wave c.args.half c.args.port v v
+    (λ a b. ap (λ (x : List ℕ). all_values x (seen_in was.slots a b)) c.set_word.ensures.wide)
+    (λ o. ap (with_half o c.args.port) (own_value new.wide v (omega (arith, low)))) c.set_word.ensures.seen
 
-same_name : (c : goal.After-self-1) → c.put_at.new.page.name ≡ c.index_mut.result.now.name
-same_name c = ap (λ (x : PageContent). x.name) c.put_at.ensures
-
-same_even : (c : goal.After-self-1) → c.put_at.new.page.even ≡ c.index_mut.result.now.even
-same_even c = ap (λ (x : PageContent). x.even) c.put_at.ensures
-
-same_odd : (c : goal.After-self-1) → c.put_at.new.page.odd ≡ c.index_mut.result.now.odd
-same_odd c = ap (λ (x : PageContent). x.odd) c.put_at.ensures
-
-pub invariant_of-self : goal.invariant_of-self
-invariant_of-self c = let roots = c.self.inside.roots.items in let slots = c.self.inside.pages.slots in
-    let u : PageContent = c.index_mut.result.now in let v : PageContent = c.put_at.new.page in
-    let at = c.index_mut.ensures.value in let ok = c.self.invariant in
-    set_ok slots c.args.key u v at (same_name c) (same_even c) (same_odd c) roots ok
-    (still_eight roots slots ok c.args.key c.args.wave c.args.half c.args.port c.args.value u v at
-    (own_name c) (same_name c) (same_even c) (same_odd c) (own_entries c))
-    (still_clean roots slots ok c.args.key c.args.wave c.args.half c.args.port c.args.value u v at
-    (own_name c) (same_name c) (same_even c) (same_odd c) (own_entries c))
-
-pub returns-clause-seen : goal.returns-clause-seen
-returns-clause-seen c = rw (← c.self.view_is)
-    (port_seen c.self.inside.roots.items c.self.inside.pages.slots c.self.invariant c.args.key c.args.wave
-    c.args.half c.args.port c.args.value c.index_mut.result.now c.put_at.new.page c.index_mut.ensures.value
-    (own_name c) (same_name c) (same_even c) (same_odd c) (own_entries c))
-
-pub returns-clause-stay : goal.returns-clause-stay
-returns-clause-stay c = rw (← c.self.view_is) (changed_names _ _ _ _ (set_changed _ _ _ _
-    c.index_mut.ensures.value) (λ d there. ap (λ (x : PageContent). x.name) (some_same (sym there ∙
-    c.index_mut.ensures.value)) ∙ sym (same_name c)))
+pub returns-else-port-lt2-clause-seen : goal.returns-else-port-lt2-clause-seen
+returns-else-port-lt2-clause-seen c = let was = c.args.self.now.entries in
+    let new = c.set_word-else-port-lt2.new.self.entries in let far = c.if-port-lt2.false in
+    more_values was.wide new.wide was.slots new.slots c.args.wave c.args.half c.args.port 0 c.args.value
+    (λ a b. ap (λ (x : List ℕ). all_values x (seen_in was.slots a b)) c.set_word-else-port-lt2.ensures.wide)
+    (λ o. no_value o c.args.port (value_of new.wide 0) c.args.value (omega (arith, far)))
+    c.set_word-else-port-lt2.ensures.seen

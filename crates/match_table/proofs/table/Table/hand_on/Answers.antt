@@ -15,8 +15,8 @@ use Rattle.match_table.specs.Tables.{TableContent}
 pub right-request-requires : goal.right-request-requires
 right-request-requires g c =
     let ok = ok_now g.J.Job.image g.J.Job.world c.self.inside.pages.entries
-    (instances c.self.inside.pages.entries c.self.inside.fired)
-    (instances c.self.inside.pages.entries c.self.inside.asked) c.self.invariant.0 c.args.self.now
+    (instances c.self.inside.pages.entries.slots c.self.inside.fired)
+    (instances c.self.inside.pages.entries.slots c.self.inside.asked) c.self.invariant.0 c.args.self.now
     (ap (λ (s : TableContent). s.entries) c.self.view_is) in
     subst (λ (k : ℕ × ℕ × ℕ × ℕ). RightRequest g.J.Job.image g.J.Job.world k.0 k.1 (operands_of (ports
     g.J.Job.image k.1) k.2 k.3)) (λ j. (
@@ -35,8 +35,8 @@ right-request-requires g c =
 pub returns-then-is_memory-clause-outcome : goal.returns-then-is_memory-clause-outcome
 returns-then-is_memory-clause-outcome g c =
     let ok = ok_now g.J.Job.image g.J.Job.world c.self.inside.pages.entries
-    (instances c.self.inside.pages.entries c.self.inside.fired)
-    (instances c.self.inside.pages.entries c.self.inside.asked) c.self.invariant.0 c.args.self.now
+    (instances c.self.inside.pages.entries.slots c.self.inside.fired)
+    (instances c.self.inside.pages.entries.slots c.self.inside.asked) c.self.invariant.0 c.args.self.now
     (ap (λ (s : TableContent). s.entries) c.self.view_is) in (
       c.right-request.result,
       c.ask.ensures.request,
@@ -65,8 +65,8 @@ right-requires-clause-few g c = grind (arith, few)
 pub right-requires-clause-right : goal.right-requires-clause-right
 right-requires-clause-right g c =
     let ok = ok_now g.J.Job.image g.J.Job.world c.self.inside.pages.entries
-    (instances c.self.inside.pages.entries c.self.inside.fired)
-    (instances c.self.inside.pages.entries c.self.inside.asked) c.self.invariant.0 c.args.self.now
+    (instances c.self.inside.pages.entries.slots c.self.inside.fired)
+    (instances c.self.inside.pages.entries.slots c.self.inside.asked) c.self.invariant.0 c.args.self.now
     (ap (λ (s : TableContent). s.entries) c.self.view_is) in
     λ w i p v s. sends_right g.J.Job.image g.J.Job.world c.requires.formed c.requires.sound c.args.self.now _
     _ ok c.args.token.now c.wave-wave.ensures.right (listed c.args.operands)

@@ -15,8 +15,8 @@ meet-seen-requires-clause-ports g c = count_is _ _ _ _ _ c.op.ensures c.program-
 pub returns-in-Fills : goal.returns-in-Fills
 returns-in-Fills g c =
     let ok = ok_now g.J.Job.image g.J.Job.world c.self.inside.pages.entries
-    (instances c.self.inside.pages.entries c.self.inside.fired)
-    (instances c.self.inside.pages.entries c.self.inside.asked) c.self.invariant.0 c.args.self.now
+    (instances c.self.inside.pages.entries.slots c.self.inside.fired)
+    (instances c.self.inside.pages.entries.slots c.self.inside.asked) c.self.invariant.0 c.args.self.now
     (ap (λ (s : TableContent). s.entries) c.self.view_is) in
     let count = count_is g.J.Job.image (image_of c.program-program.result.now) c.args.token.now.instr
     c.instr-instr.result c.op.result c.op.ensures c.program-program.ensures.image c.instr-instr.ensures
@@ -28,8 +28,8 @@ returns-in-Fills g c =
 pub returns-in-Waits : goal.returns-in-Waits
 returns-in-Waits g c =
     let ok = ok_now g.J.Job.image g.J.Job.world c.self.inside.pages.entries
-    (instances c.self.inside.pages.entries c.self.inside.fired)
-    (instances c.self.inside.pages.entries c.self.inside.asked) c.self.invariant.0 c.args.self.now
+    (instances c.self.inside.pages.entries.slots c.self.inside.fired)
+    (instances c.self.inside.pages.entries.slots c.self.inside.asked) c.self.invariant.0 c.args.self.now
     (ap (λ (s : TableContent). s.entries) c.self.view_is) in
     let count = count_is _ _ _ _ _ c.op.ensures c.program-program.ensures.image c.instr-instr.ensures _
     c.ports-count.ensures in
