@@ -393,6 +393,18 @@ module _ (image : Image) (world : World) (began : List (Option Began)) {P : Type
       )
       said r s = absurd s
 
+-- there was no memory to keep it
+pub not_kept : (image : Image) {P : Type 0} (old new : Store P) (k : Kept) (tokens : List Token) → tokens ≡ []
+    → StoreKeeps old old.order.kept.items new → StoreOk image new
+    → entry_of old.order.kept.items k.wave k.instr ≡ None → old.fault ≡ None → old.failed ≡ None
+    → SubmitLeads image old k tokens (Err fault.NoMemory) new
+not_kept image old new k tokens none keeps ok fresh running working = λ world began formed sound ask standing.
+    let r = unchanged image world began old new keeps ok standing in (
+      r.0,
+      subst (RightTokens image world) (sym none) (λ w i p v e. absurd e),
+      inl ((running, working), fresh, r.1),
+    )
+
 -- what a call says of a store, said of a job
 pub with_job : {P : Type 0} (im image : Image) (world : World) (began : List (Option Began)) → im ≡ image
     → Formed image → Sound image → (old new : Store P) (k : Kept) (r : Asked) (tokens : List Token)

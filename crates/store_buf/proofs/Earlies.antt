@@ -35,7 +35,7 @@ as_long one other e = grind (arith, length-map)
 pub none_there : (early : Early) → early_ops early ≡ [] → heap_len early.heap ≡ 0
 none_there early e = grind (arith, none_in (heap_items early.heap) e)
 
-abbrev places : List (Reverse (ℕ × ℕ)) → List ℕ
+abbrev pub places : List (Reverse (ℕ × ℕ)) → List ℕ
 places xs = map (λ r. r.0.1) xs
 
 -- an operation of the list is there, under some number

@@ -12,6 +12,7 @@ pub mod Outside
 pub mod Alike
 pub mod Stepping
 pub mod Within
+pub mod Served
 pub mod Counted
 pub mod Resting
 pub mod Foremost

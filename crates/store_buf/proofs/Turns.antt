@@ -43,24 +43,45 @@ module _ {P : Type 0} where
         record { memory = m; issues = stays; right = λ w i p v e. absurd e; fault = λ f. f; stands = stands },
   )
 
-  pub one_more : (image : Image) (a b c : Store P) (t0 t1 t2 : List Token) → AllLead image a b t0 t1
-      → IssueLeads image b c t1 t2 → AllLead image a c t0 t2
-  one_more image a b c t0 t1 t2 all one = (
-    all.0 ++ one.0,
-    one.1 ∙ ap (λ (ts : List Token). ts ++ one.0) all.1 ∙ append_assoc t0 all.0 one.0,
+  -- what one issue leads to
+  pub lead_one : (image : Image) (a b : Store P) (t0 t1 : List Token) → IssueLeads image a b t0 t1
+      → AllLead image a b t0 t1
+  lead_one image a b t0 t1 one = (
+    one.0,
+    one.1,
     λ world began m formed sound stands.
-        let r = all.2 world began m formed sound stands in
-        let q = one.2 world began r.memory formed sound r.stands in
+        let q = one.2 world began m formed sound stands in
         record {
           memory = q.memory;
-          issues = issues_on image (buffer_of image a m) (buffer_of image b r.memory) (buffer_of image c
-              q.memory) all.0 one.0 r.issues (one_issue image (buffer_of image b r.memory) (buffer_of image c
-              q.memory) q.wave q.instr one.0 q.event);
-          right = right_both image world all.0 one.0 r.right q.right;
+          issues = one_issue image (buffer_of image a m) (buffer_of image b q.memory) q.wave q.instr one.0
+              q.event;
+          right = q.right;
           fault = λ f. q.fault;
           stands = q.stands;
         },
   )
+
+  pub lead_on : (image : Image) (a b c : Store P) (t0 t1 t2 : List Token) → AllLead image a b t0 t1
+      → AllLead image b c t1 t2 → AllLead image a c t0 t2
+  lead_on image a b c t0 t1 t2 all more = (
+    all.0 ++ more.0,
+    more.1 ∙ ap (λ (ts : List Token). ts ++ more.0) all.1 ∙ append_assoc t0 all.0 more.0,
+    λ world began m formed sound stands.
+        let r = all.2 world began m formed sound stands in
+        let q = more.2 world began r.memory formed sound r.stands in
+        record {
+          memory = q.memory;
+          issues = issues_on image (buffer_of image a m) (buffer_of image b r.memory) (buffer_of image c
+              q.memory) all.0 more.0 r.issues q.issues;
+          right = right_both image world all.0 more.0 r.right q.right;
+          fault = λ f. q.fault (r.fault f);
+          stands = q.stands;
+        },
+  )
+
+  pub one_more : (image : Image) (a b c : Store P) (t0 t1 t2 : List Token) → AllLead image a b t0 t1
+      → IssueLeads image b c t1 t2 → AllLead image a c t0 t2
+  one_more image a b c t0 t1 t2 all one = lead_on image a b c t0 t1 t2 all (lead_one image b c t1 t2 one)
 
   pub still : (image : Image) (a b c : Store P) (t0 t1 : List Token) → AllLead image a b t0 t1
       → StaysSo image b c → c.order ≡ b.order → c.fault ≡ b.fault → AllLead image a c t0 t1

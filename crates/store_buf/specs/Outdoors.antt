@@ -1,9 +1,10 @@
 -- What a buffer holds of what is outside.
-use Rattle.std.specs.Prelude.{ℕ, ◌≡◌, ◌≤◌, ◌-◌, ◌++◌, List, [], All, Option, Some, None, map}
+use Rattle.std.specs.Prelude.{ℕ, ◌≡◌, ◌≤◌, ◌-◌, ◌++◌, Bool, true, false, List, [], All, Option, Some, None}
+use Rattle.std.specs.Prelude.{map}
 use Rattle.ws_words.specs.Outside.{Outside, World, row, printed_words}
 use Rattle.ws_words.specs.Plain.{took_words}
 use Rattle.ws_isa.specs.declared.instr.Op.{Op}
-use Rattle.ws_isa.specs.declared.instr.Op.TheVariants.{Give, Take}
+use Rattle.ws_isa.specs.declared.instr.Op.TheVariants.{Give, Load, Store, Take}
 use Rattle.ws_isa.specs.Image.{answer_op, after_op}
 use Rattle.ws_io.specs.Streams.{Rose}
 use Rattle.port_set.specs.declared.port.PortError.{PortError}
@@ -62,6 +63,12 @@ abbrev pub PortIn : Op → Type 0
 PortIn (Give p) = (1 ≤ p) × (p ≤ 7)
 PortIn (Take p) = (1 ≤ p) × (p ≤ 7)
 PortIn _ = Unit {0}
+
+-- a load or store works on a cell
+abbrev pub is_cell_op : Op → Bool
+is_cell_op (Load a) = true
+is_cell_op (Store a) = true
+is_cell_op _ = false
 
 -- how often the port in a slot has failed
 abbrev pub failures : Option Told → ℕ

@@ -1,6 +1,6 @@
 -- What a store stands for, and where its calls lead.
 use Rattle.std.specs.Prelude.{ℕ, ◌≡◌, cond, ◌+◌, ◌≤◌, ◌++◌, ◌⊎◌, true, false, List, [], Option, Some, None}
-use Rattle.std.specs.Prelude.{Result, Ok, Err, vec_len, vec_capacity}
+use Rattle.std.specs.Prelude.{◌∷◌, Result, Ok, Err, vec_len, vec_capacity}
 use Rattle.ws_words.specs.Outside.{Outside, World}
 use Rattle.ws_isa.specs.Image.{Image, Token}
 use Rattle.ws_isa.specs.Formed.{Formed}
@@ -80,6 +80,11 @@ module _ {P : Type 0} where
   IssueLeads image old new before after = (tokens : List Token) × (after ≡ before ++ tokens)
       × ((world : World) (began : List (Option Began)) (m : Outside) → Formed image → Sound image
       → StandsFor image world began old m → OneIssue image world began old m new tokens)
+
+  -- it keeps the request, and that leads on by one issue
+  abbrev pub ServeLeads : Image → Store P → Kept → Store P → List Token → List Token → Type 0
+  ServeLeads image old k new before after = (mid : Store P)
+      × StoreKeeps old (old.order.kept.items ++ k ∷ []) mid × IssueLeads image mid new before after
 
   -- nothing has changed but what ports tell of their faults
   abbrev pub StaysSo : Image → Store P → Store P → Type 0

@@ -1,7 +1,7 @@
 //! The order of a buffer: its requests, and which of them may be issued.
 
 ghost use Rattle.std.specs.Prelude.{◌≡◌, ◌∷◌, ◌++◌, [], ℕ, ◌+◌, ◌<◌, ◌≤◌, Option, None, Some, length};
-ghost use Rattle.std.specs.Prelude.{is_none, slice_set, OnOk, OnErr};
+ghost use Rattle.std.specs.Prelude.{is_none, slice_set, IfOk, OnOk, OnErr};
 ghost use Rattle.ws_isa.specs.Image.{Image};
 ghost use Rattle.df_core.specs.Places.{image_of};
 ghost use Rattle.df_core.specs.Chains.{chain_of, PassedOn};
@@ -38,9 +38,10 @@ pub struct Order {
 }
 
 impl Order {
-    ghost use Rattle.store_buf.specs.Ordering.{AllFiled, Room, MayAt, SameEarly, chain_in, early_of};
-    ghost use Rattle.store_buf.specs.Ordering.{early_room, kept_at, number_of, place_of_instance};
-    ghost use Rattle.store_buf.specs.Ordering.{requests_of, ripple_of, waiting_of};
+    ghost use Rattle.store_buf.specs.Ordering.{AllFiled, FiledBut, Room, MayAt, IsPrepared, SameEarly};
+    ghost use Rattle.store_buf.specs.Ordering.{chain_in, early_of, early_room, kept_at, number_of};
+    ghost use Rattle.store_buf.specs.Ordering.{place_of_instance, requests_of, ripple_of, waiting_of};
+    ghost use Rattle.store_buf.specs.Earlies.{early_items};
 
     /// No requests; the chain is at its start.
     pub fn new(alloc: Global) -> Order
@@ -174,18 +175,54 @@ impl Order {
         ensures still { OnErr result (waiting_of self.new ≡ waiting_of self.old) }
         ensures grown { early_room self.old ≤ early_room self.new }
     {
+        let place = self.prepare(kept, hook)?;
+        self.file(program, kept, place)?;
+        self.push(kept);
+        Ok(())
+    }
+
+    /// Makes room for a request and its answer, and tells the index its place, the next one.
+    #[inline(always)]
+    pub(crate) fn prepare(&mut self, kept: Kept, hook: Hook) -> Result<usize, NoMemory>
+        requires fresh { entry_of (requests_of self.old) kept.wave kept.instr ≡ None }
+        requires hook { HookIn self.old.index kept.wave kept.instr hook }
+        ensures place { IfOk result (λ place. place ≡ length (requests_of self.old)) }
+        ensures prepared { OnOk result (IsPrepared self.new kept) }
+        ensures kept { requests_of self.new ≡ requests_of self.old }
+        ensures early { early_items self.new.early ≡ early_items self.old.early }
+        ensures near { self.new.near ≡ self.old.near }
+        ensures later { self.new.later ≡ self.old.later }
+        ensures chain { chain_in self.new ≡ chain_in self.old }
+        ensures waiting { waiting_of self.new ≡ waiting_of self.old }
+        ensures grown { early_room self.old ≤ early_room self.new }
+    {
         if self.waiting >= usize::MAX - 1 {
             return Err(NoMemory);
         }
-        let more = self.waiting + 1;
         let place = self.kept.len();
         self.kept.reserve(1)?;
-        self.early.reserve(more)?;
+        self.early.reserve(self.waiting + 1)?;
         self.index.put_at(kept.wave, kept.instr, place, hook)?;
-        self.file(program, kept, place)?;
+        Ok(place)
+    }
+
+    /// Keeps a request for which all is prepared. The heaps stay as they are.
+    #[inline(always)]
+    pub(crate) fn push(&mut self, kept: Kept)
+        requires prepared { IsPrepared self.old kept }
+        requires waits { kept.answer ≡ None }
+        ensures filed { (image : Image) → AllFiled image self.old
+            → FiledBut image self.new (length (requests_of self.old)) }
+        ensures kept { requests_of self.new ≡ requests_of self.old ++ kept ∷ [] }
+        ensures room { Room self.new }
+        ensures waiting { waiting_of self.new ≡ waiting_of self.old + 1 }
+        ensures early { self.new.early ≡ self.old.early }
+        ensures near { self.new.near ≡ self.old.near }
+        ensures later { self.new.later ≡ self.old.later }
+        ensures chain { chain_in self.new ≡ chain_in self.old }
+    {
         self.kept.push_reserved(kept);
-        self.waiting = more;
-        Ok(())
+        self.waiting += 1;
     }
 
     // Puts the place of a request among those of its wave.
@@ -242,7 +279,7 @@ impl Order {
     /// issued.
     #[inline(always)]
     pub fn issue(&mut self, program: &Program<'_>, place: usize, word: u64)
-        requires filed { AllFiled (image_of program.now) self.old }
+        requires filed { FiledBut (image_of program.now) self.old place }
         requires may { MayAt (image_of program.now) self.old place }
         requires room { Room self.old }
         ensures filed { AllFiled (image_of program.now) self.new }

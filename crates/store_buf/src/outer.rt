@@ -1,13 +1,14 @@
 //! What a buffer has outside its order: cells, input, printed words and ports.
 
 ghost use Rattle.std.specs.Prelude.{◌≡◌, ◌≤◌, ◌<◌, ◌+◌, ◌-◌, ℕ, List, [], ◌∷◌, Option, drop, map, IfOk};
-ghost use Rattle.std.specs.Prelude.{IfErr, OnOk, OnErr, vec_len, vec_capacity};
+ghost use Rattle.std.specs.Prelude.{IfErr, IsOk, true, false, OnOk, OnErr, vec_len, vec_capacity};
 ghost use Rattle.ws_words.specs.Outside.{Outside, head_or_zero, rest_of};
 ghost use Rattle.ws_isa.specs.Image.{cells_of};
 ghost use Rattle.ws_isa.specs.View as view;
 ghost use Rattle.port_set.specs.Slots.{AllOpen, contents};
 ghost use Rattle.df_core.specs.Began.{Began};
 ghost use Rattle.store_buf.specs.Outdoors.{HoldsOut, Performed, PortIn, SilentAt, FaultsGrow, silent_of};
+ghost use Rattle.store_buf.specs.Outdoors.{is_cell_op};
 ghost use Rattle.store_buf.specs.Outers.{holding};
 
 use crate::fault::Silent;
@@ -40,7 +41,8 @@ impl<P: Port> Outer<P> {
     #[inline(always)]
     pub fn run(&mut self, op: Op, first: u64, second: u64) -> Result<u64, Silent>
         requires port { PortIn op }
-        requires room { vec_len self.old.printed < vec_capacity self.old.printed }
+        requires room { is_cell_op op ≡ false
+            → vec_len self.old.printed < vec_capacity self.old.printed }
         ensures answer { IfOk result (λ word. (began : List (Option Began)) (o : Outside) (third : ℕ)
             → HoldsOut began o (holding self.old)
             → Performed began op (first ∷ second ∷ third ∷ []) o word (holding self.new)) }
@@ -51,6 +53,8 @@ impl<P: Port> Outer<P> {
         ensures unprinted { OnErr result (self.new.printed ≡ self.old.printed) }
         ensures silent { IfErr result (SilentAt op self.old.ports self.new.ports) }
         ensures counted { FaultsGrow self.old.ports self.new.ports }
+        ensures cell { is_cell_op op ≡ true → IsOk result }
+        ensures cells { is_cell_op op ≡ true → self.new ≡ record self.old { cells = self.new.cells } }
     {
         match op {
             Op::Load(array) => Ok(self.cells.word(place_of(array), first as usize)),

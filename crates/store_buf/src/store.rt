@@ -1,7 +1,7 @@
 //! A buffer without its job: requests, chain, memory and ports.
 
 ghost use Rattle.std.specs.Prelude.{◌≡◌, ◌<◌, ◌≤◌, ◌+◌, ◌*◌, ◌++◌, ◌∷◌, ◌⊎◌, [], true, false, Some, None};
-ghost use Rattle.std.specs.Prelude.{length, IfErr, IfSome, OnOk, OnErr};
+ghost use Rattle.std.specs.Prelude.{length, IfErr, IfOk, IfSome, OnOk, OnErr};
 ghost use Rattle.smallvec.specs.SmallVec.{HasRoomFor};
 ghost use Rattle.ws_isa.specs.Formed.{Formed};
 ghost use Rattle.ws_isa.specs.Image.{Image, array_of_op};
@@ -11,10 +11,11 @@ ghost use Rattle.df_core.specs.Places.{image_of};
 ghost use Rattle.df_core.specs.Rights.{tokens_of};
 ghost use Rattle.store_buf.specs.Requests.{entry_of};
 ghost use Rattle.store_buf.specs.Finding.{HookIn};
-ghost use Rattle.store_buf.specs.Ordering.{MayAt};
+ghost use Rattle.store_buf.specs.Ordering.{IsPrepared, MayAt, on_cell};
 ghost use Rattle.store_buf.specs.Outdoors.{FaultsGrow};
-ghost use Rattle.store_buf.specs.Stores.{StoreOk, IssueLeads, StaysSo, AllLead, SilentSo, SettledSo};
-ghost use Rattle.store_buf.specs.Stores.{SubmitLeads, content_of, left_over, StoreKeeps, NoneMaySo};
+ghost use Rattle.store_buf.specs.Stores.{StoreOk, StoreKeeps, ServeLeads, IssueLeads, StaysSo, AllLead};
+ghost use Rattle.store_buf.specs.Stores.{SilentSo, SettledSo, SubmitLeads, NoneMaySo, content_of};
+ghost use Rattle.store_buf.specs.Stores.{left_over};
 
 use crate::fault::{BufFault, Silent};
 use crate::index::Hook;
@@ -68,7 +69,9 @@ impl<P: Port> Store<P> {
             Some(_) => Err(BufFault::Old),
             None => {
                 let lets = self.order.lets(program, kept);
-                if self.starved || lets {
+                if lets && is_on_cell(program, kept) {
+                    self.serve(program, kept, hook, told)
+                } else if self.starved || lets {
                     self.take_in(program, kept, hook, lets, told)
                 } else {
                     self.put_by(program, kept, hook)
@@ -130,6 +133,109 @@ impl<P: Port> Store<P> {
             }
             Err(_) => Err(BufFault::NoMemory),
         }
+    }
+
+    // Keeps a request on a cell, which the chain lets issue, and issues it; then issues what else may be
+    // issued.
+    #[inline(always)]
+    fn serve(
+        &mut self,
+        program: &Program<'_>,
+        kept: Kept,
+        hook: Hook,
+        told: &mut PlainTokens,
+    ) -> Result<(), BufFault>
+        requires formed { Formed (image_of program.now) }
+        requires ok { StoreOk (image_of program.now) self.old }
+        requires lets { may_flag (image_of program.now) (chain_of self.old.order.chain)
+            kept.wave kept.instr kept.first ≡ true }
+        requires cell { on_cell (image_of program.now) kept ≡ true }
+        requires hook { HookIn self.old.order.index kept.wave kept.instr hook }
+        requires fresh { entry_of self.old.order.kept.items kept.wave kept.instr ≡ None }
+        requires waits { kept.answer ≡ None }
+        requires running { self.old.fault ≡ None }
+        requires working { self.old.failed ≡ None }
+        requires told { told.old.items ≡ [] }
+        ensures leads { SubmitLeads (image_of program.now) self.old kept
+            (tokens_of told.new.items) result self.new }
+        ensures room { told.old.capacity ≤ told.new.capacity }
+    {
+        if self.make_room(told).is_err() {
+            return Err(BufFault::NoMemory);
+        }
+        match self.prepare(kept, hook) {
+            Ok(place) => {
+                self.serve_at(program, place, kept, told);
+                self.go_on(program, told)
+            }
+            Err(_) => Err(BufFault::NoMemory),
+        }
+    }
+
+    // Makes room for a request of an instance that had none.
+    #[inline(always)]
+    fn prepare(&mut self, kept: Kept, hook: Hook) -> Result<usize, NoMemory>
+        requires hook { HookIn self.old.order.index kept.wave kept.instr hook }
+        requires fresh { entry_of self.old.order.kept.items kept.wave kept.instr ≡ None }
+        ensures place { IfOk result (λ place. place ≡ length self.new.order.kept.items) }
+        ensures prepared { OnOk result (IsPrepared self.new.order kept) }
+        ensures ok { (image : Image) → StoreOk image self.old → StoreOk image self.new }
+        ensures keeps { StoreKeeps self.old self.old.order.kept.items self.new }
+        ensures waiting { self.new.order.waiting ≡ self.old.order.waiting }
+    {
+        self.order.prepare(kept, hook)
+    }
+
+    // Keeps a request on a cell at its place, and issues it. It stands in no heap and prints no word.
+    #[inline(always)]
+    fn serve_at(&mut self, program: &Program<'_>, place: usize, kept: Kept, told: &mut PlainTokens)
+        requires formed { Formed (image_of program.now) }
+        requires ok { StoreOk (image_of program.now) self.old }
+        requires prepared { IsPrepared self.old.order kept }
+        requires place { place ≡ length self.old.order.kept.items }
+        requires waits { kept.answer ≡ None }
+        requires lets { may_flag (image_of program.now) (chain_of self.old.order.chain)
+            kept.wave kept.instr kept.first ≡ true }
+        requires cell { on_cell (image_of program.now) kept ≡ true }
+        requires going { self.old.fault ≡ None }
+        requires room { HasRoomFor told.old (8 * (self.old.order.waiting + 1)) }
+        ensures ok { StoreOk (image_of program.now) self.new }
+        ensures leads { ServeLeads (image_of program.now) self.old kept self.new
+            (tokens_of told.old.items) (tokens_of told.new.items) }
+        ensures ports { self.new.outer.ports ≡ self.old.outer.ports }
+        ensures fault { self.new.fault ≡ self.old.fault }
+        ensures failed { self.new.failed ≡ self.old.failed }
+        ensures room { HasRoomFor told.new (8 * self.new.order.waiting) }
+        ensures same_room { told.new.capacity ≡ told.old.capacity }
+    {
+        let op = program.op(kept.instr);
+        let word = match self.outer.run(op, kept.first, kept.second) {
+            Ok(word) => word,
+            Err(_) => unreachable!(),
+        };
+        self.order.push(kept);
+        self.order.issue(program, place, word);
+        tell(told, kept.wave, program.destinations(kept.instr, 0), word);
+    }
+
+    // Issues what may be issued, if any request waits, and keeps in mind how that ends.
+    #[inline(always)]
+    fn go_on(&mut self, program: &Program<'_>, told: &mut PlainTokens) -> Result<(), BufFault>
+        requires formed { Formed (image_of program.now) }
+        requires ok { StoreOk (image_of program.now) self.old }
+        requires going { self.old.fault ≡ None }
+        requires room { HasRoomFor told.old (8 * self.old.order.waiting) }
+        ensures ok { StoreOk (image_of program.now) self.new }
+        ensures lead { AllLead (image_of program.now) self.old self.new
+            (tokens_of told.old.items) (tokens_of told.new.items) }
+        ensures settled { SettledSo (image_of program.now) self.old result self.new }
+        ensures room { told.new.capacity ≡ told.old.capacity }
+    {
+        if self.order.waiting() == 0 {
+            self.starved = false;
+            return Ok(());
+        }
+        self.settle(program, None, told)
     }
 
     // Makes room for the tokens of all that waits, and of one more.
@@ -275,6 +381,18 @@ impl<P: Port> Store<P> {
             next = None;
         }
         Ok(())
+    }
+}
+
+// Whether a request is on a cell, within its array.
+#[inline(always)]
+fn is_on_cell(program: &Program<'_>, kept: Kept) -> bool
+    ensures { result ≡ on_cell (image_of program.now) kept }
+{
+    let op = program.op(kept.instr);
+    match op {
+        Op::Load(_) | Op::Store(_) => !program.is_past(op, kept.first),
+        _ => false,
     }
 }
 

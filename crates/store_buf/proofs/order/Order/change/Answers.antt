@@ -12,5 +12,6 @@ invariant_of-self c = let o = c.args.self.now in record {
 
 pub returns-clause-filed : goal.returns-clause-filed
 returns-clause-filed c = λ image ripple filed. let r = c.requires in
-    P.filed_changed image c.args.self.now _ filed c.args.place c.args.kept r.within refl filed.early
-    (λ e. grind (arith, e, ripple, r.wave, r.instr, r.waits)) refl refl refl
+    P.filed_changed image c.args.self.now _ c.args.place (P.but_one image c.args.self.now c.args.place filed)
+    c.args.kept r.within refl filed.early
+    (λ e. grind (arith, filed, e, ripple, r.wave, r.instr, r.waits)) refl refl refl

@@ -1,12 +1,11 @@
 use Rattle.std.proofs.Common.{ℕ, ◌<◌, Some, refl, cond, ◌≡◌, ◌+◌, vec_len, vec_capacity, ◌≤◌, ◌∙◌, true}
-use Rattle.std.proofs.Common.{false, [], ◌∷◌, length, ap, sym, subst, inl, inr, arith}
+use Rattle.std.proofs.Common.{false, [], ◌∷◌, length, ap, sym, subst, inr, arith}
 use Rattle.std.proofs.lemmas.List.{append-nil}
 use Rattle.std.proofs.lemmas.Result.{err_from_is_err_and}
+use Rattle.smallvec.specs.SmallVec.{small_vec_len}
 use Rattle.ws_isa.specs.declared.instr.Op.{Op}
-use Rattle.ws_isa.specs.Image.{Image, instr_at, is_past_op, ports, sends, answer, tokens_to, array_of_op}
-use Rattle.df_core.specs.Places.{destinations}
-use Rattle.df_core.specs.Effect.{effect_after}
-use Rattle.df_core.specs.Rights.{operands_of, tokens_of}
+use Rattle.ws_isa.specs.Image.{Image, instr_at, is_past_op, array_of_op}
+use Rattle.df_core.specs.Rights.{tokens_of}
 use Rattle.df_core.specs.Chains.{chain_of}
 use Rattle.df_core.specs.Places.{image_of}
 use Rattle.df_core.specs.Core.{has}
@@ -14,18 +13,18 @@ use Rattle.store_buf.specs.declared.fault.Silent.{Silent}
 use Rattle.store_buf.specs.declared.fault.Silent.TheVariants.{Failed, NoMemory}
 use Rattle.store_buf.specs.declared.kept.Kept.{Kept}
 use Rattle.store_buf.specs.declared.store.Store.{Store}
-use Rattle.store_buf.specs.Outdoors.{PortIn, Performed, SilentAt, port_of}
-use Rattle.store_buf.specs.Contents.{FaultIs, RightTokens, PortWaits}
+use Rattle.store_buf.specs.Outdoors.{PortIn, SilentAt, port_of}
+use Rattle.store_buf.specs.Contents.{FaultIs, PortWaits}
 use Rattle.store_buf.specs.Stores.{SilentSo}
 use Rattle.store_buf.specs.Outers.{holding}
-use Rattle.store_buf.specs.Holds.{Holds, Issued, part}
+use Rattle.store_buf.specs.Holds.{Holds}
 use Rattle.store_buf.specs.Ordering.{kept_at, ready_flag}
 use Rattle.store_buf.proofs.Within.{port_in}
 use Rattle.store_buf.proofs.Counted as C
 use Rattle.store_buf.proofs.Silence.{port_waits}
 use Rattle.store_buf.proofs.Stepping as S
+use Rattle.store_buf.proofs.Served as V
 use Rattle.store_buf.proofs.store.Store.issue.Goals as goal
-use Rattle.df_core.proofs.Walked.Few.{few_sent}
 use Rattle.ws_words.proofs.Results.{on_err}
 
 pub run-requires-clause-port : goal.run-requires-clause-port
@@ -34,7 +33,7 @@ run-requires-clause-port g c = subst PortIn (sym c.op-op.ensures)
 
 pub run-requires-clause-room : goal.run-requires-clause-room
 run-requires-clause-room g c = let s = C.some_wait (image_of c.args.program.now) c.args.self.now.order
-    c.args.place c.requires.may in omega (arith, s, c.requires.ok.printed)
+    c.args.place c.requires.may in (λ e. omega (arith, s, c.requires.ok.printed))
 
 pub returns-in_err-word-clause-ok : goal.returns-in_err-word-clause-ok
 returns-in_err-word-clause-ok g c = record {
@@ -86,78 +85,26 @@ returns-in_err-word-clause-stays g c = on_err c.from_residual.result (λ world b
 })
 
 pub returns-clause-leads : goal.returns-clause-leads
-returns-clause-leads g c = (
-  tokens_to c.request-kept.result.wave c.in_ok-word.word c.destinations.result.now,
-  c.tell.ensures.tokens,
-  λ world began m formed sound stands.
-      let o = c.args.self.now.order in
-      let image = image_of c.args.program.now in
-      let p = c.args.place in
-      let k = c.request-kept.ensures in
-      let within : is_past_op image.arrays (instr_at image (kept_at o c.args.place).instr).op
-      ((kept_at o c.args.place).first ∷ []) ≡ false =
-      subst (λ x. is_past_op image.arrays (instr_at image x.instr).op (x.first ∷ []) ≡ false) k
-      (subst (λ op. is_past_op image.arrays op (c.request-kept.result.first ∷ []) ≡ false) c.op-op.ensures
-      (sym c.is_past.ensures ∙ c.if-is_past.false)) in
-      let answers : Performed began (instr_at image (kept_at o c.args.place).instr).op
-      ((kept_at o c.args.place).first ∷ (kept_at o c.args.place).second ∷ 0 ∷ []) m c.in_ok-word.word
-      (holding c.run.new.self) =
-      subst (λ x. Performed began (instr_at image x.instr).op (x.first ∷ x.second ∷ 0 ∷ []) m
-      c.in_ok-word.word (holding c.run.new.self)) k
-      (subst (λ op. Performed began op (c.request-kept.result.first ∷ c.request-kept.result.second ∷ 0 ∷ []) m
-      c.in_ok-word.word (holding c.run.new.self)) c.op-op.ensures
-      (c.in_ok-word.ensures.answer began m 0 stands.outside)) in
-      let hold : Holds image world began o false (holding c.args.self.now.outer) m =
-      subst (λ f. Holds image world began o (has f) (holding c.args.self.now.outer) m) c.requires.going
-      stands in
-      let r = S.issues image world formed sound began o (holding c.args.self.now.outer) m hold p
-      c.requires.may.within c.requires.may.ready within c.in_ok-word.word
-      c.issue.new.self (holding c.run.new.self) answers c.issue.ensures.kept c.issue.ensures.passed in
-      let xs = operands_of (ports image (kept_at o c.args.place).instr) (kept_at o c.args.place).first
-      (kept_at o c.args.place).second in
-      let word = c.in_ok-word.word in
-      let told : tokens_to c.request-kept.result.wave word c.destinations.result.now ≡ sends image
-      (kept_at o c.args.place).wave (kept_at o c.args.place).instr xs
-      (answer image (kept_at o c.args.place).instr xs m) =
-      ap (tokens_to c.request-kept.result.wave word) c.destinations.ensures
-      ∙ ap (λ x. tokens_to x.wave word (destinations image x.instr 0)) k
-      ∙ S.tokens_are image world formed sound began o (holding c.args.self.now.outer) m hold p
-      c.requires.may.within c.requires.may.ready within word c.issue.new.self
-      (holding c.run.new.self) answers c.issue.ensures.kept c.issue.ensures.passed in
-      let e : false ≡ has c.args.self.now.fault = ap has (sym c.requires.going) in
-      record {
-        wave = (kept_at o c.args.place).wave;
-        instr = (kept_at o c.args.place).instr;
-        memory = effect_after image (kept_at o c.args.place).instr xs m;
-        event = inl (subst (λ ts. Issued image (part image o.kept.items (chain_of o.chain) (has
-            c.args.self.now.fault) m) (kept_at o c.args.place).wave (kept_at o c.args.place).instr ts (part
-            image c.issue.new.self.kept.items (chain_of c.issue.new.self.chain) (has c.args.self.now.fault)
-            (effect_after image (kept_at o c.args.place).instr xs m))) (sym told) (subst (λ f. Issued image
-            (part image o.kept.items (chain_of o.chain) f m) (kept_at o c.args.place).wave (kept_at o
-            c.args.place).instr (sends image (kept_at o c.args.place).wave (kept_at o c.args.place).instr xs
-            (answer image (kept_at o c.args.place).instr xs m)) (part image c.issue.new.self.kept.items
-            (chain_of c.issue.new.self.chain) f (effect_after image (kept_at o c.args.place).instr xs m))) e
-            r.0));
-        right = subst (RightTokens image world) (sym told) (S.sent_right image world formed sound began o
-            (holding c.args.self.now.outer) m hold p c.requires.may.within c.requires.may.ready);
-        fault = subst (FaultIs image world) (sym c.requires.going) tt;
-        stands = subst (λ f. Holds image world began c.issue.new.self f (holding c.run.new.self) (effect_after
-            image (kept_at o c.args.place).instr xs m)) e r.1;
-      },
-)
+returns-clause-leads g c = let s = c.args.self.now in V.leads (image_of c.args.program.now) s (record s {
+  order = c.issue.new.self;
+  outer = c.run.new.self;
+}) c.args.place c.requires.may c.request-kept.result c.request-kept.ensures c.op-op.result c.op-op.ensures
+    (sym c.is_past.ensures ∙ c.if-is_past.false) c.in_ok-word.word c.in_ok-word.ensures.answer
+    c.requires.going c.requires.going c.issue.ensures.kept c.issue.ensures.passed c.destinations.result.now
+    c.destinations.ensures (tokens_of c.args.told.now.items) (tokens_of c.tell.new.told.items)
+    c.tell.ensures.tokens
 
 pub tell-requires : goal.tell-requires
-tell-requires g c = let f = few_sent (image_of c.args.program.now) c.requires.formed c.destinations.result.now
-    c.request-kept.result.instr c.destinations.ensures in
-    let s = C.some_wait (image_of c.args.program.now) c.args.self.now.order c.args.place
-    c.requires.may in
-    let r = c.requires.room in omega (arith, f, s, r)
+tell-requires g c = C.room_for (image_of c.args.program.now) c.requires.formed c.destinations.result.now
+    c.request-kept.result.instr c.destinations.ensures c.args.self.now.order c.args.place c.requires.may
+    (small_vec_len c.args.told.now) c.args.told.now.capacity c.requires.room
 
 pub returns-clause-room : goal.returns-clause-room
-returns-clause-room g c = let f = few_sent (image_of c.args.program.now) c.requires.formed
-    c.destinations.result.now c.request-kept.result.instr c.destinations.ensures in
-    let l = c.issue.ensures.fewer in let n = c.tell.ensures.count in let q = c.tell.ensures.room in
-    let r = c.requires.room in omega (arith, f, l, n, q, r)
+returns-clause-room g c = let r = C.room_left (image_of c.args.program.now) c.requires.formed
+    c.destinations.result.now c.request-kept.result.instr c.destinations.ensures c.args.self.now.order
+    c.args.place c.requires.may (small_vec_len c.args.told.now) c.args.told.now.capacity c.requires.room
+    (small_vec_len c.tell.new.told) c.issue.new.self.waiting c.tell.ensures.count c.issue.ensures.fewer in
+    let q = c.tell.ensures.room in omega (arith, q, r)
 
 silent_so : (image : Image) {P : Type 0} (old new : Store P) (op : Op) (k : Kept) (why : Silent)
     → (q : ℕ) → q < length old.order.kept.items

@@ -1,4 +1,4 @@
-use Rattle.std.proofs.Common.{inl}
+use Rattle.std.proofs.Common.{[], refl}
 use Rattle.df_core.specs.Places.{image_of}
 use Rattle.store_buf.proofs.Coming as K
 use Rattle.store_buf.proofs.store.Store.put_by.Goals as goal
@@ -13,8 +13,6 @@ returns-in-Ok g c = record {
 
 pub returns-in-Err : goal.returns-in-Err
 returns-in-Err g c = record {
-  leads = λ world began formed sound ask standing.
-      let r = K.unchanged (image_of c.args.program.now) world began c.args.self.now c.keep.new.self
-      c.in-Err.ensures.unchanged c.keep.ensures.ok standing in
-      (r.0, (λ w i p v e. absurd e), inl ((c.requires.running, c.requires.working), c.requires.fresh, r.1));
+  leads = K.not_kept (image_of c.args.program.now) c.args.self.now c.keep.new.self c.args.kept [] refl
+      c.in-Err.ensures.unchanged c.keep.ensures.ok c.requires.fresh c.requires.running c.requires.working;
 }

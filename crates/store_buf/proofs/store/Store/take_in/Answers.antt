@@ -30,12 +30,7 @@ returns-after-lets-clause-leads g c = λ world began formed sound ask standing.
     c.settle.ensures.settled)
 
 pub returns-in-Err-clause-leads : goal.returns-in-Err-clause-leads
-returns-in-Err-clause-leads g c = λ world began formed sound ask standing.
-    let image = image_of c.args.program.now in
-    let r = K.unchanged image world began c.args.self.now c.keep.new.self c.in-Err.ensures.unchanged
-    c.keep.ensures.ok standing in
-    let told = ap tokens_of (c.make_room.ensures.items ∙ c.requires.told) in (
-      r.0,
-      subst (RightTokens image world) (sym told) (λ w i p v e. absurd e),
-      inl ((c.requires.running, c.requires.working), c.requires.fresh, r.1),
-    )
+returns-in-Err-clause-leads g c = K.not_kept (image_of c.args.program.now) c.args.self.now c.keep.new.self
+    c.args.kept (tokens_of c.make_room.new.told.items)
+    (ap tokens_of (c.make_room.ensures.items ∙ c.requires.told)) c.in-Err.ensures.unchanged
+    c.keep.ensures.ok c.requires.fresh c.requires.running c.requires.working
