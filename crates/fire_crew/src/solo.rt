@@ -208,6 +208,7 @@ fn go_on<'i, J: Job, P: Port, G: Gate>(
 }
 
 // Brings the next token, if there is one and more may fire.
+#[inline(always)]
 fn step<'i, J: Job, P: Port, G: Gate>(
     code: &Code<'i, J>,
     run: &mut Solo<'i, J, P>,
@@ -280,6 +281,7 @@ fn see_come<J: Job, P: Port>(
 
 // Brings a token to its table, and a request that comes of it to the buffer. One that has come before is let
 // go.
+#[inline(always)]
 fn bring_on<'i, J: Job, P: Port>(
     code: &Code<'i, J>,
     run: &mut Solo<'i, J, P>,

@@ -115,6 +115,7 @@ impl<J: Job> Table<J> {
 
     /// Does what `accept` does. The caller lends a place for what the instance hands on when it fires;
     /// nothing else stands there then.
+    #[inline(always)]
     pub fn accept_into<'i>(
         &mut self,
         code: &Code<'i, J>,

@@ -13,6 +13,7 @@ use crate::{Results, Took, table_of};
 use df_core::{Code, Job, Token};
 
 /// Brings a token to the table that serves it, which takes it as by `accept_into`. No table loses anything.
+#[inline(always)]
 pub fn bring<'i, J: Job>(
     code: &Code<'i, J>,
     tables: &mut Tables<J>,
@@ -33,6 +34,7 @@ pub fn bring<'i, J: Job>(
 }
 
 // Brings it to the table with its number.
+#[inline(always)]
 fn bring_to<'i, J: Job>(
     code: &Code<'i, J>,
     tables: &mut Tables<J>,

@@ -3,7 +3,7 @@
 use crate::entry::PageName;
 
 // How many keys a course knows, of pages of first halves and of second ones.
-const KEYS: usize = 64;
+const KEYS: usize = 128;
 
 const SECOND_KEYS: usize = 16;
 
@@ -11,7 +11,7 @@ const SECOND_KEYS: usize = 16;
 /// a page is found at once.
 #[derive(Clone, Copy)]
 pub struct Course {
-    keys: [usize; KEYS + SECOND_KEYS],
+    keys: [u32; KEYS + SECOND_KEYS],
 }
 
 // Whether a page has second halves.
@@ -43,7 +43,7 @@ impl Course {
     #[inline(always)]
     pub(crate) fn key(&self, name: PageName) -> usize {
         match self.keys.get(place_for(name)) {
-            Some(key) => *key,
+            Some(key) => *key as usize,
             None => 0,
         }
     }
@@ -52,7 +52,7 @@ impl Course {
     #[inline(always)]
     pub(crate) fn found(&mut self, name: PageName, key: usize) {
         if let Some(at) = self.keys.get_mut(place_for(name)) {
-            *at = key;
+            *at = u32::try_from(key).unwrap_or(0);
         }
     }
 }

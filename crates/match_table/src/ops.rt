@@ -12,6 +12,7 @@ use ws_isa::{Dest, Op};
 
 impl Operands {
     /// The operand at port 0.
+    #[inline(always)]
     pub fn first(self) -> u64
         ensures { result ≡ slice_index (listed self) 0 }
     {
@@ -23,6 +24,7 @@ impl Operands {
     }
 
     /// The operand at port 1; 0 where there is none.
+    #[inline(always)]
     pub fn second(self) -> u64
         ensures { result ≡ slice_index (listed self) 1 }
     {
@@ -34,6 +36,7 @@ impl Operands {
     }
 
     /// The operand at port 2; 0 where there is none.
+    #[inline(always)]
     pub fn third(self) -> u64
         ensures { result ≡ slice_index (listed self) 2 }
     {

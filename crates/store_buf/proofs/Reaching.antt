@@ -1,7 +1,7 @@
 -- Tokens that have come or are on the way.
 use Rattle.std.proofs.Common.{ℕ, ◌≡◌, ◌⊎◌, List, [], ◌∷◌, ◌++◌, Option, Some, None, MatchOption, refl, sym}
-use Rattle.std.proofs.Common.{subst, inl, inr, arith}
-use Rattle.std.proofs.lemmas.List.{append_assoc}
+use Rattle.std.proofs.Common.{reverse, ap, ◌∙◌, subst, inl, inr, arith}
+use Rattle.std.proofs.lemmas.List.{append_assoc, reverse-append}
 use Rattle.ws_isa.specs.Image.{Token}
 use Rattle.ws_isa.specs.Walk.{Ports}
 use Rattle.df_core.specs.Core.{IsSent, with_at}
@@ -48,15 +48,35 @@ module _ (f g : Ports) (x : Token) (free : f x.wave x.instr x.port ≡ None)
   pub reach_arrived : (way : List Token) (w i p : ℕ) → IsOnItsWay f (x ∷ way) w i p → IsOnItsWay g way w i p
   reach_arrived way w i p x = grind (arith, held_old, reach_held, held_new)
 
+-- backwards a list has the same tokens
+pub reverse_covers : (ts : List Token) → Covers ts (reverse ts)
+reverse_covers [] w i p v h = absurd h
+reverse_covers (t ∷ ts) w i p v (inl h) =
+    subst (λ (us : List Token). IsSent us w i p v) (sym (reverse-append (t ∷ []) ts))
+    (is_sent_append_right (reverse ts) (t ∷ []) w i p v (inl h))
+reverse_covers (t ∷ ts) w i p v (inr h) =
+    subst (λ (us : List Token). IsSent us w i p v) (sym (reverse-append (t ∷ []) ts))
+    (is_sent_append_left (reverse ts) (t ∷ []) w i p v (reverse_covers ts w i p v h))
+
+-- what is put behind others is taken before them
+pub covers_back : (before more sent : List Token) → more ≡ before ++ sent →
+    Covers (sent ++ reverse before) (reverse more)
+covers_back before more sent e w i p v h = subst (λ (us : List Token). IsSent us w i p v)
+    (sym (ap reverse e ∙ reverse-append before sent))
+    (elim (is_sent_append_cases sent (reverse before) w i p v h) [
+      | inl g ↦ is_sent_append_left (reverse sent) (reverse before) w i p v (reverse_covers sent w i p v g)
+      | inr g ↦ is_sent_append_right (reverse sent) (reverse before) w i p v g
+    ])
+
 -- tokens are put on the way, behind this round or behind what waits for the next
-pub covers_round : (old round next more sent : List Token) → old ≡ round ++ next → more ≡ round ++ sent →
-    Covers (sent ++ old) (more ++ next)
-covers_round old round next more sent e f w i p v h =
+pub covers_round : (old round next more sent : List Token) → old ≡ reverse round ++ reverse next →
+    more ≡ round ++ sent → Covers (sent ++ old) (reverse more ++ reverse next)
+covers_round old round next more sent e f w i p v h = let back = covers_back round more sent f w i p v in
     grind (arith, is_sent_append_cases, is_sent_append_left, is_sent_append_right)
 
-pub covers_next : (old round next more sent : List Token) → old ≡ round ++ next → more ≡ next ++ sent →
-    Covers (sent ++ old) (round ++ more)
-covers_next old round next more sent e f w i p v h =
+pub covers_next : (old round next more sent : List Token) → old ≡ reverse round ++ reverse next →
+    more ≡ next ++ sent → Covers (sent ++ old) (reverse round ++ reverse more)
+covers_next old round next more sent e f w i p v h = let back = covers_back next more sent f w i p v in
     grind (arith, is_sent_append_cases, is_sent_append_right, is_sent_append_left)
 
 -- the first of them is pushed, and then the others

@@ -1,7 +1,7 @@
-//! Tokens on the way, in rounds by wave, first in first out.
+//! Tokens on the way, in rounds by wave, last in first out.
 
 ghost use Rattle.std.specs.Prelude.{◌≡◌, ◌∷◌, ◌++◌, ◌+◌, ◌≤◌, [], IfOk, MatchOption, OnOk};
-ghost use Rattle.std.specs.VecDeque.{deque_capacity, deque_len};
+ghost use Rattle.std.specs.Prelude.{vec_capacity, vec_len};
 ghost use Rattle.store_buf.specs.Contents.{with_tokens};
 ghost use Rattle.store_buf.specs.Runs.{Covers, IsOffered};
 
@@ -9,30 +9,29 @@ use crate::answers::BufferAnswers;
 use crate::fault::BufFault;
 use df_core::{Job, Sent, Token, TokenList};
 use std::alloc::Global;
-use std::collections::VecDeque;
 use std::marker::Model;
-use std::mem::swap;
+use std::mem::{replace, swap};
 use ws_words::NoMemory;
 
 /// Tokens on the way: those of this round, and those that wait for the next one. What comes of a token is
 /// put behind this round where it is of the same wave or an earlier one, and waits else. So a wave goes as
 /// far as it can before a later one begins: few waves are at work at a time, and what belongs together in
-/// a table lies near.
+/// a table lies near. Of each round the token that came last is taken first, since what it needs is at hand.
 #[derive(Drop)]
 pub struct Rounds<J: Job> {
-    round: VecDeque<Token<J>>,
-    next: VecDeque<Token<J>>,
+    round: Vec<Token<J>>,
+    next: Vec<Token<J>>,
     // The wave number of the token that was taken last.
     wave: u64,
 }
 
 impl<J: Job> Model for Rounds<J> {
-    ghost use Rattle.std.specs.Prelude.{◌++◌, List};
+    ghost use Rattle.std.specs.Prelude.{◌++◌, List, reverse};
     ghost use Rattle.ws_isa.specs.Image.{Token as Plain};
 
     ghost Value = { List Plain };
 
-    ghost view = { λ w. w.round.items ++ w.next.items };
+    ghost view = { λ w. reverse w.round.items ++ reverse w.next.items };
 }
 
 impl<J: Job> Rounds<J> {
@@ -41,13 +40,13 @@ impl<J: Job> Rounds<J> {
         ensures { result ≡ [] }
     {
         Rounds {
-            round: VecDeque::new(alloc),
-            next: VecDeque::new(alloc),
+            round: Vec::new(alloc),
+            next: Vec::new(alloc),
             wave: 0,
         }
     }
 
-    /// Takes the first token. Where none is left of a round, the next one begins.
+    /// Takes the next token. Where none is left of a round, the next one begins.
     #[inline(always)]
     pub fn take(&mut self) -> Option<Token<J>>
         ensures { MatchOption result (self.old ≡ []) (λ token. self.old ≡ token ∷ self.new) }
@@ -55,9 +54,9 @@ impl<J: Job> Rounds<J> {
         if self.round.is_empty() {
             swap(&mut self.round, &mut self.next);
         }
-        let token = self.round.pop_front()?;
+        let token = self.round.pop()?;
         self.wave = token.wave();
-        Some(token)
+        Some(token.again())
     }
 
     // Puts a token on the way.
@@ -108,7 +107,7 @@ impl<J: Job> Rounds<J> {
         }
     }
 
-    /// The token to bring next: the first of what an instance sent, if it is of this round, or else the first
+    /// The token to bring next: the first of what an instance sent, if it is of this round, or else the next
     /// on the way. The others that it sent are put on the way.
     #[inline(always)]
     pub fn follow(&mut self, sent: &mut Sent<'_, J>) -> Result<Option<Token<J>>, NoMemory>
@@ -116,15 +115,16 @@ impl<J: Job> Rounds<J> {
             (λ token. Covers (sent.old ++ self.old) (token ∷ self.new))) }
         ensures none { OnOk result (sent.new ≡ []) }
     {
-        let Some(first) = sent.next() else {
+        let mut rest = replace(sent, Sent::none());
+        let Some(first) = rest.next() else {
             return Ok(self.take());
         };
         if first.wave() > self.wave {
             push(&mut self.next, first)?;
-            push_all(&mut self.next, sent)?;
+            push_all(&mut self.next, &mut rest)?;
             return Ok(self.take());
         }
-        push_all(&mut self.round, sent)?;
+        push_all(&mut self.round, &mut rest)?;
         Ok(Some(first))
     }
 
@@ -154,19 +154,19 @@ impl<J: Job> Rounds<J> {
 
 // Puts a token behind others.
 #[inline(always)]
-fn push<J: Job>(tokens: &mut VecDeque<Token<J>>, token: Token<J>) -> Result<(), NoMemory>
+fn push<J: Job>(tokens: &mut Vec<Token<J>>, token: Token<J>) -> Result<(), NoMemory>
     ensures { OnOk result (tokens.new.items ≡ tokens.old.items ++ token ∷ []) }
 {
     if tokens.len() >= tokens.capacity() {
         make_room(tokens, 1)?;
     }
-    tokens.push_back_reserved(token);
+    tokens.push_reserved(token);
     Ok(())
 }
 
 // Puts all tokens that an instance sent behind others.
 #[inline(always)]
-fn push_all<J: Job>(tokens: &mut VecDeque<Token<J>>, sent: &mut Sent<'_, J>) -> Result<(), NoMemory>
+fn push_all<J: Job>(tokens: &mut Vec<Token<J>>, sent: &mut Sent<'_, J>) -> Result<(), NoMemory>
     ensures items { OnOk result (tokens.new.items ≡ tokens.old.items ++ sent.old) }
     ensures none { OnOk result (sent.new ≡ []) }
 {
@@ -174,16 +174,16 @@ fn push_all<J: Job>(tokens: &mut VecDeque<Token<J>>, sent: &mut Sent<'_, J>) -> 
         make_room(tokens, sent.len())?;
     }
     while let Some(token) = sent.next() {
-        tokens.push_back_reserved(token);
+        tokens.push_reserved(token);
     }
     Ok(())
 }
 
 // Makes room for so many tokens more.
 #[inline(never)]
-fn make_room<J: Job>(tokens: &mut VecDeque<Token<J>>, count: usize) -> Result<(), NoMemory>
+fn make_room<J: Job>(tokens: &mut Vec<Token<J>>, count: usize) -> Result<(), NoMemory>
     ensures same { tokens.new.items ≡ tokens.old.items }
-    ensures room { OnOk result (deque_len tokens.new + count ≤ deque_capacity tokens.new) }
+    ensures room { OnOk result (vec_len tokens.new + count ≤ vec_capacity tokens.new) }
 {
     tokens.reserve(count)?;
     Ok(())

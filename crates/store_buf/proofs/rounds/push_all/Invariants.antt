@@ -1,11 +1,10 @@
-use Rattle.std.proofs.Common.{◌≡◌, ◌≤◌, ◌+◌, ◌++◌, length}
-use Rattle.std.specs.VecDeque.{deque_capacity, deque_len}
+use Rattle.std.proofs.Common.{◌≡◌, ◌≤◌, ◌+◌, ◌++◌, length, vec_capacity, vec_len}
 use Rattle.store_buf.proofs.rounds.push_all.Given as goal
 
 abbrev pub invariant-loop-token : goal.invariant-loop-token
 invariant-loop-token g l = record {
   items : l.tokens.items ++ l.sent ≡ l.initial.tokens.items ++ l.initial.sent;
-  room : deque_len l.tokens + length l.sent ≤ deque_capacity l.tokens;
+  room : vec_len l.tokens + length l.sent ≤ vec_capacity l.tokens;
 }
 
 abbrev pub decreases-loop-token : goal.decreases-loop-token

@@ -1,4 +1,4 @@
-use Rattle.std.proofs.Common.{sym}
+use Rattle.std.proofs.Common.{◌≡◌, ◌∷◌, sym, arith}
 use Rattle.store_buf.proofs.Reaching.{covers_next, covers_rest, covers_round, pushed, take_after}
 use Rattle.store_buf.proofs.rounds.Rounds.follow.Goals as goal
 
@@ -11,12 +11,14 @@ returns-then-wave-self-clause-next g c =
     let next = c.self.inside.next.items in
     let more = c.push_all.new.tokens.items in
     let t = c.in-Some.first in
-    take_after c.take-then-wave-self.result all rest old _ c.take-then-wave-self.new.self t c.in-Some.ensures
+    let first : all ≡ t ∷ rest = grind arith in
+    take_after c.take-then-wave-self.result all rest old _ c.take-then-wave-self.new.self t first
     (covers_next old round next more all (sym c.self.view_is) (pushed all rest next c.push.new.tokens.items
-    more t c.in-Some.ensures c.in_ok-push.ensures c.in_ok-push_all.ensures.items))
+    more t first c.in_ok-push.ensures c.in_ok-push_all.ensures.items))
     c.take-then-wave-self.ensures
 
 pub returns-clause-next : goal.returns-clause-next
-returns-clause-next g c = covers_rest c.args.sent.now c.next.new.self c.args.self.now _ c.in-Some.first
-    c.in-Some.ensures (covers_round c.args.self.now c.self.inside.round.items c.self.inside.next.items
+returns-clause-next g c = let first : c.args.sent.now ≡ c.in-Some.first ∷ c.next.new.self = grind arith in
+    covers_rest c.args.sent.now c.next.new.self c.args.self.now _ c.in-Some.first first
+    (covers_round c.args.self.now c.self.inside.round.items c.self.inside.next.items
     c.push_all-2.new.tokens.items c.next.new.self (sym c.self.view_is) c.in_ok-push_all-2.ensures.items)
