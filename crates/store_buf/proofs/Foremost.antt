@@ -35,8 +35,8 @@ module _ (image : Image) (world : World) (formed : Formed image) (sound : Sound 
 
   module _ (q : ℕ) (here : WaitsHere o q) where
     found : entry_of o.kept.items (kept_at o q).wave (kept_at o q).instr ≡ Some (kept_at o q)
-    found = sym (F.here o.kept.items (place_in o.index) o.ok.index (kept_at o q).wave (kept_at o q).instr q
-        (o.ok.index q here.within) here.within refl refl)
+    found = sym (F.here o.kept.items (place_in o.kept.items o.index) o.ok.index (kept_at o q).wave
+        (kept_at o q).instr q (o.ok.index q here.within) here.within refl refl)
 
     kept_here : kept_in image o.kept.items (kept_at o q).wave (kept_at o q).instr ≡ Some (xs q)
     kept_here = ap (operands_if image) found

@@ -35,8 +35,8 @@ port_waits image o q l ready p e =
     (note_of image (kept_at o q).instr).ripple (position_after o.chain.last))) a.1 in
     record {
       request = kept_at o q;
-      is_kept = sym (F.here o.kept.items (place_in o.index) o.ok.index (kept_at o q).wave (kept_at o q).instr
-          q (o.ok.index q l) l refl refl);
+      is_kept = sym (F.here o.kept.items (place_in o.kept.items o.index) o.ok.index (kept_at o q).wave
+          (kept_at o q).instr q (o.ok.index q l) l refl refl);
       waits = w.0;
       current = w.1;
       next = elim (either (next_flag (chain_of o.chain) (note_of image (kept_at o q).instr)) (is_load_op

@@ -70,8 +70,8 @@ module _ (image : Image) (world : World) (formed : Formed image) (sound : Sound 
   xs = operands_of (ports image (kept_at o p).instr) (kept_at o p).first (kept_at o p).second
 
   found : entry_of o.kept.items (kept_at o p).wave (kept_at o p).instr ≡ Some (kept_at o p)
-  found = sym (F.here o.kept.items (place_in o.index) o.ok.index (kept_at o p).wave (kept_at o p).instr p
-      (o.ok.index p l) l refl refl)
+  found = sym (F.here o.kept.items (place_in o.kept.items o.index) o.ok.index (kept_at o p).wave
+      (kept_at o p).instr p (o.ok.index p l) l refl refl)
 
   waits_here : ((kept_at o p).answer ≡ None) × ((kept_at o p).wave ≡ o.chain.wave)
   waits_here = ready_waits image o (kept_at o p) ready

@@ -84,9 +84,9 @@ impl Order {
     /// Where the index has an instance, or would have it.
     #[inline(always)]
     pub(crate) fn hook(&self, wave: u64, instr: u32) -> Hook
-        ensures { HookIn self.now.index wave instr result }
+        ensures { HookIn self.now.kept.items self.now.index wave instr result }
     {
-        self.index.hook(wave, instr)
+        self.index.hook(&self.kept, wave, instr)
     }
 
     /// The request of an instance.
@@ -99,12 +99,14 @@ impl Order {
     /// The request of an instance that the index has or would have there.
     #[inline(always)]
     pub(crate) fn find_at(&self, wave: u64, instr: u32, hook: Hook) -> Option<Kept>
-        requires { HookIn self.now.index wave instr hook }
+        requires { HookIn self.now.kept.items self.now.index wave instr hook }
         ensures { result ≡ entry_of (requests_of self.now) wave instr }
     {
-        match self.index.place_at(wave, instr, hook) {
-            None => None,
-            Some(place) => self.entry_at(place, wave, instr),
+        match hook {
+            Hook::At(at) => Some(self.kept[at]),
+            Hook::Root => None,
+            Hook::Behind(_, _) => None,
+            Hook::Deep => None,
         }
     }
 
@@ -113,25 +115,7 @@ impl Order {
     pub fn place(&self, wave: u64, instr: u32) -> Option<usize>
         ensures { result ≡ place_of_instance self.now wave instr }
     {
-        self.index.find(wave, instr)
-    }
-
-    // The request at a place, if it is of this instance.
-    fn entry_at(&self, place: usize, wave: u64, instr: u32) -> Option<Kept>
-        requires { place_of_instance self.now wave instr ≡ Some place }
-        ensures { result ≡ entry_of (requests_of self.now) wave instr }
-    {
-        if place >= self.kept.len() {
-            return None;
-        }
-        let kept = self.kept[place];
-        if kept.wave != wave {
-            return None;
-        }
-        if kept.instr != instr {
-            return None;
-        }
-        Some(kept)
+        self.hook(wave, instr).place()
     }
 
     /// Keeps a request of an instance that had none, and makes room for its answer.
@@ -164,7 +148,7 @@ impl Order {
         requires filed { AllFiled (image_of program.now) self.old }
         requires fresh { entry_of (requests_of self.old) kept.wave kept.instr ≡ None }
         requires waits { kept.answer ≡ None }
-        requires hook { HookIn self.old.index kept.wave kept.instr hook }
+        requires hook { HookIn self.old.kept.items self.old.index kept.wave kept.instr hook }
         ensures filed { AllFiled (image_of program.now) self.new }
         ensures kept { OnOk result (requests_of self.new ≡ requests_of self.old ++ kept ∷ []) }
         ensures room { OnOk result (Room self.new) }
@@ -177,17 +161,16 @@ impl Order {
     {
         let place = self.prepare(kept, hook)?;
         self.file(program, kept, place)?;
-        self.push(kept);
+        self.push(kept, hook);
         Ok(())
     }
 
-    /// Makes room for a request and its answer, and tells the index its place, the next one.
+    /// Makes room for a request at the next place, for its answer, and for its node in the index.
     #[inline(always)]
     pub(crate) fn prepare(&mut self, kept: Kept, hook: Hook) -> Result<usize, NoMemory>
-        requires fresh { entry_of (requests_of self.old) kept.wave kept.instr ≡ None }
-        requires hook { HookIn self.old.index kept.wave kept.instr hook }
+        requires hook { HookIn self.old.kept.items self.old.index kept.wave kept.instr hook }
         ensures place { IfOk result (λ place. place ≡ length (requests_of self.old)) }
-        ensures prepared { OnOk result (IsPrepared self.new kept) }
+        ensures prepared { OnOk result (IsPrepared self.new kept hook) }
         ensures kept { requests_of self.new ≡ requests_of self.old }
         ensures early { early_items self.new.early ≡ early_items self.old.early }
         ensures near { self.new.near ≡ self.old.near }
@@ -202,14 +185,14 @@ impl Order {
         let place = self.kept.len();
         self.kept.reserve(1)?;
         self.early.reserve(self.waiting + 1)?;
-        self.index.put_at(kept.wave, kept.instr, place, hook)?;
+        self.index.make_room(kept.wave, hook)?;
         Ok(place)
     }
 
     /// Keeps a request for which all is prepared. The heaps stay as they are.
     #[inline(always)]
-    pub(crate) fn push(&mut self, kept: Kept)
-        requires prepared { IsPrepared self.old kept }
+    pub(crate) fn push(&mut self, kept: Kept, hook: Hook)
+        requires prepared { IsPrepared self.old kept hook }
         requires waits { kept.answer ≡ None }
         ensures filed { (image : Image) → AllFiled image self.old
             → FiledBut image self.new (length (requests_of self.old)) }
@@ -221,6 +204,7 @@ impl Order {
         ensures later { self.new.later ≡ self.old.later }
         ensures chain { chain_in self.new ≡ chain_in self.old }
     {
+        self.index.put(kept.wave, hook);
         self.kept.push_reserved(kept);
         self.waiting += 1;
     }

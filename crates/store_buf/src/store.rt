@@ -83,7 +83,8 @@ impl<P: Port> Store<P> {
     // StoreKeeps a request that the chain doesn't let issue, so that nothing may be issued then.
     fn put_by(&mut self, program: &Program<'_>, kept: Kept, hook: Hook) -> Result<(), BufFault>
         requires ok { StoreOk (image_of program.now) self.old }
-        requires hook { HookIn self.old.order.index kept.wave kept.instr hook }
+        requires hook { HookIn self.old.order.kept.items self.old.order.index
+            kept.wave kept.instr hook }
         requires fresh { entry_of self.old.order.kept.items kept.wave kept.instr ≡ None }
         requires waits { kept.answer ≡ None }
         requires running { self.old.fault ≡ None }
@@ -112,7 +113,8 @@ impl<P: Port> Store<P> {
         requires ok { StoreOk (image_of program.now) self.old }
         requires lets { lets ≡ may_flag (image_of program.now) (chain_of self.old.order.chain)
             kept.wave kept.instr kept.first }
-        requires hook { HookIn self.old.order.index kept.wave kept.instr hook }
+        requires hook { HookIn self.old.order.kept.items self.old.order.index
+            kept.wave kept.instr hook }
         requires fresh { entry_of self.old.order.kept.items kept.wave kept.instr ≡ None }
         requires waits { kept.answer ≡ None }
         requires running { self.old.fault ≡ None }
@@ -150,7 +152,8 @@ impl<P: Port> Store<P> {
         requires lets { may_flag (image_of program.now) (chain_of self.old.order.chain)
             kept.wave kept.instr kept.first ≡ true }
         requires cell { on_cell (image_of program.now) kept ≡ true }
-        requires hook { HookIn self.old.order.index kept.wave kept.instr hook }
+        requires hook { HookIn self.old.order.kept.items self.old.order.index
+            kept.wave kept.instr hook }
         requires fresh { entry_of self.old.order.kept.items kept.wave kept.instr ≡ None }
         requires waits { kept.answer ≡ None }
         requires running { self.old.fault ≡ None }
@@ -165,20 +168,20 @@ impl<P: Port> Store<P> {
         }
         match self.prepare(kept, hook) {
             Ok(place) => {
-                self.serve_at(program, place, kept, told);
+                self.serve_at(program, place, kept, hook, told);
                 self.go_on(program, told)
             }
             Err(_) => Err(BufFault::NoMemory),
         }
     }
 
-    // Makes room for a request of an instance that had none.
+    // Makes room for a request.
     #[inline(always)]
     fn prepare(&mut self, kept: Kept, hook: Hook) -> Result<usize, NoMemory>
-        requires hook { HookIn self.old.order.index kept.wave kept.instr hook }
-        requires fresh { entry_of self.old.order.kept.items kept.wave kept.instr ≡ None }
+        requires hook { HookIn self.old.order.kept.items self.old.order.index
+            kept.wave kept.instr hook }
         ensures place { IfOk result (λ place. place ≡ length self.new.order.kept.items) }
-        ensures prepared { OnOk result (IsPrepared self.new.order kept) }
+        ensures prepared { OnOk result (IsPrepared self.new.order kept hook) }
         ensures ok { (image : Image) → StoreOk image self.old → StoreOk image self.new }
         ensures keeps { StoreKeeps self.old self.old.order.kept.items self.new }
         ensures waiting { self.new.order.waiting ≡ self.old.order.waiting }
@@ -188,10 +191,17 @@ impl<P: Port> Store<P> {
 
     // Keeps a request on a cell at its place, and issues it. It stands in no heap and prints no word.
     #[inline(always)]
-    fn serve_at(&mut self, program: &Program<'_>, place: usize, kept: Kept, told: &mut PlainTokens)
+    fn serve_at(
+        &mut self,
+        program: &Program<'_>,
+        place: usize,
+        kept: Kept,
+        hook: Hook,
+        told: &mut PlainTokens,
+    )
         requires formed { Formed (image_of program.now) }
         requires ok { StoreOk (image_of program.now) self.old }
-        requires prepared { IsPrepared self.old.order kept }
+        requires prepared { IsPrepared self.old.order kept hook }
         requires place { place ≡ length self.old.order.kept.items }
         requires waits { kept.answer ≡ None }
         requires lets { may_flag (image_of program.now) (chain_of self.old.order.chain)
@@ -213,7 +223,7 @@ impl<P: Port> Store<P> {
             Ok(word) => word,
             Err(_) => unreachable!(),
         };
-        self.order.push(kept);
+        self.order.push(kept, hook);
         self.order.issue(program, place, word);
         tell(told, kept.wave, program.destinations(kept.instr, 0), word);
     }
@@ -256,7 +266,8 @@ impl<P: Port> Store<P> {
     #[inline(always)]
     fn keep(&mut self, program: &Program<'_>, kept: Kept, hook: Hook) -> Result<(), NoMemory>
         requires ok { StoreOk (image_of program.now) self.old }
-        requires hook { HookIn self.old.order.index kept.wave kept.instr hook }
+        requires hook { HookIn self.old.order.kept.items self.old.order.index
+            kept.wave kept.instr hook }
         requires fresh { entry_of self.old.order.kept.items kept.wave kept.instr ≡ None }
         requires waits { kept.answer ≡ None }
         ensures ok { StoreOk (image_of program.now) self.new }

@@ -16,7 +16,7 @@ use Rattle.part_store.specs.Parts.{issued_flag, kept_flag}
 -- a request that is kept stands where its place is kept
 pub record Standing (o : Order) (w i : ℕ) (k : Kept) : Type 0 where
   pub place : ℕ
-  pub found : place_in o.index w i ≡ Some place
+  pub found : place_in o.kept.items o.index w i ≡ Some place
   pub inside : place < length o.kept.items
   pub is : kept_at o place ≡ k
   pub wave : k.wave ≡ w
@@ -70,4 +70,4 @@ kept_still o p k l ew ei ks kept w i e = rw kept (grind (
 
 pub found_at : (o : Order) → (p : ℕ) → p < length o.kept.items →
     entry_of o.kept.items (kept_at o p).wave (kept_at o p).instr ≡ Some (kept_at o p)
-found_at o p l = sym (F.here _ (place_in o.index) o.ok.index _ _ _ (o.ok.index p l) l refl refl)
+found_at o p l = sym (F.here _ (place_in o.kept.items o.index) o.ok.index _ _ _ (o.ok.index p l) l refl refl)

@@ -35,7 +35,7 @@ module _ (image : Image) (o : Order) (p : ℕ) (l : p < length o.kept.items) whe
   k = kept_at o p
 
   pub found : entry_of o.kept.items (kept_at o p).wave (kept_at o p).instr ≡ Some (kept_at o p)
-  found = sym (F.here _ (place_in o.index) o.ok.index _ _ _ (o.ok.index p l) l refl refl)
+  found = sym (F.here _ (place_in o.kept.items o.index) o.ok.index _ _ _ (o.ok.index p l) l refl refl)
 
   pub answered : (word : ℕ) (ks : List Kept) →
       ks ≡ slice_set o.kept.items p (record {

@@ -89,7 +89,8 @@ module _ {P : Type 0} (image : Image) (world : World) (formed : Formed image) (s
       let instr : (kept_at s.order p).instr ≡ (kept_at s.order q).instr = L.same_op _ _ formed sound _ _ _ _ _
       _ x.req y.req wave (omega (arith, least, most)) in
       let e : Some p ≡ Some q = sym (s.order.ok.index p here.within)
-      ∙ (λ j. place_in s.order.index (wave j) (instr j)) ∙ s.order.ok.index q there.within in
+      ∙ (λ j. place_in s.order.kept.items s.order.index (wave j) (instr j))
+      ∙ s.order.ok.index q there.within in
       cc
 
   module _ (none : NoneSought image s) (p : ℕ) (l : p < length s.order.kept.items)

@@ -14,5 +14,5 @@ pub returns-clause-failed : goal.returns-clause-failed
 returns-clause-failed g c = rw (← c.self.view_is) c.self.invariant.failed
 
 pub returns-clause-once : goal.returns-clause-once
-returns-clause-once g c = rw (← c.self.view_is) (own c.self.inside.parts.order.kept.items (place_in
-    c.self.inside.parts.order.index) c.self.inside.parts.order.ok.index)
+returns-clause-once g c = rw (← c.self.view_is) (let o = c.self.inside.parts.order in
+    own o.kept.items (place_in o.kept.items o.index) o.ok.index)

@@ -12,8 +12,7 @@ returns-clause-idle g c = subst (λ (x : Content). x.failed ≡ None → x.starv
 pub returns-clause-once : goal.returns-clause-once
 returns-clause-once g c = subst (λ (x : Content). All (λ k. entry_of x.kept k.wave k.instr ≡ Some k) x.kept)
     c.self.view_is
-    (own c.self.inside.store.order.kept.items (place_in c.self.inside.store.order.index)
-    c.self.inside.store.order.ok.index)
+    (let o = c.self.inside.store.order in own o.kept.items (place_in o.kept.items o.index) o.ok.index)
 
 pub returns-clause-failed : goal.returns-clause-failed
 returns-clause-failed g c =

@@ -10,6 +10,10 @@ invariant_of-self c = let o = c.args.self.now in record {
       (count_alike _ _ _ _ c.requires.within c.requires.waits);
 }
 
+pub returns-clause-places : goal.returns-clause-places
+returns-clause-places c = let o = c.args.self.now in
+    O.places_same _ _ _ _ _ o.ok _ _ c.requires.within c.requires.wave c.requires.instr refl
+
 pub returns-clause-filed : goal.returns-clause-filed
 returns-clause-filed c = λ image ripple filed. let r = c.requires in
     P.filed_changed image c.args.self.now _ c.args.place (P.but_one image c.args.self.now c.args.place filed)
