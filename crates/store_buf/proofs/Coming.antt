@@ -157,7 +157,7 @@ module _ (image : Image) (world : World) (began : List (Option Began)) {P : Type
       issued_kept = λ w i a e. issued_kept image (entry_of s.order.kept.items w i) a e;
       listed = λ w i. (
         listed_to s.order.kept.items (once_of s.order.kept.items (place_in s.order.kept.items s.order.index)
-        s.order.ok.index) w i,
+            s.order.ok.index) w i,
         λ e. listed_from s.order.kept.items w i e.0 e.1,
       );
       legal = h.going.legal;

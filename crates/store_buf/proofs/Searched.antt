@@ -51,16 +51,16 @@ leads_on ks ns root w i n at key so l other inside more new grown =
     (λ s. is_other _ _ w i other (record { wave = sym g.wave ∙ s.wave; instr = sym g.instr ∙ s.instr }))
     ∙ ap (λ (q : ℕ). seek more new n q (key / 2) w i) (g.links key inside)
 
--- what has an instance where it stands or would stand
+-- the place of an instance that stands or would stand there
 pub placed : (ks : List Kept) (ns : List Node) (root w i : ℕ) (hook : Hook) → HookIs ks ns root w i hook
-    → place_of hook ≡ seek ks ns 33 root i w i
-placed ks ns root w i Root so = sym (seek_past ks ns 33 root i w i so)
-placed ks ns root w i (At at) so = sym (so.2.2 ks ns (grown_same ks ns)
-    ∙ seek_here ks ns so.2.0 at so.2.1 w i so.0 (is_same _ _ w i so.1))
-placed ks ns root w i (Behind at key) so = sym (so.3.1 ks ns (grown_same ks ns)
+    → seek ks ns 33 root i w i ≡ place_of hook
+placed ks ns root w i Root so = seek_past ks ns 33 root i w i so
+placed ks ns root w i (At at) so = so.2.2 ks ns (grown_same ks ns)
+    ∙ seek_here ks ns so.2.0 at so.2.1 w i so.0 (is_same _ _ w i so.1)
+placed ks ns root w i (Behind at key) so = so.3.1 ks ns (grown_same ks ns)
     ∙ seek_on ks ns (suc so.3.0) at key w i so.0 (is_other _ _ w i so.1)
-    ∙ seek_past ks ns (suc so.3.0) (child_of (node_at ns at) key) (key / 2) w i so.2)
-placed ks ns root w i Deep so = sym so
+    ∙ seek_past ks ns (suc so.3.0) (child_of (node_at ns at) key) (key / 2) w i so.2
+placed ks ns root w i Deep so = so
 
 -- nodes that are still found, but for those of one instance
 pub record Left (ks more : List Kept) (old new : List Node) (w i p : ℕ) : Type 0 where

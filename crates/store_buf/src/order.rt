@@ -168,6 +168,7 @@ impl Order {
     /// Makes room for a request at the next place, for its answer, and for its node in the index.
     #[inline(always)]
     pub(crate) fn prepare(&mut self, kept: Kept, hook: Hook) -> Result<usize, NoMemory>
+        requires fresh { entry_of (requests_of self.old) kept.wave kept.instr ≡ None }
         requires hook { HookIn self.old.kept.items self.old.index kept.wave kept.instr hook }
         ensures place { IfOk result (λ place. place ≡ length (requests_of self.old)) }
         ensures prepared { OnOk result (IsPrepared self.new kept hook) }

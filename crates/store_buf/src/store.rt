@@ -175,11 +175,12 @@ impl<P: Port> Store<P> {
         }
     }
 
-    // Makes room for a request.
+    // Makes room for a request of an instance that had none.
     #[inline(always)]
     fn prepare(&mut self, kept: Kept, hook: Hook) -> Result<usize, NoMemory>
         requires hook { HookIn self.old.order.kept.items self.old.order.index
             kept.wave kept.instr hook }
+        requires fresh { entry_of self.old.order.kept.items kept.wave kept.instr ≡ None }
         ensures place { IfOk result (λ place. place ≡ length self.new.order.kept.items) }
         ensures prepared { OnOk result (IsPrepared self.new.order kept hook) }
         ensures ok { (image : Image) → StoreOk image self.old → StoreOk image self.new }

@@ -5,6 +5,10 @@ use Rattle.store_buf.specs.Indexed.{Indexed}
 use Rattle.store_buf.proofs.Ordered as O
 use Rattle.store_buf.proofs.order.Order.prepare.Goals as goal
 
+pub make_room-requires : goal.make_room-requires
+make_room-requires c = let o = c.args.self.now in let k = c.args.kept in
+    O.unkept o.kept.items o.index k.wave k.instr c.args.hook c.requires.hook o.ok.as_many c.requires.fresh
+
 pub invariant_of-self-2 : goal.invariant_of-self-2
 invariant_of-self-2 c = let o = c.args.self.now in let e = c.make_room.ensures in record {
   ok = subst (λ (ks : List Kept). Indexed ks c.make_room.new.self o.waiting o.chain.wave)
