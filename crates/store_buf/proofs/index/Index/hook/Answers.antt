@@ -29,11 +29,11 @@ returns-then-next-len c = let ks = c.args.kept.now in let ns = c.args.self.now.n
     let i = c.args.instr in
     let root = root_of c.args.self.now.roots.items w in
     let l = c.loop-left.invariant.within in
-    let e = or_any ks c.loop-left.at _ no_request (omega (arith, l, c.requires)) in
     let b : c.child-next.result ≡ child_of (node_at ns c.loop-left.at) c.loop-left.key = c.child-next.ensures
     ∙ ap (λ x. child_of x c.loop-left.key) (c.index.ensures ∙ or_any ns c.loop-left.at _ leaf l) in
     let n : suc c.loop-left.left ≡ suc (suc (c.loop-left.left - 1)) =
-    omega (arith, c.loop-left-test.true) in (
+    omega (arith, c.loop-left-test.true) in
+    let e = or_any ks c.loop-left.at _ no_request (omega (arith, l, c.requires)) in (
       l,
       subst (λ x. same_key x.wave x.instr w i ≡ false) e (sym c.is_of.ensures ∙ c.if-is_of.false),
       omega (arith, b, c.if-next-len.true, c.len-in-loop-left.ensures),
