@@ -1,6 +1,6 @@
 -- One more node in the trees of requests.
 use Rattle.std.proofs.Common.{ℕ, suc, ◌≡◌, ◌<◌, ◌≤◌, ◌/◌, false, cond, List, [], ◌∷◌, ◌++◌, length}
-use Rattle.std.proofs.Common.{Some, None, slice_set, sym, ap, ◌∙◌, subst, inl, inr, arith}
+use Rattle.std.proofs.Common.{Some, None, slice_index_or, slice_set, sym, ap, ◌∙◌, subst, inl, inr, arith}
 use Rattle.std.proofs.lemmas.Bool.{cases_lt, cases_eq}
 use Rattle.df_core.specs.Core.{same_key}
 use Rattle.df_core.proofs.Keeping.Ports.{SameKey, with_key_cases}
@@ -9,7 +9,7 @@ use Rattle.store_buf.specs.declared.node.Node.{Node}
 use Rattle.store_buf.specs.Requests.{no_request, request_at}
 use Rattle.store_buf.specs.Trees.{nowhere, node_at, child_of, with_child, leaf, seek, root_of}
 use Rattle.store_buf.specs.Trees.{in_trees, IsLink, TreesOk, AllGrown, LeadsTo}
-use Rattle.store_buf.proofs.Lists.{set_here, set_other, set_length, push_here, push_other}
+use Rattle.store_buf.proofs.Lists.{set_here, set_other, set_length, push_here, push_other, or_any}
 use Rattle.ws_words.proofs.Lists.{push_length}
 use Rattle.store_buf.proofs.Searched.{seek_past, seek_here, seek_on, is_other, Left, others}
 use Rattle.store_buf.proofs.Searched.{leaf_none, with_links, with_own}
@@ -111,6 +111,14 @@ module _ (ns : List Node) (rs : List ℕ) (at key : ℕ) (linked : TreesOk ns rs
     (l : at < length ns) where
   abbrev pub hung : List Node
   hung = slice_set (ns ++ leaf ∷ []) at (with_child (node_at ns at) key (length ns))
+
+  -- as the code makes it
+  pub hung_is : (items : List Node) (n : Node) (next : ℕ) → items ≡ ns ++ leaf ∷ [] → next ≡ length ns
+      → n ≡ slice_index_or items at n → slice_set items at (with_child n key next) ≡ hung
+  hung_is items n next e one read =
+      let node : n ≡ node_at ns at = read ∙ ap (λ (xs : List Node). slice_index_or xs at n) e
+      ∙ push_other ns at leaf n l ∙ or_any ns at n leaf l in
+      λ j. slice_set (e j) at (with_child (node j) key (one j))
 
   hung_length : length hung ≡ suc (length ns)
   hung_length = grind (arith, set_length, push_length)
