@@ -54,7 +54,7 @@ pub record TreesOk (ns : List Node) (rs : List ℕ) : Type 0 where
   pub nodes : (p key : ℕ) → p < length ns → IsLink ns (child_of (node_at ns p) key)
   pub roots : (w : ℕ) → IsLink ns (root_of rs w)
 
--- nodes that came later
+-- nodes and requests that came later
 pub record NodeGrown (ks more : List Kept) (old new : List Node) (p : ℕ) : Type 0 where
   pub within : p < length new
   pub wave : (request_at more p).wave ≡ (request_at ks p).wave
