@@ -115,6 +115,9 @@ impl<J: Job> Rounds<J> {
             (λ token. Covers (sent.old ++ self.old) (token ∷ self.new))) }
         ensures none { OnOk result (sent.new ≡ []) }
     {
+        if sent.len() == 0 {
+            return Ok(self.take());
+        }
         let mut rest = replace(sent, Sent::none());
         let Some(first) = rest.next() else {
             return Ok(self.take());
