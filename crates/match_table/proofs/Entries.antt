@@ -52,7 +52,7 @@ third_more m n code v had first second j = record {
 
 -- entries of which one has had one value more
 pub value_set : (ns : List ℕ) (vs : List Pair) (k p code n : ℕ) (next : Pair) (now : PageContent)
-    → all_halves ns vs ≡ now.entries → length ns ≡ 8 → length vs ≡ 8 → k < 8
+    → all_halves ns vs ≡ now.entries → length ns ≡ 16 → length vs ≡ 16 → k < 16
     → half_of n next ≡ set_half (entry ns vs k) p code
     → all_halves (set ns k n) (set vs k next)
     ≡ set now.entries k (set_half (get_or now.entries k none_half) p code)
@@ -66,7 +66,7 @@ had_set (x ∷ ns) (y ∷ vs) (suc k) n v lt lt' =
 had_set v0 v1 v2 v3 v4 v5 v6 = grind arith
 
 pub third_set : (ns : List ℕ) (vs : List Pair) (k p code n : ℕ) (now : PageContent)
-    → all_halves ns vs ≡ now.entries → length ns ≡ 8 → length vs ≡ 8 → k < 8
+    → all_halves ns vs ≡ now.entries → length ns ≡ 16 → length vs ≡ 16 → k < 16
     → half_of n (get_or vs k (record { first = 0; second = 0 })) ≡ set_half (entry ns vs k) p code
     → all_halves (set ns k n) vs ≡ set now.entries k (set_half (get_or now.entries k none_half) p code)
 third_set ns vs k p code n now is had values below more = grind (arith, had_set, entry_of)

@@ -1,4 +1,4 @@
--- Instances by where they stand. A spot is the key of an instance's page, times eight, and the place of its
+-- Instances by where they stand. A spot is the key of an instance's page, times sixteen, and the place of its
 -- wave in the page.
 use Rattle.std.specs.Prelude.{◌-◌, ◌≡◌, ◌+◌, ◌*◌, ◌/◌, ◌%◌, ◌^◌, ◌<◌, ℕ, List, [], ◌∷◌, ◌++◌, map, All}
 use Rattle.std.specs.Prelude.{Option, Some, None, ⊤}
@@ -12,18 +12,18 @@ use Rattle.match_table.specs.Pages.{IsNamed, PageContent, name_for, place_of, un
 abbrev pub instance_of : Option PageContent → ℕ → Key
 instance_of None place = record { wave = 0; instr = 0 }
 instance_of (Some p) place = record {
-  wave = 32 * (p.name.wave / 4) + 16 * (place / 4) + 4 * (p.name.wave % 4) + place % 4;
+  wave = 64 * (p.name.wave / 4) + 16 * (place / 4) + 4 * (p.name.wave % 4) + place % 4;
   instr = p.name.part / 2 - place % 4;
 }
 
 -- the instance at a spot
 abbrev pub at_spot : List (Option PageContent) → ℕ → Key
-at_spot slots s = instance_of (under slots (s / 8)) (s % 8)
+at_spot slots s = instance_of (under slots (s / 16)) (s % 16)
 
 -- this is the spot of the instance
 pub record IsSpot (slots : List (Option PageContent)) (s w i : ℕ) : Type 0 where
-  pub page : IsNamed slots (s / 8) (name_for w (2 * i))
-  pub place : s % 8 ≡ place_of w
+  pub page : IsNamed slots (s / 16) (name_for w (2 * i))
+  pub place : s % 16 ≡ place_of w
   pub wave : w < 2 ^ 64
   pub instr : i < 2 ^ 32
 

@@ -41,17 +41,17 @@ pub enum Listed {
 }
 
 // From here on a key is too large for a spot.
-const KEYS: usize = 1 << 29;
+const KEYS: usize = 1 << 28;
 
 // The spot of an instance whose page has this key, where that is a number of 32 bits.
 #[inline(always)]
 fn spot_of(key: usize, wave: u64, instr: u32) -> Option<u32>
-    ensures { MatchOption result (2 ^ 29 ≤ key) (λ s. (slots : List (Option PageContent))
+    ensures { MatchOption result (2 ^ 28 ≤ key) (λ s. (slots : List (Option PageContent))
         → IsNamed slots key (name_for wave (2 * instr)) → IsSpot slots s wave instr) }
 {
     let _ = instr;
     if key < KEYS {
-        Some(key as u32 * 8 + place_of(wave) as u32)
+        Some(key as u32 * 16 + place_of(wave) as u32)
     } else {
         None
     }
@@ -97,7 +97,7 @@ impl Instances {
         ensures listed { (slots : List (Option PageContent))
             → IsNamed slots key (name_for instance.wave (2 * instance.instr)) → AllPlaced slots self.old
             → IsListed slots self.old self.new instance }
-        ensures small { self.old.others ≡ [] → key < 2 ^ 29 → self.new.others ≡ [] }
+        ensures small { self.old.others ≡ [] → key < 2 ^ 28 → self.new.others ≡ [] }
         ensures room { self.old.spare ≤ self.new.spare + 1 }
     {
         if !self.others.is_empty() {

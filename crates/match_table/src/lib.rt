@@ -10,8 +10,8 @@
 //! holds; `fired_count` and `fired_at` what it lists, each instance with the operands that it holds, and
 //! `asked_count` and `asked_at` those of memory among them. With room for a token (`reserve`, `spare`)
 //! `accept` isn't want of memory below the last wave number, and takes room for one at most. A table keeps
-//! pages in a slab, each with the entries of eight instances, of four waves in a row and the four that are
-//! sixteen further: of each wave in a row the instruction before that of the wave before it. A page has 32
+//! pages in a slab, each with the entries of sixteen instances, of four waves in a row and the fours that are
+//! 16, 32 and 48 further: of each wave in a row the instruction before that of the wave before it. A page has 32
 //! bits for a value; a wide one stands in a list, and its place there in the page. As facts of its type each
 //! page is found in its tree, where the bits of a number tell the way that its name gives, and each search
 //! ends. Its lists name an instance by where it stands in a page, in a number of 32 bits as long as keys

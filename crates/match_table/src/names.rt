@@ -19,7 +19,7 @@ pub(crate) fn first_half(instr: u32) -> u64
 pub(crate) fn second_wave(wave: u64) -> u64
     ensures { result ≡ second_wave wave }
 {
-    128 * (wave / 128) + 16 * (wave / 64 % 2) + wave / 16 % 4
+    256 * (wave / 256) + 16 * (wave / 64 % 4) + wave / 16 % 4
 }
 
 // The number of an instance's second half.
@@ -38,7 +38,7 @@ pub(crate) fn name_of(wave: u64, half: u64) -> PageName
     ensures { result ≡ name_for wave half }
 {
     PageName {
-        wave: 4 * (wave / 32) + wave / 4 % 4,
+        wave: 4 * (wave / 64) + wave / 4 % 4,
         part: half + 2 * (wave % 4),
     }
 }
@@ -47,9 +47,9 @@ pub(crate) fn name_of(wave: u64, half: u64) -> PageName
 #[inline(always)]
 pub(crate) fn place_of(wave: u64) -> usize
     ensures place { result ≡ place_of wave }
-    ensures below { result < 8 }
+    ensures below { result < 16 }
 {
-    (4 * (wave / 16 % 2) + wave % 4) as usize
+    (4 * (wave / 16 % 4) + wave % 4) as usize
 }
 
 // Whether a name is another.

@@ -6,7 +6,7 @@ use Rattle.match_table.specs.Pages.{seen_in}
 use Rattle.match_table.specs.Ports.{none_half, set_half, with_half}
 use Rattle.match_table.proofs.Codes.{more_within}
 use Rattle.match_table.proofs.Spots.{changed_names}
-use Rattle.match_table.proofs.Store.{named_is, port_seen, set_changed, set_ok, still_clean, still_eight}
+use Rattle.match_table.proofs.Store.{named_is, port_seen, set_changed, set_ok, still_clean, still_sixteen}
 use Rattle.ws_words.proofs.Options.{some_same}
 use Rattle.match_table.proofs.pages.Pages.set_word.Goals as goal
 
@@ -55,7 +55,7 @@ invariant_of-self c = let roots = c.self.inside.roots.items in let slots = c.sel
     let at = c.index_mut.ensures.value in let ok = c.self.invariant.0 in
     let code = code_of c.args.is_wide c.args.word in (
       set_ok slots c.args.key u v at (same_name c) (same_even c) (same_odd c) roots ok
-          (still_eight roots slots ok c.args.key c.args.wave c.args.half c.args.port code u v at
+          (still_sixteen roots slots ok c.args.key c.args.wave c.args.half c.args.port code u v at
           (own_name c) (same_name c) (same_even c) (same_odd c) (own_entries c))
           (still_clean roots slots ok c.args.key c.args.wave c.args.half c.args.port code u v at
           (own_name c) (same_name c) (same_even c) (same_odd c) (own_entries c)),
