@@ -12,7 +12,7 @@ use Rattle.match_table.specs.Pages.{IsNamed, PageContent, name_for, place_of, un
 abbrev pub instance_of : Option PageContent → ℕ → Key
 instance_of None place = record { wave = 0; instr = 0 }
 instance_of (Some p) place = record {
-  wave = 64 * (p.name.wave / 4) + 16 * (place / 4) + 4 * (p.name.wave % 4) + place % 4;
+  wave = p.name.wave + 16 * (place / 4) + place % 4;
   instr = p.name.part / 2 - place % 4;
 }
 

@@ -38,7 +38,7 @@ pub(crate) fn name_of(wave: u64, half: u64) -> PageName
     ensures { result ≡ name_for wave half }
 {
     PageName {
-        wave: 4 * (wave / 64) + wave / 4 % 4,
+        wave: 64 * (wave / 64) + 4 * (wave / 4 % 4),
         part: half + 2 * (wave % 4),
     }
 }

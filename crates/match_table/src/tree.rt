@@ -1,7 +1,8 @@
 //! Trees of pages: behind each page stand up to two, by the bits of a number that their names give.
 
-ghost use Rattle.std.specs.Prelude.{◌≡◌, ◌<◌, ◌≤◌, ◌%◌, length, vec_capacity};
-ghost use Rattle.match_table.specs.Pages.{HookIs, IsAbsent, KeyOf, PagesOk, path_of, root_of, trees};
+ghost use Rattle.std.specs.Prelude.{◌≡◌, ◌<◌, ◌≤◌, length, vec_capacity};
+ghost use Rattle.match_table.specs.Pages.{HookIs, IsAbsent, KeyOf, PagesOk, column, path_of, root_of, tree_of};
+ghost use Rattle.match_table.specs.Pages.{trees};
 
 use crate::course::Course;
 use crate::entry::{NOWHERE, Page, PageName, next_of};
@@ -18,12 +19,20 @@ pub enum Hook {
 // How many trees there are.
 pub(crate) const TREES: usize = 32768;
 
-// The tree of a page by its name's wave number.
+// The number of a page's waves.
+#[inline(always)]
+fn column_of(name: PageName) -> u64
+    ensures { result ≡ column name.wave }
+{
+    4 * (name.wave / 64) + name.wave / 4 % 4
+}
+
+// The tree of a page.
 #[inline(always)]
 fn tree_of(name: PageName) -> usize
-    ensures { result ≡ name.wave % trees }
+    ensures { result ≡ tree_of name }
 {
-    (name.wave % TREES as u64) as usize
+    (column_of(name) % TREES as u64) as usize
 }
 
 // Where the tree begins in which the page with a name stands, or would.
@@ -43,7 +52,7 @@ fn root_of(roots: &[usize], name: PageName) -> usize
 fn path_of(name: PageName) -> u64
     ensures { result ≡ path_of name }
 {
-    let far = (name.wave / TREES as u64).wrapping_mul(1 << 40);
+    let far = (column_of(name) / TREES as u64).wrapping_mul(1 << 40);
     (name.part / 2 + name.part / 32).wrapping_add(far)
 }
 
@@ -101,8 +110,8 @@ pub(crate) fn hook_of(roots: &[usize], pages: &Slab<Page>, name: PageName) -> Ho
 // Puts a page at the root of its tree.
 pub(crate) fn plant(roots: &mut Vec<usize>, name: PageName, key: usize)
     requires { trees ≤ vec_capacity roots.old }
-    ensures own { (n : PageName) → n.wave % trees ≡ name.wave % trees → root_of roots.new.items n ≡ key }
-    ensures others { (n : PageName) → (n.wave % trees ≡ name.wave % trees → ⊥)
+    ensures own { (n : PageName) → tree_of n ≡ tree_of name → root_of roots.new.items n ≡ key }
+    ensures others { (n : PageName) → (tree_of n ≡ tree_of name → ⊥)
         → root_of roots.new.items n ≡ root_of roots.old.items n }
     ensures capacity { vec_capacity roots.new ≡ vec_capacity roots.old }
 {
