@@ -11,11 +11,11 @@
 //! `asked_count` and `asked_at` those of memory among them. With room for a token (`reserve`, `spare`)
 //! `accept` isn't want of memory below the last wave number, and takes room for one at most. A table keeps
 //! pages in a slab, each with the entries of sixteen instances, of four waves in a row and the fours that are
-//! 16, 32 and 48 further: of each wave in a row the instruction before that of the wave before it. A page has 32
-//! bits for a value; a wide one stands in a list, and its place there in the page. As facts of its type each
-//! page is found in its tree, where the bits of a number tell the way that its name gives, and each search
-//! ends. Its lists name an instance by where it stands in a page, in a number of 32 bits as long as keys
-//! allow that. What it holds is right, and an instance fires once, exactly when it is full (`facts`).
+//! 16, 32 and 48 further: of each wave in a row the instruction before that of the wave before it. A page has
+//! 32 bits for a value; a wide one stands in a list, and its place there in the page. As facts of its type
+//! each page is found in its tree, where the bits of a number tell the way that its name gives, and each
+//! search ends. Its lists name an instance by where it stands in a page, in a number of 32 bits as long as
+//! keys allow that. What it holds is right, and an instance fires once, exactly when it is full (`facts`).
 //!
 //! `Limited` is a table that serves the instances whose wave number plus instruction is its number modulo 16,
 //! lists no more that fired than its quota, and has grown from what it was when the phase began (`Grows`), as

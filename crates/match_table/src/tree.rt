@@ -1,8 +1,8 @@
 //! Trees of pages: behind each page stand up to two, by the bits of a number that their names give.
 
 ghost use Rattle.std.specs.Prelude.{◌≡◌, ◌<◌, ◌≤◌, length, vec_capacity};
-ghost use Rattle.match_table.specs.Pages.{HookIs, IsAbsent, KeyOf, PagesOk, column, path_of, root_of, tree_of};
-ghost use Rattle.match_table.specs.Pages.{trees};
+ghost use Rattle.match_table.specs.Pages.{HookIs, IsAbsent, KeyOf, PagesOk, column, path_of, root_of};
+ghost use Rattle.match_table.specs.Pages.{tree_of, trees};
 
 use crate::course::Course;
 use crate::entry::{NOWHERE, Page, PageName, next_of};

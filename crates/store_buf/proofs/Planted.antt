@@ -65,12 +65,6 @@ module _ (ns : List Node) (rs : List ℕ) (a : ℕ) (linked : TreesOk ns rs) (ro
   other_root : (w : ℕ) → (a ≡ w → ⊥) → root_of roots w ≡ root_of rs w
   other_root w n = set_other rs a w (length ns) nowhere n
 
-  more_links : (q key : ℕ) → q < length more → IsLink more (child_of (node_at more q) key)
-  more_links q key l = grind (arith, cases_lt, more_old, still_link, more_length, more_new, leaf_behind)
-
-  pub planted_linked : TreesOk more roots
-  planted_linked = grind (arith, more_length, more_links, cases_eq, own_root, other_root, still_link)
-
   module _ (ks : List Kept) (k : Kept) (as_many : length ns ≡ length ks) (of : k.wave ≡ a)
       (bare : length ns ≤ root_of rs k.wave) where
     more_left : (w i q : ℕ) → q < length ns → Left ks (all ns ks k as_many) ns more w i q

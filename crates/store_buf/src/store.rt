@@ -14,7 +14,7 @@ ghost use Rattle.store_buf.specs.Finding.{HookIn};
 ghost use Rattle.store_buf.specs.Ordering.{IsPrepared, MayAt, on_cell};
 ghost use Rattle.store_buf.specs.Outdoors.{FaultsGrow};
 ghost use Rattle.store_buf.specs.Stores.{StoreOk, StoreKeeps, ServeLeads, IssueLeads, StaysSo, AllLead};
-ghost use Rattle.store_buf.specs.Stores.{SilentSo, SettledSo, SubmitLeads, NoneMaySo, content_of};
+ghost use Rattle.store_buf.specs.Stores.{SilentSo, SettledSo, SubmitLeads, NoneMaySo};
 ghost use Rattle.store_buf.specs.Stores.{left_over};
 
 use crate::fault::{BufFault, Silent};
