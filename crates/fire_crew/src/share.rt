@@ -1,4 +1,4 @@
-//! A phase of all workers, and what is owed behind it.
+//! A phase of several workers, and what is owed behind it.
 
 ghost use Rattle.std.specs.Prelude.{◌≡◌, ◌<◌, ◌≤◌, ◌-◌, IfOk, IfSome, None, OnOk, length, true};
 ghost use Rattle.match_table.specs.Growth.{AllGrow};
@@ -32,7 +32,7 @@ pub struct Shared<J: Job, P: Port> {
 }
 
 impl<'a, G: Gate, R: Threads + Wait + Sync> Crew<'a, G, R> {
-    /// A phase of all workers with these tokens, if it is the first or there are enough for all, more may
+    /// A phase of workers with these tokens, if it is the first or there are enough for all, more may
     /// fire and the last of them is wanted; and then what is owed.
     pub fn share<J: Job + Send + Sync, P: Port + Send>(
         &self,

@@ -86,7 +86,7 @@ impl<'a, G: Gate, R: Threads + Wait + Sync> Crew<'a, G, R> {
     }
 }
 
-// Seats with these tokens.
+// Seats with these tokens: one for each, but two at least, and no more than there are workers.
 fn dealt<J: Job>(
     alloc: Global,
     tokens: TokenList<J>,
@@ -94,7 +94,13 @@ fn dealt<J: Job>(
 ) -> Result<SeatList<Token<J>>, NoMemory>
     requires { (1 ≤ workers) × (workers ≤ 8) }
 {
-    let mut seats = seats::<Token<J>>(alloc, workers)?;
+    let wanted = tokens.len().max(2);
+    let count = if wanted < workers as usize {
+        wanted as u32
+    } else {
+        workers
+    };
+    let mut seats = seats::<Token<J>>(alloc, count)?;
     deal::<Bare, J, Token<J>>(&mut seats, 0, tokens);
     Ok(seats)
 }
