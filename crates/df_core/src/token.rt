@@ -13,12 +13,15 @@ use std::marker::{Model, PhantomData};
 pub struct Token<J: Job> {
     wave: u64,
     instr: u32,
-    port: u8,
+    // Less than 256, but as wide as the instruction: so a token has no gap, whose bytes would be copied one
+    // by one each time that it is handed on.
+    port: u32,
     value: u64,
     of: PhantomData<J>,
 }
 
 impl<J: Job> Model for Token<J> {
+    ghost use Rattle.std.specs.Prelude.{◌<◌};
     ghost use Rattle.ws_isa.specs.Image.{Token as Plain};
     ghost use Rattle.df_core.specs.Fit.{RightToken};
 
@@ -26,7 +29,7 @@ impl<J: Job> Model for Token<J> {
 
     ghost view = { λ t. record { wave = t.wave; instr = t.instr; port = t.port; value = t.value } };
 
-    ghost invariant = { λ t. RightToken J.image J.world t.wave t.instr t.port t.value };
+    ghost invariant = { λ t. (t.port < 256) × RightToken J.image J.world t.wave t.instr t.port t.value };
 
     ghost inverse = { λ v. record {
       wave = v.wave;
@@ -46,7 +49,7 @@ impl<J: Job> Token<J> {
         Token {
             wave,
             instr,
-            port,
+            port: port as u32,
             value,
             of: PhantomData,
         }
@@ -78,7 +81,7 @@ impl<J: Job> Token<J> {
     pub fn port(&self) -> u8
         ensures { result ≡ self.now.port }
     {
-        self.port
+        self.port as u8
     }
 
     /// Its value.
