@@ -1,6 +1,6 @@
 //! A turn: the budget is shared out, tokens are dealt, and workers run.
 
-ghost use Rattle.std.specs.Prelude.{◌≡◌, ◌<◌, ◌≤◌, length, true, false};
+ghost use Rattle.std.specs.Prelude.{◌≡◌, ◌<◌, ◌≤◌, IfOk, cond, length, min, nat_lt, true, false};
 ghost use Rattle.df_core.specs.Core.{has};
 ghost use Rattle.match_table.specs.Together.{AllServe, part_of};
 ghost use Rattle.match_table.specs.Growth.{AllGrow};
@@ -93,6 +93,8 @@ fn dealt<J: Job>(
     workers: u32,
 ) -> Result<SeatList<Token<J>>, NoMemory>
     requires { (1 ≤ workers) × (workers ≤ 8) }
+    ensures { IfOk result (λ seats. length seats.items
+        ≡ min workers (cond (nat_lt (length tokens) 2) 2 (length tokens))) }
 {
     let wanted = tokens.len().max(2);
     let count = if wanted < workers as usize {
@@ -110,7 +112,9 @@ pub fn deal<L: Wrap<Token<J>, T>, J: Job, T: Drop>(
     seats: &mut SeatList<T>,
     first: usize,
     tokens: TokenList<J>,
-) -> usize {
+) -> usize
+    ensures { length seats.new.items ≡ length seats.old.items }
+{
     let mut tokens = tokens;
     let mut at = first;
     while let Some(token) = tokens.pop() {
