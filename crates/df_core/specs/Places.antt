@@ -1,6 +1,6 @@
 -- The instructions of an image by number, as the code holds them.
-use Rattle.std.specs.Prelude.{◌≡◌, ℕ, suc, List, [], ◌∷◌, ◌++◌, map}
-use Rattle.ws_isa.specs.Image.{Image, Instr, Block, instr_at, block_of, now_dests, edge_dests}
+use Rattle.std.specs.Prelude.{◌≡◌, ℕ, List, ◌++◌}
+use Rattle.ws_isa.specs.Image.{Image, Instr, instr_at, block_of, now_dests, edge_dests}
 use Rattle.ws_isa.specs.declared.instr.Dest.{Dest}
 use Rattle.ws_isa.specs.View as view
 use Rattle.df_core.specs.declared.program.Program.{Program}

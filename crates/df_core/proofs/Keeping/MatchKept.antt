@@ -4,7 +4,7 @@ use Rattle.std.proofs.Common.{ap, ◌∙◌, subst, inl, inr, arith}
 use Rattle.std.proofs.lemmas.Bool.{cases_Bool, cases_eq, cond_both, both_ways}
 use Rattle.ws_words.specs.Outside.{World}
 use Rattle.ws_isa.specs.Image.{Image, Token, ports, is_memory, result_of, sends}
-use Rattle.ws_isa.specs.Walk.{Inst, Ports, fires, start_tokens, gather}
+use Rattle.ws_isa.specs.Walk.{Inst, Ports, start_tokens, gather}
 use Rattle.df_core.specs.Core.{State, HasFired, IsSent, with_key, put_all, is_full, operands_in, arrived}
 use Rattle.df_core.specs.Core.{asks, tells, matched}
 use Rattle.df_core.specs.Fit.{FiresAt, RightToken, RightRequest, IsThere, IsFilled, Fit, StoppedAt, FromInst}

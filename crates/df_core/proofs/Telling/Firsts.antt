@@ -3,7 +3,6 @@ use Rattle.std.proofs.Common.{ℕ, ◌≡◌, ◌≤◌, Bool, List, Option, Non
 use Rattle.std.proofs.lemmas.Bool.{cases_lt, cases_eq}
 use Rattle.ws_words.specs.Outside.{World, Outside}
 use Rattle.ws_isa.specs.Image.{Image, note_of}
-use Rattle.ws_isa.specs.Walk.{fires}
 use Rattle.ws_isa.specs.Formed.{Formed}
 use Rattle.ws_isa.specs.Sound.{seq, Sound}
 use Rattle.df_core.specs.Core.{Chain, IsNext}

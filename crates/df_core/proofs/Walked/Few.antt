@@ -1,5 +1,5 @@
 -- A formed image sends a result to at most eight destinations.
-use Rattle.std.proofs.Common.{ℕ, ◌+◌, ◌≡◌, ◌≤◌, ◌<◌, eqb, List, [], ◌∷◌, ◌++◌, length, arith, length-append}
+use Rattle.std.proofs.Common.{ℕ, ◌≡◌, ◌≤◌, ◌<◌, eqb, List, [], ◌∷◌, ◌++◌, length, arith, length-append}
 use Rattle.std.specs.List.{AllByRecursion}
 use Rattle.std.proofs.lemmas.Bool.{cond_both}
 use Rattle.ws_isa.specs.declared.instr.Op.{Op}
