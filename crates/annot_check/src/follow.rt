@@ -3,7 +3,7 @@
 //! Waves are passed one after the other, from that of block 1 on, each once, with the slots of its
 //! advances open. What is kept of a wave's blocks and slots is let go when the wave is passed.
 
-ghost use Rattle.std.specs.Prelude.{◌≡◌, ◌+◌, ◌*◌, ◌<◌, ◌⊎◌, ℕ, [], length, IfOk, OnOk, IfErr, true, false};
+ghost use Rattle.std.specs.Prelude.{◌≡◌, ◌+◌, ◌⊎◌, ℕ, [], length, IfOk, OnOk, IfErr, true, false};
 ghost use Rattle.std.specs.Prelude.{Some, None};
 ghost use Rattle.ws_isa.specs.Image.{is_first, IsBlock};
 ghost use Rattle.ws_isa.specs.View as view;

@@ -1,6 +1,6 @@
 //! The memory operations of a block, each behind what is kept of the paths that lead to it.
 
-ghost use Rattle.std.specs.Prelude.{◌≡◌, ◌+◌, ◌<◌, ℕ, suc, cond, ◌&&◌, ltb, eqb, IfOk, OnOk, IfErr, true};
+ghost use Rattle.std.specs.Prelude.{◌≡◌, ◌<◌, ℕ, suc, cond, ◌&&◌, ltb, eqb, IfOk, OnOk, IfErr, true};
 ghost use Rattle.std.specs.Prelude.{false, Some};
 ghost use Rattle.ws_isa.specs.Image.{is_memory_op, is_writing_op, first_number, block_at, IsBlock};
 ghost use Rattle.ws_isa.specs.Formed.{Formed};

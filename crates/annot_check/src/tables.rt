@@ -1,7 +1,7 @@
 //! The tables of a walk: the numbers of first instructions, and boards and tables that are blank or
 //! lose what they held.
 
-ghost use Rattle.std.specs.Prelude.{◌≡◌, ◌+◌, ◌*◌, ◌^◌, ◌<◌, ◌≤◌, ℕ, length, IfOk, false, Some, None};
+ghost use Rattle.std.specs.Prelude.{◌≡◌, ◌^◌, ◌<◌, ◌≤◌, ℕ, length, IfOk, false, Some, None};
 ghost use Rattle.ws_isa.specs.View as view;
 ghost use Rattle.ws_isa.specs.Formed.{Formed};
 ghost use Rattle.annot_check.specs.declared.trace.Entry.{Entry};

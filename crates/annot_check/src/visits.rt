@@ -1,6 +1,6 @@
 //! The visit of a block: its instructions, and then its edges, with the slots that are open behind it.
 
-ghost use Rattle.std.specs.Prelude.{◌≡◌, ◌+◌, ◌<◌, ℕ, suc, length, map, OnOk, IfErr, false, not, Some, None};
+ghost use Rattle.std.specs.Prelude.{◌≡◌, ◌<◌, ℕ, suc, length, map, OnOk, IfErr, false, Some, None};
 ghost use Rattle.ws_isa.specs.Image.{block_at, stops, first_number, IsBlock};
 ghost use Rattle.ws_isa.specs.View as view;
 ghost use Rattle.ws_isa.specs.Sound.{Opens};

@@ -1,6 +1,6 @@
 //! The waves that are to be passed: their first blocks, each once.
 
-ghost use Rattle.std.specs.Prelude.{◌≡◌, ◌+◌, ◌*◌, ◌<◌, ◌⊎◌, ◌∷◌, ◌++◌, ℕ, [], length, OnOk, true};
+ghost use Rattle.std.specs.Prelude.{◌≡◌, ◌+◌, ◌<◌, ◌⊎◌, ◌∷◌, ◌++◌, ℕ, [], length, OnOk, true};
 ghost use Rattle.ws_isa.specs.Image.{is_first, IsBlock};
 ghost use Rattle.ws_isa.specs.View as view;
 ghost use Rattle.annot_check.specs.Table.{HasNumber, MoreCome};

@@ -1,6 +1,6 @@
 //! Whether what is added to a draft stays within the limits.
 
-ghost use Rattle.std.specs.Prelude.{◌≡◌, ◌+◌, map, length, IfOk};
+ghost use Rattle.std.specs.Prelude.{◌≡◌, map, length, IfOk};
 ghost use Rattle.ws_isa.specs.View as view;
 ghost use Rattle.ws_words.specs.Items.{nth};
 ghost use Rattle.asm_link.specs.Room as spec;

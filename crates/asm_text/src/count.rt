@@ -1,6 +1,6 @@
 //! What a line adds: its names, which are new, and its counts.
 
-ghost use Rattle.std.specs.Prelude.{◌≡◌, ◌==◌, ◌+◌, ◌<◌, ◌≤◌, length, Some, None, true, OnOk};
+ghost use Rattle.std.specs.Prelude.{◌≡◌, ◌+◌, ◌<◌, ◌≤◌, length, Some, None, true, OnOk};
 ghost use Rattle.ws_isa.specs.Image.{ports_of};
 ghost use Rattle.ws_isa.specs.Formed.{most_instrs, most_blocks};
 ghost use Rattle.asm_text.specs.State as spec;

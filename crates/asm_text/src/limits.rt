@@ -1,6 +1,6 @@
 //! The limits that a line keeps.
 
-ghost use Rattle.std.specs.Prelude.{◌≡◌, ◌+◌, ◌<◌, true};
+ghost use Rattle.std.specs.Prelude.{◌≡◌, true};
 ghost use Rattle.std.specs.List.{list_all};
 ghost use Rattle.ws_isa.specs.Formed.{most_instrs, most_blocks};
 ghost use Rattle.asm_text.specs.State as spec;

@@ -1,6 +1,6 @@
 //! The names and numbers in a line: whether names may stand there, and which numbers are next.
 
-ghost use Rattle.std.specs.Prelude.{◌≡◌, ◌==◌, ◌+◌, ◌<◌, Some, None, true};
+ghost use Rattle.std.specs.Prelude.{◌≡◌, Some, None, true};
 ghost use Rattle.std.specs.List.{list_all};
 ghost use Rattle.asm_text.specs.State as spec;
 

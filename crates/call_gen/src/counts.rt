@@ -1,11 +1,11 @@
 //! Calls of a graph, counted.
 
-ghost use Rattle.std.specs.Prelude.{◌≡◌, ◌+◌, ◌≤◌, ◌&&◌, ◌||◌, ◌==◌, if◌then◌else◌, map, take, length, IfOk};
+ghost use Rattle.std.specs.Prelude.{◌≡◌, ◌≤◌, ◌&&◌, ◌||◌, ◌==◌, if◌then◌else◌, map, length};
 ghost use Rattle.cfg_core.specs.Tables.{graph_in};
-ghost use Rattle.cfg_core.specs.Graph.{spots, spot_at, block_at};
+ghost use Rattle.cfg_core.specs.Graph.{spots, block_at};
 ghost use Rattle.cfg_core.specs.Rules.{calls};
 ghost use Rattle.cfg_core.specs.View as view;
-ghost use Rattle.call_gen.specs.Spelled.{callee_is, callee, count_of, is_call, is_called, is_calling};
+ghost use Rattle.call_gen.specs.Spelled.{callee_is, callee, is_called, is_calling};
 ghost use Rattle.call_gen.specs.Spelled.{address};
 
 use cfg_core::{GraphTable, Leave};

@@ -1,12 +1,12 @@
 //! The procedures of a graph.
 
-ghost use Rattle.std.specs.Prelude.{◌≡◌, ◌+◌, ◌<◌, ◌≤◌, ◌^◌, map, IfOk};
+ghost use Rattle.std.specs.Prelude.{◌≡◌, ◌+◌, ◌<◌, ◌^◌, map, IfOk};
 ghost use Rattle.std.specs.List.{AllByRecursion};
 ghost use Rattle.seq_run.specs.View as source;
 ghost use Rattle.cfg_core.specs.View as view;
 ghost use Rattle.cfg_build.specs.Lowered as lowered;
 ghost use Rattle.cfg_build.specs.Lowered.{begun};
-ghost use Rattle.cfg_build.specs.Building.{StepsFit, ProcFits, blocks_of};
+ghost use Rattle.cfg_build.specs.Building.{ProcFits, blocks_of};
 
 use crate::builder::Builder;
 use crate::steps::lower_steps;

@@ -1,7 +1,7 @@
 //! The control graph of a program.
 
-ghost use Rattle.std.specs.Prelude.{◌≡◌, ℕ, IfOk};
-ghost use Rattle.ws_words.specs.Outside.{World, Outside};
+ghost use Rattle.std.specs.Prelude.{◌≡◌, IfOk};
+ghost use Rattle.ws_words.specs.Outside.{World};
 ghost use Rattle.src_ast.specs.Bound.{widest};
 ghost use Rattle.src_ast.specs.Meaning.{procs_of};
 ghost use Rattle.src_ast.specs.View as ast;

@@ -5,7 +5,7 @@ use Rattle.std.proofs.Common.{append_assoc, arith}
 use Rattle.ws_words.specs.Outside.{ProcState, zeros}
 use Rattle.ws_words.proofs.Rows.{zeros_more}
 use Rattle.cfg_core.specs.Walk as walks
-use Rattle.cfg_core.specs.Walk.{value, values, value_of, values_of, leave, landing, Config, At, landed}
+use Rattle.cfg_core.specs.Walk.{value, values, value_of, values_of, leave, landing, Config, landed}
 use Rattle.cfg_core.specs.Walk.{returned, with_result}
 use Rattle.ws_words.specs.Memory.{OutIs}
 use Rattle.cfg_core.specs.Shows.{Shows, NextIs, stacked}

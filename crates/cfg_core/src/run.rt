@@ -1,6 +1,6 @@
 //! The run of a graph.
 
-ghost use Rattle.std.specs.Prelude.{◌≡◌, ℕ, false, ◌≤◌, List, [], ◌++◌, map, IfOk, OnOk, IsTrue};
+ghost use Rattle.std.specs.Prelude.{◌≡◌, ℕ, false, ◌≤◌, [], ◌++◌, map, IfOk, OnOk, IsTrue};
 ghost use Rattle.ws_words.specs.Outside.{Outside, zeros, opening_out};
 ghost use Rattle.ws_words.specs.Plain.{IfEnded, IfGoing, has_ended, has_faulted, world_of};
 ghost use Rattle.cfg_core.specs.Tables.{graph_in};

@@ -1,6 +1,6 @@
 //! The state of a walk, and what operations do to it.
 
-ghost use Rattle.std.specs.Prelude.{◌≡◌, ℕ, ◌+◌, ◌-◌, ◌<◌, ◌≤◌, List, map, IfOk, OnOk, ◌==◌, if◌then◌else◌};
+ghost use Rattle.std.specs.Prelude.{◌≡◌, map, IfOk, ◌==◌, if◌then◌else◌};
 ghost use Rattle.cfg_core.specs.Walk as walks;
 ghost use Rattle.cfg_core.specs.Walk.{run_op, run_ops};
 ghost use Rattle.cfg_core.specs.View.{op as op_of};

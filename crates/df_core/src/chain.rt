@@ -1,6 +1,6 @@
 //! The order of memory operations: the chain.
 
-ghost use Rattle.std.specs.Prelude.{◌≡◌, ◌+◌, ◌<◌, ◌≤◌, ◌^◌, ℕ};
+ghost use Rattle.std.specs.Prelude.{◌≡◌, ◌+◌, ◌<◌, ◌^◌};
 ghost use Rattle.df_core.specs.Core.{pass, position_after};
 ghost use Rattle.df_core.specs.Chains.{chain_of, names, is_nothing, next_flag};
 

@@ -1,11 +1,7 @@
 //! The core: events until none is left.
 
-ghost use Rattle.std.specs.Prelude.{◌≡◌, ◌<◌, ◌≤◌, ◌+◌, ◌-◌, ◌*◌, ◌^◌, ℕ, [], List, length, true, false};
+ghost use Rattle.std.specs.Prelude.{◌≡◌, ◌<◌, ◌≤◌, ◌+◌, ◌-◌, ◌*◌, ◌^◌, ℕ, [], length, true, false};
 ghost use Rattle.std.specs.Prelude.{is_some, ◌⊎◌, IfOk, OnOk, vec_len};
-ghost use Rattle.ws_words.specs.Outside.{World};
-ghost use Rattle.ws_isa.specs.Formed.{Formed};
-ghost use Rattle.ws_isa.specs.Sound.{Sound};
-ghost use Rattle.df_core.specs.Core.{State};
 ghost use Rattle.df_core.specs.Places.{image_of};
 ghost use Rattle.df_core.specs.Flows.{Going, RunsOn, weight, FlowRoom};
 ghost use Rattle.df_core.specs.Finishes.{Ended, is_budget, is_fault, stopped_at};

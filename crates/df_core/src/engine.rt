@@ -1,6 +1,6 @@
 //! The core, event by event.
 
-ghost use Rattle.std.specs.Prelude.{◌≡◌, true, ◌≤◌, ◌-◌, ◌+◌, ℕ, suc, [], List, length, ◌⊎◌, map, is_some};
+ghost use Rattle.std.specs.Prelude.{◌≡◌, true, ◌≤◌, ◌-◌, ◌+◌, ℕ, suc, length, ◌⊎◌, is_some};
 ghost use Rattle.std.specs.Prelude.{IfOk, OnOk, OnErr, IfErr, MatchOption};
 ghost use Rattle.ws_words.specs.Outside.{World as Given, printed_words, row};
 ghost use Rattle.ws_words.specs.Plain.{took_by_ports, world_of};

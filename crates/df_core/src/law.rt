@@ -8,15 +8,15 @@
 //! past the end (`rest`, `stopped`); **whatever the order, memory is the same at rest** (`determined`). How
 //! many have fired is counted beside the walk (`counts`); what tables and a buffer stand for between locks is
 //! fit (`shown_is_fit`), and at rest where they owe nothing (`owing_nothing_is_rest`).
-ghost use Rattle.std.specs.Prelude.{◌≡◌, ◌≤◌, ◌<◌, ◌⊎◌, ℕ, suc, List, length, Some, true, false};
+ghost use Rattle.std.specs.Prelude.{◌≡◌, ◌≤◌, ◌<◌, ◌⊎◌, ℕ, List, length, Some, true, false};
 ghost use Rattle.ws_words.specs.Outside.{Outside, World};
-ghost use Rattle.ws_isa.specs.Image.{Image, is_memory, is_past};
+ghost use Rattle.ws_isa.specs.Image.{Image, is_past};
 ghost use Rattle.ws_isa.specs.Formed.{Formed};
 ghost use Rattle.ws_isa.specs.Walk.{Inst, fires, walk};
 ghost use Rattle.ws_isa.specs.Operations.{ops, Effect, FaultsAt};
 ghost use Rattle.ws_isa.specs.Sound.{Sound};
 ghost use Rattle.df_core.specs.Core.{State, Same, Event, Ready, Issue, Enabled, Reach, Step, Rest, HasFired};
-ghost use Rattle.df_core.specs.Core.{Once, core_opening};
+ghost use Rattle.df_core.specs.Core.{Once};
 ghost use Rattle.df_core.specs.Fit.{Fit, Grounded};
 ghost use Rattle.df_core.specs.Ends.{WholeRun, AtFault, Meets, Passed, AfterFired};
 

@@ -1,8 +1,8 @@
 //! The instructions of an image by number.
 
-ghost use Rattle.std.specs.Prelude.{◌≡◌, ◌++◌, ◌∷◌, ℕ, suc, [], List, map, IfOk, OnOk, MatchOption, length};
+ghost use Rattle.std.specs.Prelude.{◌≡◌, ◌++◌, ◌∷◌, [], map, IfOk, OnOk, MatchOption, length};
 ghost use Rattle.std.specs.Prelude.{◌<◌, ◌^◌, ◌+◌, ◌-◌};
-ghost use Rattle.ws_isa.specs.Image.{instr_at, block_at, block_of, note_of, no_note, no_instr, no_block};
+ghost use Rattle.ws_isa.specs.Image.{instr_at, block_at, note_of, no_note, no_instr, no_block};
 ghost use Rattle.ws_isa.specs.Image.{pad_of, leave_to, landing_of, target, is_past_op, array_length};
 ghost use Rattle.ws_isa.specs.Image.{start_dests};
 ghost use Rattle.ws_isa.specs.View as view;

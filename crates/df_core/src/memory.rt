@@ -1,8 +1,8 @@
 //! What a run has outside: cells, input, ports.
 
-ghost use Rattle.std.specs.Prelude.{◌≡◌, ◌-◌, ◌+◌, ◌<◌, ◌≤◌, ℕ, suc, List, [], ◌∷◌, ◌++◌, map, vec_len};
-ghost use Rattle.std.specs.Prelude.{vec_capacity, IfOk, OnOk, OnErr, IsOk};
-ghost use Rattle.ws_words.specs.Outside.{Outside, opening_out, with_act, takes, head_or_zero, rest_of, row};
+ghost use Rattle.std.specs.Prelude.{◌≡◌, ◌+◌, ℕ, suc, [], ◌∷◌, ◌++◌, map};
+ghost use Rattle.std.specs.Prelude.{IfOk, OnOk, IsOk};
+ghost use Rattle.ws_words.specs.Outside.{Outside, opening_out, with_act, takes, row};
 ghost use Rattle.ws_words.specs.Outside.{with_row};
 ghost use Rattle.ws_words.specs.Plain.{took_by_ports, world_of};
 ghost use Rattle.ws_isa.specs.Image.{cells_of};

@@ -1,9 +1,8 @@
 //! The state of a run before its first event.
 
-ghost use Rattle.std.specs.Prelude.{◌≡◌, ℕ, [], IfOk};
+ghost use Rattle.std.specs.Prelude.{IfOk};
 ghost use Rattle.ws_words.specs.Plain.{world_of};
 ghost use Rattle.ws_isa.specs.Formed.{Formed};
-ghost use Rattle.df_core.specs.Core.{core_opening};
 ghost use Rattle.df_core.specs.Places.{image_of};
 ghost use Rattle.df_core.specs.Flows.{StandsForOpening};
 

@@ -1,7 +1,7 @@
 //! Where tokens wait for their partners.
 
-ghost use Rattle.std.specs.Prelude.{◌≡◌, ◌<◌, ◌≤◌, ℕ, ◌+◌, Option, Some, None, length, is_some, ◌&&◌, ◌==◌};
-ghost use Rattle.std.specs.Prelude.{not, replicate, IfOk, IsOk, OnOk, MatchOption, true, false};
+ghost use Rattle.std.specs.Prelude.{◌≡◌, ◌<◌, ◌≤◌, ℕ, ◌+◌, Option, Some, None, length, is_some};
+ghost use Rattle.std.specs.Prelude.{replicate, IfOk, IsOk, OnOk, false};
 ghost use Rattle.std.specs.HashMap.{IsEmpty, spare};
 ghost use Rattle.ws_isa.specs.Walk.{gather};
 ghost use Rattle.df_core.specs.Core.{is_full, with_at};

@@ -1,7 +1,7 @@
 //! Tokens on the way.
 
-ghost use Rattle.std.specs.Prelude.{◌≡◌, ◌<◌, ◌≤◌, ◌+◌, ◌==◌, ℕ, false, [], ◌∷◌, ◌++◌, List, length, map};
-ghost use Rattle.std.specs.Prelude.{vec_len, vec_capacity, MatchOption, OnSome};
+ghost use Rattle.std.specs.Prelude.{◌≡◌, ◌<◌, ◌≤◌, ◌+◌, ◌==◌, ℕ, false, [], ◌++◌, length, map};
+ghost use Rattle.std.specs.Prelude.{vec_len, vec_capacity, MatchOption};
 ghost use Rattle.ws_isa.specs.Image.{tokens_to};
 ghost use Rattle.df_core.specs.Core.{IsSent};
 ghost use Rattle.df_core.specs.Ways.{token_of, way_of, SentTo, TakenFrom, TakenAt, NoneAt, IsTokenAt};

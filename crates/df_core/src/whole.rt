@@ -1,6 +1,6 @@
 //! A run from the start of an image.
 
-ghost use Rattle.std.specs.Prelude.{◌≡◌, IfOk};
+ghost use Rattle.std.specs.Prelude.{IfOk};
 ghost use Rattle.ws_words.specs.Plain.{world_of};
 ghost use Rattle.df_core.specs.Answer.{RunSo};
 

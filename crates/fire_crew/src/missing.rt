@@ -2,7 +2,6 @@
 
 ghost use Rattle.std.specs.Prelude.{◌≡◌, ◌<◌, ◌≤◌, All, IfOk, List, OnOk, length, false};
 ghost use Rattle.ws_isa.specs.Image.{Token as Plain};
-ghost use Rattle.match_table.specs.Growth.{content_at};
 ghost use Rattle.match_table.specs.Rows.{contents};
 ghost use Rattle.store_buf.specs.Runs.{Covers};
 ghost use Rattle.fire_crew.specs.Owing.{AllKnown, AllPast, AnswersReach, IsMissing, ToldIn, ToldUpTo};

@@ -1,7 +1,6 @@
 //! The run of a crew of one, which shares nothing: no table is behind a lock, and no token in a seat.
 
 ghost use Rattle.std.specs.Prelude.{◌≡◌, ◌+◌, ◌-◌, ◌<◌, ◌≤◌, ◌∷◌, ◌++◌, [], OnOk, false, length, true};
-ghost use Rattle.ws_isa.specs.Walk.{start_tokens};
 ghost use Rattle.df_core.specs.Core.{has};
 ghost use Rattle.store_buf.specs.Runs.{Covers};
 ghost use Rattle.match_table.specs.Growth.{AllGrow};

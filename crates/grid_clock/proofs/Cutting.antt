@@ -4,7 +4,7 @@ use Rattle.std.proofs.Common.{ap, ◌∙◌, subst, inl, inr, eq-eqb, ne_eqb, ap
 use Rattle.std.proofs.lemmas.Bool.{cases_eq, lt-ltb, le-ltb, cond-true, cond-false}
 use Rattle.ws_words.specs.Outside.{World}
 use Rattle.df_core.specs.Core as law
-use Rattle.df_core.specs.Core.{State, Run, core_opening}
+use Rattle.df_core.specs.Core.{State, Run}
 use Rattle.df_core.specs.declared.engine.Event.{Event as Made}
 use Rattle.df_core.specs.Cores.{event_of}
 use Rattle.grid_clock.specs.declared.timed.Timed.{Timed}

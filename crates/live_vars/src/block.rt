@@ -1,6 +1,5 @@
 //! What a block reads first and what it writes, of the 64 variables from `low` on.
 
-ghost use Rattle.std.specs.Prelude.{◌≡◌, map};
 ghost use Rattle.cfg_core.specs.Tables.{graph_in};
 ghost use Rattle.cfg_core.specs.Graph.{block_at};
 ghost use Rattle.cfg_core.specs.View as view;

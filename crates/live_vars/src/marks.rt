@@ -1,7 +1,7 @@
 //! The variables of terms, operations and exits, as the bits of a word for the 64 variables from
 //! `low` on.
 
-ghost use Rattle.std.specs.Prelude.{◌≡◌, ◌<◌, ◌^◌, map};
+ghost use Rattle.std.specs.Prelude.{◌≡◌, map};
 ghost use Rattle.cfg_core.specs.View as view;
 ghost use Rattle.live_vars.specs.Live.{Mentions, OneMentions, OpReads, OpWrites, ExitReads, ExitWrites};
 ghost use Rattle.live_vars.specs.Marks.{Marks};

@@ -1,7 +1,6 @@
 //! Ports, and sets of them.
 
 ghost use Rattle.std.specs.Prelude.{◌≡◌, false, IfOk};
-ghost use Rattle.port_set.specs.Slots.{contents, AllOpen};
 
 use port_set::{LinePort, OpenSet, Port, PortError, PortSet, Slots, TapePort};
 use std::alloc::Global;

@@ -1,7 +1,7 @@
 //! Threads that put, take and steal.
 
 ghost use Rattle.std.specs.Prelude.{◌≡◌, ◌≤◌, ◌<◌, ℕ, IfOk, length, slice_index_or};
-ghost use Rattle.ready_pool.specs.Settling.{SameSeat, Together};
+ghost use Rattle.ready_pool.specs.Settling.{SameSeat};
 
 use ready_pool::{Seat, SeatList, seats, seats_stay_together, settle_all};
 use std::alloc::{AllocError, Global};

@@ -11,7 +11,7 @@ ghost use Rattle.df_core.specs.Places.{image_of};
 ghost use Rattle.match_table.specs.declared.meeting.Seen.TheVariants.{Waits, Fills};
 ghost use Rattle.match_table.specs.declared.table.Took.TheVariants as took;
 ghost use Rattle.match_table.specs.Matching.{Accepted, TookAs, Arrives, FiresSo, Full, HandedOn};
-ghost use Rattle.match_table.specs.Matching.{IfNoMemory, NoResults, Refused, has_fired, will_fire};
+ghost use Rattle.match_table.specs.Matching.{IfNoMemory, Refused, has_fired, will_fire};
 ghost use Rattle.match_table.specs.Pages.{KeyIs, arrived_in};
 ghost use Rattle.match_table.specs.Ports.{listed, is_taken, with_port, alone, SeenSo};
 ghost use Rattle.match_table.specs.Tables.{IsPlacedAt, held};

@@ -1,6 +1,6 @@
 //! A table of one phase.
 
-ghost use Rattle.std.specs.Prelude.{◌≡◌, ◌+◌, ◌<◌, ◌≤◌, ◌%◌, ℕ, List, length, slice_index};
+ghost use Rattle.std.specs.Prelude.{◌≡◌, ◌+◌, ◌≤◌, ◌%◌, ℕ, List, length, slice_index};
 ghost use Rattle.match_table.specs.Growth.{Grows, content_at};
 ghost use Rattle.match_table.specs.Limits.{Numbered, Serves, Offered};
 ghost use Rattle.match_table.specs.Tables.{TableContent};

@@ -1,6 +1,6 @@
 //! Names of pages, and places in them.
 
-ghost use Rattle.std.specs.Prelude.{◌≡◌, ◌+◌, ◌*◌, ◌<◌, ◌%◌, ◌^◌, true, false};
+ghost use Rattle.std.specs.Prelude.{◌≡◌, ◌*◌, ◌<◌, ◌^◌, true, false};
 ghost use Rattle.match_table.specs.Pages.{name_for, place_of, second_half, second_wave};
 
 use crate::entry::PageName;

@@ -1,11 +1,10 @@
 //! Tables.
 
-ghost use Rattle.std.specs.Prelude.{[], ◌<◌, ◌≡◌, ◌≤◌, ℕ, IsOk, Some, None, true, OnOk};
-ghost use Rattle.df_core.specs.Core.{Once, has};
+ghost use Rattle.std.specs.Prelude.{[], ◌<◌, ◌≡◌, ◌≤◌, ℕ, IsOk, Some, None, OnOk};
+ghost use Rattle.df_core.specs.Core.{Once};
 ghost use Rattle.df_core.specs.Shown.{TablesOk};
 ghost use Rattle.match_table.specs.declared.meeting.Seen.TheVariants.{Waits};
 ghost use Rattle.match_table.specs.Matching.{NoResults};
-ghost use Rattle.match_table.specs.Ports.{listed};
 ghost use Rattle.match_table.specs.Tables.{held, part, TableContent};
 
 use crate::instances::Instances;

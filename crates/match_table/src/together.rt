@@ -1,6 +1,6 @@
 //! The tables between two phases, as one.
 
-ghost use Rattle.std.specs.Prelude.{◌≡◌, ◌<◌, ◌≤◌, ◌^◌, ℕ, All, length};
+ghost use Rattle.std.specs.Prelude.{◌≡◌, ◌<◌, ◌^◌, ℕ, All, length};
 ghost use Rattle.df_core.specs.Core.{Once, has, operands_in};
 ghost use Rattle.df_core.specs.Shown.{TablesOk};
 ghost use Rattle.match_table.specs.Tables.{held};

@@ -1,14 +1,10 @@
 //! A thread that goes on.
 
-ghost use Rattle.std.specs.Prelude.{◌≡◌, ◌≤◌, ◌-◌, OnOk, Some, length};
-ghost use Rattle.df_core.specs.Began.{Began};
-ghost use Rattle.match_table.specs.Growth.{AllGrow};
-ghost use Rattle.match_table.specs.Rows.{contents};
+ghost use Rattle.std.specs.Prelude.{◌≤◌, ◌-◌, OnOk, Some, length};
 ghost use Rattle.match_table.specs.Together.{AllServe, part_of};
 ghost use Rattle.fire_crew.specs.Verdicts.{EndingSo};
 ghost use Rattle.multi_wave.specs.Goings.{HasPart};
-ghost use Rattle.multi_wave.specs.Parts.{EndsAlone, PortsReady};
-ghost use Rattle.multi_wave.specs.Stands.{HasCome, HasMoved, IsOver, IsJudged, On, StaysAs, Went};
+ghost use Rattle.multi_wave.specs.Stands.{HasMoved, IsOver, IsJudged, On, StaysAs, Went};
 
 use crate::jobs::LaneJob;
 use crate::lane::Lane;

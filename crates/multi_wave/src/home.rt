@@ -1,6 +1,6 @@
 //! Threads taken apart for a phase, and put together after it.
 
-ghost use Rattle.std.specs.Prelude.{◌≡◌, ◌+◌, ◌<◌, ◌≤◌, ℕ, List, None, length, slice_index};
+ghost use Rattle.std.specs.Prelude.{◌≡◌, ◌+◌, ◌<◌, ◌≤◌, ℕ, List, None, length};
 ghost use Rattle.match_table.specs.Rows.{Fits, RestOf};
 ghost use Rattle.multi_wave.specs.Goings.{HomeOk};
 ghost use Rattle.multi_wave.specs.Parts.{EndSo};

@@ -10,7 +10,7 @@ use Rattle.src_ast.specs.Once.{ExactlyOne}
 use Rattle.src_ast.specs.Runs.{Runs}
 use Rattle.src_ast.specs.Syntax.{Part}
 use Rattle.ws_isa.specs.Image.{Image, array_at}
-use Rattle.ws_isa.specs.Walk.{mem, walk}
+use Rattle.ws_isa.specs.Walk.{mem}
 use Rattle.ws_isa.specs.Operations.{past, FaultsAt, NoFault}
 use Rattle.df_core.specs.Ends.{FirstWithin}
 use Rattle.port_set.specs.Ports.{Told}

@@ -26,7 +26,7 @@ use Rattle.wsc_top.specs.Texts.{names_of}
 use Rattle.wsc_top.specs.Executions.{Executes, PortsAre, end_report}
 use Rattle.wsc_top.specs.Executions as executions
 use Rattle.wsc_top.specs.Answers as answers
-use Rattle.wsc_top.specs.Answers.{TellWords, TellsRun, Yields, Answered, AssemblyAnswered}
+use Rattle.wsc_top.specs.Answers.{TellWords, TellsRun, Answered, AssemblyAnswered}
 use Rattle.wsc_top.proofs.Reading.AnswersOnce.{RunsOnce}
 use Rattle.wsc_top.proofs.Told.RunsAlike as alike
 use Rattle.wsc_top.proofs.Told.RunsAlike.{one_job}

@@ -1,6 +1,6 @@
 -- That a job comes to its result: so what OneResult.antt says of results speaks of every job whose sequential
 -- run ends.
-use Rattle.std.specs.Prelude.{◌≡◌, ◌⊎◌, ℕ, suc, ◌*◌, ◌≤◌, Bool, false, List, ◌++◌, length}
+use Rattle.std.specs.Prelude.{◌≡◌, ◌⊎◌, ℕ, suc, ◌*◌, ◌≤◌, Bool, List, ◌++◌, length}
 use Rattle.ws_words.specs.Outside.{Outside}
 use Rattle.src_ast.specs.Bound.{bound}
 use Rattle.src_ast.specs.Runs.{Runs, Goes}

@@ -13,7 +13,7 @@ use Rattle.store_buf.specs.Requests.{issued_in}
 use Rattle.store_buf.specs.Finding.{pair_eq}
 use Rattle.store_buf.specs.Holds.{waiting_in}
 use Rattle.store_buf.specs.Outdoors.{Holding}
-use Rattle.store_buf.specs.Contents.{stop_of, gives_word}
+use Rattle.store_buf.specs.Contents.{gives_word}
 use Rattle.store_buf.specs.Contents as whole
 use Rattle.part_store.specs.declared.entry.Queued.{Queued}
 use Rattle.part_store.specs.Queues.{holds, is_queued}

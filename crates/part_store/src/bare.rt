@@ -1,6 +1,6 @@
 //! Instances of which the address alone has come.
 
-ghost use Rattle.std.specs.Prelude.{◌≡◌, ◌≤◌, ℕ, [], true, false, cond, OnOk, OnErr};
+ghost use Rattle.std.specs.Prelude.{◌≡◌, ◌≤◌, ℕ, [], true, false, cond, OnOk};
 ghost use Rattle.std.specs.HashSet.{spare};
 ghost use Rattle.df_core.specs.Core.{same_key};
 ghost use Rattle.part_store.specs.Bares.{is_in};

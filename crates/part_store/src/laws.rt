@@ -1,7 +1,6 @@
 //! What moves keep.
 
-ghost use Rattle.std.specs.Prelude.{◌≡◌, ◌↔◌, ℕ, Bool, List, [], All, Option, Some, None, Result, true};
-ghost use Rattle.std.specs.Prelude.{false};
+ghost use Rattle.std.specs.Prelude.{◌≡◌, ◌↔◌, Bool, List, [], All, Option, Some, None, Result};
 ghost use Rattle.ws_words.specs.Outside.{Outside, World};
 ghost use Rattle.ws_isa.specs.Image.{Image, Token};
 ghost use Rattle.ws_isa.specs.Formed.{Formed};
@@ -12,7 +11,7 @@ ghost use Rattle.store_buf.specs.declared.fault.BufFault.{BufFault};
 ghost use Rattle.store_buf.specs.Requests.{entry_of};
 ghost use Rattle.part_store.specs.Contents.{NoBare, whole_of, PartContent};
 ghost use Rattle.store_buf.specs.declared.kept.Kept.{Kept};
-ghost use Rattle.part_store.specs.Parted.{Fronts, IsKept, Parted, Parting};
+ghost use Rattle.part_store.specs.Parted.{IsKept, Parted, Parting};
 ghost use Rattle.part_store.specs.Rules.{Fills, Moves, ComesIn};
 ghost use Rattle.part_store.specs.Calls.{SubmittedSo, request_of};
 ghost use Rattle.df_core.specs.Rights.{Asked, IsAsked};

@@ -11,7 +11,7 @@ use Rattle.live_vars.specs.Live.{Mentions, Carries, ReadsFirst, Live, reads, pas
 use Rattle.live_vars.specs.Marks.{has}
 use Rattle.phi_conv.specs.Short.{Short, short}
 use Rattle.phi_conv.specs.Joined.{first_base, second_base, is_among, copied, added, renamed, arm}
-use Rattle.phi_conv.specs.Joined.{written, written_by, is_still, keep_test, test_if, choice, choices}
+use Rattle.phi_conv.specs.Joined.{written, written_by, is_still, keep_test, test_if, choice}
 use Rattle.phi_conv.specs.Joined.{joining, joined_if, joined}
 use Rattle.phi_conv.specs.Keeps.{NoCopyLive}
 use Rattle.phi_conv.proofs.Picked.{added_other, written_low}

@@ -1,6 +1,6 @@
 //! The copies of arms, and the turns that they take.
 
-ghost use Rattle.std.specs.Prelude.{◌≡◌, ◌+◌, ◌<◌, ◌++◌, ◌∷◌, [], map, IfOk, OnOk};
+ghost use Rattle.std.specs.Prelude.{◌≡◌, ◌+◌, ◌++◌, ◌∷◌, [], map, IfOk, OnOk};
 ghost use Rattle.cfg_core.specs.View as view;
 ghost use Rattle.phi_conv.specs.Joined as joined;
 

@@ -1,6 +1,6 @@
 //! The variables that an arm writes.
 
-ghost use Rattle.std.specs.Prelude.{◌≡◌, ◌<◌, ◌∷◌, [], map, OnOk};
+ghost use Rattle.std.specs.Prelude.{◌≡◌, ◌∷◌, [], map, OnOk};
 ghost use Rattle.cfg_core.specs.View as view;
 ghost use Rattle.phi_conv.specs.Joined as joined;
 

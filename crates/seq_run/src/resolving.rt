@@ -1,6 +1,6 @@
 //! The tree with numbers for names.
 
-ghost use Rattle.std.specs.Prelude.{◌≡◌, ◌++◌, List, map, length, IfOk, OnOk};
+ghost use Rattle.std.specs.Prelude.{◌≡◌, map, IfOk};
 ghost use Rattle.src_ast.specs.declared.lexeme.Name.{Name};
 ghost use Rattle.src_ast.specs.View as ast;
 ghost use Rattle.src_ast.specs.Meaning.{Scope, target as target_in};

@@ -1,6 +1,6 @@
 //! The value of terms, and the array of the first load past the end.
 
-ghost use Rattle.std.specs.Prelude.{◌≡◌, List, map, IfOk};
+ghost use Rattle.std.specs.Prelude.{◌≡◌, map, IfOk};
 ghost use Rattle.ws_words.specs.Memory.{lengths_of};
 ghost use Rattle.ws_words.specs.Outside.{loads};
 ghost use Rattle.cfg_core.specs.Walk as walks;

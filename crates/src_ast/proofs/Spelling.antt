@@ -1,6 +1,6 @@
 -- When what follows a lexeme can't be part of it.
 use Rattle.std.proofs.Common.{◌≡◌, ℕ, ◌^◌, ◌<◌, ◌≤◌, Bool, true, false, ◌||◌, ◌==◌, IsTrue, List, ◌∷◌, ◌++◌}
-use Rattle.std.proofs.Common.{length, refl, decimal, arith, []}
+use Rattle.std.proofs.Common.{length, refl, decimal, arith}
 use Rattle.std.proofs.lemmas.Bool.{and_parts, or_parts, or_from, not-true, not_from_false, true≢false, ne_eqb}
 use Rattle.ws_words.specs.Digits.{is_digit, is_number}
 use Rattle.src_ast.specs.declared.lexeme.Shape.TheVariants as shape

@@ -1,6 +1,6 @@
 //! How many firings a turn of a program is allowed.
 
-ghost use Rattle.std.specs.Prelude.{◌≡◌, ◌+◌, ◌≤◌, length, map};
+ghost use Rattle.std.specs.Prelude.{◌≡◌, ◌≤◌, map};
 ghost use Rattle.src_ast.specs.LanguageLimits.{most_locals, most_statement_nodes};
 ghost use Rattle.src_ast.specs.View as view;
 ghost use Rattle.src_ast.specs.Bound as spec;

@@ -1,7 +1,6 @@
 //! Printing a program.
 
-ghost use Rattle.std.specs.Prelude.{◌≡◌, ◌++◌, [], ◌∷◌, map, codes, decimal, OnOk, IfOk};
-ghost use Rattle.src_ast.specs.Lexemes.{start};
+ghost use Rattle.std.specs.Prelude.{◌≡◌, ◌++◌, map, codes, decimal, OnOk, IfOk};
 ghost use Rattle.src_ast.specs.View as view;
 ghost use Rattle.src_ast.specs.Printed as spec;
 ghost use Rattle.src_ast.specs.Commas.{call_line};

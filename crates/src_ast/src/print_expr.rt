@@ -1,6 +1,6 @@
 //! Printing expressions, and lists of them.
 
-ghost use Rattle.std.specs.Prelude.{◌≡◌, ◌++◌, [], ◌∷◌, map, codes, decimal, OnOk};
+ghost use Rattle.std.specs.Prelude.{◌≡◌, ◌++◌, map, decimal, OnOk};
 ghost use Rattle.src_ast.specs.View as view;
 ghost use Rattle.src_ast.specs.Lexemes.{spelling};
 ghost use Rattle.src_ast.specs.Grammar.{mark_of, sign_mark};

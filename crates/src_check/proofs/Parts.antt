@@ -1,6 +1,6 @@
 -- The rules of an array or a procedure, as tested; and what is known after one more of them.
 use Rattle.std.proofs.Common.{◌≡◌, ℕ, ◌+◌, List, [], ◌∷◌, ◌++◌, Bool, true, false, not, ◌||◌, nat_lt, nat_le}
-use Rattle.std.proofs.Common.{nat_eq, Option, Some, if◌then◌else◌, length, refl, ◌∙◌, arith}
+use Rattle.std.proofs.Common.{nat_eq, Option, Some, if◌then◌else◌, length, refl, arith}
 use lib.Pointwise.{pointwise}
 use Rattle.src_ast.specs.declared.lexeme.Place.{Place}
 use Rattle.src_ast.specs.declared.lexeme.Name.{Name}

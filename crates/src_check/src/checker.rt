@@ -1,6 +1,6 @@
 //! The rules of a program, checked in the order of its text.
 
-ghost use Rattle.std.specs.Prelude.{◌≡◌, ◌≤◌, ℕ, List, [], ◌∷◌, ◌++◌, IfOk, IfErr, OnOk, IsOkUnless};
+ghost use Rattle.std.specs.Prelude.{◌≡◌, ◌≤◌, List, [], ◌∷◌, ◌++◌, IfOk, IfErr, OnOk, IsOkUnless};
 ghost use Rattle.src_ast.specs.LanguageLimits.{most_arrays, most_cells, most_procedures};
 ghost use Rattle.src_ast.specs.View as view;
 ghost use Rattle.src_ast.specs.Rules.{rules_of, IsAccepted, IsCheckFault};

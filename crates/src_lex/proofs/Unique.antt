@@ -1,5 +1,5 @@
 -- What stands in front of a text is one: the longest gap, the longest run of bytes, the longest lexeme.
-use Rattle.std.specs.Prelude.{◌≡◌, ℕ, ◌==◌, not, cond, length, Bool, true, false, ◌||◌, ◌&&◌, List, [], ◌∷◌}
+use Rattle.std.specs.Prelude.{◌≡◌, ℕ, ◌==◌, not, cond, Bool, true, false, ◌||◌, ◌&&◌, List, [], ◌∷◌}
 use Rattle.std.specs.Prelude.{◌++◌, refl}
 use Rattle.std.specs.List.{list_all}
 use Rattle.std.proofs.Common.{arith, sym, ap, ◌∙◌}

@@ -1,7 +1,6 @@
 //! One lexeme.
 
-ghost use Rattle.std.specs.Prelude.{◌≡◌, ◌<◌, ◌==◌, ◌≤◌, length, slice_index, true, false, IfOk, IfErr};
-ghost use Rattle.std.specs.Prelude.{IsTrue};
+ghost use Rattle.std.specs.Prelude.{◌≡◌, ◌<◌, length, slice_index, true, false, IfOk, IfErr};
 ghost use Rattle.ws_words.specs.Digits as digits;
 ghost use Rattle.src_ast.specs.Lexemes as lexemes;
 ghost use Rattle.src_lex.specs.Reads.{Reads, IsWrongHere, begins_gap};

@@ -1,6 +1,6 @@
 //! The lexemes of a text.
 
-ghost use Rattle.std.specs.Prelude.{◌≡◌, ◌-◌, ◌<◌, ◌^◌, length, List, IfOk, IfErr};
+ghost use Rattle.std.specs.Prelude.{◌-◌, ◌<◌, ◌^◌, length, List, IfOk, IfErr};
 ghost use Rattle.src_ast.specs.Lexemes as lexemes;
 ghost use Rattle.src_ast.specs.LexFaults.{IsLexFault, AnswersLexemes};
 ghost use Rattle.src_ast.specs.declared.lexeme.Lexeme.{Lexeme};

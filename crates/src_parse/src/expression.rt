@@ -1,12 +1,12 @@
 //! Expressions.
 
-ghost use Rattle.std.specs.Prelude.{◌≡◌, ◌+◌, ◌<◌, ◌≤◌, ◌↔◌, length, IfOk, IsTrue, IfSome, IsNone, Some};
+ghost use Rattle.std.specs.Prelude.{◌≡◌, ◌+◌, ◌<◌, ◌≤◌, ◌↔◌, length, IfOk, IfSome, IsNone, Some};
 ghost use Rattle.std.specs.Prelude.{None, ◌∷◌};
 ghost use Rattle.src_ast.specs.declared.lexeme.Lexeme.{Lexeme};
 ghost use Rattle.src_ast.specs.View as view;
 ghost use Rattle.src_ast.specs.Syntax.{Signed};
 ghost use Rattle.src_parse.specs.Gives.{Gives};
-ghost use Rattle.src_parse.specs.Expressions.{operator_of, operator_at, operators_at, named, operand_at};
+ghost use Rattle.src_parse.specs.Expressions.{operator_of, operator_at, named, operand_at};
 ghost use Rattle.src_parse.specs.Expressions.{operand_shape, expression_at};
 ghost use Rattle.src_parse.specs.Reading.{Done, ◌|>◌};
 

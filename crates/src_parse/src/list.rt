@@ -1,6 +1,6 @@
 //! Lists with commas.
 
-ghost use Rattle.std.specs.Prelude.{◌≡◌, ◌<◌, length, IfOk, map};
+ghost use Rattle.std.specs.Prelude.{◌<◌, length, IfOk, map};
 ghost use Rattle.src_ast.specs.View as view;
 ghost use Rattle.src_parse.specs.Gives.{Gives};
 ghost use Rattle.src_parse.specs.Reading.{name_at, before};

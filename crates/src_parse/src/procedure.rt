@@ -1,6 +1,6 @@
 //! Arrays and procedures.
 
-ghost use Rattle.std.specs.Prelude.{◌≡◌, ◌<◌, ◌≤◌, length, IfOk};
+ghost use Rattle.std.specs.Prelude.{◌<◌, ◌≤◌, length, IfOk};
 ghost use Rattle.src_ast.specs.View as view;
 ghost use Rattle.src_parse.specs.Gives.{Gives};
 ghost use Rattle.src_parse.specs.Reading.{before};

@@ -1,6 +1,6 @@
 //! Statements.
 
-ghost use Rattle.std.specs.Prelude.{◌≡◌, ◌+◌, ◌<◌, ◌≤◌, length, IfOk, ◌∷◌};
+ghost use Rattle.std.specs.Prelude.{◌≡◌, ◌<◌, ◌≤◌, length, IfOk, ◌∷◌};
 ghost use Rattle.src_ast.specs.View as view;
 ghost use Rattle.src_parse.specs.Gives.{Gives};
 ghost use Rattle.src_parse.specs.Statements.{test_at, block_by, else_by, if_by, while_by, statement_by};

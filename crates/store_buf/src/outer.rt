@@ -1,7 +1,7 @@
 //! What a buffer has outside its order: cells, input, printed words and ports.
 
-ghost use Rattle.std.specs.Prelude.{◌≡◌, ◌≤◌, ◌<◌, ◌+◌, ◌-◌, ℕ, List, [], ◌∷◌, Option, drop, map, IfOk};
-ghost use Rattle.std.specs.Prelude.{IfErr, IsOk, true, false, OnOk, OnErr, vec_len, vec_capacity};
+ghost use Rattle.std.specs.Prelude.{◌≡◌, ◌≤◌, ◌<◌, ◌+◌, ℕ, List, [], ◌∷◌, Option, drop, map, IfOk};
+ghost use Rattle.std.specs.Prelude.{IfErr, IsOk, true, false, OnErr, vec_len, vec_capacity};
 ghost use Rattle.ws_words.specs.Outside.{Outside, head_or_zero, rest_of};
 ghost use Rattle.ws_isa.specs.Image.{cells_of};
 ghost use Rattle.ws_isa.specs.View as view;

@@ -1,6 +1,6 @@
 //! Where the requests of a wave wait.
 
-ghost use Rattle.std.specs.Prelude.{◌≡◌, ◌⊎◌, ℕ, Option, OnOk};
+ghost use Rattle.std.specs.Prelude.{ℕ, Option, OnOk};
 ghost use Rattle.store_buf.specs.Ranks.{IsFiled};
 
 use crate::places::Places;

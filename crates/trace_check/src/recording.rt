@@ -1,6 +1,6 @@
 //! Making events and keeping them.
 
-ghost use Rattle.std.specs.Prelude.{◌≡◌, ◌≤◌, length, IfOk, OnOk, MatchOption};
+ghost use Rattle.std.specs.Prelude.{◌≤◌, length, IfOk, OnOk, MatchOption};
 ghost use Rattle.ws_words.specs.Outside.{World as Given};
 ghost use Rattle.ws_words.specs.Plain.{world_of};
 ghost use Rattle.ws_isa.specs.Image.{Image};

@@ -1,6 +1,6 @@
 //! From an accepted program to its image.
 
-ghost use Rattle.std.specs.Prelude.{◌≡◌, IfOk};
+ghost use Rattle.std.specs.Prelude.{IfOk};
 ghost use Rattle.ws_isa.specs.Formed.{Formed};
 ghost use Rattle.ws_isa.specs.View as image;
 ghost use Rattle.src_ast.specs.View as ast;

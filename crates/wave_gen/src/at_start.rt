@@ -1,6 +1,6 @@
 //! What is wanted at the starts of blocks, and what an exit sends there.
 
-ghost use Rattle.std.specs.Prelude.{◌≡◌, ◌≤◌, ◌<◌, ◌-◌, ℕ, suc, IfOk, true, List, length, map, reverse};
+ghost use Rattle.std.specs.Prelude.{◌≡◌, ◌≤◌, ℕ, suc, IfOk, true, List, length, map, reverse};
 ghost use Rattle.wave_gen.specs.Wire.{Wants, Made};
 ghost use Rattle.wave_gen.specs.Plans.{plan_at, fronts, start_of};
 ghost use Rattle.wave_gen.specs.View as view;

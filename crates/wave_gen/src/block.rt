@@ -1,6 +1,6 @@
 //! Blocks, made from the last one to the first.
 
-ghost use Rattle.std.specs.Prelude.{◌≡◌, ◌≤◌, ◌<◌, ◌-◌, ℕ, suc, IfOk, length, map, reverse, drop};
+ghost use Rattle.std.specs.Prelude.{◌≡◌, ◌≤◌, ℕ, suc, IfOk, length, map, reverse, drop};
 ghost use Rattle.wave_gen.specs.Plans.{plan_at, start_of, blocks_from, block_made, mades};
 ghost use Rattle.wave_gen.specs.View as view;
 ghost use Rattle.wave_gen.specs.Kept.{IsKept, AreKept, KeptBehind, LeadsAhead};

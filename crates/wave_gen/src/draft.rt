@@ -1,6 +1,6 @@
 //! From plans of blocks to a draft.
 
-ghost use Rattle.std.specs.Prelude.{◌≡◌, ◌+◌, ◌-◌, ℕ, IfOk, length, map, reverse};
+ghost use Rattle.std.specs.Prelude.{◌≡◌, ℕ, IfOk, length, map, reverse};
 ghost use Rattle.ws_isa.specs.View as isa;
 ghost use Rattle.wave_gen.specs.Plans.{plan_at, pads_of, exit_of, mades, blocks_of, draft_of};
 ghost use Rattle.wave_gen.specs.View as view;

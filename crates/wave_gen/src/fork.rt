@@ -1,6 +1,6 @@
 //! What is sent along the edges of an exit, and what goes past it.
 
-ghost use Rattle.std.specs.Prelude.{◌≡◌, ◌∷◌, ◌<◌, ℕ, OnOk, IfOk, true, false, cond, List, map};
+ghost use Rattle.std.specs.Prelude.{◌≡◌, ◌∷◌, ℕ, OnOk, IfOk, true, false, cond, List, map};
 ghost use Rattle.wave_gen.specs.Wire.{Wants};
 ghost use Rattle.wave_gen.specs.Plans.{same_spot, same_spots, is_among, steers, steered, past, sends};
 ghost use Rattle.wave_gen.specs.Plans.{or_pulse};

@@ -1,6 +1,6 @@
 //! What stands around the items of a block: the choice of its edge, and its front.
 
-ghost use Rattle.std.specs.Prelude.{◌≡◌, ◌∷◌, ◌-◌, ◌/◌, [], ℕ, OnOk, IfOk, length, ◌&&◌, not, map, reverse};
+ghost use Rattle.std.specs.Prelude.{◌≡◌, ◌∷◌, [], ℕ, OnOk, IfOk, length, ◌&&◌, not, map, reverse};
 ghost use Rattle.wave_gen.specs.Wire.{Made, Target, make, with_rooms};
 ghost use Rattle.ws_isa.specs.Image.{is_giving_op};
 ghost use Rattle.wave_gen.specs.Plans.{has_front, renew, advances, gives};

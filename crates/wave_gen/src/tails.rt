@@ -1,6 +1,6 @@
 //! What is sent along the edge that is taken.
 
-ghost use Rattle.std.specs.Prelude.{◌-◌, ◌/◌, ℕ, OnOk, map};
+ghost use Rattle.std.specs.Prelude.{ℕ, OnOk, map};
 ghost use Rattle.wave_gen.specs.Wire.{Made, Wants, wire};
 ghost use Rattle.wave_gen.specs.Plans.{hung, chain, selected};
 ghost use Rattle.wave_gen.specs.Tables.{HasMade, bare, tail_of, hangs};

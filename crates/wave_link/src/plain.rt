@@ -1,10 +1,7 @@
 //! The draft with notes and nothing else.
 
-ghost use Rattle.std.specs.Prelude.{◌≡◌, ◌∷◌, ◌+◌, ◌<◌, ◌^◌, map, length, IfOk};
+ghost use Rattle.std.specs.Prelude.{◌≡◌, ◌+◌, map, IfOk};
 ghost use Rattle.ws_isa.specs.View as view;
-ghost use Rattle.wave_link.specs.Grown.{no_place};
-ghost use Rattle.wave_link.specs.Notes.{places_of};
-ghost use Rattle.wave_link.specs.Outlines.{outlines_of};
 ghost use Rattle.wave_link.specs.Plain.{noted_instrs, noted_block, noted_from, noted};
 
 use crate::annotator::by_number;

@@ -22,7 +22,7 @@ use Rattle.ws_words.specs.declared.memory.Memory.{Memory}
 use Rattle.ws_words.specs.Memory.{OutIs}
 use Rattle.ws_isa.specs.Shows.{Resulted, looked, delivered, At, seen}
 use Rattle.ws_isa.proofs.Slots.{all_opened_from, fresh_apart, closed_cases, with_tokens_lands}
-use Rattle.ws_isa.proofs.Steps.{first_le, turns, step_case, Place, place}
+use Rattle.ws_isa.proofs.Steps.{first_le, step_case, Place, place}
 use Rattle.ws_isa.proofs.Flow.{Ahead, number_ahead, number_else, number_same, slots_turn, path, slot_port}
 use Rattle.ws_isa.proofs.Flow.{ahead_open, Stays, turn_stays}
 use Rattle.ws_isa.proofs.There.{ports_there, now_there}

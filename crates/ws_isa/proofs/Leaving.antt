@@ -14,7 +14,7 @@ use Rattle.ws_isa.specs.Standing.{turn_number, slots_at}
 use Rattle.ws_isa.specs.declared.walker.Walker.{Walker}
 use Rattle.ws_isa.specs.Shows.{crossed, At}
 use Rattle.ws_isa.proofs.Slots.{FromEdge, edge_all_from, all_opened_from, edge_lands}
-use Rattle.ws_isa.proofs.Steps.{ends, step_case, Place, place}
+use Rattle.ws_isa.proofs.Steps.{step_case, Place, place}
 use Rattle.ws_isa.proofs.Flow.{slots_leave, path, at_end, slot_port, Stays, leave_stays, apart_edge}
 use Rattle.ws_isa.proofs.Flow.{end_number, cross_number, same_wave_number}
 use Rattle.ws_isa.proofs.There.{ports_there, edges_there}

@@ -1,6 +1,6 @@
 //! The blocks of an image by number.
 
-ghost use Rattle.std.specs.Prelude.{◌≡◌, ◌==◌, ◌<◌, ◌≤◌, ◌+◌, ◌&&◌, suc, length, map, IfOk};
+ghost use Rattle.std.specs.Prelude.{◌≡◌, ◌==◌, ◌<◌, ◌≤◌, ◌+◌, ◌&&◌, suc, length, IfOk};
 ghost use Rattle.ws_isa.specs.Image.{first_number, is_first, array_length};
 ghost use Rattle.ws_isa.specs.View as view;
 ghost use Rattle.ws_isa.specs.Listed.{ListsFirsts};

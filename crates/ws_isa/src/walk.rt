@@ -1,6 +1,6 @@
 //! The walk of drafts and images.
 
-ghost use Rattle.std.specs.Prelude.{◌≡◌, ◌≤◌, ◌<◌, ℕ, zero, length, map, IfOk};
+ghost use Rattle.std.specs.Prelude.{◌≡◌, ◌≤◌, zero, IfOk};
 ghost use Rattle.ws_words.specs.Outside.{World as Given};
 ghost use Rattle.ws_words.specs.Plain.{world_of};
 ghost use Rattle.ws_isa.specs.View as view;

@@ -1,6 +1,6 @@
 //! The state of a walk, and what its steps do to it.
 
-ghost use Rattle.std.specs.Prelude.{◌≡◌, ◌≤◌, ◌<◌, ◌+◌, ◌*◌, ◌-◌, ◌^◌, ℕ, suc, true, false, List, [], ◌∷◌};
+ghost use Rattle.std.specs.Prelude.{◌≡◌, ◌≤◌, ◌<◌, ◌+◌, ◌*◌, ◌-◌, ◌^◌, ℕ, suc, true, false, [], ◌∷◌};
 ghost use Rattle.std.specs.Prelude.{length, slice_index, slice_set, IfOk, OnOk, IfSome, MatchOption};
 ghost use Rattle.ws_words.specs.Outside.{Outside, World};
 ghost use Rattle.ws_words.specs.Memory.{OutIs};

@@ -3,7 +3,7 @@
 ghost use Rattle.std.specs.Prelude.{◌≡◌, ◌↔◌, ◌-◌, [], slice_index, IsTrue, IfOk, OnOk};
 ghost use Rattle.ws_words.specs.Memory.{Does, OutIs, lengths_of};
 ghost use Rattle.ws_words.specs.Outside.{Outside, loads, stores, reads, prints, gives, takes};
-ghost use Rattle.ws_words.specs.Outside.{head_or_zero, opening_out, rest_of, row, with_row};
+ghost use Rattle.ws_words.specs.Outside.{head_or_zero, opening_out, row};
 ghost use Rattle.ws_words.specs.Past.{IsWithin};
 ghost use Rattle.ws_words.specs.Plain.{took_by_ports, world_of};
 

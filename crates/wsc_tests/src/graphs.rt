@@ -1,6 +1,6 @@
 //! The graphs of programs walk as the programs run, from pass to pass.
 
-ghost use Rattle.std.specs.Prelude.{◌<◌, ◌^◌, ◌-◌, length, IfOk};
+ghost use Rattle.std.specs.Prelude.{IfOk};
 ghost use Rattle.src_ast.specs.View as ast;
 ghost use Rattle.src_ast.specs.Written.{IsWritten};
 ghost use Rattle.cfg_core.specs.View as view;

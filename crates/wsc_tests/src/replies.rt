@@ -1,6 +1,6 @@
 //! Calls over memory, and what is compared of what they answer.
 
-ghost use Rattle.std.specs.Prelude.{◌≡◌, ◌<◌, IfOk};
+ghost use Rattle.std.specs.Prelude.{◌<◌, IfOk};
 ghost use Rattle.std.specs.List.{AllByRecursion};
 ghost use Rattle.ws_words.specs.Outside.{IsMachineWord};
 ghost use Rattle.port_set.specs.Slots.{AllOpen, IsOpen, contents, told};

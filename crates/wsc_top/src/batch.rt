@@ -1,6 +1,6 @@
 //! The jobs of a text for several threads.
 
-ghost use Rattle.std.specs.Prelude.{◌≡◌, ◌+◌, ◌<◌, ◌≤◌, ◌^◌, ℕ, List, length, true, false, IfOk, IfErr};
+ghost use Rattle.std.specs.Prelude.{◌≡◌, ◌+◌, ◌<◌, ◌≤◌, ◌^◌, List, length, true, false, IfOk, IfErr};
 ghost use Rattle.std.specs.Prelude.{IfSome, IfNone, OnOk, [], ◌∷◌, ◌++◌};
 ghost use Rattle.wsc_top.specs.Sections.{rest_of};
 ghost use Rattle.wsc_top.specs.Job.{job_limit};

@@ -1,6 +1,6 @@
 //! The call of the program.
 
-ghost use Rattle.std.specs.Prelude.{◌≡◌, List, Option, ℕ, map, string_bytes};
+ghost use Rattle.std.specs.Prelude.{List, Option, ℕ, map, string_bytes};
 ghost use Rattle.port_set.specs.Ports.{Told};
 ghost use Rattle.port_set.specs.Slots.{AllOpen, contents};
 ghost use Rattle.wsc_top.specs.Answers.{TellWords};

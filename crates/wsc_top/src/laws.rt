@@ -28,7 +28,7 @@ ghost use Rattle.wsc_top.specs.declared.task.AssemblyTask.{AssemblyTask};
 ghost use Rattle.wsc_top.specs.declared.task.GridOptions.{GridOptions};
 ghost use Rattle.wsc_top.specs.declared.assembly.AsmRefusal.{AsmRefusal};
 ghost use Rattle.wsc_top.specs.Sections.{program_of, before_trace, trace_line, IsInputAnswer};
-ghost use Rattle.wsc_top.specs.Job.{IsJob, IsTextAnswer, world_of};
+ghost use Rattle.wsc_top.specs.Job.{IsTextAnswer, world_of};
 ghost use Rattle.wsc_top.specs.Assembly.{IsAssembly, RefusesAssembly, IsAssemblyAnswer, IsUnsound};
 ghost use Rattle.wsc_top.specs.Executions.{Executes, EndsRun, IsFailed};
 ghost use Rattle.wsc_top.specs.Generated.{IsGeneratedJob};

@@ -1,13 +1,13 @@
 //! The run of several threads.
 
-ghost use Rattle.std.specs.Prelude.{◌≡◌, ◌+◌, ◌≤◌, List, [], ◌∷◌, ◌++◌, take, length, slice_get};
+ghost use Rattle.std.specs.Prelude.{◌≡◌, ◌+◌, ◌≤◌, List, [], ◌∷◌, take, length, slice_get};
 ghost use Rattle.std.specs.Prelude.{option_copied, None, IsSome, IfSome, IfOk, OnErr};
 ghost use Rattle.port_set.specs.Slots.{AllOpen, contents};
 ghost use Rattle.multi_wave.specs.Parts.{alone};
 ghost use Rattle.wsc_top.specs.declared.status.Status.{Status};
 ghost use Rattle.wsc_top.specs.Answers.{TellWords};
 ghost use Rattle.wsc_top.specs.Threads.{ThreadsDo, ExecutesAlone, HaveBegun, Thread, images_of, inputs_of};
-ghost use Rattle.wsc_top.specs.Threads.{no_ports, status_of, thread_line};
+ghost use Rattle.wsc_top.specs.Threads.{no_ports, status_of};
 ghost use Rattle.wsc_top.specs.Jobs.{most_jobs};
 ghost use Rattle.wsc_top.specs.Running.{alone_at, ThreadTold, BeforeSo, AllTold};
 

@@ -1,6 +1,6 @@
 //! The texts of runs of images.
 
-ghost use Rattle.std.specs.Prelude.{◌≡◌, ◌++◌, ℕ, map, option_copied, slice_get, IfOk, OnOk};
+ghost use Rattle.std.specs.Prelude.{◌≡◌, ◌++◌, map, option_copied, slice_get, IfOk, OnOk};
 ghost use Rattle.ws_isa.specs.View as view;
 ghost use Rattle.ws_isa.specs.Shown.{shown_cells};
 ghost use Rattle.wsc_top.specs.Texts.{array_lines, shown_line, shown_names, firings_line, maybe_name, called};

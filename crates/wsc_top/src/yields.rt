@@ -1,8 +1,6 @@
 //! What comes of the commands, or what is to be run for them.
 
 ghost use Rattle.std.specs.Prelude.{◌≡◌, ◌≤◌, ℕ, List, Option, None, Some, length, IfOk, IfErr, IfSome};
-ghost use Rattle.std.specs.List.{AllByRecursion};
-ghost use Rattle.ws_words.specs.Outside.{IsMachineWord};
 ghost use Rattle.src_ast.specs.View as view;
 ghost use Rattle.src_ast.specs.Written.{IsWritten};
 ghost use Rattle.port_set.specs.Ports.{Told};
@@ -10,7 +8,7 @@ ghost use Rattle.wsc_top.specs.Sections.{trace_section};
 ghost use Rattle.wsc_top.specs.declared.task.AssemblyTask.TheVariants.{Replay};
 ghost use Rattle.wsc_top.specs.Assembly.{assembly_limit};
 ghost use Rattle.wsc_top.specs.Clocked.{TaskInRange};
-ghost use Rattle.wsc_top.specs.Answers.{IsCompiled, Yields, AssemblyYields, RunsClosed};
+ghost use Rattle.wsc_top.specs.Answers.{IsCompiled, Yields, RunsClosed};
 ghost use Rattle.wsc_top.specs.Steps.{YieldStep, IsBegun, AssemblyYieldStep};
 ghost use Rattle.wsc_top.specs.declared.task.JobTask.{JobTask};
 ghost use Rattle.wsc_top.specs.declared.status.Status.{Status};

@@ -3,7 +3,6 @@ use Rattle.std.proofs.Common.{◌≡◌, ℕ, ◌<◌, ◌≤◌, length, Bool, 
 use Rattle.std.proofs.Common.{Some, None, sym, append_assoc, arith, suc, ◌⊎◌}
 use Rattle.std.proofs.lemmas.Bool.{eq-eqb, ne_eqb}
 use Rattle.ws_isa.specs.declared.instr.Op.{Op}
-use Rattle.ws_isa.specs.declared.instr.Op.TheVariants.{Send}
 use Rattle.ws_isa.specs.Image.{ports_of}
 use Rattle.ws_isa.specs.Formed.{most_dests, most_pads, OpIn, SendWithin, RiseFrom, PadsRise}
 use Rattle.asm_text.specs.declared.state.Expected.{Expected}

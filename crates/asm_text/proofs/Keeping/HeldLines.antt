@@ -8,7 +8,7 @@ use Rattle.std.proofs.lemmas.Option.{none-some, same_Some}
 use Rattle.ws_isa.specs.declared.instr.Op.{Op}
 use Rattle.ws_isa.specs.declared.instr.Op.TheVariants as op
 use Rattle.ws_isa.specs.declared.instr.Dest.{Dest}
-use Rattle.ws_isa.specs.Image.{Array, Block, Pad, Instr, Exit, flat, ports_of, Stop}
+use Rattle.ws_isa.specs.Image.{Array, Block, Instr, Exit, flat, ports_of, Stop}
 use Rattle.ws_isa.specs.Formed.{most_arrays, most_length, most_cells, most_instrs, most_waves, most_dests}
 use Rattle.ws_isa.specs.Formed.{most_landings, most_name, NameFormed, SendWithin, ExitWithin, SomeLanding}
 use Rattle.asm_text.specs.declared.line.Label.{Label}

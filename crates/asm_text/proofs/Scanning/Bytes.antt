@@ -6,7 +6,6 @@ use Rattle.std.proofs.lemmas.List.Folds.{list_all-append}
 use Rattle.ws_words.specs.Digits.{is_digit, is_number}
 use Rattle.asm_text.specs.declared.lexeme.Mark as marks
 use Rattle.asm_text.specs.declared.lexeme.Lexeme.{Lexeme}
-use Rattle.asm_text.specs.declared.lexeme.Lexeme.TheVariants.{Mark}
 use Rattle.asm_text.specs.declared.writer.After as afters
 use Rattle.asm_text.specs.Printed.{gap, bytes_of, mark_bytes, behind, text_of, line_text}
 use Rattle.asm_text.specs.Spelled.{IsLexeme, AreLexemes, AllLexemes}

@@ -9,7 +9,6 @@ use Rattle.ws_isa.specs.Formed.{ConstWithin, NoteSuits, NoteWithin, LinkWithin}
 use Rattle.asm_text.specs.declared.lexeme.Mark as mark
 use Rattle.asm_text.specs.declared.lexeme.Mark.TheVariants.{Colon, Comma, Less}
 use Rattle.asm_text.specs.declared.lexeme.Lexeme.{Lexeme}
-use Rattle.asm_text.specs.declared.lexeme.Lexeme.TheVariants.{Mark}
 use Rattle.asm_text.specs.declared.line.Label.{Label}
 use Rattle.asm_text.specs.declared.line.Target.{Target}
 use Rattle.asm_text.specs.declared.line.InstrLine.{InstrLine}

@@ -11,7 +11,7 @@ use Rattle.ws_isa.specs.Sound.{HasDest}
 use Rattle.wave_gen.specs.Waits.{DistinctDests, Owner, Step, Fires, Rests, Skips, Copies, Stands}
 use Rattle.wave_gen.specs.Wire.{Target, Back, Front, dest_of, dests_of, WiredInstr, Wants, Made, emit, rest}
 use Rattle.wave_gen.specs.Wire.{with_rooms, make, Item, Make, Act, Same}
-use Rattle.wave_gen.specs.Plans.{merges, HowLeft, Onto, Either, Lands, Halts, Plan, pulse, Tail, TailAt}
+use Rattle.wave_gen.specs.Plans.{merges, HowLeft, Onto, Either, Lands, Halts, Plan, pulse, TailAt}
 use Rattle.wave_gen.specs.Plans.{steers, sends, steered, hang, tails_of, end_wants, behind_source}
 use Rattle.wave_gen.specs.Plans.{exit_made, body_made, renew, advances, plan_at, made_at, starts_at, begins}
 use Rattle.wave_gen.specs.Plans.{owner_of, instr_of, draft_of, source_of, operands_needed, chooses, KeptOf}

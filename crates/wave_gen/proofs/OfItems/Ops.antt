@@ -4,7 +4,7 @@ use Rattle.std.proofs.Common.{◌∷◌, ◌++◌, length, slice_index, slice_se
 use Rattle.std.proofs.lemmas.Bool.{cases_eq}
 use Rattle.ws_words.specs.Outside as outside
 use Rattle.ws_words.specs.Outside.{Outside, ProcState, row, write, stored, has_read, given}
-use Rattle.ws_isa.specs.declared.instr.Op.TheVariants.{Phi, Store, Take}
+use Rattle.ws_isa.specs.declared.instr.Op.TheVariants.{Phi, Store}
 use Rattle.cfg_core.specs.Graph as graph
 use Rattle.cfg_core.specs.Graph.{Graph, Term, Flip, Not, Neg, Binary}
 use Rattle.cfg_core.specs.Rules.{TermIn, OpIn, NoCell, ChoosesBare}

@@ -15,7 +15,7 @@ use Rattle.cfg_core.specs.Graph.{spot_at, block_at}
 use Rattle.cfg_core.specs.Rules as rules
 use Rattle.cfg_core.proofs.Pigeons.{pigeons}
 use Rattle.wave_cut.specs.Cut.{Cut}
-use Rattle.wave_gen.specs.Plans.{Plan, HowLeft, Lands, pulse, plan_at, begins, pads_of, exit_of, source_of}
+use Rattle.wave_gen.specs.Plans.{Plan, HowLeft, pulse, plan_at, begins, pads_of, exit_of, source_of}
 use Rattle.wave_gen.specs.Plans.{draft_of}
 use Rattle.wave_gen.proofs.Planning.Planned.{PlansAre}
 use Rattle.wave_gen.specs.Gen.{top_word, gen_ops}

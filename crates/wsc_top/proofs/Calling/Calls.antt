@@ -39,7 +39,7 @@ use Rattle.df_core.specs.declared.drive.Finish.TheVariants as finish
 use Rattle.wsc_top.specs.Clocked.{clocked_status}
 use Rattle.wsc_top.specs.Traced.{IsReplayed, HasTrace, trace_status}
 use Rattle.wsc_top.specs.Answers as answers
-use Rattle.wsc_top.specs.Answers.{SomeRose, OrNoMemory, IsCompiled, Yields, Answered, refused, done, IsReader}
+use Rattle.wsc_top.specs.Answers.{SomeRose, OrNoMemory, IsCompiled, Yields, Answered, done, IsReader}
 use Rattle.wsc_top.specs.Answers.{limit_of, assembly_text, AssemblyYields, checked, listed, executed, traced}
 use Rattle.wsc_top.specs.Answers.{replayed, gridded, AssemblyAnswered, Answers, usage, generated, unread}
 use Rattle.wsc_top.specs.Answers.{long, read, assembled, RunsClosed, written, closed, RunsOut, unbegun, begun}

@@ -37,7 +37,7 @@ use Rattle.wsc_top.specs.Assembly.{IsAssembly, RefusesAssembly, assembly, unsoun
 use Rattle.wsc_top.specs.Assembly.{IsUnsound}
 use Rattle.wsc_top.specs.Executions.{Executes, rested, spent, stopped, failed, IsFailed}
 use Rattle.wsc_top.specs.Answers.{assembly_text, AssemblyYields, checked, listed, executed, gridded}
-use Rattle.wsc_top.specs.Answers.{AssemblyAnswered, refused, done, IsSettled, IsAssemblyReply}
+use Rattle.wsc_top.specs.Answers.{AssemblyAnswered, IsSettled, IsAssemblyReply}
 use Rattle.wsc_top.specs.Answers as answers
 use Rattle.wsc_top.proofs.Reading.Inputs.{one_list, no_fault_in_words, one_fault, one_answer}
 use Rattle.wsc_top.proofs.Reading.AnswersOnce.{Reply, same_reply}

@@ -1,6 +1,6 @@
 //! The program of a job.
 
-ghost use Rattle.std.specs.Prelude.{◌≡◌, ◌≤◌, ◌<◌, ◌^◌, ◌-◌, List, length, IfOk, IfErr};
+ghost use Rattle.std.specs.Prelude.{◌<◌, ◌^◌, ◌-◌, List, length, IfOk, IfErr};
 ghost use Rattle.src_ast.specs.View as view;
 ghost use Rattle.src_ast.specs.Syntax.{Part};
 ghost use Rattle.wsc_top.specs.Job.{ReadsAs, IsProgramFault, AnswersParts};

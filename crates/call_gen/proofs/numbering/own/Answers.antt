@@ -1,4 +1,4 @@
-use Rattle.std.proofs.Common.{◌≡◌, ◌+◌, ◌∙◌, sym, true, false, if◌then◌else◌, arith}
+use Rattle.std.proofs.Common.{◌∙◌, sym, true, false, arith}
 use Rattle.cfg_core.specs.Tables.{graph_in}
 use Rattle.cfg_core.specs.View as view
 use Rattle.call_gen.proofs.Spelled.Planning.{own_is}

@@ -1,4 +1,4 @@
-use Rattle.std.proofs.Common.{◌∙◌, ap, List, ℕ, arith, cond, map, suc, ◌∷◌, [], ◌||◌, eqb}
+use Rattle.std.proofs.Common.{◌∙◌, ap, List, ℕ, cond, map, suc, ◌∷◌, [], ◌||◌, eqb}
 use Rattle.wave_gen.specs.Plans.{pulse}
 use Rattle.wave_gen.specs.declared.plan.Plan.{Plan}
 use Rattle.wave_gen.proofs.OfGraphs.Outlined.{plan_made}
