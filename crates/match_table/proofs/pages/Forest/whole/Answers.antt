@@ -1,8 +1,8 @@
 use Rattle.std.proofs.Common.{ap, cond, sym, ◌∙◌}
 use Rattle.match_table.specs.Pages.{first_of, second_half, second_wave, seen}
 use Rattle.match_table.proofs.Halves.{none_whole, whole_is}
-use Rattle.match_table.proofs.pages.Shelf.whole.Goals as goal
-use Rattle.match_table.proofs.pages.Shelf.whole.Goals.{then-half, else-half}
+use Rattle.match_table.proofs.pages.Forest.whole.Goals as goal
+use Rattle.match_table.proofs.pages.Forest.whole.Goals.{then-half, else-half}
 
 pub returns-in_default : goal.returns-in_default
 returns-in_default c = none_whole _ _ _ (sym c.in_default.is ∙ c.requires.half)

@@ -2,7 +2,7 @@ use Rattle.std.proofs.Common.{◌≡◌, List, ℕ, Some, arith, refl, ap, ◌�
 use Rattle.match_table.specs.Pages.{all_values, some_half, under}
 use Rattle.match_table.specs.Ports.{none_half}
 use Rattle.match_table.proofs.Store.{absent_is, found_is}
-use Rattle.match_table.proofs.pages.Shelf.half_on.Goals as goal
+use Rattle.match_table.proofs.pages.Forest.half_on.Goals as goal
 
 pub returns-then-is_same-clause-seen : goal.returns-then-is_same-clause-seen
 returns-then-is_same-clause-seen c =
