@@ -1,15 +1,15 @@
 #!/usr/bin/env python3
-"""Tries the edits of edits/: wrong bodies, each of which the contracts of its crate have to refuse.
+"""Tries the edits of tests/mutants/: wrong bodies, each of which the contracts of its crate have to refuse.
 
     bench/edits.py             those of the crates whose contracts have changed since they were last tried
     bench/edits.py --all       those of every crate
     bench/edits.py --fit       none: only whether each can be applied, and whether of some crate they are due
     bench/edits.py NAME..      those of these crates
 
-The edits of crates/*/must-fail are tried by every run of the gate. Those of edits/NAME are tried here by `rt must-fail`,
+The edits of crates/*/must-fail are tried by every run of the gate. Those of tests/mutants/NAME are tried here by `rt must-fail`,
 in a copy of the repository that is removed again, over what `rt check` has kept in any checkout on this machine. What
 the contracts of a crate are is a checksum over its specs/ and over the signatures and contracts of its functions;
-edits/tried.txt has, for each crate, the one over which all its edits were refused, or that of the same contracts under
+tests/mutants/tried.txt has, for each crate, the one over which all its edits were refused, or that of the same contracts under
 new names, or without what nothing used. The exit status is 1 where an edit wasn't refused, or can't be applied, and
 with --fit where they are due.
 """
@@ -24,7 +24,7 @@ import tempfile
 from collections.abc import Iterable, Iterator
 
 ROOT = pathlib.Path(__file__).resolve().parent.parent
-EDITS = ROOT / "edits"
+EDITS = ROOT / "tests" / "mutants"
 TRIED = EDITS / "tried.txt"
 
 
@@ -112,7 +112,7 @@ def main() -> int:
     every = sorted(path.name for path in EDITS.iterdir() if path.is_dir())
     strange = [name for name in args.names if name not in every]
     if strange:
-        parser.error(f"edits/ has no folder {strange[0]}")
+        parser.error(f"tests/mutants/ has no folder {strange[0]}")
     bad = [text for name in every for text in misfits(name)]
     print("".join(f"{text}\n" for text in bad), end="")
     tried = read_tried()

@@ -1,7 +1,7 @@
 #!/usr/bin/env python3
 """Compiles each program of this folder, and compares what it prints with what it means.
 
-    PYTHONPATH=../.. WSC=../../wsc WSL=../../wsl ./check.py
+    PYTHONPATH=../../python WSC=../../wsc WSL=../../wsl ./check.py
 """
 
 import pathlib

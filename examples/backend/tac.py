@@ -1,7 +1,7 @@
 #!/usr/bin/env python3
 """A small back end: from three-address code to a draft of WaveScalar assembly, which `wsl` gives its notes.
 
-    PYTHONPATH=../.. ./tac.py squares.tac | wsl --names > squares.asm
+    PYTHONPATH=../../python ./tac.py squares.tac | wsl --names > squares.asm
 
 Each basic block becomes a wave. Its advances take the pulse and what is live at its head; a branch steers
 what is live behind it; a call stores what it still needs in hidden cells, and sends values to the pads of its

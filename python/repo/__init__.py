@@ -1,0 +1,1 @@
+"""The checks of this repository, and what makes parts of its pages. Nothing of it is installed."""

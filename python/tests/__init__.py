@@ -1,0 +1,1 @@
+"""The tests of the package, by pytest: `.ci/checks/python`."""

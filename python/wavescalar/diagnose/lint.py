@@ -1,0 +1,77 @@
+"""Says all faults of an assembly at once: line, column, instruction and rule, and how each is mended.
+
+The text stands in FILE or comes from standard input. Faulty lines are told first, with the rules on shape for
+the blocks that have none; the rules on tokens and notes wait until every line can be read and every block has
+its shape. What is told is compared with the answer of `wsc check`, and a difference is said.
+
+    wsc-lint loop.asm
+    wsc-lint --json < loop.asm | jq .message     one object a line for each fault
+    wsc-lint --draft loop.asm                    a draft for wsl, whose notes are read over
+
+The status is 0 where there is no fault, 2 where there is one.
+"""
+
+from __future__ import annotations
+
+import functools
+import gc
+import json
+import sys
+
+from wavescalar.cli import Line, add_program, given, whole
+from wavescalar.diagnose.findings import agrees, faults_of
+from wavescalar.programs import call
+from wavescalar.reader import Finding
+
+
+def compared(text: str, program: str) -> list[Finding]:
+    """All faults of a text, and what `wsc check`, which runs beside, says otherwise."""
+    from concurrent.futures import ThreadPoolExecutor
+    with ThreadPoolExecutor(1) as beside:
+        asked = beside.submit(call, program, ["check"], text)
+        found = faults_of(text)
+        return found + compare(found, asked.result())
+
+
+def compare(found: list[Finding], answer: tuple[int, str, str]) -> list[Finding]:
+    """What `wsc check` says otherwise, as one more fault, or nothing."""
+    status, said, _ = answer
+    if status not in (0, 2) or agrees(found, said, status):
+        return []
+    return [Finding(1, 1, "check", f"`wsc check` says otherwise: {said.strip()}", "tell it to those who keep this program",
+                  said.strip())]
+
+
+def row(fault: Finding, file: str) -> dict[str, int | str]:
+    told: dict[str, int | str] = {"file": file, "line": fault.line, "column": fault.column, "severity": "error", "rule": fault.rule,
+            "message": fault.message, "mend": fault.mend, "check": fault.check}
+    return told | fault.about
+
+
+def main() -> int:
+    ask = Line(__doc__)
+    add_program(ask)
+    ask.add_argument("--json", action="store_true", help="one object a line for each fault")
+    ask.add_argument("--draft", action="store_true", help="the text is a draft for wsl")
+    ask.add_argument("--alone", action="store_true", help="without asking wsc check")
+    ask.add_argument("file", nargs="?", metavar="FILE")
+    line = ask.parse_args()
+    text, file = given(line.file), line.file or "-"
+    gc.disable()  # all that is made here stays to the end
+    if line.alone or line.draft:
+        found = faults_of(text, line.draft)
+    else:
+        found = compared(text, line.wsc)
+    for fault in found:
+        if line.json:
+            print(json.dumps(row(fault, file)))
+        else:
+            print(f"{file}:{fault.line}:{fault.column}: {fault.rule}: {fault.message}"
+                  + (f"; {fault.mend}" if fault.mend else ""))
+    return 2 if found else 0
+
+
+tool = functools.partial(whole, main)
+
+if __name__ == "__main__":
+    sys.exit(tool())

@@ -1,0 +1,1 @@
+"""Pages that show a run step by step, profiles, and sweeps over jobs and options: docs/VIEWER.md, docs/EXPERIMENTS.md."""
