@@ -46,7 +46,7 @@ def of_program(program: str) -> str:
 
 
 def of_result(program: str) -> dict[str, str]:
-    """What a result says of how it was made: program, tools, and system."""
+    """What a result says of how it was made: program, tools, and platform."""
     return {"wsc": of_program(program), "tools": of_tools(),
-            "system": f"{platform.machine()} {platform.system()}, {platform.python_implementation()} "
-                      f"{platform.python_version()}"}
+            "platform": f"{platform.machine()} {platform.system()}, {platform.python_implementation()} "
+                        f"{platform.python_version()}"}

@@ -17,12 +17,9 @@ import csv
 import functools
 import hashlib
 import itertools
-import json
 import math
-import os
 import pathlib
 import shlex
-import socket
 import sys
 import time
 from typing import Any
@@ -36,19 +33,11 @@ from wavescalar.timing.parameters import machine_of
 from wavescalar.timing.shape import CLASSES
 from wavescalar.timing.sim import ask_for, assemblies, parameters_of
 from wavescalar.timing.verify import verified
-from wavescalar.versions import of_result
-from wavescalar.viewer.gather import FIXED, REST, by_number, columns, faults, picture, results
+from wavescalar.viewer.gather import FIXED, REST, by_number, columns, faults, keep, picture, results
 from wavescalar.viewer.plot import COLOURS, GRID, INK, SOFT, Sheet
 from wavescalar.viewer.sweep import lines_of, name_of, options_of
 
 MODULE = "wavescalar.timing.plan"
-
-
-def processors() -> int:
-    """How many processors this process may use; PyPy knows those of the machine alone."""
-    if hasattr(os, "sched_getaffinity"):
-        return len(os.sched_getaffinity(0))
-    return os.cpu_count() or 1
 
 
 def plan(line: argparse.Namespace) -> int:
@@ -84,14 +73,9 @@ def one(line: argparse.Namespace) -> int:
         "options": {"machine": told.machine, **options_of(line.words)},
         "status": 3 if wrong else 0, "end": "; ".join(wrong) or figures.end,
         "wall": round(time.perf_counter() - clock, 6), "numbers": facts, "words": len(printed),
-        "digest": hashlib.sha256(words.encode()).hexdigest()[:16], "host": socket.gethostname(),
-        "processors": processors(), **of_result(line.wsc), "begun": begun, "line": line.words,
+        "digest": hashlib.sha256(words.encode()).hexdigest()[:16], "begun": begun, "line": line.words,
     }
-    out = pathlib.Path(line.out)
-    out.parent.mkdir(parents=True, exist_ok=True)
-    part = out.with_suffix(f".part{os.getpid()}")
-    part.write_text(json.dumps(result, indent=1) + "\n")
-    part.replace(out)
+    keep(result, pathlib.Path(line.out), line.wsc)
     return 0
 
 

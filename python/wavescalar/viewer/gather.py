@@ -5,14 +5,17 @@ from __future__ import annotations
 import argparse
 import csv
 import json
+import os
 import pathlib
 import re
 import shlex
+import socket
 import statistics
 import sys
 from typing import Any
 
 from wavescalar.faults import Fault
+from wavescalar.versions import of_result
 from wavescalar.viewer.plot import COLOURS, SOFT, Panel, Sheet, spread
 
 # A result, by the names of its columns.
@@ -21,10 +24,26 @@ FIXED = ["job", "command"]
 # What a status says where no line of the answer does.
 UNSAID = {1: "(no line of wsc)", 4: "(not read)", 5: "(not written)", 7: "(no memory)", 70: "(no program)"}
 REST = ["status", "end", "wall", "user", "system", "processor", "kilobytes", "words", "digest", "host",
-        "processors", "wsc", "tools", "system", "begun"]
+        "processors", "wsc", "tools", "platform", "begun"]
 UNITS = {"wall": "seconds by the clock", "user": "seconds of processor in the program",
          "system": "seconds of processor in the system", "processor": "seconds of processor",
          "kilobytes": "kilobytes of memory at most"}
+
+
+def processors() -> int:
+    """How many processors this process may use; PyPy knows those of the machine alone."""
+    if hasattr(os, "sched_getaffinity"):
+        return len(os.sched_getaffinity(0))
+    return os.cpu_count() or 1
+
+
+def keep(result: Row, path: pathlib.Path, program: str) -> None:
+    """Writes a result, with what made it and where: the file appears under its name when it is whole."""
+    made = result | {"host": socket.gethostname(), "processors": processors(), **of_result(program)}
+    path.parent.mkdir(parents=True, exist_ok=True)
+    part = path.with_suffix(f".part{os.getpid()}")
+    part.write_text(json.dumps(made, indent=1) + "\n")
+    part.replace(path)
 
 
 def results(folder: str) -> list[Row]:

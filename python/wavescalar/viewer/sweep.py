@@ -18,12 +18,10 @@ import argparse
 import functools
 import hashlib
 import itertools
-import json
 import os
 import pathlib
 import re
 import shlex
-import socket
 import subprocess
 import sys
 import tempfile
@@ -34,8 +32,7 @@ from wavescalar.cli import Line, add_program, again, given, whole
 from wavescalar.faults import Fault
 from wavescalar.numbered import kind_of
 from wavescalar.programs import call, needs_program, with_input
-from wavescalar.versions import of_result
-from wavescalar.viewer.gather import collect
+from wavescalar.viewer.gather import collect, keep
 
 MODULE = "wavescalar.viewer.sweep"
 READ_JOBS = ("run", "plain", "format", "compile", "multi")
@@ -116,14 +113,9 @@ def one(line: argparse.Namespace) -> int:
         "status": status, "end": ends[0] if ends else "", **took,
         "numbers": {name: int(value) for name, value in numbers},
         "words": len(words), "digest": hashlib.sha256("\n".join(words).encode()).hexdigest()[:16],
-        "host": socket.gethostname(), "processors": len(os.sched_getaffinity(0)), **of_result(line.wsc), "begun": begun,
-        "line": line.words,
+        "begun": begun, "line": line.words,
     }
-    out = pathlib.Path(line.out)
-    out.parent.mkdir(parents=True, exist_ok=True)
-    part = out.with_suffix(f".part{os.getpid()}")
-    part.write_text(json.dumps(result, indent=1) + "\n")
-    part.replace(out)
+    keep(result, pathlib.Path(line.out), line.wsc)
     return 0
 
 
