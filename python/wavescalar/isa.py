@@ -1,7 +1,7 @@
 """The instructions of the machine and the limits of its assembly (docs/ASSEMBLY.md): the one table of both in Python.
 
 Reader, builder, machine, timing model, linter and the editor of wsc-serve take their words, counts and meanings from
-here. Two models that others are compared with have tables of their own, on purpose: `viewer/grid_model.py` and that of
+here, and `repo.editors` puts the words into the files of editors/. Two models that others are compared with have tables of their own, on purpose: `viewer/grid_model.py` and that of
 the builder's tests.
 """
 
@@ -79,9 +79,14 @@ KINDS: dict[str, Kind] = {
     "nop": Kind(1, 0, None, True),
     "halt": Kind(1, 0, None, True),
 }
-# The other words of an assembly's lines, and those of a job.
-LINES = ("wavescalar", "array", "hidden", "wave", "block", "pad", "go", "if", "send", "stop", "end")
-RESERVED = ("proc", "array", "var", "if", "else", "while", "print", "read", "give", "take", "return")
+# The other words of an assembly's lines, those of a trace, and those of a job.
+HEADS = ("wavescalar", "array", "hidden", "wave", "block", "pad", "end")
+EXITS = ("go", "if", "send", "stop")
+EVENTS = ("match", "issue")
+DECLARING = ("proc", "array", "var")
+BRANCHING = ("if", "else", "while")
+DOING = ("print", "read", "give", "take", "return")
+RESERVED = (*DECLARING, *BRANCHING, *DOING)
 
 
 @dataclass(frozen=True)

@@ -11,7 +11,8 @@ done
 # repository. What checks the tools stays there.
 parts() {
     printf '%s\n' wsc scripts/launcher/{program,front,words}.bash scripts/launcher/help.txt "${tools[@]/#/python/}"
-    (cd "$top" && find python/wavescalar examples -maxdepth 4 -type f \( -path 'python/*' \( -name '*.py' -o -name '*.js' \
-        -o -name '*.css' -o -name '*.html' -o -name '*.toml' -o -name py.typed \) -o -path 'examples/*.job' \
-        ! -path 'examples/*/*' -o -path 'examples/viewer/*.job' \) | LC_ALL=C sort)
+    (cd "$top" && {
+        find python/wavescalar -type f ! -path '*/__pycache__/*'
+        find examples examples/viewer -maxdepth 1 -type f -name '*.job'
+    } | LC_ALL=C sort)
 }

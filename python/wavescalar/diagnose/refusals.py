@@ -7,7 +7,7 @@ from typing import Any
 
 from wavescalar.diagnose.usage import like
 from wavescalar.faults import Fault
-from wavescalar.isa import KINDS, RESERVED
+from wavescalar.isa import KINDS, RESERVED, Kind
 from wavescalar.numbered import LEXEME, kind_of, read, sections
 from wavescalar.reader import lines_of
 
@@ -33,13 +33,18 @@ LINE = {
     "illegal": "this event isn't enabled after those before it",
 }
 NOTE = "<PRED, SEQ, SUCC>.RIPPLE"
-FORMS = {
-    "const": "N: const K -> I.P ..", "send": "N: send K", "load": f"N: load A {NOTE} -> I.P ..",
-    "store": f"N: store A {NOTE}", "in": f"N: in {NOTE} -> I.P ..", "out": f"N: out {NOTE}",
-    "give": f"N: give P {NOTE} -> I.P ..", "take": f"N: take P {NOTE}", "nop": f"N: nop {NOTE}",
-    "halt": f"N: halt {NOTE}", "steer": "N: steer -> I.P .. | I.P ..",
-}
-FORMS |= {op: f"N: {op} -> I.P .." for op in KINDS if op not in FORMS}
+# How a line names an argument.
+ARGUMENTS = {"word": "K", "pad": "K", "array": "A", "port": "P"}
+
+
+def form_of(op: str, kind: Kind) -> str:
+    """How the line of an instruction reads."""
+    lists = " | ".join(["I.P .."] * kind.lists)
+    parts = [f"N: {op}", ARGUMENTS[kind.argument] if kind.argument else "", NOTE if kind.memory else "", f"-> {lists}" if lists else ""]
+    return " ".join(filter(None, parts))
+
+
+FORMS = {op: form_of(op, kind) for op, kind in KINDS.items()}
 HINTS = {
     "&&": "there is no `&&`: `&` works on bits, and both sides are computed", "||": "there is no `||`: use `|`",
     "//": "comments begin with `#`", "++": "there is no `++`: write `x = x + 1;`",

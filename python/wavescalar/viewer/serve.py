@@ -27,7 +27,7 @@ from typing import Any, Callable
 
 from wavescalar.cli import Line, add_program, given, whole
 from wavescalar.faults import Fault
-from wavescalar.isa import KINDS, LINES, RESERVED
+from wavescalar.isa import EXITS, HEADS, KINDS, RESERVED
 from wavescalar.programs import ROOT, ready
 from wavescalar.viewer.orders import is_order
 from wavescalar.viewer.view import SCRIPTS, written
@@ -53,7 +53,7 @@ EXAMPLES = [ROOT / "examples" / f"{name}.job" for name in
             ("sum", "fibonacci", "order", "calls", "matrix", "sorting", "past")]
 EXAMPLES += [ROOT / "examples" / "viewer" / f"{name}.job" for name in ("squares", "early", "arrays", "turns")]
 # What the editor colours: the words of jobs and of assemblies, as an alternative of a regular expression.
-WORDS = "|".join(dict.fromkeys([*RESERVED, *LINES, *KINDS]))
+WORDS = "|".join(dict.fromkeys([*RESERVED, *HEADS, *EXITS, *KINDS]))
 # What a page may do: use what is served here, and nothing that stands in the page itself or elsewhere.
 POLICY = ("default-src 'none'; script-src 'self'; style-src 'self'; connect-src 'self'; frame-src 'self'; "
           "base-uri 'none'; form-action 'none'; frame-ancestors ")
