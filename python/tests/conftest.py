@@ -25,7 +25,8 @@ def pytest_addoption(parser: pytest.Parser) -> None:
 def pytest_configure(config: pytest.Config) -> None:
     """Without the program there is nothing to test."""
     if not pathlib.Path(WSC).is_file():
-        raise pytest.UsageError(f"there is no program {WSC}; the environment's WSC names one")
+        raise pytest.UsageError("there is no program crates/wsc/out/wsc, which the gate builds; the environment's WSC names another,"
+                                " as crates/wsc/out/unproved/wsc, which ./wsc builds without proof")
 
 
 def pytest_generate_tests(metafunc: pytest.Metafunc) -> None:

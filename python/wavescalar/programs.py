@@ -79,8 +79,9 @@ def call(program: str, words: list[str], text: str | Iterable[str], timeout: flo
         finally:
             for each in beside:
                 each.join()
+            # also where the key for an interrupt ends this: nothing waits for a timer
+            timer.cancel()
     status, said = child.wait(), "".join(kept)
-    timer.cancel()
     if late.is_set():
         raise CallFault(f"{program} {' '.join(words)} took more than {timeout} s")
     if status == NONE_BUILT:
