@@ -1,4 +1,5 @@
-"""Reads crates.txt, and of the files of specs/, proofs/ and src/ what several checks ask for: lines and imports.
+"""Reads crates.txt, and of the files of specs/, proofs/ and src/ what several checks ask for: lines, imports, and the
+heads of declarations.
 
 What a check alone wants to know of a file, as the parts of a statement, it reads itself from these.
 """
@@ -12,6 +13,9 @@ from typing import NamedTuple
 
 from wavescalar.programs import ROOT
 
+MODIFIERS = ("pub", "abbrev", "unfoldable", "opaque", "private")
+HEAD = re.compile(rf"((?:(?:{'|'.join(MODIFIERS)})\s+)*)(?:(record|data|ruleset|mutual|module)(?:\s+|$))?"
+                  r"(\S*)(\s+:(?=\s|$))?(.*)", re.S)
 COMMENT = re.compile(r"(^|\s)--(\s.*)?$")
 USE = re.compile(r"\s*(?:pub )?(?:ghost )?use ([^\s;{]+?)(?: as (\S+?))?(?:\.\{([^}]*)\})?;?\s*$")
 
@@ -52,6 +56,49 @@ def use_of(line: str) -> Use | None:
         if name:
             names[here or name] = name
     return Use(found[1], "" if names else found[2] or found[1].rpartition(".")[2], names)
+
+
+class Imports:
+    """What short names of a file stand for: names of other files, and files."""
+
+    def __init__(self) -> None:
+        self.names: dict[str, tuple[str, str]] = {}  # the file that has each, and its name there
+        self.files: dict[str, str] = {}
+
+    def take(self, line: str) -> bool:
+        """Takes an import, in one line; whether the line is one."""
+        found = use_of(line)
+        if found:
+            self.names.update({here: (found.path, name) for here, name in found.names.items()})
+            if found.short:
+                self.files[found.short] = found.path
+        return found is not None
+
+
+class Head(NamedTuple):
+    """How a line begins that may begin a declaration: its modifiers, its kind (`record`, `data`, `ruleset`, `mutual` and
+    `module`, else nothing), its name, whether a colon stands behind that, and what follows. The last two kinds have no name."""
+
+    modifiers: frozenset[str]
+    kind: str
+    name: str
+    is_typed: bool
+    rest: str
+
+    @property
+    def is_marked(self) -> bool:
+        """Whether a modifier or a kind says that a declaration begins here."""
+        return bool(self.kind or self.modifiers)
+
+
+def head_of(line: str) -> Head:
+    """The beginning of a line without blanks before it."""
+    found = HEAD.match(line)
+    assert found  # each part may be empty
+    modifiers, kind, name, colon, rest = found.groups(default="")
+    if kind in ("mutual", "module"):
+        return Head(frozenset(modifiers.split()), kind, "", False, line[found.end(2):])
+    return Head(frozenset(modifiers.split()), kind, name, bool(colon), rest)
 
 
 def lines_of(text: str) -> Iterator[tuple[int, int, str]]:

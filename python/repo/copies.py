@@ -21,13 +21,12 @@ import re
 import sys
 from collections.abc import Iterable
 
-from repo.antt import lines_of, use_of
+from repo.antt import MODIFIERS, Imports, lines_of
 from wavescalar.programs import ROOT
 
 ALLOWED = ROOT / ".ci" / "checks" / "copies.allowed"
 TOKEN = re.compile(r'"(?:\\.|[^"\\])*"|[(){}\[\],;]|[^\s(){}\[\],;]+')
 OPENING, CLOSING = "({[", ")}]"
-MODIFIERS = {"pub", "abbrev", "unfoldable", "private", "opaque"}
 RELATIONS = {"≡", "<", "≤", "≢", "⊥"}
 CONSTRUCTORS = {"zero", "suc", "true", "false", "inl", "inr", "refl", "tt", "[]", "∷"}
 SIGNS = {":", "→", "=", "λ", ".", "×", "⊎", "∀", "_", "..", "|", "↦", "⊥"}
@@ -64,8 +63,7 @@ class Module:
         self.every: list[Item] = []
         self.items: dict[str, Item] = {}
         self.constructors: dict[str, str] = {}  # of data that is declared here, and whose they are
-        self.names: dict[str, tuple[str, str]] = {}  # imported names: the file that has each, and its name there
-        self.files: dict[str, str] = {}  # short names of files
+        self.imports = Imports()
         read(self, list(lines_of((ROOT / path).read_text())), [], False)
 
     def add(self, item: Item) -> Item:
@@ -99,21 +97,12 @@ def body_of(group: list[Line]) -> tuple[list[Line], list[Line]]:
     return group[:head], group[head:]
 
 
-def read_use(module: Module, text: str) -> None:
-    """Takes an import."""
-    if found := use_of(text):
-        module.names.update({here: (found.path, name) for here, name in found.names.items()})
-        if found.short:
-            module.files[found.short] = found.path
-
-
 def read(module: Module, lines: list[Line], around: list[str], mutual: bool) -> None:
     """Takes the declarations of a file, or of a module in it, with the parameters around them."""
     last = None
     for group in groups(lines):
         number, _, first = group[0]
-        if re.match(r"(pub )?use ", first):
-            read_use(module, " ".join(text for _, _, text in group))
+        if module.imports.take(" ".join(text for _, _, text in group)):
             continue
         words, before = words_of(group), set()
         while words and words[0] in MODIFIERS:
@@ -221,8 +210,8 @@ class House:
         if name in module.constructors:
             return module.items[module.constructors[name]], name
         for known in (name, f"◌{name}◌"):
-            if known in module.names:
-                file, other = module.names[known]
+            if known in module.imports.names:
+                file, other = module.imports.names[known]
                 return self.named(file, other, seen)
         return None
 
@@ -245,9 +234,9 @@ class House:
         if head == "Rattle":
             file, _, name = word.rpartition(".")
             return self.named(file, name), ""
-        if head in module.files:
+        if head in module.imports.files:
             name, dot, rest = rest.partition(".")
-            return self.named(module.files[head], name), dot + rest
+            return self.named(module.imports.files[head], name), dot + rest
         return self.meaning(module, head), dot + rest
 
     def told(self, found: Meaning, item: Item) -> str:

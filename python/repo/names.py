@@ -16,11 +16,11 @@ import re
 import sys
 from collections.abc import Iterator
 
-from repo.antt import crates, stands_on
+from repo.antt import crates, head_of, stands_on
 from wavescalar.programs import ROOT
 
 ALLOWED = ROOT / ".ci" / "checks" / "names.allowed"
-DEFINITION = re.compile(r"\s*(?:(?:abbrev|pub|unfoldable|opaque|record|data)\s+)+([A-Z]\w*)")
+CAPITAL = re.compile(r"[A-Z]\w*")
 TYPE = re.compile(r"\s*(?:pub(?:\(\w+\))?\s+)?(?:struct|enum|trait|type)\s+([A-Z]\w*)")
 FIELD = re.compile(r"\s+pub\s+[A-Z]\w* :")
 
@@ -31,11 +31,12 @@ def names_of(crate: str) -> Iterator[tuple[str, str, bool]]:
     for path in sorted(base.glob("specs/**/*.antt")):
         in_record = False
         for number, line in enumerate(path.read_text().splitlines(), 1):
+            head = head_of(line.strip())
             if line.strip() and not line.startswith((" ", ")")):
-                in_record = bool(re.match(r"(pub )?record\b", line))
-            name = DEFINITION.match(line)
-            if name and not (in_record and FIELD.match(line)) and not line.strip().startswith(("pub mod", "pub use")):
-                yield name[1], f"{path.relative_to(ROOT)}:{number}", False
+                in_record = head.kind == "record"
+            name = CAPITAL.match(head.name)
+            if name and head.is_marked and not (in_record and FIELD.match(line)):
+                yield name[0], f"{path.relative_to(ROOT)}:{number}", False
     for path in sorted(base.glob("src/**/*.rt")):
         for number, line in enumerate(path.read_text().splitlines(), 1):
             name = TYPE.match(line)

@@ -23,7 +23,7 @@ import textwrap
 from collections.abc import Sequence
 from dataclasses import dataclass, field
 
-from repo.antt import joined, use_of
+from repo.antt import Imports, head_of, joined
 from wavescalar.programs import ROOT
 
 CRATES = ROOT / "crates"
@@ -89,7 +89,6 @@ TOPICS = (
 )
 
 NAME = re.compile(r"[A-Za-z_][\w'-]*(?:\.[A-Za-z_][\w'-]*)*")
-HEAD = re.compile(r"(?:abbrev )?mutual$|(?:(?:abbrev|pub|unfoldable|opaque|record|data)\s+)+([\w'◌]\S*)")
 MEMBER = re.compile(r"  (?:(?:pub|record|data)\s+)+([\w']+)|  ([\w']+) :")
 BINDER = re.compile(r"[({]\s*((?:[\w']+\s+)+):")
 LAMBDA = re.compile(r"λ\s+([^.]*)\.")
@@ -117,8 +116,7 @@ class File:
     """A file of specs/, or the ghost part of one of src/: what its names stand for."""
 
     crate: str
-    names: dict[str, tuple[str, str]] = field(default_factory=dict)
-    aliases: dict[str, str] = field(default_factory=dict)
+    imports: Imports = field(default_factory=Imports)
     definitions: dict[str, Definition] = field(default_factory=dict)
 
 
@@ -130,23 +128,12 @@ Found = Definition | Declared
 Reached = dict[str, tuple[Definition, int]]
 
 
-def read_use(file: File, line: str) -> bool:
-    """Whether a line is an import; if so the file has its names."""
-    found = use_of(line)
-    if found:
-        file.names.update({here: (found.path, name) for here, name in found.names.items()})
-        if found.short and found.path.startswith("Rattle."):
-            file.aliases[found.short] = found.path
-    return found is not None
-
-
 def begin(file: File, name: str, number: int, line: str, params: str) -> Definition | None:
     """A definition that begins with this line, or nothing; the file has its name."""
-    found = HEAD.match(line)
-    if not found:
+    head = head_of(line)
+    if not head.is_marked:
         return None
-    kind = next((it for it in ("mutual", "record", "data") if it in found[0].split()), "abbrev")
-    now = Definition(file.crate, name, number, kind, [found[1]] if found[1] else [], [line], params)
+    now = Definition(file.crate, name, number, head.kind or "abbrev", [head.name] if head.name else [], [line], params)
     file.definitions.update({it: now for it in now.names})
     return now
 
@@ -171,9 +158,9 @@ def read_specs(path: pathlib.Path) -> File:
             continue
         if len(line) - len(line.lstrip()) < depth:
             depth, params = 0, ""
-        if read_use(file, line):
+        if file.imports.take(line):
             now = None
-        elif re.match(r"(pub )?module\b.*\bwhere$", line[depth:]):
+        elif head_of(line[depth:]).kind == "module":
             params, depth, now = params + line, depth + 2, None
         elif begun := begin(file, path.stem, number, line[depth:], params):
             now = begun
@@ -234,10 +221,10 @@ def bound(definition: Definition, name: str, text: str) -> set[str]:
 def resolve(file: File, word: str) -> Found | None:
     """What a name stands for: a definition, a type of the code, or nothing of this repository."""
     first, _, rest = word.partition(".")
-    if first in file.aliases:
-        module, name = file.aliases[first], rest.partition(".")[0]
-    elif first in file.names:
-        module, name = file.names[first]
+    if file.imports.files.get(first, "").startswith("Rattle."):
+        module, name = file.imports.files[first], rest.partition(".")[0]
+    elif first in file.imports.names:
+        module, name = file.imports.names[first]
     else:
         return file.definitions.get(first)
     parts = module.split(".")
@@ -256,7 +243,7 @@ def words_of(file: File, text: str) -> set[str]:
     fields of a `record { field = .. }`."""
     text = re.sub(r'codes "[^"]*"|--.*', " ", text)
     text = re.sub(r"([{;]\s*)[\w']+ = ", r"\1", text)
-    operators = {it for it in (*file.names, *file.definitions) if "◌" in it and it.strip("◌") in text.split()}
+    operators = {it for it in (*file.imports.names, *file.definitions) if "◌" in it and it.strip("◌") in text.split()}
     return operators | {it[0] for it in NAME.finditer(text) if text[it.start() - 1 : it.start()] != "."}
 
 
@@ -284,7 +271,7 @@ def of_function(name: str) -> list[Found]:
     lines = list(joined((CRATES / place).read_text()))
     file = File(place.split("/")[0])
     for _, line in lines:
-        read_use(file, line)
+        file.imports.take(line)
     start = next(at for at, (_, line) in enumerate(lines) if re.search(rf"\bfn {function}\b", line))
     end = next(at for at in range(start, len(lines)) if lines[at][1] in ("{", "{}"))
     clauses = "\n".join(line for _, line in lines[start:end] if not line.lstrip().startswith("//"))

@@ -25,7 +25,7 @@ import re
 import sys
 from collections.abc import Iterable, Iterator
 
-from repo.antt import crates, stands_on, use_of
+from repo.antt import Imports, crates, head_of, joined, stands_on
 from wavescalar.programs import ROOT
 
 CRATES = ROOT / "crates"
@@ -34,9 +34,6 @@ PAGES = ("THEOREM", "DEFINITIONS", "PROVED", "BACKEND")
 STATEMENTS = [f"Rattle.one_result.specs.{name}" for name in ("OneResult", "Others", "Sequential", "Ends")]
 
 WORD = re.compile(r"[^\s(){}\[\],;]+")
-USE = re.compile(r"^ *(?:pub )?(?:ghost )?use ([^;{]*?)(?: as (\S+?))?(?:\.\{([^}]*)\})?;?$", re.MULTILINE)
-HEAD = re.compile(r"(?:(?:pub|abbrev|unfoldable|opaque|private) )*(?:(record|data|ruleset) )?(\S+)(?: :(?= |$))?")
-MUTUAL = re.compile(r"(?:(?:pub|abbrev|unfoldable|opaque) )*mutual$")
 CONSTRUCTOR = re.compile(r"(?:pub )?[^\s(){}]+(?: :| *$)")
 QUOTED = re.compile(r'"(?:\\.|[^"\\])*"')
 SHOWN = re.compile(r"\{(\w+)")
@@ -84,21 +81,6 @@ class Item:
         return f"{self.path.relative_to(ROOT)}:{self.line}: {self.name}"
 
 
-class Imports:
-    """What short names of a file stand for: names of other files, and files."""
-
-    def __init__(self) -> None:
-        self.names: dict[str, tuple[str, str]] = {}
-        self.files: dict[str, str] = {}
-
-    def read(self, line: str) -> None:
-        """Takes an import, in one line."""
-        if found := use_of(line):
-            self.names.update({here: (found.path, name) for here, name in found.names.items()})
-            if found.short:
-                self.files[found.short] = found.path
-
-
 class Theory:
     """A file of specs/ or proofs/: its declarations, and what is imported."""
 
@@ -111,8 +93,8 @@ class Theory:
         self.answers: list[Item] = []
         text = path.read_text()
         text = COMMENT.sub("", text) if "--" in text else text
-        for found in USE.finditer(text):
-            self.imports.read(" ".join(found[0].split()))
+        for _, line in joined(text):
+            self.imports.take(line)
         self.read(text.splitlines())
         # The folder of a module of src/ has the module's name, that of a group of lemmas a capital one.
         _, _, folder, *_ = path.relative_to(CRATES).parts
@@ -152,7 +134,7 @@ class Theory:
             elif first == "unfolding":
                 if last:
                     last.text.append(text)
-            elif MUTUAL.match(text):
+            elif head_of(text).kind == "mutual":
                 levels.append(column + 2)
                 around.append("")
             elif first == "module":
@@ -164,14 +146,14 @@ class Theory:
 
     def declare(self, text: str, number: int, last: Item | None, before: list[str]) -> Item | None:
         """The item that a line begins, or the last one, of which it is one more equation."""
-        head = HEAD.match(text)
-        if not head or not (head[1] or head[0].endswith(":")):
+        head = head_of(text)
+        if not (head.kind or head.is_typed):
             if last:
                 last.text.append(text)
             return last
-        item = Item(self.crate, head[2], self.path, number, head[1] or "statement")
-        item.text = [*before, text[head.end() :]]
-        item.type = text[head.end() :]
+        item = Item(self.crate, head.name, self.path, number, head.kind or "statement")
+        item.text = [*before, head.rest]
+        item.type = head.rest
         if item.name in self.items:
             # Modules of a file may have the same name each: those are used together.
             item.uses.add(self.items[item.name])
@@ -202,7 +184,7 @@ class Source:
         self.scope: dict[str, Item] = {}
         text = RUST_COMMENT.sub("", path.read_text())
         for found in re.finditer(r"^ *(?:pub )?ghost use ([^;]*);", text, re.MULTILINE):
-            self.ghosts.read(f"use {' '.join(found[1].split())}")
+            self.ghosts.take(f"use {' '.join(found[1].split())}")
         for found in re.finditer(r"^(?:pub(?:\(\w+\))? )?use ([^;]*);", text, re.MULTILINE):
             self.imports.update(spread("".join(found[1].replace(" as ", " ").split("\n"))))
         self.read(text.splitlines())
