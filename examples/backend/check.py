@@ -17,7 +17,7 @@ HERE = pathlib.Path(__file__).resolve().parent
 PAGE = HERE.parent.parent / "docs" / "BACKEND.md"
 DO: dict[str, Callable[[int, int], int]] = {
     "add": lambda a, b: a + b, "sub": lambda a, b: a - b, "mul": lambda a, b: a * b,
-    "div": lambda a, b: a // b if b else 0, "rem": lambda a, b: a % b if b else a,
+    "div": lambda a, b: a // b if b else WORDS - 1, "rem": lambda a, b: a % b if b else a,
     "and": lambda a, b: a & b, "or": lambda a, b: a | b, "xor": lambda a, b: a ^ b,
     "shl": lambda a, b: a << b % 64, "shr": lambda a, b: a >> b % 64,
     "eq": lambda a, b: a == b, "ne": lambda a, b: a != b, "lt": lambda a, b: a < b,
