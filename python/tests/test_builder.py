@@ -190,10 +190,10 @@ class Building(unittest.TestCase):
             b.image()
 
         def strange() -> None:
-            (_, start), (_, other) = begun(), begun()
+            (b, start), (_, other) = begun(), begun()
             start.go(other)
             other.stop()
-            start.wave.block().stop(0)
+            b.image()
 
         def wide() -> None:
             begun()[1].const(1 << 64)
@@ -229,9 +229,29 @@ class Building(unittest.TestCase):
             _, start = begun()
             start.alu("plus", 1, 2)
 
-        for made in (no_exit, nothing_comes, no_pulse, twice, strange, wide, port, another_wave, pulse_of_another_wave,
-                     no_array, no_operand, nothing, no_operation):
-            with self.subTest(made.__name__), self.assertRaises(ws.BuildFault):
+        def no_block() -> None:
+            _, start = begun()
+            start.go("end")  # type: ignore[arg-type]
+
+        def no_instruction() -> None:
+            _, start = begun()
+            start.const(1).to("next")  # type: ignore[arg-type]
+
+        def no_advance() -> None:
+            _, start = begun()
+            start.pad(1, "next")  # type: ignore[arg-type]
+
+        def no_name() -> None:
+            ws.Builder().array(3, 3)  # type: ignore[arg-type]
+
+        for made, told in ((no_exit, "has no exit"), (nothing_comes, "nothing comes to port 0 of lonely"), (no_pulse, "has no pulse"),
+                           (twice, "two have the name pulse"), (strange, "in another program"), (wide, "no word of 64 bits"),
+                           (port, "has no port 1"), (another_wave, "in another wave: bring it in"),
+                           (pulse_of_another_wave, "in another wave"), (no_array, "'a' is no array"), (no_operand, "1.5 is no operand"),
+                           (nothing, "None is no operand"), (no_operation, "no operation 'plus'"), (no_block, "'end' is no block"),
+                           (no_instruction, "'next' is no instruction"), (no_advance, "'next' is no instruction"),
+                           (no_name, "3 is no name")):
+            with self.subTest(made.__name__), self.assertRaisesRegex(ws.BuildFault, told):
                 made()
 
     def test_library_stands_here(self) -> None:

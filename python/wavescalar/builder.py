@@ -36,6 +36,7 @@ class Value:
 
     def to(self, node: "Node", port: int = 0) -> None:
         """Sends the value to a port, from 0, of an instruction: most often to an `advance` that stands earlier."""
+        _is_node(node)
         if not 0 <= port < KINDS[node.op].ports:
             raise BuildFault(f"{node} has no port {port}")
         if self.home and node.block and node.op != "advance" and self.home.wave is not node.block.wave:
@@ -62,6 +63,12 @@ class Node:
 
     def __str__(self) -> str:
         return f"{self.name} ({self.op})" if self.name else self.op
+
+
+def _is_node(node: object) -> None:
+    """What is given where an instruction has to stand is one."""
+    if not isinstance(node, Node):
+        raise BuildFault(f"{node!r} is no instruction")
 
 
 class Result(Node, Value):
@@ -255,6 +262,8 @@ class BlockBuilder:
         """A pad, from 0 to 15, that gives to port 0 of these advances of the block."""
         if number in self.pads:
             raise BuildFault(f"{self} has a pad {number} already")
+        for node in nodes:
+            _is_node(node)
         self.pads[number] = [(node, 0) for node in nodes]
 
     def arrive(self, pad: int, name: str | None = None) -> Result:
@@ -268,6 +277,9 @@ class BlockBuilder:
             raise BuildFault(f"{self} has an exit already")
         if selector is not None and not isinstance(selector, Result):
             raise BuildFault(f"the selector of {self} is no result of an instruction: give it a merge")
+        for target in targets:
+            if not isinstance(target, BlockBuilder):
+                raise BuildFault(f"{target!r} is no block to which {self} could go")
         self.leaves = (kind, selector, targets)
 
     def go(self, target: "BlockBuilder") -> None:
@@ -342,8 +354,8 @@ class Builder:
 
     def array(self, name: str, length: int) -> ArrayHandle:
         """An array of so many cells of 64 bits, which `run(.., memory=True)` shows."""
-        if not NAME.fullmatch(name):
-            raise BuildFault(f"{name} is no name")
+        if not isinstance(name, str) or not NAME.fullmatch(name):
+            raise BuildFault(f"{name!r} is no name")
         return self._array(name, length)
 
     def hidden(self, length: int) -> ArrayHandle:
