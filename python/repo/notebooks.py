@@ -67,7 +67,7 @@ def executed(notebook: Notebook, name: str) -> Notebook:
         file.write_text(json.dumps(notebook))
         try:
             made = convert(file, pathlib.Path(room), "--to", "notebook", "--execute", "--allow-errors",
-                           f"--ExecutePreprocessor.timeout={SECONDS}")
+                           f"--ExecutePreprocessor.timeout={SECONDS}", f"--ExecutePreprocessor.startup_timeout={SECONDS}")
             return dict(json.loads(made.read_text()))
         finally:
             file.unlink()

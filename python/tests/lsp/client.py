@@ -12,7 +12,7 @@ from typing import Any
 
 from tests.places import LIBRARY, WSC
 
-PATIENCE = 20.0  # seconds for an answer
+PATIENCE = 120.0  # seconds for an answer
 
 
 class Client:

@@ -7,10 +7,10 @@ import time
 import unittest
 from typing import Any
 
-from tests.lsp.client import Client
-from tests.places import ROOT, WSC, answer
+from tests.lsp.client import PATIENCE, Client
+from tests.places import ROOT, WSC, WSL, answer, needs_linker
 from wavescalar.lsp.documents import Document
-from wavescalar.lsp.faults import faults_of
+from wavescalar.lsp.faults import Programs, faults_of
 from wavescalar.lsp.jobs import JobText, parts_of
 from wavescalar.lsp.layout import NoLayout, formatted
 
@@ -71,11 +71,11 @@ class Life(Served):
 
     def test_exit_without_shutdown(self) -> None:
         self.started().tell("exit")
-        self.assertEqual(self.client.server.wait(timeout=10), 1)
+        self.assertEqual(self.client.server.wait(timeout=PATIENCE), 1)
 
     def test_end_of_input(self) -> None:
         self.started().sink.close()
-        self.assertEqual(self.client.server.wait(timeout=10), 1)
+        self.assertEqual(self.client.server.wait(timeout=PATIENCE), 1)
 
     def test_order_of_requests(self) -> None:
         self.assertEqual(self.client.at("hover", JOB, 0, 0)[0], -32002)
@@ -85,7 +85,7 @@ class Life(Served):
         self.assertIsNone(self.client.ask("shutdown"))
         self.assertEqual(self.client.at("hover", JOB, 0, 0)[0], -32600)
         self.client.tell("exit")
-        self.assertEqual(self.client.server.wait(timeout=10), 0)
+        self.assertEqual(self.client.server.wait(timeout=PATIENCE), 0)
 
     def test_bad_messages(self) -> None:
         """Each is answered, and the server goes on."""
@@ -93,11 +93,11 @@ class Life(Served):
         for body, code in ((b"{", -32700), (b"\xff\xfe", -32700), (b"[1, 2]", -32700), (b"{}", -32600),
                            (b"[" * 100000, -32700), (b'{"id": 1, "method": 7}', -32600)):
             client.body(body)
-            self.assertEqual(client.answers.get(timeout=10)["error"]["code"], code, body[:20])
+            self.assertEqual(client.answers.get(timeout=PATIENCE)["error"]["code"], code, body[:20])
         client.raw(b"Content-Length: many\r\n\r\n")
-        self.assertEqual(client.answers.get(timeout=10)["error"]["code"], -32700)
+        self.assertEqual(client.answers.get(timeout=PATIENCE)["error"]["code"], -32700)
         client.raw(b"Content-Type: text\r\n\r\n")
-        self.assertEqual(client.answers.get(timeout=10)["error"]["code"], -32700)
+        self.assertEqual(client.answers.get(timeout=PATIENCE)["error"]["code"], -32700)
         self.assertEqual(client.ask("textDocument/dance")[0], -32601)
         self.assertEqual(client.ask("textDocument/hover")[0], -32602)
         self.assertEqual(client.at("hover", "file:///nowhere.job", 0, 0)[0], -32602)
@@ -328,7 +328,7 @@ class BesideTheProgram(unittest.TestCase):
             if len(parts_of(text)) > 1 or "\ufffd" in text or len(text) > 200000:
                 continue
             said = answer(["format"], text).strip()
-            found = faults_of(Document("a.job", 1, "job", text), WSC)
+            found = faults_of(Document("a.job", 1, "job", text), Programs(WSC, WSL))
             rules = {it["code"] for it in found}
             if said.startswith("refused "):
                 self.assertIn(said.split()[2] if ":" in said else said.split()[1], rules, place)

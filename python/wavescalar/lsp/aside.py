@@ -84,10 +84,10 @@ class Aside:
         if not self.is_alive:
             self._give_up()
 
-    def cancel(self, number: int | str) -> None:
+    def cancel(self, number: Any) -> None:
         """Passes on that nobody waits for an answer any more."""
         with self._lock:
-            is_waiting = number in self._waiting
+            is_waiting = isinstance(number, (int, str)) and number in self._waiting
         if is_waiting:
             self._say(method="$/cancelRequest", params={"id": number})
 

@@ -114,6 +114,8 @@ class Ahead:
                     if isinstance(number, (int, str)):
                         self._cancelled.add(number)
             self._read.put(read)
+            if message.get("method") == "exit":
+                return  # nothing comes behind it, and Python can't end while its standard input is read
 
     def take(self) -> Read:
         """The next message. Raises BadMessage and Closed as `wire.receive`."""
@@ -242,6 +244,9 @@ class Server:
 
     def _note(self, method: str, params: Any, body: bytes) -> None:
         """A notification; one that can't be taken is told to standard error alone, since it has no answer."""
+        if method == "$/cancelRequest" and isinstance(params, dict):
+            for aside in self._asides.values():
+                aside.cancel(params.get("id"))
         act = self._notes.get(method)
         if act is None or self._state != "ready":
             return
