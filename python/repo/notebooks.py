@@ -46,13 +46,13 @@ def with_jupyter() -> str | None:
 
 
 def convert(file: pathlib.Path, into: pathlib.Path, *words: str) -> pathlib.Path:
-    """Calls nbconvert on a file: what it has written. The cells run in the folder of the notebooks."""
+    """Calls nbconvert on a file: what it has written. The cells run where it stands."""
     python = with_jupyter()
     if python is None:
         raise Wrong("there is no Jupyter (Debian: python3-nbconvert, python3-ipykernel)")
     paths = os.pathsep.join(filter(None, (str(ROOT / "python"), os.environ.get("PYTHONPATH"))))
     environment = {**os.environ, "PYTHONPATH": paths, "PYDEVD_DISABLE_FILE_VALIDATION": "1"}
-    done = subprocess.run([python, "-m", "nbconvert", *words, "--output-dir", str(into), str(file)], cwd=HERE, env=environment,
+    done = subprocess.run([python, "-m", "nbconvert", *words, "--output-dir", str(into), str(file)], cwd=file.parent, env=environment,
                           capture_output=True, text=True, check=False)
     if done.returncode:
         raise Wrong(f"{file.name}: nbconvert ended with status {done.returncode}:\n{done.stderr[-2000:]}")
@@ -61,16 +61,18 @@ def convert(file: pathlib.Path, into: pathlib.Path, *words: str) -> pathlib.Path
 
 def executed(notebook: Notebook, name: str) -> Notebook:
     """The notebook with what its cells answer; an error of a cell is an output."""
-    with tempfile.TemporaryDirectory(dir=HERE, prefix=".check-") as room:
-        # the cells run where the file stands, from which their paths count
-        file = HERE / f".{pathlib.Path(room).name[1:]}-{name}"
+    with tempfile.TemporaryDirectory(prefix="wsc-notebooks-") as folder:
+        # the cells run where the file stands, from which their paths count: beside links to the other examples
+        room = pathlib.Path(folder)
+        for it in HERE.parent.iterdir():
+            if it != HERE:
+                (room / it.name).symlink_to(it)
+        file = room / HERE.name / name
+        file.parent.mkdir()
         file.write_text(json.dumps(notebook))
-        try:
-            made = convert(file, pathlib.Path(room), "--to", "notebook", "--execute", "--allow-errors",
-                           f"--ExecutePreprocessor.timeout={SECONDS}", f"--ExecutePreprocessor.startup_timeout={SECONDS}")
-            return dict(json.loads(made.read_text()))
-        finally:
-            file.unlink()
+        made = convert(file, room / "made", "--to", "notebook", "--execute", "--allow-errors",
+                       f"--ExecutePreprocessor.timeout={SECONDS}", f"--ExecutePreprocessor.startup_timeout={SECONDS}")
+        return dict(json.loads(made.read_text()))
 
 
 def text_of(part: Any) -> str:

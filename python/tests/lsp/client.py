@@ -12,7 +12,7 @@ from typing import Any
 
 from tests.places import LIBRARY, WSC
 
-PATIENCE = 120.0  # seconds for an answer
+PATIENCE = 300.0  # seconds for an answer: a loaded machine takes long
 
 
 class Client:

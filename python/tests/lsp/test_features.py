@@ -233,7 +233,7 @@ def test_a_large_text(client: Client) -> None:
     text = large(400000)
     client.open(BIG, text)
     told = client.at("hover", BIG, 5, 8)["contents"]["value"]
-    assert "adds" in told or "x + y" in told
+    assert "it spreads long lists" in told
     found = client.at("completion", BIG, 5, 8)
     assert {"add", "merge"} <= {it["label"] for it in (found["items"] if isinstance(found, dict) else found)}
     client.open(JOB, SUM)
@@ -241,12 +241,12 @@ def test_a_large_text(client: Client) -> None:
     assert client.marks(JOB)["diagnostics"] == []
     assert client.marks(BIG)["diagnostics"] == []
     assert starts(client.at("definition", BIG, 6, 1)) == [(6, 0)]
-    client.change(BIG, 2, {"range": {"start": {"line": 5, "character": 6}, "end": {"line": 5, "character": 9}}, "text": "ad"})
+    client.change(BIG, 2, {"range": {"start": {"line": 5, "character": 10}, "end": {"line": 5, "character": 11}}, "text": ""})
     marks = client.marks(BIG)
-    assert (marks["version"], places(marks)[0]) == (2, (5, 6, 8, "line"))
+    assert (marks["version"], places(marks)[0]) == (2, (5, 6, 10, "line"))
     found = client.ask("textDocument/codeAction", textDocument={"uri": BIG}, range=marks["diagnostics"][0]["range"],
                        context={"diagnostics": marks["diagnostics"][:1]})
-    assert "write `add`" in [it["title"] for it in found]
+    assert "write `merge`" in [it["title"] for it in found]
     client.tell("textDocument/didClose", textDocument={"uri": BIG})
     assert client.marks(BIG)["diagnostics"] == []
     assert client.end() == 0
