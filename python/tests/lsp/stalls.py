@@ -13,10 +13,12 @@ import statistics
 import sys
 import time
 from collections import defaultdict
+from functools import partial
 from typing import Any, Callable
 
 from tests.lsp.client import Client
-from tests.lsp.test_features import BIG, JOB, SUM, large
+from tests.lsp.test_features import BIG, large
+from tests.lsp.test_protocol import JOB, SUM
 
 CHANGES, LINE, LINES = 40, 3000, 60
 ROUNDS = 1000.0  # milliseconds of a second
@@ -49,13 +51,20 @@ def main() -> int:
     client.open(JOB, SUM)
     client.marks(JOB)
     begun = time.perf_counter()
-    timed("open", lambda: (client.open(BIG, text), client.at("hover", JOB, 9, 9)))
+
+    def opened() -> None:
+        client.open(BIG, text)
+        client.at("hover", JOB, 9, 9)
+
+    def changed(version: int) -> None:
+        client.change(BIG, version, {"range": {"start": place, "end": place}, "text": "#"})
+        client.at("hover", JOB, 9, 9)
+
+    timed("open", opened)
     place = {"line": LINE, "character": 0}
     whole = {"start": place, "end": {"line": LINE + LINES, "character": 0}}
     for count in range(CHANGES):
-        edit = {"range": {"start": place, "end": place}, "text": "#"}
-        timed("change, and a hover in a small text", lambda: (
-            client.change(BIG, count + 2, edit), client.at("hover", JOB, 9, 9)))
+        timed("change, and a hover in a small text", partial(changed, count + 2))
         timed("hover", lambda: client.at("hover", BIG, LINE + 1, 12))
         timed("completion", lambda: client.at("completion", BIG, LINE + 1, 12))
         timed("colours", lambda: client.ask("textDocument/semanticTokens/range", textDocument={"uri": BIG}, range=whole))

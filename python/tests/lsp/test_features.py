@@ -289,8 +289,9 @@ def test_hard_messages(client: Client) -> None:
         for method in ("hover", "definition", "completion", "prepareRename"):
             made = client.at(method, JOB, line, character)
             assert not isinstance(made, tuple), (method, line, character, made)
-    for params in (None, [], {"textDocument": None}, {"textDocument": {"uri": 7}}, {"textDocument": {"uri": JOB}},
-                   {"textDocument": {"uri": JOB}, "position": {"line": "a", "character": None}}):
+    wrong: tuple[Any, ...] = (None, [], {"textDocument": None}, {"textDocument": {"uri": 7}}, {"textDocument": {"uri": JOB}},
+                   {"textDocument": {"uri": JOB}, "position": {"line": "a", "character": None}})
+    for params in wrong:
         for method in ("hover", "rename", "codeAction", "completion"):
             client.number += 1
             client.send(id=client.number, method=f"textDocument/{method}", params=params)

@@ -8,7 +8,7 @@ import unittest
 from typing import Any
 
 from tests.lsp.client import PATIENCE, Client
-from tests.places import ROOT, WSC, WSL, answer, needs_linker
+from tests.places import ROOT, WSC, WSL, answer
 from wavescalar.lsp.documents import Document
 from wavescalar.lsp.faults import Programs, faults_of
 from wavescalar.lsp.jobs import JobText, parts_of

@@ -24,9 +24,8 @@ class Whole(HTMLParser):
     def handle_starttag(self, tag: str, attrs: list[tuple[str, str | None]]) -> None:
         if tag not in VOID:
             self.open.append(tag)
-        told = dict(attrs)
-        self.links += [told["href"]] if tag == "a" and told.get("href") else []
-        self.sources += [told["src"]] if told.get("src") else []
+        self.links += [value for name, value in attrs if (tag, name) == ("a", "href") and value]
+        self.sources += [value for name, value in attrs if name == "src" and value]
 
     def handle_endtag(self, tag: str) -> None:
         assert self.open and self.open.pop() == tag, f"</{tag}> at {self.getpos()}"

@@ -10,6 +10,7 @@ import re
 from bisect import bisect_right
 from dataclasses import dataclass
 from functools import cached_property
+from itertools import accumulate
 from pathlib import PurePosixPath
 from typing import Any, Literal
 from urllib.parse import unquote, urlparse
@@ -40,6 +41,16 @@ def language_of(uri: str, named: str, text: str) -> Language:
     return "job" if kind_of(text) == "job" else "assembly"
 
 
+def _fed(text: str) -> list[int]:
+    """Where the lines that end behind `\\n` alone begin."""
+    return list(accumulate(map((1).__add__, map(len, text.split("\n")[:-1])), initial=0))
+
+
+def _starts(text: str) -> list[int]:
+    """Where the lines of the protocol begin."""
+    return [0, *(found.end() for found in LINE_END.finditer(text))] if "\r" in text else _fed(text)
+
+
 @dataclass(frozen=True)
 class Document:
     """A text in one version. uri: the editor's name of the file; version: the editor's count of changes."""
@@ -52,14 +63,14 @@ class Document:
     @cached_property
     def starts(self) -> list[int]:
         """Where each line of the protocol begins: lines end behind `\\n`, `\\r\\n` or `\\r`."""
-        return [0, *(found.end() for found in LINE_END.finditer(self.text))]
+        return _starts(self.text)
 
     @cached_property
     def own_starts(self) -> list[int]:
         """Where each line of the languages begins, which ends behind `\\n` alone."""
         if "\r" not in self.text:
             return self.starts
-        return [0, *(found.end() for found in re.finditer("\n", self.text))]
+        return _fed(self.text)
 
     @property
     def is_draft(self) -> bool:

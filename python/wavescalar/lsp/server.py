@@ -245,8 +245,8 @@ class Server:
     def _note(self, method: str, params: Any, body: bytes) -> None:
         """A notification; one that can't be taken is told to standard error alone, since it has no answer."""
         if method == "$/cancelRequest" and isinstance(params, dict):
-            for aside in self._asides.values():
-                aside.cancel(params.get("id"))
+            for each in self._asides.values():
+                each.cancel(params.get("id"))
         act = self._notes.get(method)
         if act is None or self._state != "ready":
             return
