@@ -22,6 +22,7 @@ PLACE = ROOT / "docs" / "man"
 LINKER = "wsc-link"
 WHAT = {
     "wsc-lint": "say all faults of a WaveScalar assembly at once",
+    "wsc-lsp": "serve editors the diagnostics and names of WaveScalar programs",
     LINKER: "give the memory operations of a WaveScalar draft their notes",
     "wsc-names": "give a linked image the names of its draft",
     "wsc-plan": "plan timed runs of many jobs on many machines, and gather them",

@@ -108,6 +108,16 @@ class Texts(unittest.TestCase):
         self.assertIn(answer(["check"], text).strip(), [it.check for it in ws.findings(text)])
         self.assertEqual(ws.findings(text.partition("q:")[0] + "q: merge -> r.0\nr: merge ->\nstop\nend\n"), [])
 
+    def test_labels_that_are_none(self) -> None:
+        """A destination whose label isn't one of the version is a fault of its line, and of no line behind it."""
+        for version, label in ((1, "2x.0"), (1, "x.0"), (1, "2.0 2y.0"), (2, "2x.0"), (2, "2.0 2y.0")):
+            text = f"wavescalar {version}\nwave 1\nblock 1\npad 0 1.0\n1: advance -> {label}\n2: halt <., 1, .>.1\nstop\nend\n"
+            with self.subTest(version=version, label=label):
+                self.assertEqual([(it.line, it.rule) for it in ws.findings(text)], [(5, "line")])
+                self.assertEqual(answer(["check"], text).strip(), "refused 5 line")
+                with self.assertRaises(ws.Refused):
+                    ws.read(text)
+
 
 if __name__ == "__main__":
     unittest.main()

@@ -16,7 +16,8 @@ from typing import NoReturn, Union
 from wavescalar.isa import KINDS, LIMITS, NOTES, WORDS
 
 LEXEME = re.compile(r"[A-Za-z_][A-Za-z0-9_]*|[0-9]+|->|[^ \t]")
-LABEL, COUNT = "[A-Za-z0-9_]+", "(?:0|[1-9][0-9]{0,8})"
+LABEL, COUNT = "(?:[A-Za-z_][A-Za-z0-9_]*|[0-9]+)", "(?:0|[1-9][0-9]{0,8})"
+NAMED = re.compile("[A-Za-z_]")
 DESTS = rf"(?: {LABEL}\.[0-2])*"
 # An instruction as it is printed: label, word, number, the four parts of a note, the lists with the marks before them.
 # The last group is any other line.
@@ -268,6 +269,8 @@ class Text:
             if self.version == 1 or label[0].isdigit() or label in self.named_instrs or len(label) > 64:
                 return False
             name = label
+        if self.version == 1 and NAMED.search(first + second):
+            return False
         if arg:
             least, below = RANGES.get(op) or (1, len(self.arrays) + 1)
             if not least <= int(arg) < below:
@@ -339,6 +342,7 @@ class Text:
                 self.stray()
                 name = None if is_number(head) else head
                 self.instruction(Instr(begin + 1, name, "?", None, None, self.blocks[-1], at, 1), head)
+                self.wanted["instruction"] = int(head) + 1 if is_number(head) else self.wanted["instruction"] + 1
             self.state = "instrs"
         elif head in ("go", "if", "send", "stop") and self.state in BODY:
             self.state = "next"

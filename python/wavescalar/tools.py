@@ -10,7 +10,7 @@ from __future__ import annotations
 import re
 from collections.abc import Iterable
 from dataclasses import dataclass
-from typing import Literal, Union, cast
+from typing import Any, Literal, Union, cast
 
 from wavescalar.diagnose.findings import faults_of
 from wavescalar.faults import CallFault, Fault, Refused
@@ -37,6 +37,7 @@ class Run:
     firings: how many instances fired; None after a fault.
     handed: the words that the run handed to port 1, up to the first that couldn't be written.
     cycles: of `grid`, how many it took; None after a fault, and of other runs.
+    turns: of `Job.plain`, how many statements it made; None after a fault, and of other runs.
     """
 
     words: tuple[int, ...]
@@ -46,6 +47,7 @@ class Run:
     firings: int | None = None
     handed: tuple[int, ...] = ()
     cycles: int | None = None
+    turns: int | None = None
 
     def cells(self, name: str) -> tuple[int, ...]:
         """The cells of the first array with this name; KeyError where none was shown."""
@@ -53,6 +55,10 @@ class Run:
             if own == name:
                 return cells
         raise KeyError(name)
+
+    def _repr_html_(self) -> str:
+        from wavescalar.notebook.show import html_of_run
+        return html_of_run(self)
 
 
 @dataclass(frozen=True)
@@ -92,6 +98,13 @@ class Trace:
 
     def __str__(self) -> str:
         return "".join([str(self.image), *(f"{line}\n" for line in ("%input", *self.input, "%trace", *self.events))])
+
+    def _repr_html_(self) -> str:
+        from wavescalar.notebook.show import html_of, overlap
+        return html_of(overlap(str(self)))
+
+    def _repr_pretty_(self, printer: Any, cycle: bool) -> None:
+        printer.text(f"Trace of {len(self.events)} events, {self.ending or 'no ending'}")
 
 
 @dataclass(frozen=True)
@@ -233,7 +246,8 @@ def _run(command: list[str], budget: int | None, memory: bool, text: str, wsc: s
     words += [] if budget is None else ["--budget", str(budget)]
     words += ["--memory"] if memory else []
     status, out, err = _call(_wsc(wsc), words, text, timeout)
-    return status, out.splitlines(), tuple(int(line) for line in err.split())
+    # the wrapper says there, in words, that it builds the program
+    return status, out.splitlines(), tuple(int(line) for line in err.splitlines() if line.isdigit())
 
 
 def _told(lines: list[str], handed: tuple[int, ...]) -> Run:
@@ -247,10 +261,10 @@ def _told(lines: list[str], handed: tuple[int, ...]) -> Run:
     for line in lines[count + 1 :]:
         if found := re.fullmatch(r"(\w+) = \[(.*)\]", line):
             shown.append((found[1], tuple(map(int, found[2].split(", "))) if found[2] else ()))
-        elif found := re.fullmatch(r"(firings|cycles) (\d+)", line):
+        elif found := re.fullmatch(r"(firings|cycles|turns) (\d+)", line):
             counts[found[1]] = int(found[2])
     return Run(tuple(map(int, lines[:count])), cast(Ending, ending), where or None, tuple(shown),
-               counts.get("firings"), handed, counts.get("cycles"))
+               counts.get("firings"), handed, counts.get("cycles"), counts.get("turns"))
 
 
 def _one(command: list[str], budget: int | None, memory: bool, text: str, wsc: str | None,

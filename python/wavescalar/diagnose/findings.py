@@ -11,7 +11,7 @@ def words_of(lines: list[str], start: int) -> list[Finding]:
     """Faults of the input section: an item that is no word."""
     for at, line in enumerate(lines, start):
         for item in line.split():
-            if not (item.isascii() and item.isdigit() and int(item) < 1 << 64):
+            if not (item.isascii() and item.isdigit() and len(item.lstrip("0")) <= 20 and int(item) < 1 << 64):
                 column = line.index(item) + 1
                 return [Finding(at, column, "input", f"`{item}` is no number below 2^64", "",
                               f"refused {at}:{column} input")]
