@@ -17,6 +17,7 @@ from repo.site.pages import made as pages_made
 from wavescalar.cli import Line, whole
 from wavescalar.diagnose import refusals
 from wavescalar.faults import Fault
+from wavescalar.isa import RESERVED
 from wavescalar.programs import ROOT
 from wavescalar.viewer.serve import EXAMPLES, FIRST, HERE as VIEW, LONGEST, WORDS, frame
 from wavescalar.viewer.view import SCRIPTS, written
@@ -74,7 +75,7 @@ def front(programs: list[str]) -> str:
 def why() -> str:
     """What each word of a refusal says, and its hints, as a module of the page."""
     told = "".join(f"export const {name} = {json.dumps(getattr(refusals, name))};\n" for name in TEXTS_OF_REFUSALS)
-    return f"{told}export const RESERVED = {json.dumps(sorted(refusals.RESERVED))};\n"
+    return f"{told}export const RESERVED = {json.dumps(sorted(RESERVED))};\n"
 
 
 def offline(files: dict[str, bytes]) -> bytes:
