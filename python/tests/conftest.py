@@ -20,6 +20,7 @@ def pytest_addoption(parser: pytest.Parser) -> None:
     more.addoption("--machines", type=int, default=3, help="machines at random for each text that isn't long (3)")
     more.addoption("--generated", type=int, default=2, help="so many jobs of wsc gen more (2)")
     more.addoption("--seed", type=int, default=1, help="begins the numbers of these machines (1)")
+    more.addoption("--every", type=int, default=1, help="of the site one line, text or event of so many (1)")
 
 
 def pytest_configure(config: pytest.Config) -> None:

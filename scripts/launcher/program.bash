@@ -67,7 +67,7 @@ find_program() {
     [ -z "${WSC_PROVED-}" ] || no_program "no proved program of these sources is there; $proves makes it"
     if ! is_current "$kept/$own" && ! { in_cache && is_current "$kept/$own"; }; then
         . "$top/scripts/launcher/build.bash"
-        build
+        build "$own" link
     # Standard error also takes the words that a job gives to port 1, so a later call says so to a terminal alone.
     elif [ -t 2 ]; then
         echo "$own: this program is built without proof; $proves proves it" >&2

@@ -99,3 +99,10 @@ function editKey(e) {
   else if (e.key === "}" && closing()) e.preventDefault();
 }
 source.addEventListener("keydown", editKey);
+// For fingers, the signs that their keyboards hide.
+for (const sign of "{}[]();=+-*<>%#") {
+  const it = document.createElement("button");
+  it.textContent = sign;
+  it.onpointerdown = e => { e.preventDefault(); replace(source.selectionStart, source.selectionEnd, sign); };
+  $("symbols").append(it);
+}

@@ -1,7 +1,7 @@
 """Orders in which a run's events may happen, by the words that name them.
 
 `trace` is the order of `wsc trace`, `rounds` all that can happen at once, `grid-E-W` the cycles of a grid of E elements
-with W waves in flight, `random-S` an order that is drawn by lot from the seed S. All but the first are made by the
+with W waves in flight, `random-S` a random order from the seed S. All but the first are made by the
 machine of the viewer, and `wsc replay` is asked whether each of their events is enabled, and what they print.
 """
 
@@ -52,12 +52,12 @@ def title_of(name: str) -> str:
     if kind == "grid":
         return f"clocked grid: {counted(numbers[0], 'element')}, {counted(numbers[1], 'wave')} in flight"
     if kind == "random":
-        return f"drawn by lot, seed {numbers[0]}"
+        return f"at random, seed {numbers[0]}"
     return "the order of wsc trace" if kind == "trace" else "all that can happen at once, in rounds"
 
 
 def by_lot(image: Image, most: int, seed: int) -> tuple[list[Any], list[Step], str]:
-    """As `steps` of machine.py, with at most so many events, each drawn by lot from those that are enabled."""
+    """As `steps` of machine.py, with at most so many events, each chosen at random among those that are enabled."""
     machine, lot = Machine(image), random.Random(seed)
     made: list[Step] = []
     while not machine.faulted and len(made) < most:

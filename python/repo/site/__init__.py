@@ -1,0 +1,1 @@
+"""The site of ./web: the tool chain in a page."""

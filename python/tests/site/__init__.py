@@ -1,0 +1,1 @@
+"""The site of ./web: its modules, its scripts and its pages."""
