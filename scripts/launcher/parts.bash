@@ -12,6 +12,6 @@ done
 parts() {
     printf '%s\n' wsc scripts/launcher/{program,front,words}.bash scripts/launcher/help.txt "${tools[@]/#/python/}"
     (cd "$top" && find python/wavescalar examples -maxdepth 4 -type f \( -path 'python/*' \( -name '*.py' -o -name '*.js' \
-        -o -name '*.css' -o -name '*.html' -o -name '*.toml' -o -name py.typed \) -o -path 'examples/*.job' \
+        -o -name '*.css' -o -name '*.html' -o -name '*.toml' -o -name '*.[ch]' -o -name py.typed \) -o -path 'examples/*.job' \
         ! -path 'examples/*/*' -o -path 'examples/viewer/*.job' \) | LC_ALL=C sort)
 }
