@@ -6,9 +6,9 @@ import random
 from collections.abc import Callable
 
 import pytest
-from tests.c.meaning import value_of
 from wavescalar.c import arith
 from wavescalar.c.flow import Block, Code, Operand, Var
+from wavescalar.c.follow import value_of
 
 WIDTHS = [1, 3, 8, 16, 31, 32, 33, 48, 63, 64]
 
@@ -53,6 +53,9 @@ def test_compare(predicate: str, width: int) -> None:
             wanted = int(meaning(a, b))
             assert computed(lambda c, w: arith.compare(c, predicate, w[0], w[1], width), [x, y]) == wanted
             assert computed(lambda c, w: arith.compare(c, predicate, w[0], y, width), [x]) == wanted
+            words = [arith.extended_constant(number, width) for number in (x, y)]
+            assert computed(lambda c, w: arith.compare_extended(c, predicate, w[0], w[1], width), words) == wanted
+            assert computed(lambda c, w: arith.compare_extended(c, predicate, w[0], words[1], width), words[:1]) == wanted
 
 
 @pytest.mark.parametrize("width", WIDTHS)

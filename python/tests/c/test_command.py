@@ -2,6 +2,7 @@
 
 from __future__ import annotations
 
+import re
 import subprocess
 import sys
 from pathlib import Path
@@ -73,6 +74,22 @@ def test_the_native_run_beside(tmp_path: Path) -> None:
     (tmp_path / "c.c").write_text("#ifndef __WAVESCALAR__\n#include <signal.h>\n#endif\nint main(void) {\n"
                                   "#ifndef __WAVESCALAR__\nraise(SIGTERM);\n#endif\n}\n")
     assert call("c.c", "--verify", cwd=tmp_path)[0::2] == (9, "wscc: natively c.c is ended by signal 15\n")
+
+
+PAST = """#include "wavescalar.h"
+static int a[4], b[4];
+int main(void) {
+  b[ws_read()] = 7;
+  ws_print((unsigned long)(a[1] + b[2]));
+}
+"""
+
+
+def test_lines(tmp_path: Path) -> None:
+    (tmp_path / "a.c").write_text(PAST)
+    (tmp_path / "words").write_text("5\n")
+    assert call("a.c", "--run", "--input", "words", cwd=tmp_path) == (8, "fault b\n", "a.c:4: past the end of b\n")
+    assert re.search(r"^store_L4: store \d+ ", call("a.c", "-g", cwd=tmp_path)[1], re.MULTILINE)
 
 
 def test_headers(tmp_path: Path) -> None:

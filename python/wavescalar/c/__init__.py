@@ -4,9 +4,9 @@
     print(*run(image, [3, 1, 2]).words)
 
 clang and opt: clang.py, whole.py. IR as data: llvm_c.py, reader.py, ir.py, recursion.py, wide.py. Memory: objects.py,
-cells.py, copies.py. Words: widths.py, arith.py. The flow graph: flow.py; checks.py, words.py, memory.py and lower.py
-make it; cleanup.py, hoist.py and keep.py make it better. Waves: order.py, live.py, cut.py, waves.py. `wscc`:
-command.py.
+cells.py, copies.py. Words: widths.py, signs.py, arith.py. The flow graph: flow.py; checks.py, words.py, memory.py and
+lower.py make it; cleanup.py, joins.py, hoist.py, unroll.py and keep.py make it better; follow.py follows it. Waves:
+order.py, live.py, rename.py, cut.py, share.py, waves.py. `wscc`: command.py.
 """
 
 from __future__ import annotations
@@ -38,18 +38,36 @@ def compile_c(source: Path, level: int = 1, words: Sequence[str] = (), result: b
 
 def compile_ir(text: bytes, file: str, version: int = 14, result: bool = False) -> Image:
     """The draft of IR, as text or bitcode, with all inlined into `main` that can be. version: LLVM's major one."""
+    return draft_of(optimized(text, file, version, result))
+
+
+def optimized(text: bytes, file: str, version: int = 14, result: bool = False) -> Graph:
+    """The flow graph of such IR, as it is drafted."""
     from wavescalar.c.cleanup import tidy
     from wavescalar.c.hoist import hoist
+    from wavescalar.c.joins import part
     from wavescalar.c.keep import keep
-    from wavescalar.c.waves import draft
+    from wavescalar.c.unroll import unroll
 
     with _deep_stack():
         graph = lowered(text, file, version, result)
         tidy(graph)
+        part(graph)
+        tidy(graph)
         hoist(graph)
+        unroll(graph)
+        tidy(graph)
         keep(graph)
         tidy(graph)
-        return draft(graph)
+        return graph
+
+
+def draft_of(graph: Graph, lines: bool = False) -> Image:
+    """The draft of a flow graph. lines: whether names of instructions tell their lines of C."""
+    from wavescalar.c.waves import draft
+
+    with _deep_stack():
+        return draft(graph, lines)
 
 
 @contextmanager

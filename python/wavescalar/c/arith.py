@@ -60,6 +60,15 @@ def compare(code: Code, predicate: str, x: Operand, y: Operand, width: int) -> O
     return code.alu(predicate[1:], code.alu("xor", x, sign), code.alu("xor", y, sign))
 
 
+def compare_extended(code: Code, predicate: str, x: Operand, y: Operand, width: int) -> Operand:
+    """The same of extended words, which are in the same order without signs too. The difference of two of fewer than 64
+    bits fits a word: its sign tells which is less."""
+    if predicate[0] != "s" or width == 64 or isinstance(x, int) or isinstance(y, int):
+        return compare(code, predicate, x, y, 64)
+    less, other = (x, y) if predicate in ("slt", "sge") else (y, x)
+    return code.alu("ge" if predicate in ("slt", "sgt") else "lt", code.alu("sub", less, other), top(64))
+
+
 def shift_right(code: Code, x: Operand, distance: Operand, width: int) -> Operand:
     """An `ashr`; extended. The sign is moved out of the way, and taken off again behind the shift."""
     moved = code.alu("shr", code.alu("xor", x, top(width)), distance)
@@ -206,9 +215,10 @@ def saturating(code: Code, op: str, x: Operand, y: Operand, width: int) -> Opera
 CHOICES: dict[str, str] = {"umin": "ult", "umax": "ugt", "smin": "slt", "smax": "sgt"}
 
 
-def extreme(code: Code, op: str, x: Operand, y: Operand, width: int) -> Operand:
-    """`llvm.umin`, `umax`, `smin` or `smax`: one of the words."""
-    return code.choose(compare(code, CHOICES[op], x, y, width), x, y)
+def extreme(code: Code, op: str, x: Operand, y: Operand, width: int, is_extended: bool = False) -> Operand:
+    """`llvm.umin`, `umax`, `smin` or `smax`, of clean words or of extended ones: one of the words."""
+    compared = compare_extended if is_extended else compare
+    return code.choose(compared(code, CHOICES[op], x, y, width), x, y)
 
 
 UNARY: dict[str, Callable[[Code, Operand, int], Operand]] = {

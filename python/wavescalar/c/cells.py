@@ -82,6 +82,7 @@ class Layout:
     accesses: frozenset[Access]
     cells: int = 0
     start: dict[int, int] = field(default_factory=dict)  # what isn't 0 at the start, by cell
+    sizes: dict[int, int] = field(default_factory=dict)  # how many bytes these cells hold
 
     def parts(self, size: int) -> int:
         """How many cells an access of this many bytes takes."""
@@ -285,7 +286,8 @@ class Layouts:
             for at, size in self._held(layout, thing):
                 value = int.from_bytes(content[at - thing.start : at - thing.start + size], "little")
                 if value:
-                    layout.start[layout.cell_of(at)] = value
+                    cell = layout.cell_of(at)
+                    layout.start[cell], layout.sizes[cell] = value, size
 
     def _bytes(self, thing: Object, source: Global) -> bytearray:
         content = bytearray(thing.size)

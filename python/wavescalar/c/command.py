@@ -9,9 +9,11 @@ import sys
 from collections.abc import Sequence
 from pathlib import Path
 
-from wavescalar.c import compile_ir
+from wavescalar.c import draft_of, optimized
 from wavescalar.c.clang import DIFFERS, HEADERS, Clang
 from wavescalar.c.faults import Refusal, ToolFault
+from wavescalar.c.flow import Graph
+from wavescalar.c.follow import follow
 from wavescalar.cli import Line, whole
 from wavescalar.faults import BuildFault, CallFault, Refused
 from wavescalar.image import Image
@@ -19,13 +21,15 @@ from wavescalar.programs import NONE_BUILT, call, usual
 from wavescalar.tools import link
 
 HALTED = "halt"  # the last line of a run that came to its end
+FAULT = 8  # the status of `wsc exec` where an index is past the end of an array
 PASSED_ON = (4, 5, 7)  # statuses of wsl that are ours too: reading, writing, memory
 STATUS = """The status is 0; 1 where these words are no line; 2 where the program is
 refused, by clang or by what comes behind it, with the line of C, the reason
 and the instruction; 4 where a file can't be read, 5 where one can't be
 written; 7 where memory ran out; 70 where clang, opt, LLVM's library, wsc or
-wsl isn't there. With --run it is that of `wsc exec`, and 9 where --verify
-finds that the native program prints other words, or doesn't end."""
+wsl isn't there. With --run it is that of `wsc exec`, where an index fault is
+said with its line of C; and 9 where --verify finds that the native program
+prints other words, or doesn't end."""
 
 
 def _parser() -> argparse.ArgumentParser:
@@ -45,6 +49,8 @@ def _parser() -> argparse.ArgumentParser:
     parser.add_argument("-w", dest="silent", action="store_true", help="no warnings")
     parser.add_argument("--emit-llvm", action="store_true", help="the IR that is compiled, in place of the assembly")
     parser.add_argument("--draft", action="store_true", help="the assembly without notes, as wsl takes it")
+    parser.add_argument("-g", dest="lines", action="store_true",
+                        help="names of instructions end with their lines of C, as sum_L12")
     parser.add_argument("--result", action="store_true", help="main's result is printed, as the last word")
     parser.add_argument("--run", action="store_true", help="run it by `wsc exec`; no assembly goes to standard output")
     parser.add_argument("--verify", action="store_true",
@@ -100,7 +106,8 @@ def _answer(asked: argparse.Namespace) -> int:
     if asked.emit_llvm:
         _write(asked, text.decode(errors="surrogateescape"))
         return 0
-    image = compile_ir(text, str(asked.file), tools.version(), asked.result)
+    graph = optimized(text, str(asked.file), tools.version(), asked.result)
+    image = draft_of(graph, asked.lines)
     image = image if asked.draft else link(image)
     runs = asked.run or asked.verify
     if asked.out or not runs:
@@ -108,7 +115,19 @@ def _answer(asked: argparse.Namespace) -> int:
     if not runs:
         return 0
     given = asked.input.read_text(errors="surrogateescape") if asked.input else ""
-    return _verify(asked, tools, image, given) if asked.verify else _run(asked, image, given)
+    status = _verify(asked, tools, image, given) if asked.verify else _run(asked, image, given)
+    if status == FAULT:
+        _say_where(graph, given)
+    return status
+
+
+def _say_where(graph: Graph, given: str) -> None:
+    """Says the line of C at which an index went past the end of an array."""
+    words = [int(word) for line in given.splitlines() for word in line.partition("#")[0].split()]
+    past = follow(graph, words).past
+    if past and past.place:
+        name = graph.arrays[past.array or 0].name or "a hidden array"
+        print(f"{past.place}: past the end of {name}", file=sys.stderr)
 
 
 def _write(asked: argparse.Namespace, text: str) -> None:

@@ -29,20 +29,24 @@ class Cut:
     wave: that of each block.
     sources: the blocks of the same wave that lead to a block; none for a head.
     same: for each block the first one of its wave that is passed exactly when it is.
-    enters: for each block the variables that are live at its head, without those of its phis.
+    enters: for each block the variables that are live at its head, without those of its phis; `look` finds them.
     """
 
     waves: list[Wave]
     wave: dict[Block, Wave]
     sources: dict[Block, list[Block]]
     same: dict[Block, Block]
-    enters: dict[Block, set[Var]]
+    enters: dict[Block, set[Var]] = field(default_factory=dict)
+
+    def look(self) -> None:
+        """Finds what is live, as the operations are now."""
+        self.enters = live_in([block for wave in self.waves for block in wave.blocks])
 
 
 def cut(graph: Graph) -> Cut:
     """The waves of a graph, into which blocks are put where a branch's edge has to have one of its own."""
     order = reverse_postorder(graph.blocks[0], lambda block: block.targets)
-    waves, of = _waves(order)
+    waves, of = waves_of(order)
     order = _split(order, of)
     graph.blocks = order
     for block in order:
@@ -56,10 +60,13 @@ def cut(graph: Graph) -> Cut:
     same: dict[Block, Block] = {}
     for wave in waves:
         same.update(_equivalent(wave, sources))
-    return Cut(waves, of, sources, same, live_in(order))
+    made = Cut(waves, of, sources, same)
+    made.look()
+    return made
 
 
-def _waves(order: list[Block]) -> tuple[list[Wave], dict[Block, Wave]]:
+def waves_of(order: list[Block]) -> tuple[list[Wave], dict[Block, Wave]]:
+    """The waves of blocks in reverse postorder, with their heads alone, and that of each block."""
     place = {block: k for k, block in enumerate(order)}
     into: dict[Block, list[Block]] = {block: [] for block in order}
     for block in order:

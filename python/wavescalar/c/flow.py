@@ -10,6 +10,7 @@ from collections.abc import Iterable, Iterator
 from dataclasses import dataclass, field
 from typing import Literal, Union
 
+from wavescalar.c.faults import Place
 from wavescalar.isa import WORDS, applied
 
 Kind = str  # an instruction's word: one of ALU, or phi, load, store, in, out
@@ -33,12 +34,13 @@ Operand = Union[Var, int]
 
 @dataclass(eq=False)
 class Op:
-    """An operation; `array` is the number, from 0, of the array that a load or a store is of."""
+    """An operation; `array` is the number, from 0, of the array that a load or a store is of, `place` its line of C."""
 
     kind: Kind
     result: Var | None
     args: list[Operand]
     array: int | None = None
+    place: Place | None = None
 
 
 @dataclass(eq=False)
@@ -93,16 +95,20 @@ COMMUTE = ("add", "mul", "and", "or", "xor", "eq", "ne")
 class Code:
     """Appends operations to a block; folds constants as the machine computes, and makes nothing twice in one block."""
 
-    def __init__(self, block: Block) -> None:
-        self.block = block
+    def __init__(self, block: Block, place: Place | None = None) -> None:
+        """place: the line of C of what is appended, until it is said otherwise."""
+        self.block, self.place = block, place
         self.made: dict[tuple[object, ...], Var] = {}
+
+    def _append(self, kind: Kind, result: Var | None, args: list[Operand], array: int | None = None) -> None:
+        self.block.ops.append(Op(kind, result, args, array, self.place))
 
     def _put(self, kind: Kind, args: Iterable[Operand], name: str = "") -> Var:
         own = list(args)
         key = (kind, *own)
         if key not in self.made:
             self.made[key] = Var(name)
-            self.block.ops.append(Op(kind, self.made[key], own))
+            self._append(kind, self.made[key], own)
         return self.made[key]
 
     def alu(self, kind: Kind, one: Operand, other: Operand, name: str = "") -> Operand:
@@ -127,22 +133,22 @@ class Code:
     def load(self, array: int, index: Operand, name: str = "") -> Var:
         """The cell of an array."""
         made = Var(name)
-        self.block.ops.append(Op("load", made, [index], array))
+        self._append("load", made, [index], array)
         return made
 
     def store(self, array: int, index: Operand, value: Operand) -> None:
         """Gives the cell of an array a value."""
-        self.block.ops.append(Op("store", None, [index, value], array))
+        self._append("store", None, [index, value], array)
 
     def read(self, name: str = "") -> Var:
         """The next word of the input."""
         made = Var(name)
-        self.block.ops.append(Op("in", made, []))
+        self._append("in", made, [])
         return made
 
     def write(self, value: Operand) -> None:
         """Prints a word."""
-        self.block.ops.append(Op("out", None, [value]))
+        self._append("out", None, [value])
 
     # Exits.
 

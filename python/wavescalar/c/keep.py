@@ -7,14 +7,14 @@ and the next one of its name comes after its last use, so that one cell is enoug
 
 from __future__ import annotations
 
-from collections.abc import Iterable
 from dataclasses import dataclass
 
 from wavescalar.isa import LIMITS
 from wavescalar.c.cleanup import drop_same_phis
-from wavescalar.c.flow import ArraySpec, Block, Graph, Op, Operand, Phi, Var
+from wavescalar.c.flow import ArraySpec, Block, Graph, Op, Operand, Var
 from wavescalar.c.live import live_in
-from wavescalar.c.order import natural_loops, reverse_postorder
+from wavescalar.c.order import natural_loops, reverse_postorder, sources_of
+from wavescalar.c.rename import rename
 
 
 @dataclass(eq=False)
@@ -35,18 +35,10 @@ def keep(graph: Graph) -> None:
         drop_same_phis(graph)
 
 
-def _sources(order: Iterable[Block]) -> dict[Block, list[Block]]:
-    found: dict[Block, list[Block]] = {block: [] for block in order}
-    for block in found:
-        for target in block.targets:
-            found[target].append(block)
-    return found
-
-
 class _Keeper:
     def __init__(self, graph: Graph, order: list[Block], loops: list[Loop]) -> None:
         self.graph, self.loops = graph, loops
-        self.sources = _sources(order)
+        self.sources = sources_of(order, lambda block: block.targets)
         self.enters = live_in(order)
         self.home = {phi.result: block for block in order for phi in block.phis}
         self.home.update({op.result: block for block in order for op in block.ops if op.result})
@@ -81,7 +73,7 @@ class _Keeper:
         self.cells += 1
         place = next((k + 1 for k, op in enumerate(home.ops) if op.result is var), 0)
         home.ops.insert(place, Op("store", None, [cell, var], self.array))
-        _Renaming(self.graph, self.sources, var, defined).rename()
+        rename(self.graph, self.sources, var, defined)
 
     def _landings(self, var: Var, loop: Loop) -> list[Block]:
         """The blocks behind a loop that need a value; where others lead there too, new ones on the edges."""
@@ -115,40 +107,3 @@ def _used(block: Block) -> set[Var]:
     parts += [block.selector] if block.exit == "if" else []
     parts += [phi.args[block] for target in block.targets for phi in target.phis]
     return {part for part in parts if isinstance(part, Var)}
-
-
-class _Renaming:
-    """Gives each use of a variable the definition that comes to it (Braun and others, Compiler Construction 2013)."""
-
-    def __init__(self, graph: Graph, sources: dict[Block, list[Block]], var: Var, defined: dict[Block, Var]) -> None:
-        self.graph, self.sources, self.var, self.ends = graph, sources, var, dict(defined)
-
-    def rename(self) -> None:
-        """Renames in operations, branches and phis."""
-        for block in list(self.graph.blocks):
-            old = list(block.phis)
-            if any(self.var in op.args for op in block.ops) or block.selector is self.var:
-                own = self._end(block)
-                for op in block.ops:
-                    op.args = [own if arg is self.var else arg for arg in op.args]
-                block.selector = own if block.selector is self.var else block.selector
-            for phi in old:
-                for source, arg in phi.args.items():
-                    if arg is self.var:
-                        phi.args[source] = self._end(source)
-
-    def _end(self, block: Block) -> Var:
-        """What the variable is at a block's end."""
-        path: list[Block] = []
-        while block not in self.ends and len(self.sources[block]) == 1:
-            path.append(block)
-            block = self.sources[block][0]
-        if block not in self.ends:
-            self.ends[block] = made = Var(self.var.name)
-            phi = Phi(made, {})
-            block.phis.append(phi)
-            for source in self.sources[block]:
-                phi.args[source] = self._end(source)
-        for passed in path:
-            self.ends[passed] = self.ends[block]
-        return self.ends[block]

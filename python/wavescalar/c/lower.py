@@ -48,16 +48,24 @@ class _Lowering(Memory):
     def _lower_block(self, number: int) -> None:
         self.code = Code(self.heads[number])
         for it in self.module.blocks[number].instrs:
+            self.code.place = it.place
             if it.op in DIRECT:
                 x, y = self.words(it)
                 word: Word | None = self.code.alu(DIRECT[it.op], x, y, it.name)
             else:
                 word = getattr(self, f"do_{it.op}")(it)
             if word is not None:
-                if it.number in self.widths.needed and it.op != "phi" and self.widths.is_wide(it):
-                    word = arith.clean(self.code, word, it.type.width)
+                word = self._formed(it, word)
                 self.values[it.number] = word
         self.tails[number] = self.code.block
+
+    def _formed(self, it: Instr, word: Word) -> Word:
+        """The word of a result, made clean or extended where it has to be."""
+        widths, width = self.widths, it.type.width
+        is_signed = it.number in widths.signed
+        if (is_signed or it.number in widths.needed and it.op != "phi") and widths.comes_wide(it):
+            word = arith.clean(self.code, word, width)
+        return arith.extended(self.code, word, width) if is_signed else word
 
     def do_phi(self, it: Instr) -> Word:
         phi = Phi(Var(it.name), {})
@@ -82,7 +90,7 @@ class _Lowering(Memory):
             return arith.compare(self.code, predicate.replace("s", "u"), x, y, width)
         if all(map(self.widths.may_extend, it.operands)):
             x, y = (self.extended(operand, width) for operand in it.operands)
-            return arith.compare(self.code, predicate, x, y, 64)
+            return arith.compare_extended(self.code, predicate, x, y, width)
         x, y = self.words(it)
         return arith.compare(self.code, predicate, x, y, width)
 
@@ -163,7 +171,7 @@ class _Lowering(Memory):
         if op in arith.UNARY and not (op in ("bswap", "bitreverse") and width & (width - 1)):
             found = arith.UNARY[op](code, words[0], width)
         elif op in arith.CHOICES:
-            found = arith.extreme(code, op, words[0], words[1], 64 if it.number in self.widths.extended else width)
+            found = arith.extreme(code, op, words[0], words[1], width, it.number in self.widths.extended)
         elif op in ("fshl", "fshr") and width & (width - 1) == 0:
             found = arith.clean(code, arith.funnel(code, words[0], words[1], words[2], width, op == "fshl"), width)
         elif parts[2:3] == ["sat"]:

@@ -56,6 +56,8 @@ class Memory(Words):
         for layout in self.layouts.of.values():
             array, base = self.arrays[layout.region]
             for cell, value in sorted(layout.start.items()):
+                if layout.region in self.signs.regions and layout.sizes[cell] < 8:
+                    value = arith.extended_constant(value, 8 * layout.sizes[cell])
                 self.code.store(array, base + cell, value)
 
     def _memory(self, pointer: Operand, it: Instr) -> tuple[Layout, int, Word]:
@@ -89,7 +91,8 @@ class Memory(Words):
             for part, word in enumerate(self.transfers[source.number]):
                 self.code.store(array, self._cell(index, part), word)
             return
-        value, size = self.clean(it.operands[0], it.widths[0]), it.types[0].bytes
+        form = self.extended if it.number in self.signs.accesses else self.clean
+        value, size = form(it.operands[0], it.widths[0]), it.types[0].bytes
         parts = layout.parts(size)
         for part in range(parts):
             word = value
@@ -162,9 +165,9 @@ class Memory(Words):
         self.code.branch(count, body, after)
         self.graph.blocks += [body, after]
         at = Var("at")
-        self.code = Code(body)
+        self.code = Code(body, self.code.place)
         turn(at, 0)
         further = self.code.alu("add", at, 1)
         body.phis.append(Phi(at, {before: 0, body: further}))
         self.code.branch(self.code.alu("ne", further, count), body, after)
-        self.code = Code(after)
+        self.code = Code(after, self.code.place)

@@ -15,14 +15,15 @@ from wavescalar.builder import ArrayHandle, BlockBuilder, Builder, Node, Result,
 from wavescalar.image import Image
 from wavescalar.c.cut import Cut, Wave, cut
 from wavescalar.c.flow import Block, Graph, Op, Operand, Var
+from wavescalar.c.share import share
 
 Handle = tuple[Value, ...]  # the values of which one comes
 FEW = 2  # a value that comes on several ways and has so many uses goes to each; one with more is merged first
 
 
-def draft(graph: Graph) -> Image:
-    """The draft of a flow graph; `link` makes it an image."""
-    return _Emitter(graph).builder.image()
+def draft(graph: Graph, lines: bool = False) -> Image:
+    """The draft of a flow graph; `link` makes it an image. lines: whether names of instructions tell their lines of C."""
+    return _Emitter(graph, lines).builder.image()
 
 
 class _Names:
@@ -43,9 +44,11 @@ class _Names:
 
 
 class _Emitter:
-    def __init__(self, graph: Graph) -> None:
-        self.graph = graph
+    def __init__(self, graph: Graph, lines: bool) -> None:
+        self.graph, self.lines = graph, lines
         self.cut: Cut = cut(graph)
+        share(graph, self.cut)
+        self.cut.look()
         self.builder = Builder()
         self.names, self.block_names = _Names(), _Names()
         names = _Names()
@@ -146,22 +149,29 @@ class _Emitter:
     def _operation(self, op: Op, block: Block) -> None:
         place = self.places[block]
         args = [self._at(arg, block) for arg in op.args]
-        name = self.names.fresh(op.result.name) if op.result and op.result.name else None
+        name = self._name(op)
         made: Union[Node, Result]
         if op.kind == "phi":
             made = place.phi(args[0], args[1], args[2], name)
         elif op.kind == "load":
             made = place.load(self.arrays[op.array or 0], args[0], name)
         elif op.kind == "store":
-            made = place.store(self.arrays[op.array or 0], args[0], args[1])
+            made = place.store(self.arrays[op.array or 0], args[0], args[1], name)
         elif op.kind == "in":
             made = place.in_(self._token(block), name)
         elif op.kind == "out":
-            made = place.out(args[0])
+            made = place.out(args[0], name)
         else:
             made = place.alu(op.kind, args[0], args[1], name)
         if op.result and isinstance(made, Result):
             self.handles[op.result, self.cut.same[block]] = (made,)
+
+    def _name(self, op: Op) -> str | None:
+        """That of C, where there is one; with its line behind it, where that is asked for."""
+        name = op.result.name if op.result else ""
+        if self.lines and op.place and op.place.line:
+            return self.names.fresh(f"{name or op.kind}_L{op.place.line}")
+        return self.names.fresh(name) if name else None
 
     def _make_triggerable(self, block: Block) -> None:
         """`wsl` may put a `nop` into a block without an instruction, for which something has to be there."""

@@ -6,7 +6,8 @@ takes any word, and gives one that may be neither. What looks at them needs a cl
 takes an extended one.
 
 A value is made clean where it is computed, and only if something needs that. One that comes out extended, and is used
-so, stays so; what needs it clean, or stands in fewer loops than it, makes it clean for itself.
+so, stays so; what needs it clean, or stands in fewer loops than it, makes it clean for itself. One that several blocks
+need extended, and nothing needs clean, is made extended where it is computed.
 """
 
 from __future__ import annotations
@@ -21,6 +22,7 @@ PASSES = {"phi": 0, "select": 1}
 WRAPS = ("add", "sub", "mul", "shl")
 BITS = ("and", "or", "xor")
 SIGNED = ("ashr", "sdiv", "srem", "sext")
+MADE = (*WRAPS, *BITS, "trunc", "load")  # whose results may be made extended where they are computed
 EXTREMES = tuple(f"llvm.{word}." for word in ("smin", "smax", "umin", "umax"))
 
 
@@ -48,24 +50,29 @@ class Widths:
     """The forms of a function's values, by the numbers of instructions.
 
     positive: those that are never negative, whose words are clean. extended: others whose words are extended.
-    needed: those that are made clean where they are computed. unclean: those whose words may not be clean.
+    signed: those of them that are made so where they are computed. needed: those that are made clean there.
+    unclean: those whose words may not be clean.
     """
 
-    def __init__(self, module: Module) -> None:
-        self.instrs = module.instrs
-        self.depths = _depths(module)
+    def __init__(self, module: Module, signed_cells: frozenset[int] = frozenset()) -> None:
+        """signed_cells: the loads and stores of cells that hold extended words (signs.py)."""
+        self.instrs, self.signed_cells = module.instrs, signed_cells
+        self.depths = loop_depths(module)
         self.needed: set[int] = set()
         self.extended: set[int] = set()
+        self.signed: set[int] = set()
         integers = {it.number for it in self.instrs if it.type.kind == "int"}
         self.positive = integers  # which _keep reads while it takes away
         self._keep("positive", self._stays_positive)
         self.extended = {number for number in integers - self.positive if 1 < self.instrs[number].type.width < 64}
+        self.signed = self._liked_by_several(module) & self.extended
         before = None
         while before != (self.extended, self.needed):
             before = self.extended, self.needed
             self._keep("extended", self._stays_extended)
             self.needed = self._find_needed()
             self.extended = self.extended - self.needed
+            self.signed = self.signed & self.extended
         self.unclean: set[int] = set()
         found: set[int] | None = None
         while found != self.unclean:
@@ -80,6 +87,21 @@ class Widths:
             kept = {number for number in old if stays(self.instrs[number])}
             changed = kept != old
             setattr(self, name, kept)
+
+    def _liked_by_several(self, module: Module) -> set[int]:
+        """The results of operations that would have to be made extended in several blocks."""
+        blocks: dict[int, set[int]] = {}
+        for block in module.blocks:
+            for it in block.instrs:
+                if it.op == "getelementptr" and it.element:
+                    liked = [index for index, _ in it.element.indices]
+                else:
+                    liked = list(it.operands) if it.op in ("sext", "sdiv", "srem") else []
+                for operand in liked:
+                    if isinstance(operand, Local):
+                        blocks.setdefault(operand.number, set()).add(block.number)
+        return {number for number, used in blocks.items() if len(used) > 1 and self.instrs[number].op in MADE
+                and number not in self.signed_cells}
 
     # What something needs.
 
@@ -100,7 +122,7 @@ class Widths:
 
     def _taken_extended(self, it: Instr) -> list[Operand]:
         """The operands that an instruction uses as extended words."""
-        if it.number in self.extended and handed(it):
+        if self.follows(it) and handed(it):
             return [it.operands[k] for k in handed(it)]
         if it.op == "getelementptr" and it.element:
             return [index for index, _ in it.element.indices if self.may_extend(index)]
@@ -108,6 +130,8 @@ class Widths:
             return [operand for operand in it.operands[:1] if self.may_extend(operand)]
         if it.op in ("sext", "sdiv", "srem"):
             return [operand for operand in it.operands if self.may_extend(operand)]
+        if it.op == "store" and it.number in self.signed_cells:
+            return list(it.operands[:1])
         return list(it.operands) if it.op == "icmp" and all(map(self.may_extend, it.operands)) else []
 
     def _demands(self, it: Instr) -> list[Operand]:
@@ -122,26 +146,35 @@ class Widths:
 
     # What words are.
 
+    def follows(self, it: Instr) -> bool:
+        """Whether a result is extended since its operands are."""
+        return it.number in self.extended and it.number not in self.signed
+
     def may_extend(self, operand: Operand) -> bool:
         """Whether an operand has an extended word without more ado."""
         return isinstance(operand, Int) or isinstance(operand, Local) and (
             operand.number in self.extended or operand.number in self.positive)
 
     def is_wide(self, it: Instr) -> bool:
+        """Whether the word of a result may not be clean, before it is made so."""
+        return it.number in self.signed or self.comes_wide(it)
+
+    def comes_wide(self, it: Instr) -> bool:
         """Whether the machine's own operation may give a word that isn't clean."""
         width = it.type.width
         if it.type.kind != "int" or width >= 64 or it.number in self.positive:
             return False
+        extended = self.follows(it)
         unclean = [isinstance(part, Local) and part.number in self.unclean for part in it.operands]
         if it.op in WRAPS:
-            return any(unclean) or "nuw" not in it.flags or it.number in self.extended
+            return any(unclean) or "nuw" not in it.flags or extended
         if it.op == "and":
-            return all(unclean) or it.number in self.extended
+            return all(unclean) or extended
         if it.op == "load":
-            return width != 8 * it.type.bytes
+            return width != 8 * it.type.bytes or it.number in self.signed_cells
         if it.op in BITS or it.op in PASSES:
-            return any(unclean[PASSES.get(it.op, 0):]) or it.number in self.extended
-        return it.op in (*SIGNED, "trunc", "ptrtoint", "freeze") or it.number in self.extended
+            return any(unclean[PASSES.get(it.op, 0):]) or extended
+        return it.op in (*SIGNED, "trunc", "ptrtoint", "freeze") or extended
 
     def is_positive(self, operand: Operand, width: int) -> bool:
         """Whether a number of this width, read with its sign, is surely not negative."""
@@ -174,14 +207,14 @@ class Widths:
         return op in PASSES and all(parts(*range(PASSES[op], len(it.operands))))
 
     def _stays_extended(self, it: Instr) -> bool:
-        if it.op in SIGNED:
+        if it.op in SIGNED or it.number in self.signed or it.number in self.signed_cells:
             return True
         if it.op in WRAPS and "nsw" not in it.flags:
             return False
         return bool(handed(it)) and all(self.may_extend(it.operands[k]) for k in handed(it))
 
 
-def _depths(module: Module) -> dict[int, int]:
+def loop_depths(module: Module) -> dict[int, int]:
     """In how many loops each instruction stands."""
     def targets(number: int) -> tuple[int, ...]:
         return module.blocks[number].targets

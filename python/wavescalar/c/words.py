@@ -6,6 +6,7 @@ from wavescalar.c import arith
 from wavescalar.c.copies import memory
 from wavescalar.c.flow import Block, Code, Graph, Operand as Word
 from wavescalar.c.ir import Address, Expression, Instr, Int, Local, Module, Null, Operand, Undefined
+from wavescalar.c.signs import signs
 from wavescalar.c.widths import Widths, demanded, handed
 
 
@@ -19,7 +20,8 @@ class Words:
         self.module = module
         self.layouts = memory(module)
         self.objects = self.layouts.objects
-        self.widths = Widths(module)
+        self.signs = signs(module, self.layouts)
+        self.widths = Widths(module, self.signs.accesses)
         self.graph = Graph()
         self.values: dict[int, Word] = {}
         self.code = Code(self.block("start"))
@@ -52,7 +54,7 @@ class Words:
 
     def words(self, it: Instr) -> list[Word]:
         """The words of all operands, in the forms in which they have to be."""
-        need, like = demanded(it), handed(it) if it.number in self.widths.extended else range(0)
+        need, like = demanded(it), handed(it) if self.widths.follows(it) else range(0)
         return [self.extended(operand, width) if k in like else
                 self.clean(operand, width) if k in need else self.word(operand)
                 for k, (operand, width) in enumerate(zip(it.operands, it.widths))]
