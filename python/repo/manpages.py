@@ -33,6 +33,7 @@ WHAT = {
     "wsc-sweep": "plan runs of many jobs with many options, and gather them",
     "wsc-view": "draw a run of a WaveScalar program as a page",
     "wsc-why": "say why wsc refused a text or a line",
+    "wscc": "compile C for a WaveScalar machine",
 }
 SHAPE = """.\\" Made of {name} --help by python/run repo.manpages.
 .Dd December 1, 2026

@@ -1,0 +1,123 @@
+"""Calls clang and opt: from a file of C to IR in which all is inlined into `main` and memory variables are values."""
+
+from __future__ import annotations
+
+import functools
+import os
+import re
+import resource
+import signal
+import subprocess
+import tempfile
+from collections.abc import Sequence
+from dataclasses import dataclass
+from pathlib import Path
+
+from wavescalar.c.faults import ToolFault
+from wavescalar.c.whole import completed
+
+HEADERS = Path(__file__).parent / "include"
+LIBRARY = Path(__file__).parent / "library" / "library.c"
+ROUNDS = 4  # how often what was optimized may turn out to lack something, as a function that a pass calls
+NATIVE = ["-O1", "-fno-finite-loops", "-w"]  # for a native program; endless loops stay endless, as on the machine
+SECONDS = 60  # of processor time that a native run may take
+DIFFERS = 9  # the status of `wscc` where a native run does something else
+# What every level of optimization begins with: whatever main calls is inlined into it; calls of a function by itself at
+# its end become loops before. There is one thread, so atomic accesses are ordinary ones.
+INLINE = ("internalize,forceattrs,function(loweratomic,sroa,early-cse,simplifycfg,instcombine,tailcallelim),"
+          "always-inline,globaldce")
+LEVELS = {
+    0: "function(sroa,early-cse,simplifycfg)",
+    1: "default<O1>",
+    2: "default<O2>",
+}
+# What every level ends with: no switches, no constructs without a form on the machine.
+TIDY = ("always-inline,globaldce,function(lower-constant-intrinsics,lower-expect,simplifycfg,sroa,instcombine,adce,"
+        "simplifycfg,lowerswitch,loop-simplify)")
+OPTIONS = ["-internalize-public-api-list=main", "-replexitval=never", "-vectorize-loops=false",
+           "-vectorize-slp=false"]
+# Below level 2 a loop keeps its test at its head, which makes for fewer firings. With the test at its end, as level 2
+# has it, a turn's values needn't wait for the test, but another test stands in front.
+KEPT = ["-rotation-max-header-size=0"]
+DEFINED = re.compile(rb"^define .*?@([\w.$]+)\(", re.MULTILINE)
+
+
+@dataclass(frozen=True)
+class Clang:
+    """The programs; by default what the environment's WSCC_CLANG and WSCC_OPT name, else `clang` and `opt`."""
+
+    clang: str
+    opt: str
+
+    @staticmethod
+    def found() -> Clang:
+        """The programs that the environment names."""
+        return Clang(os.environ.get("WSCC_CLANG") or "clang", os.environ.get("WSCC_OPT") or "opt")
+
+    def version(self) -> int:
+        """Its major version."""
+        told = _call([self.clang, "--version"]).decode(errors="replace")
+        number = re.search(r"version (\d+)", told)
+        if number is None:
+            raise ToolFault(f"{self.clang} doesn't tell its version")
+        return int(number[1])
+
+    def ir(self, source: Path, level: int = 1, words: Sequence[str] = ()) -> bytes:
+        """The IR, as text, of a file of C at this level, 0 to 2. words: more for clang, as `-I` and `-D`.
+
+        Raises ToolFault where clang or opt fails; clang has said why on standard error.
+        """
+        version = self.version()
+        text = self._optimized(self._compiled(source, words), level)
+        for _ in range(ROUNDS):
+            more = completed(text, version, lambda: self._compiled(LIBRARY, ["-w", *words]))
+            if more is None:
+                break
+            text = self._optimized(more, level)
+        return text
+
+    def native(self, source: Path, given: str, words: Sequence[str] = (), seconds: int = SECONDS) -> list[str]:
+        """The lines that a program prints natively that reads this text. words: more for clang.
+
+        Raises ToolFault where it can't be built, where a signal ends it, and where it takes more than so many seconds of
+        processor time.
+        """
+        limit = functools.partial(resource.setrlimit, resource.RLIMIT_CPU, (seconds, seconds + 1))
+        with tempfile.TemporaryDirectory() as room:
+            program = str(Path(room) / "native")
+            _call([self.clang, *NATIVE, f"-I{HEADERS}", *words, str(source), "-o", program])
+            done = subprocess.run([program], input=given, capture_output=True, text=True, check=False, preexec_fn=limit)
+        if done.returncode in (-signal.SIGXCPU, -signal.SIGKILL):
+            raise ToolFault(f"natively {source} takes more than {seconds} s, or was killed", DIFFERS)
+        if done.returncode < 0:
+            raise ToolFault(f"natively {source} is ended by signal {-done.returncode}", DIFFERS)
+        return done.stdout.splitlines()
+
+    def _compiled(self, source: Path, words: Sequence[str]) -> bytes:
+        """The IR of a file as it is written. clang would mark all loops as not to be unrolled at its level 1."""
+        return _call([self.clang, "-O1", "-funroll-loops", "-Xclang", "-disable-llvm-passes", "-g",
+                      "-fno-discard-value-names", "-fno-builtin-printf", "-D__WAVESCALAR__=1", "-D__NO_CTYPE",
+                      f"-I{HEADERS}", *words, "-emit-llvm", "-S", str(source), "-o", "-"])
+
+    def _optimized(self, text: bytes, level: int) -> bytes:
+        """The IR with all inlined into `main`."""
+        inlined = [name.decode() for name in DEFINED.findall(text) if name != b"main"]
+        passes = ",".join([INLINE, LEVELS[level], TIDY])
+        forced = [word for name in inlined for word in (f"-force-attribute={name}:alwaysinline",
+                                                        f"-force-remove-attribute={name}:noinline")]
+        kept = KEPT if level < 2 else []
+        with tempfile.TemporaryDirectory() as room:
+            raw = Path(room) / "raw.ll"
+            raw.write_bytes(text)
+            return _call([self.opt, *OPTIONS, *kept, *forced, f"-passes={passes}", "-S", str(raw), "-o", "-"])
+
+
+def _call(words: list[str]) -> bytes:
+    """What a program prints. What it says on standard error goes to ours."""
+    try:
+        done = subprocess.run(words, stdout=subprocess.PIPE, check=False)
+    except OSError as fault:
+        raise ToolFault(f"{words[0]} can't be run: {fault.strerror} (Debian: clang, llvm)") from fault
+    if done.returncode:
+        raise ToolFault(f"{words[0]} ended with status {done.returncode}", 2)
+    return done.stdout

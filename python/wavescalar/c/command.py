@@ -1,0 +1,171 @@
+"""The command `wscc`: from a file of C to an image of the dataflow machine, its run, and a native run beside it."""
+
+from __future__ import annotations
+
+import argparse
+import functools
+import subprocess
+import sys
+from collections.abc import Sequence
+from pathlib import Path
+
+from wavescalar.c import draft_of, optimized
+from wavescalar.c.clang import DIFFERS, HEADERS, Clang
+from wavescalar.c.faults import Refusal, ToolFault
+from wavescalar.c.flow import Graph
+from wavescalar.c.follow import follow
+from wavescalar.cli import Line, whole
+from wavescalar.faults import BuildFault, CallFault, Refused
+from wavescalar.image import Image
+from wavescalar.programs import NONE_BUILT, call, usual
+from wavescalar.tools import link
+
+HALTED = "halt"  # the last line of a run that came to its end
+FAULT = 8  # the status of `wsc exec` where an index is past the end of an array
+PASSED_ON = (4, 5, 7)  # statuses of wsl that are ours too: reading, writing, memory
+STATUS = """The status is 0; 1 where these words are no line; 2 where the program is
+refused, by clang or by what comes behind it, with the line of C, the reason
+and the instruction; 4 where a file can't be read, 5 where one can't be
+written; 7 where memory ran out; 70 where clang, opt, LLVM's library, wsc or
+wsl isn't there. With --run it is that of `wsc exec`, where an index fault is
+said with its line of C; and 9 where --verify finds that the native program
+prints other words, or doesn't end."""
+
+
+def _parser() -> argparse.ArgumentParser:
+    parser = Line("Compile a file of C for the dataflow machine. Nothing of this is proved; wsl\n"
+                  "gives what comes out its notes, and wsc checks it.", prog="wscc", epilog=STATUS)
+    parser.add_argument("file", metavar="FILE.c", type=Path)
+    parser.add_argument("--headers", action="version", version=str(HEADERS),
+                        help="say the folder of wavescalar.h, for a native compiler, and end")
+    parser.add_argument("-o", dest="out", metavar="FILE.asm", type=Path,
+                        help="where the assembly goes; standard output without it")
+    parser.add_argument("-O", dest="level", type=int, choices=(0, 1, 2), default=1,
+                        help="how much is optimized; 1 without it")
+    parser.add_argument("-I", dest="folders", metavar="DIR", action="append", default=[], help="a folder of headers")
+    parser.add_argument("-D", dest="macros", metavar="NAME[=VALUE]", action="append", default=[], help="a macro")
+    parser.add_argument("-std", metavar="STANDARD", help="of C, as c11")
+    parser.add_argument("-W", dest="warnings", metavar="WARNING", action="append", default=[], help="as clang's -Wall")
+    parser.add_argument("-w", dest="silent", action="store_true", help="no warnings")
+    parser.add_argument("--emit-llvm", action="store_true", help="the IR that is compiled, in place of the assembly")
+    parser.add_argument("--draft", action="store_true", help="the assembly without notes, as wsl takes it")
+    parser.add_argument("-g", dest="lines", action="store_true",
+                        help="names of instructions end with their lines of C, as sum_L12")
+    parser.add_argument("--result", action="store_true", help="main's result is printed, as the last word")
+    parser.add_argument("--run", action="store_true", help="run it by `wsc exec`; no assembly goes to standard output")
+    parser.add_argument("--verify", action="store_true",
+                        help="as --run, and run it natively beside, with the same words, and compare what both print")
+    parser.add_argument("--workers", metavar="N", type=int, default=1, help="workers of the run, 1 to 8")
+    parser.add_argument("--input", metavar="FILE", type=Path,
+                        help="the words that the run gives the program; without it there are none")
+    parser.add_argument("--budget", metavar="N", type=int, default=4_000_000, help="firings of the run, at most 4000000")
+    parser.add_argument("--stats", action="store_true", help="the run says its firings")
+    return parser
+
+
+def main(words: Sequence[str] | None = None) -> int:
+    """Does what a line of words asks for; the status."""
+    parser = _parser()
+    asked = parser.parse_args(words)
+    if asked.verify and asked.result:
+        parser.error("--verify compares what is printed, which --result adds to")
+    try:
+        return _answer(asked)
+    except Refusal as refusal:
+        return _ended(2, str(refusal))
+    except (Refused, BuildFault) as fault:
+        return _ended(2, f"{asked.file}: refused: the machine's limits: {fault}")
+    except ToolFault as fault:
+        return _ended(fault.status, f"wscc: {fault}")
+    except CallFault as fault:
+        return _ended(fault.status if fault.status in PASSED_ON else NONE_BUILT, f"wscc: {fault}")
+    except OSError as fault:
+        return _ended(4 if fault.filename != str(asked.out) else 5, f"wscc: {fault.filename}: {fault.strerror}")
+
+
+tool = functools.partial(whole, main)
+
+
+def _ended(status: int, line: str) -> int:
+    print(line, file=sys.stderr)
+    return status
+
+
+def _for_clang(asked: argparse.Namespace) -> list[str]:
+    """The words of the line that are clang's."""
+    more = [f"-I{folder}" for folder in asked.folders] + [f"-D{macro}" for macro in asked.macros]
+    more += [f"-W{warning}" for warning in asked.warnings] + ["-w"] * asked.silent
+    return more + ([f"-std={asked.std}"] if asked.std else [])
+
+
+def _answer(asked: argparse.Namespace) -> int:
+    with asked.file.open():  # so that a file that can't be read is told of in our words
+        pass
+    tools = Clang.found()
+    text = tools.ir(asked.file, asked.level, _for_clang(asked))
+    if asked.emit_llvm:
+        _write(asked, text.decode(errors="surrogateescape"))
+        return 0
+    graph = optimized(text, str(asked.file), tools.version(), asked.result)
+    image = draft_of(graph, asked.lines)
+    image = image if asked.draft else link(image)
+    runs = asked.run or asked.verify
+    if asked.out or not runs:
+        _write(asked, str(image))
+    if not runs:
+        return 0
+    given = asked.input.read_text(errors="surrogateescape") if asked.input else ""
+    status = _verify(asked, tools, image, given) if asked.verify else _run(asked, image, given)
+    if status == FAULT:
+        _say_where(graph, given)
+    return status
+
+
+def _say_where(graph: Graph, given: str) -> None:
+    """Says the line of C at which an index went past the end of an array."""
+    words = [int(word) for line in given.splitlines() for word in line.partition("#")[0].split()]
+    past = follow(graph, words).past
+    if past and past.place:
+        name = graph.arrays[past.array or 0].name or "a hidden array"
+        print(f"{past.place}: past the end of {name}", file=sys.stderr)
+
+
+def _write(asked: argparse.Namespace, text: str) -> None:
+    if asked.out:
+        asked.out.write_text(text, errors="surrogateescape")
+    else:
+        sys.stdout.write(text)
+        sys.stdout.flush()
+
+
+def _exec(asked: argparse.Namespace) -> list[str]:
+    """The words of the run."""
+    words = ["exec", "--workers", str(asked.workers), "--budget", str(asked.budget)]
+    return words + ["--stats"] * asked.stats
+
+
+def _run(asked: argparse.Namespace, image: Image, given: str) -> int:
+    """Runs the image by `wsc exec`, whose answer and status are ours."""
+    words = [usual(), *_exec(asked)]
+    try:
+        return subprocess.run(words, input=f"{image}%input\n{given}", text=True, check=False).returncode
+    except OSError as fault:
+        raise CallFault(f"{words[0]} can't be run: {fault.strerror}") from fault
+
+
+def _verify(asked: argparse.Namespace, tools: Clang, image: Image, given: str) -> int:
+    """Runs the image, and the program natively, and compares the words."""
+    status, told, errors = call(usual(), _exec(asked), f"{image}%input\n{given}")
+    sys.stdout.write(told)
+    sys.stdout.flush()
+    sys.stderr.write(errors)
+    if status:
+        return status
+    wanted = tools.native(asked.file, given, _for_clang(asked))
+    words = told.splitlines()
+    words = words[: words.index(HALTED)]
+    if words == wanted:
+        return _ended(0, f"verified {len(words)} words: natively they are the same")
+    at = next((k for k, (one, other) in enumerate(zip(words, wanted)) if one != other), min(len(words), len(wanted)))
+    ours, theirs = (some[at] if at < len(some) else "none" for some in (words, wanted))
+    return _ended(DIFFERS, f"{asked.file}: word {at + 1} is {ours}, and natively {theirs}")
