@@ -5,8 +5,8 @@
 
 A head is the `//!` lines of crates/NAME/src/lib.rt: a paragraph that says what the crate is, and behind it what
 is proved of it, or, where its name ends with _tests, what its tests show. A section of a page is what stands below
-`### NAME`, up to the next heading. Line breaks don't count. The top call and the programs have no section. Of two
-crates another page tells, which has to name each law that the crate gives.
+`### NAME`, up to the next heading. Line breaks don't count; an item of a list begins with `- `. The top call and the
+programs have no section. Of two crates another page tells, which has to name each law that the crate gives.
 """
 
 import pathlib
@@ -22,17 +22,29 @@ PROVED = ROOT / "docs" / "PROVED.md"
 TESTED = ROOT / "docs" / "TESTED.md"
 WITHOUT = {"wsc", "wsc_top", "wsl"}
 ELSEWHERE = {"one_result": "THEOREM.md", "asm_link": "BACKEND.md"}
+ITEM = "- "
 
 
 def paragraphs(lines: Iterable[str]) -> list[str]:
-    """The paragraphs of lines, each in one line."""
+    """The paragraphs and list items of lines, each in one line."""
     found: list[list[str]] = [[]]
     for line in lines:
+        if found[-1] and (not line.strip() or line.strip().startswith(ITEM)):
+            found.append([])
         if line.strip():
             found[-1].append(line.strip())
-        elif found[-1]:
-            found.append([])
     return [" ".join(words) for words in found if words]
+
+
+def laid_out(text: list[str]) -> list[str]:
+    """The lines of paragraphs and list items, with a blank line between all but two items."""
+    lines: list[str] = []
+    for before, now in zip(["", *text], text):
+        indent = "  " if now.startswith(ITEM) else ""
+        if not (indent and before.startswith(ITEM)):
+            lines.append("")
+        lines += textwrap.wrap(now, 110, subsequent_indent=indent, break_long_words=False, break_on_hyphens=False)
+    return lines
 
 
 def head(name: str) -> list[str]:
@@ -54,8 +66,7 @@ def write(page: pathlib.Path) -> None:
     """Writes the sections of a page as the heads are."""
     lines = page.read_text().splitlines()
     for name, start, end, _ in reversed(list(sections(page))):
-        text = [textwrap.fill(it, 110, break_long_words=False, break_on_hyphens=False) for it in head(name)]
-        lines[start:end] = ["", *"\n\n".join(text).splitlines(), ""]
+        lines[start:end] = [*laid_out(head(name)), ""]
     page.write_text("\n".join(lines).rstrip("\n") + "\n")
 
 
