@@ -48,27 +48,26 @@ STATEMENTS = {
 LISTS = (
     (
         "### For the headline alone",
-        "Whoever wants to believe that one text has one result, in whatever order the instructions fire, reads {files} "
-        "files, {definitions} definitions of {lines} lines without comments and imports. They begin with "
+        "To believe that one text has one result, in whatever order the instructions fire, read {files} files: "
+        "{definitions} definitions, {lines} lines without comments and imports. Start with "
         "`one_result/specs/OneResult.antt`, whose head says why `CallEnds` and the image need not be unfolded.",
         tuple(f"one_result/OneResult.{name}" for name in STATEMENTS["OneResult"]),
         NEED_NO_UNFOLDING,
     ),
     (
         "### For the headline with all commands and options",
-        "Whoever wants to believe the same of `--memory` beside none, of `--stats`, of ports that have words left, of "
-        "`multi`, `trace` with `replay`, and `bench` reads {files} files, {definitions} definitions of {lines} lines, "
-        "with the {types} types of the code that they name, of {type_lines} lines. They begin with "
-        "`one_result/specs/Others.antt`.",
+        "To believe the same of runs with and without `--memory`, of `--stats`, of ports that have words left, of "
+        "`multi`, `trace` with `replay`, and `bench`, read {files} files: {definitions} definitions, {lines} lines, and "
+        "the {types} types of the code that they name, {type_lines} lines. Start with `one_result/specs/Others.antt`.",
         tuple(f"one_result/Others.{name}" for name in STATEMENTS["Others"]),
         NEED_NO_UNFOLDING,
     ),
     (
         "### For the headline and what it means",
-        "Whoever wants to believe that this result is the one of the sequential run reads {files} files, {definitions} "
-        "definitions of {lines} lines, with the {types} types of the code that they name, of {type_lines} lines. They "
-        "begin with `one_result/specs/Sequential.antt`. That it is accepted as well (`JobMeaning`), and that a job comes "
-        "to its result (`one_result/specs/Ends.antt`), rests on the rules of the language and on the command line too.",
+        "To believe that this result is that of the sequential run, read {files} files: {definitions} definitions, "
+        "{lines} lines, and the {types} types of the code that they name, {type_lines} lines. Start with "
+        "`one_result/specs/Sequential.antt`. That the program is accepted (`JobMeaning`), and that a job reaches its "
+        "result (`one_result/specs/Ends.antt`), rests on the rules of the language and on the command line too.",
         ("one_result/Sequential.OneMeaning",),
         NEED_NO_UNFOLDING,
     ),

@@ -8,7 +8,7 @@ complete -c wsc -n __fish_use_subcommand -f -a check -d 'Print `sound`, or why t
 complete -c wsc -n __fish_use_subcommand -f -a exec -d 'Check the image and run it'
 complete -c wsc -n __fish_use_subcommand -f -a list -d 'Check the image and list its waves'
 complete -c wsc -n __fish_use_subcommand -f -a trace -d 'Check the image, run it on one thread'
-complete -c wsc -n __fish_use_subcommand -f -a replay -d 'Read such a text and make its events in their order'
+complete -c wsc -n __fish_use_subcommand -f -a replay -d 'Read such a text and repeat its events in their order'
 complete -c wsc -n __fish_use_subcommand -f -a decouple -d 'Check the image and run it on one thread'
 complete -c wsc -n __fish_use_subcommand -f -a grid -d 'Check the image and run it on a clocked grid'
 complete -c wsc -n __fish_use_subcommand -f -a gen -d 'Print the generated job of this number'
