@@ -17,8 +17,9 @@
 //! they fire. `fault_run`: where the chain is stopped, it is so at the walk's first index fault, with what
 //! the walk leaves before it. `port_run`: where a port has failed, its count of faults rose since the run
 //! began, and the walk's next operation is on it, with what the walk leaves before that. `limits` shares
-//! all firings that are given out to the tables, each table fits its share, and the table that the caller
-//! names gets one at least. `few_tokens`: where the walk has at most n instances, at most 3 n tokens have
+//! all firings that are given out to the tables, a sixteenth of them at least to each, each table fits its
+//! share, and the table that the caller names gets one at least. `deal` puts each token into a seat, and
+//! nothing else, unless the deque of a seat is full (`Dealt`). `few_tokens`: where the walk has at most n instances, at most 3 n tokens have
 //! come.
 //!
 //! A `Crew` has 1 to 8 workers, a gate and a budget. `run_image` runs an image, over ports of any type that
@@ -37,9 +38,9 @@
 //! phase moves on**: it begins only where some may fire and with a token that no table has had, after
 //! `turn` a table has had it or no more may fire, and `run_on` counts its phases: each but the last has
 //! brought a token that no table had before, no two to one port, and the tables hold all of them in the end
-//! (`MovedOn`). So does `find_course`, by which `multi_wave` goes on. So a run that returns has had at most
-//! 3 n + 1 phases where the walk has at most n instances. That it returns is no clause, since its workers
-//! may wait. **A crew of one** (`run_solo`) starts no phase and waits for nothing, so it returns: it owns
+//! (`MovedOn`). So does `find_course`, by which `multi_wave` goes on. `run_on` reports at most 3 n + 1 phases
+//! where the walk has at most n instances, and where `share` reports none no table has changed. That it
+//! returns is no clause, since its workers may wait, nor that a phase comes behind the first. **A crew of one** (`run_solo`) starts no phase and waits for nothing, so it returns: it owns
 //! tables and buffer, each token that they owe has come or is on the way (`Paid`), and where none is on the
 //! way the whole walk has been run. So does one worker between two phases (`go_alone`), from what `missing`
 //! gave.
