@@ -1,0 +1,4 @@
+mod Asked
+mod Budgets
+mod Caused
+mod Worlds
