@@ -1,5 +1,6 @@
 -- What a source gives of which an assembly is to be read.
-use Rattle.std.specs.Prelude.{◌≡◌, ℕ, ◌+◌, ◌≤◌, List, length, Option}
+use Rattle.std.specs.Prelude.{◌≡◌, ℕ, ◌+◌, ◌≤◌, List, [], ◌∷◌, length, Option}
+use Rattle.ws_words.specs.Outside.{World}
 use Rattle.ws_io.specs.Streams.{Rose, Takes, TakesAll}
 use Rattle.ws_isa.specs.Image.{Image}
 use Rattle.asm_read.specs.declared.source.Unread.{Unread}
@@ -40,3 +41,7 @@ IsUnread reads (Refused why) = (text : List ℕ) × (length text ≤ assembly_li
     × TakesAll reads.left text reads.after × RefusesAssembly text why
 IsUnread reads NoMemory = (bytes : List ℕ) × (length bytes ≤ assembly_limit + 1)
     × Takes reads.left bytes reads.after
+
+-- what a run without ports is given: these words, and nothing left in any port
+abbrev pub world_of : List ℕ → World
+world_of words = record { input = words; left = [] ∷ [] ∷ [] ∷ [] ∷ [] ∷ [] ∷ [] ∷ [] }

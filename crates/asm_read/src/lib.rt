@@ -11,10 +11,12 @@ mod laws;
 mod refusals;
 mod sections;
 mod source;
+mod worlds;
 
 pub use assembly::{AsmRefusal, AssemblyFault, read};
 pub use input::input_words;
 pub use laws::{each_assembly_is_read_or_refused, each_input_is_read_once};
 pub use refusals::{asm_refused, refused, refused_at};
-pub use sections::{split, split_trace};
+pub use sections::{after_line, front_length, split, split_trace};
 pub use source::{Unread, read_source};
+pub use worlds::world;

@@ -16,14 +16,14 @@ use Rattle.stream_top.specs.declared.status.Status.TheVariants.{Done, Usage, Ref
 use Rattle.stream_top.specs.declared.status.Status.TheVariants.{WriteFault, NoMemory, Fault}
 use Rattle.asm_read.specs.declared.assembly.AsmRefusal.{AsmRefusal}
 use Rattle.asm_read.specs.Assembly.{assembly_limit, IsAssembly, RefusesAssembly}
-use Rattle.asm_read.specs.Reads.{SourceCall, IsRead}
+use Rattle.asm_read.specs.Reads.{SourceCall, world_of}
 use Rattle.stream_run.specs.declared.options.Options.{Options}
 use Rattle.stream_run.specs.declared.drive.Stop.TheVariants as stop
-use Rattle.stream_run.specs.Streams.{Writing}
+use Rattle.run_text.specs.Writes.{Writing}
 use Rattle.stream_run.specs.Ends.{WritesPart}
 use Rattle.stream_top.specs.Lines.{IsLine}
 use Rattle.stream_top.specs.Calls as ends
-use Rattle.stream_top.specs.Calls.{CallEnds, IsAnswer, IsRefused, IsNoLine, IsDue, status_of, world_of}
+use Rattle.stream_top.specs.Calls.{CallEnds, IsAnswer, IsRefused, IsNoLine, IsDue, status_of}
 use Rattle.stream_top.specs.Causes.{OrNoMemory, NoFaults, EndsBy, CallCaused}
 
 abbrev pub OneAsking : Type 0

@@ -1,4 +1,3 @@
 mod Asked
 mod Budgets
 mod Caused
-mod Worlds

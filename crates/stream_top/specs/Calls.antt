@@ -1,6 +1,5 @@
 -- What a call of the program comes to.
-use Rattle.std.specs.Prelude.{ℕ, ◌≡◌, List, [], ◌∷◌, codes}
-use Rattle.ws_words.specs.Outside.{World}
+use Rattle.std.specs.Prelude.{ℕ, ◌≡◌, List, codes}
 use Rattle.ws_io.specs.Streams.{Adds, Flushes}
 use Rattle.ws_isa.specs.Image.{Image}
 use Rattle.df_core.specs.declared.drive.Finish.{Finish}
@@ -8,10 +7,10 @@ use Rattle.df_core.specs.declared.drive.Finish.TheVariants as finish
 use Rattle.asm_read.specs.declared.assembly.AsmRefusal.{AsmRefusal}
 use Rattle.asm_read.specs.declared.source.Unread.TheVariants as unread
 use Rattle.asm_read.specs.Texts.{unread_text, long_text, asm_refusal_text}
-use Rattle.asm_read.specs.Reads.{SourceCall, IsRead, IsUnread}
+use Rattle.asm_read.specs.Reads.{SourceCall, IsRead, IsUnread, world_of}
 use Rattle.stream_run.specs.declared.options.Options.{Options}
 use Rattle.stream_run.specs.declared.drive.Stop.TheVariants as stop
-use Rattle.stream_run.specs.Streams.{Writing}
+use Rattle.run_text.specs.Writes.{Writing}
 use Rattle.stream_run.specs.Ends.{WritesWhole, WritesFront, WritesPart}
 use Rattle.stream_top.specs.declared.status.Status.{Status}
 use Rattle.stream_top.specs.declared.status.Status.TheVariants.{Done, Usage, Refused, Budget, ReadFault}
@@ -20,10 +19,6 @@ use Rattle.stream_top.specs.Lines.{IsLine}
 
 abbrev pub usage_text : List ℕ
 usage_text = codes "usage: wss [--budget N] [--memory] [--stats]\n"
-
--- these words, and nothing left in any port
-abbrev pub world_of : List ℕ → World
-world_of words = record { input = words; left = [] ∷ [] ∷ [] ∷ [] ∷ [] ∷ [] ∷ [] ∷ [] }
 
 -- these words are no line
 abbrev pub IsNoLine : List (List ℕ) → Type 0

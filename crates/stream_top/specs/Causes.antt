@@ -10,11 +10,11 @@ use Rattle.stream_top.specs.declared.status.Status.{Status}
 use Rattle.stream_top.specs.declared.status.Status.TheVariants.{Done, Usage, Refused, Budget, ReadFault}
 use Rattle.stream_top.specs.declared.status.Status.TheVariants.{WriteFault, NoMemory, Fault}
 use Rattle.asm_read.specs.Assembly.{assembly_limit, IsAssembly}
-use Rattle.asm_read.specs.Reads.{SourceCall}
+use Rattle.asm_read.specs.Reads.{SourceCall, world_of}
 use Rattle.stream_run.specs.declared.options.Options.{Options}
-use Rattle.stream_run.specs.Streams.{Writing}
+use Rattle.run_text.specs.Writes.{Writing}
 use Rattle.stream_top.specs.Lines.{IsLine}
-use Rattle.stream_top.specs.Calls.{IsNoLine, world_of}
+use Rattle.stream_top.specs.Calls.{IsNoLine}
 
 -- the status is this one, unless memory ran out
 abbrev pub OrNoMemory : Status → Status → Type 0

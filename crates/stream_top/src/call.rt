@@ -3,7 +3,7 @@
 ghost use Rattle.std.specs.Prelude.{◌≡◌, List, ℕ, map, string_bytes};
 ghost use Rattle.asm_read.specs.Reads.{IsUnread, SourceCall, reading};
 ghost use Rattle.stream_run.specs.declared.options.Options.{Options as Asked};
-ghost use Rattle.stream_run.specs.Streams.{writing};
+ghost use Rattle.run_text.specs.Writes.{writing};
 ghost use Rattle.stream_top.specs.Lines.{IsLine};
 ghost use Rattle.stream_top.specs.Calls.{CallEnds, IsAnswer, IsDue, status_of};
 ghost use Rattle.stream_top.specs.Causes.{CallCaused};
@@ -11,8 +11,7 @@ ghost use Rattle.stream_top.specs.Causes.{CallCaused};
 use crate::laws::each_status_has_its_cause;
 use crate::status::Status;
 use crate::words::read_options;
-use crate::world::world;
-use asm_read::{Unread, asm_refused, read_source};
+use asm_read::{Unread, asm_refused, read_source, world};
 use df_core::Finish;
 use std::alloc::Global;
 use stream_run::{Options, Stop, run_image};

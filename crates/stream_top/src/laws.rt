@@ -3,7 +3,7 @@
 ghost use Rattle.std.specs.Prelude.{◌≡◌, List, ℕ};
 ghost use Rattle.asm_read.specs.Reads.{SourceCall};
 ghost use Rattle.stream_run.specs.declared.options.Options.{Options};
-ghost use Rattle.stream_run.specs.Streams.{Writing};
+ghost use Rattle.run_text.specs.Writes.{Writing};
 ghost use Rattle.stream_top.specs.declared.status.Status.{Status};
 ghost use Rattle.stream_top.specs.Lines.{IsLine};
 ghost use Rattle.stream_top.specs.Calls.{CallEnds};

@@ -10,7 +10,6 @@ mod call;
 mod laws;
 mod status;
 mod words;
-mod world;
 
 pub use call::wss;
 pub use laws::{each_status_has_its_cause, words_ask_once};

@@ -2,7 +2,7 @@
 
 ghost use Rattle.std.specs.Prelude.{◌≡◌, IfOk};
 ghost use Rattle.ws_words.specs.Plain as given;
-ghost use Rattle.stream_top.specs.Calls.{world_of};
+ghost use Rattle.asm_read.specs.Reads.{world_of};
 
 use std::alloc::Global;
 use ws_words::{Cells, NoMemory, Words, World};
