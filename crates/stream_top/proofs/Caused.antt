@@ -1,6 +1,6 @@
 -- Why a call has the status that it has.
-use Rattle.std.proofs.Common.{arith, ◌≡◌, ◌⊎◌, ℕ, ◌+◌, ◌≤◌, ◌++◌, true, false, List, length, Option, Some, refl}
-use Rattle.std.proofs.Common.{sym, ap, ◌∙◌, subst, inl, inr, length-append}
+use Rattle.std.proofs.Common.{arith, ◌≡◌, ◌⊎◌, ℕ, ◌+◌, ◌≤◌, ◌++◌, true, false, List, [], length, Option, Some}
+use Rattle.std.proofs.Common.{refl, sym, ap, ◌∙◌, subst, inl, inr, length-append}
 use Rattle.ws_words.specs.Outside.{World}
 use Rattle.ws_io.specs.Streams.{Rose, Takes, TakesAll}
 use Rattle.ws_isa.specs.Image.{Image}
@@ -52,24 +52,30 @@ ends_by image world budget finish.Rest left r = record {
   budget = λ none dear. absurd (dear (r.rests.0 refl).1);
 }
 ends_by image world budget finish.Budget left r = record {
-  done = (λ e. absurd cc, λ h. let no = r.rests.1 h in absurd cc);
-  fault = λ t f cost. let no = r.faults t f cost in absurd cc;
+  done = (λ e. absurd cc, λ h. let no : false ≡ true = r.rests.1 h in absurd cc);
+  fault = λ t f cost. let no : false ≡ true = r.faults t f cost in absurd cc;
   budget = λ none dear. refl;
 }
 ends_by image world budget (finish.Fault array) left r = record {
-  done = (λ e. absurd cc, λ h. let no = r.rests.1 h in absurd cc);
+  done = (λ e. absurd cc, λ h. let no : false ≡ true = r.rests.1 h in absurd cc);
   fault = λ t f cost. refl;
   budget = λ none dear. absurd (never_past image world _ none r.told.fault);
 }
 
 not_usage : (how : Finish) → status_of how ≡ Usage → ⊥
-not_usage how e = grind arith
+not_usage finish.Rest e = let two : Done ≡ Usage = e in absurd cc
+not_usage finish.Budget e = let two : Budget ≡ Usage = e in absurd cc
+not_usage (finish.Fault array) e = let two : Fault ≡ Usage = e in absurd cc
 
 not_read : (how : Finish) → status_of how ≡ ReadFault → ⊥
-not_read how e = grind arith
+not_read finish.Rest e = let two : Done ≡ ReadFault = e in absurd cc
+not_read finish.Budget e = let two : Budget ≡ ReadFault = e in absurd cc
+not_read (finish.Fault array) e = let two : Fault ≡ ReadFault = e in absurd cc
 
 not_written : (how : Finish) → status_of how ≡ WriteFault → ⊥
-not_written how e = grind arith
+not_written finish.Rest e = let two : Done ≡ WriteFault = e in absurd cc
+not_written finish.Budget e = let two : Budget ≡ WriteFault = e in absurd cc
+not_written (finish.Fault array) e = let two : Fault ≡ WriteFault = e in absurd cc
 
 refused_by : (reads : SourceCall) (status : Status) (text : List ℕ) → IsRefused reads status text
     → (status ≡ Refused) ⊎ ((status ≡ ReadFault) × Rose reads.faults reads.counted)
@@ -80,7 +86,10 @@ refused_by reads status text (ends.IsRefused.faulty why u) = inl refl
 -- a text that is told was read whole
 whole_is : (told : Option (List ℕ)) (after : Option (List ℕ)) (text whole : List ℕ) → told ≡ Some text
     → TakesAll told whole after → text ≡ whole
-whole_is told after text whole e takes = (subst (λ (o : Option (List ℕ)). TakesAll o whole after) e takes).0
+whole_is told after text whole e takes =
+    let both : (text ≡ whole) × (after ≡ Some []) =
+    subst (λ (o : Option (List ℕ)). TakesAll o whole after) e takes in
+    both.0
 
 module _ (words : List (List ℕ)) (reads : SourceCall) (writes : Writing) where
   part_rose : (options : Options) (image : Image) (world : World)
@@ -156,7 +165,8 @@ module _ (words : List (List ℕ)) (reads : SourceCall) (writes : Writing) where
         (assembly : IsAssembly text image input) where
       too_long : (bytes : List ℕ) → length bytes ≡ assembly_limit + 1 → Takes reads.left bytes reads.after → ⊥
       too_long bytes more takes =
-          let found = subst (λ (o : Option (List ℕ)). Takes o bytes reads.after) told takes in
+          let found : (rest : List ℕ) × (text ≡ bytes ++ rest) × (reads.after ≡ Some rest) =
+          subst (λ (o : Option (List ℕ)). Takes o bytes reads.after) told takes in
           let sum : length text ≡ length bytes + length found.0 =
           ap length found.1 ∙ length-append bytes found.0 in
           absurd (omega arith)
