@@ -1,5 +1,5 @@
 use Rattle.std.proofs.Common.{◌≡◌}
-use Rattle.asm_read.proofs.Worlds.{empties}
+use Rattle.asm_read.proofs.Empties.{empties}
 use Rattle.asm_read.proofs.worlds.world.Given as goal
 
 abbrev pub invariant-loop : goal.invariant-loop
