@@ -24,7 +24,7 @@ reading left faults old new = record {
 }
 
 -- the whole text that a source gives was read: a sound image, and its input words
-pub record IsRead (reads : SourceCall) (image : Image) (input : List ℕ) : Type 0 where
+pub record GivesAssembly (reads : SourceCall) (image : Image) (input : List ℕ) : Type 0 where
   pub text : List ℕ
   pub short : length text ≤ assembly_limit
   pub takes : TakesAll reads.left text reads.after

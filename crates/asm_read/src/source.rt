@@ -2,7 +2,7 @@
 
 ghost use Rattle.std.specs.Prelude.{◌≡◌, ◌≤◌, ℕ, List, length, IfOk, IfErr};
 ghost use Rattle.asm_read.specs.Assembly.{assembly_limit, IsAssembly, IsAssemblyFault};
-ghost use Rattle.asm_read.specs.Reads.{IsRead, IsUnread, reading};
+ghost use Rattle.asm_read.specs.Reads.{GivesAssembly, IsUnread, reading};
 
 use crate::assembly::{AsmRefusal, AssemblyFault, read};
 use crate::sections::split;
@@ -27,7 +27,7 @@ pub enum Unread {
 
 /// The image and the input words of the assembly that a source gives, which is read to its end.
 pub fn read_source<S: Source>(alloc: Global, source: &mut S) -> Result<(Checked, Words), Unread>
-    ensures ok { IfOk result (λ x. IsRead (reading S.left S.faults source.old source.new) x.0 x.1) }
+    ensures ok { IfOk result (λ x. GivesAssembly (reading S.left S.faults source.old source.new) x.0 x.1) }
     ensures none { IfErr result (IsUnread (reading S.left S.faults source.old source.new)) }
 {
     match read_all(alloc, source, LIMIT) {

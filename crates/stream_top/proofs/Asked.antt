@@ -8,7 +8,7 @@ use Rattle.wsc_words.specs.Lines.{Given, text_of}
 use Rattle.wsc_words.proofs.Rows.{row}
 use Rattle.wsc_words.proofs.OneLine.{same_rows, same_text, same_flag}
 use Rattle.stream_run.specs.declared.options.Options.{Options}
-use Rattle.stream_top.specs.Lines.{IsLine, options_of}
+use Rattle.stream_top.specs.Lines.{AsksForRun, options_of}
 use Rattle.stream_top.proofs.Budgets.{in_digits}
 
 abbrev asked_by : Option (List ℕ) → Bool → Bool → Options
@@ -25,8 +25,8 @@ same_options g h e =
     ∙ ap (λ (m : Bool). asked_by (text_of Budget h) m (is_some (text_of Stats g))) (same_flag g h e Memory)
     ∙ ap (λ (s : Bool). asked_by (text_of Budget h) (is_some (text_of Memory h)) s) (same_flag g h e Stats)
 
-pub one_asking : (words : List (List ℕ)) (options others : Options) → IsLine words options
-    → IsLine words others → options ≡ others
+pub one_asking : (words : List (List ℕ)) (options others : Options) → AsksForRun words options
+    → AsksForRun words others → options ≡ others
 one_asking words options others i j = i.is ∙ same_options i.given j.given (same_rows Decouple words i.given
     j.given i.gives (in_digits words i.given i.gives i.number) j.gives (in_digits words j.given j.gives
     j.number)) ∙ sym j.is

@@ -21,13 +21,13 @@ use Rattle.stream_run.specs.declared.options.Options.{Options}
 use Rattle.stream_run.specs.declared.drive.Stop.TheVariants as stop
 use Rattle.run_text.specs.Writes.{Writing}
 use Rattle.stream_run.specs.Ends.{WritesPart}
-use Rattle.stream_top.specs.Lines.{IsLine}
+use Rattle.stream_top.specs.Lines.{AsksForRun}
 use Rattle.stream_top.specs.Calls as ends
 use Rattle.stream_top.specs.Calls.{CallEnds, IsAnswer, IsRefused, IsNoLine, IsDue, status_of}
 use Rattle.stream_top.specs.Causes.{OrNoMemory, NoFaults, EndsBy, CallCaused}
 
 abbrev pub OneAsking : Type 0
-OneAsking = (words : List (List ℕ)) (options others : Options) → IsLine words options → IsLine words others
+OneAsking = (words : List (List ℕ)) (options others : Options) → AsksForRun words options → AsksForRun words others
     → options ≡ others
 
 abbrev pub OneImage : Type 0
@@ -142,7 +142,7 @@ module _ (words : List (List ℕ)) (reads : SourceCall) (writes : Writing) where
 
   -- the text that is told
   module _ (text : List ℕ) (told : reads.left ≡ Some text) (well : NoFaults reads writes) where
-    refused_of : (options : Options) → IsLine words options → (length text ≤ assembly_limit
+    refused_of : (options : Options) → AsksForRun words options → (length text ≤ assembly_limit
         → (image : Image) (input : List ℕ) → IsAssembly text image input → ⊥)
         → (status : Status) → CallEnds words reads writes status → OrNoMemory status Refused
     refused_of options line other status (ends.CallEnds.answered t (ends.IsAnswer.usage no same) w) =
@@ -161,7 +161,7 @@ module _ (words : List (List ℕ)) (reads : SourceCall) (writes : Writing) where
 
     -- which is an assembly
     module _ (one : OneAsking) (alike : OneImage) (never : NeverBoth) (options : Options)
-        (line : IsLine words options) (image : Image) (input : List ℕ) (short : length text ≤ assembly_limit)
+        (line : AsksForRun words options) (image : Image) (input : List ℕ) (short : length text ≤ assembly_limit)
         (assembly : IsAssembly text image input) where
       too_long : (bytes : List ℕ) → length bytes ≡ assembly_limit + 1 → Takes reads.left bytes reads.after → ⊥
       too_long bytes more takes =

@@ -7,7 +7,7 @@ use Rattle.df_core.specs.declared.drive.Finish.TheVariants as finish
 use Rattle.asm_read.specs.declared.assembly.AsmRefusal.{AsmRefusal}
 use Rattle.asm_read.specs.declared.source.Unread.TheVariants as unread
 use Rattle.asm_read.specs.Texts.{unread_text, long_text, asm_refusal_text}
-use Rattle.asm_read.specs.Reads.{SourceCall, IsRead, IsUnread, world_of}
+use Rattle.asm_read.specs.Reads.{SourceCall, GivesAssembly, IsUnread, world_of}
 use Rattle.stream_run.specs.declared.options.Options.{Options}
 use Rattle.stream_run.specs.declared.drive.Stop.TheVariants as stop
 use Rattle.run_text.specs.Writes.{Writing}
@@ -15,14 +15,14 @@ use Rattle.stream_run.specs.Ends.{WritesWhole, WritesFront, WritesPart}
 use Rattle.stream_top.specs.declared.status.Status.{Status}
 use Rattle.stream_top.specs.declared.status.Status.TheVariants.{Done, Usage, Refused, Budget, ReadFault}
 use Rattle.stream_top.specs.declared.status.Status.TheVariants.{WriteFault, NoMemory, Fault}
-use Rattle.stream_top.specs.Lines.{IsLine}
+use Rattle.stream_top.specs.Lines.{AsksForRun}
 
 abbrev pub usage_text : List ℕ
 usage_text = codes "usage: wss [--budget N] [--memory] [--stats]\n"
 
 -- these words are no line
 abbrev pub IsNoLine : List (List ℕ) → Type 0
-IsNoLine words = (options : Options) → IsLine words options → ⊥
+IsNoLine words = (options : Options) → AsksForRun words options → ⊥
 
 -- What a source gives is no assembly that can be run, and this is answered to it, as `exec` answers.
 pub data IsRefused (reads : SourceCall) : Status → List ℕ → Type 0 where
@@ -46,14 +46,14 @@ WritesText text writes = Adds writes.held text writes.holds
 -- read, or as `IsRefused` says
 pub data IsAnswer (words : List (List ℕ)) (reads : SourceCall) : Status → List ℕ → Type 0 where
   usage : IsNoLine words → reads.after ≡ reads.left → IsAnswer words reads Usage usage_text
-  refused : {status : Status} {text : List ℕ} (options : Options) → IsLine words options
+  refused : {status : Status} {text : List ℕ} (options : Options) → AsksForRun words options
       → IsRefused reads status text → IsAnswer words reads status text
 
 -- the words ask for a run so, and this image is to be run on these words
 pub record IsDue (words : List (List ℕ)) (reads : SourceCall) (options : Options) (image : Image)
     (input : List ℕ) : Type 0 where
-  pub line : IsLine words options
-  pub read : IsRead reads image input
+  pub line : AsksForRun words options
+  pub read : GivesAssembly reads image input
 
 -- What comes of a call on these words, of which the source and the sink tell this.
 pub data CallEnds (words : List (List ℕ)) (reads : SourceCall) (writes : Writing) : Status → Type 0 where

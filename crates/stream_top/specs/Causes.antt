@@ -13,7 +13,7 @@ use Rattle.asm_read.specs.Assembly.{assembly_limit, IsAssembly}
 use Rattle.asm_read.specs.Reads.{SourceCall, world_of}
 use Rattle.stream_run.specs.declared.options.Options.{Options}
 use Rattle.run_text.specs.Writes.{Writing}
-use Rattle.stream_top.specs.Lines.{IsLine}
+use Rattle.stream_top.specs.Lines.{AsksForRun}
 use Rattle.stream_top.specs.Calls.{IsNoLine}
 
 -- the status is this one, unless memory ran out
@@ -43,11 +43,11 @@ pub record CallCaused (words : List (List ℕ)) (reads : SourceCall) (writes : W
   pub read_fault : status ≡ ReadFault → Rose reads.faults reads.counted
   pub write_fault : status ≡ WriteFault → Rose writes.faults writes.counted
   -- a text that is no assembly is refused
-  pub refused : (options : Options) (text : List ℕ) → IsLine words options → reads.left ≡ Some text
+  pub refused : (options : Options) (text : List ℕ) → AsksForRun words options → reads.left ≡ Some text
       → (length text ≤ assembly_limit → (image : Image) (input : List ℕ) → IsAssembly text image input → ⊥)
       → NoFaults reads writes → OrNoMemory status Refused
   -- and one that is an assembly is run
-  pub ends : (options : Options) (text : List ℕ) (image : Image) (input : List ℕ) → IsLine words options
+  pub ends : (options : Options) (text : List ℕ) (image : Image) (input : List ℕ) → AsksForRun words options
       → reads.left ≡ Some text → length text ≤ assembly_limit → IsAssembly text image input
       → NoFaults reads writes
       → EndsBy image (world_of input) options.budget status ⊎ (status ≡ NoMemory)

@@ -28,7 +28,7 @@ abbrev pub HasBudget : List Given → Type 0
 HasBudget given = (text : List ℕ) → text_of Budget given ≡ Some text → IsBudget text
 
 -- These words ask for a run so: options in any order, each at most once, and the budget in decimal digits.
-pub record IsLine (words : List (List ℕ)) (options : Options) : Type 0 where
+pub record AsksForRun (words : List (List ℕ)) (options : Options) : Type 0 where
   pub given : List Given
   pub gives : Gives keys [] words given
   pub number : HasBudget given

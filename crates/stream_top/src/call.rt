@@ -4,7 +4,7 @@ ghost use Rattle.std.specs.Prelude.{◌≡◌, List, ℕ, map, string_bytes};
 ghost use Rattle.asm_read.specs.Reads.{IsUnread, SourceCall, reading};
 ghost use Rattle.stream_run.specs.declared.options.Options.{Options as Asked};
 ghost use Rattle.run_text.specs.Writes.{writing};
-ghost use Rattle.stream_top.specs.Lines.{IsLine};
+ghost use Rattle.stream_top.specs.Lines.{AsksForRun};
 ghost use Rattle.stream_top.specs.Calls.{CallEnds, IsAnswer, IsDue, status_of};
 ghost use Rattle.stream_top.specs.Causes.{CallCaused};
 
@@ -55,7 +55,7 @@ fn called<S: Source, K: Sink>(
     source: &mut S,
     sink: &mut K,
 ) -> Status
-    ensures { (words : List (List ℕ)) → IsLine words options → CallEnds words
+    ensures { (words : List (List ℕ)) → AsksForRun words options → CallEnds words
         (reading S.left S.faults source.old source.new)
         (writing K.held K.flushed K.faults sink.old sink.new) result }
 {
@@ -67,7 +67,7 @@ fn called<S: Source, K: Sink>(
 
 // Answers where the source gives no assembly.
 fn refuse<K: Sink>(alloc: Global, why: Unread, sink: &mut K) -> Status
-    ensures { (words : List (List ℕ)) (reads : SourceCall) (options : Asked) → IsLine words options
+    ensures { (words : List (List ℕ)) (reads : SourceCall) (options : Asked) → AsksForRun words options
         → IsUnread reads why → CallEnds words reads
         (writing K.held K.flushed K.faults sink.old sink.new) result }
 {

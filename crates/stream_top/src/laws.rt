@@ -5,7 +5,7 @@ ghost use Rattle.asm_read.specs.Reads.{SourceCall};
 ghost use Rattle.stream_run.specs.declared.options.Options.{Options};
 ghost use Rattle.run_text.specs.Writes.{Writing};
 ghost use Rattle.stream_top.specs.declared.status.Status.{Status};
-ghost use Rattle.stream_top.specs.Lines.{IsLine};
+ghost use Rattle.stream_top.specs.Lines.{AsksForRun};
 ghost use Rattle.stream_top.specs.Calls.{CallEnds};
 ghost use Rattle.stream_top.specs.Causes.{CallCaused};
 
@@ -14,7 +14,7 @@ use asm_read::each_assembly_is_read_or_refused;
 /// Words ask for a run in one way at most.
 pub fn words_ask_once()
     ensures { (words : List (List ℕ)) (options others : Options)
-        → IsLine words options → IsLine words others → options ≡ others }
+        → AsksForRun words options → AsksForRun words others → options ≡ others }
 {}
 
 /// Each call has its status by its words, its text, faults that came, and want of memory.

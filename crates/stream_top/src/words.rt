@@ -7,7 +7,7 @@ ghost use Rattle.wsc_words.specs.declared.line.WordsFault.TheVariants.{Usage};
 ghost use Rattle.wsc_words.specs.Lines.{Given, name_of};
 ghost use Rattle.wsc_words.specs.Parsers.{Tells};
 ghost use Rattle.stream_run.specs.declared.options.Options.{Options as Asked};
-ghost use Rattle.stream_top.specs.Lines.{IsLine, HasBudget, BudgetIs, NoBudget, options_of};
+ghost use Rattle.stream_top.specs.Lines.{AsksForRun, HasBudget, BudgetIs, NoBudget, options_of};
 
 use clap::ArgMatches;
 use std::alloc::Global;
@@ -18,11 +18,11 @@ use wsc_words::{Command, WordsFault, parsed};
 /// What these words of the command line ask for, without the program's own name: the options are those of
 /// `decouple`, and the budget may be any word.
 pub fn read_options(alloc: Global, words: &[String]) -> Result<Options, WordsFault>
-    ensures ok { IfOk result (IsLine (map string_bytes words.now)) }
+    ensures ok { IfOk result (AsksForRun (map string_bytes words.now)) }
     ensures only { IfOk result (λ read. (options : Asked)
-        → IsLine (map string_bytes words.now) options → options ≡ read) }
+        → AsksForRun (map string_bytes words.now) options → options ≡ read) }
     ensures usage { result ≡ Err Usage
-        → (options : Asked) → IsLine (map string_bytes words.now) options → ⊥ }
+        → (options : Asked) → AsksForRun (map string_bytes words.now) options → ⊥ }
 {
     match parsed(alloc, Command::Decouple, words) {
         Ok(matches) => match options_from(&matches) {
