@@ -152,7 +152,7 @@ watch() {
     (
         trap - INT QUIT TERM HUP
         exec 1>&3 3>&-
-        exec "$program" "${words[@]}"
+        exec "$program" "${handed[@]}"
     ) <&0 &
     child=$!
     exec 3>&- >&-
@@ -189,7 +189,7 @@ refuse() {
     exit "$status"
 }
 
-# Hands these words to the program, and FILE as standard input.
+# Hands these words to the program, and FILE as standard input. The program of stream gets them without that word.
 hand() {
     fault=
     words=("$@") files=()
@@ -198,12 +198,49 @@ hand() {
     fi
     find_fault
     [ -z "$fault" ] || refuse "$@"
+    handed=("${words[@]}")
     [ ${#files[@]} -eq 0 ] || open_file "${files[0]}"
-    reads_none "$1" || peek
+    case $1 in
+    gen | bench) ;;
+    stream)
+        handed=("${words[@]:1}")
+        make_assembly
+        ;;
+    *) peek ;;
+    esac
     if [ -t 2 ] && [ ! -t 1 ]; then
         watch
     fi
-    exec "$program" "${words[@]}"
+    exec "$program" "${handed[@]}"
+}
+
+# Makes an assembly standard input, where a job is: what compile prints of it, and its input section. A refusal of compile
+# is the answer. The text is kept in a file that has no name any more.
+make_assembly() {
+    local streamer=$program status=0 text
+    if [ ! -f /dev/stdin ]; then
+        text=$(mktemp)
+        # Where reading fails the program finds it too, and answers.
+        cat >"$text" 2>/dev/null || { rm "$text" && return; }
+        exec <"$text"
+        rm "$text"
+    fi
+    ! is_assembly || return 0
+    choose wsc
+    find_program
+    text=$(mktemp)
+    "$program" compile </dev/stdin >"$text" || status=$?
+    [ "$status" -ne 0 ] || LC_ALL=C sed -n $'/^%input\\r\\?$/,$p' </dev/stdin >>"$text"
+    exec <"$text"
+    rm "$text"
+    program=$streamer
+    [ "$status" -eq 0 ] || { cat && exit "$status"; }
+}
+
+# Whether the first line of the text that is neither blank nor a comment is the head of an assembly.
+is_assembly() {
+    LC_ALL=C grep -a -m 1 -v -x '[[:space:]]*\(#.*\)\?' </dev/stdin 2>/dev/null |
+        LC_ALL=C grep -a -q '^[[:blank:]]*wavescalar\([[:space:]]\|$\)'
 }
 
 # Finds what is wrong with the words, as far as that can be seen; then fault says it.
@@ -294,7 +331,13 @@ in_range() {
     local number=$1
     [[ $number && $number != *[!0-9]* ]] || return 1
     number=${number#"${number%%[!0]*}"}
-    [ ${#number} -le 9 ] && [ "${number:-0}" -ge "${2% *}" ] && [ "${number:-0}" -le "${2#* }" ]
+    at_most "${2% *}" "${number:-0}" && at_most "${number:-0}" "${2#* }"
+}
+
+# Compares numbers that a shell may not reach, without zeros in front: the greater has more digits, or stands behind.
+at_most() {
+    local LC_ALL=C
+    [ ${#1} -lt ${#2} ] || { [ ${#1} -eq ${#2} ] && ! [[ $1 > $2 ]]; }
 }
 
 # Which commands have an option.

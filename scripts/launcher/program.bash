@@ -1,10 +1,10 @@
-# Which program wsc, wsl, install and release take. They set top, the folder that they stand in.
+# Which program wsc, wsl, wss, install and release take. They set top, the folder that they stand in.
 # shellcheck shell=bash disable=SC2154
 
 # The kit that builds and proves the programs.
 kit=rattle-kit-13b
 
-# Says of which program all else here is meant, wsc or wsl. What is installed or packed lies in programs/.
+# Says of which program all else here is meant, wsc, wsl or wss. What is installed or packed lies in programs/.
 choose() {
     own=$1
     placed=$top/programs/$own
@@ -92,7 +92,11 @@ proof_of() {
         return
     fi
     mapfile -t lines <"$top/VERSION"
-    if [ "$own" = wsc ]; then echo "${lines[1]}"; else echo "${lines[2]}"; fi
+    case $own in
+    wsc) echo "${lines[1]}" ;;
+    wsl) echo "${lines[2]}" ;;
+    *) echo "${lines[3]}" ;;
+    esac
 }
 
 # Where the repository can't be written a program is kept in the user's cache; fails where it can.

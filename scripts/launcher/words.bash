@@ -1,6 +1,6 @@
 # Made of docs/wsc.1 by python/run repo.manual.
 # shellcheck shell=bash disable=SC2034
-commands=(run plain format compile multi check exec list trace replay decouple grid gen bench)
+commands=(run plain format compile multi check exec list trace replay decouple grid stream gen bench)
 options=(workers budget elements waves turns memory stats)
 declare -A options_of=(
     [run]="workers budget memory stats"
@@ -15,6 +15,7 @@ declare -A options_of=(
     [replay]=""
     [decouple]="budget memory stats"
     [grid]="elements waves budget memory stats"
+    [stream]="budget memory stats"
     [gen]=""
     [bench]="workers budget"
 )
@@ -30,6 +31,7 @@ declare -A ranges_of=(
     [bench.budget]="0 4000000"
     [trace.budget]="0 100000"
     [grid.budget]="0 100000"
+    [stream.budget]="0 18446744073709551615"
     [grid.elements]="1 64"
     [grid.waves]="1 1000000"
     [plain.turns]="0 4000000"

@@ -17,10 +17,12 @@ use Rattle.wsc_top.specs.declared.task.Task.TheVariants.{Job, Assembly, Generate
 use Rattle.wsc_top.specs.declared.task.JobTask.TheVariants.{Run}
 use Rattle.wsc_top.specs.declared.task.BenchOptions.{BenchOptions}
 use Rattle.wsc_top.specs.declared.task.RunOptions.{RunOptions}
-use Rattle.wsc_top.specs.declared.task.Report.TheVariants.{Brief}
-use Rattle.wsc_top.specs.Job.{IsJob, IsTextAnswer, world_of}
+use Rattle.run_text.specs.declared.report.Report.TheVariants.{Brief}
+use Rattle.wsc_top.specs.Job.{IsJob, IsTextAnswer}
+use Rattle.asm_read.specs.Reads.{world_of}
 use Rattle.wsc_top.specs.Tasks.{AsksFor}
-use Rattle.wsc_top.specs.Texts.{done_text, ended_text, summary_text, names_of}
+use Rattle.wsc_top.specs.Texts.{names_of}
+use Rattle.run_text.specs.Texts.{done_text, ended_text, summary_text}
 use Rattle.wsc_top.specs.Answers as answers
 use Rattle.wsc_top.specs.Answers.{Answers, Benched, TellsRun, Yields}
 use Rattle.wsc_top.specs.Threads as threads

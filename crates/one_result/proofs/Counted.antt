@@ -14,12 +14,14 @@ use Rattle.wsc_top.specs.declared.task.Task.TheVariants.{Job}
 use Rattle.wsc_top.specs.declared.task.JobTask.{JobTask}
 use Rattle.wsc_top.specs.declared.task.JobTask.TheVariants.{Run, Plain, Format, Compile}
 use Rattle.wsc_top.specs.declared.task.RunOptions.{RunOptions}
-use Rattle.wsc_top.specs.declared.task.Report.{Report}
-use Rattle.wsc_top.specs.declared.task.Report.TheVariants.{Full}
-use Rattle.wsc_top.specs.Job.{IsTextAnswer, world_of}
-use Rattle.wsc_top.specs.Texts.{ended_text, faulted_text, names_of, array_name, turns_line, firings_line}
-use Rattle.wsc_top.specs.Texts.{done_text, array_lines, shown_names, called}
-use Rattle.wsc_top.specs.Executions.{end_report, fault_report}
+use Rattle.run_text.specs.declared.report.Report.{Report}
+use Rattle.run_text.specs.declared.report.Report.TheVariants.{Full}
+use Rattle.wsc_top.specs.Job.{IsTextAnswer}
+use Rattle.asm_read.specs.Reads.{world_of}
+use Rattle.wsc_top.specs.Texts.{names_of, array_name, turns_line}
+use Rattle.run_text.specs.Texts.{ended_text, faulted_text, firings_line}
+use Rattle.run_text.specs.Texts.{done_text, array_lines, shown_names, called}
+use Rattle.run_text.specs.Reports.{end_report, fault_report}
 use Rattle.wsc_top.specs.Answers as answers
 use Rattle.wsc_top.specs.Answers.{Answered, Yields, TellsRun}
 use Rattle.wsc_top.specs.Threads.{no_ports}

@@ -27,8 +27,9 @@ use Rattle.wsc_top.specs.declared.task.JobTask.TheVariants.{Run, Plain}
 use Rattle.wsc_top.specs.declared.task.AssemblyTask.{AssemblyTask}
 use Rattle.wsc_top.specs.declared.task.AssemblyTask.TheVariants as task
 use Rattle.wsc_top.specs.Tasks.{AsksFor}
-use Rattle.wsc_top.specs.Job.{IsJob, IsTextAnswer, job_limit, world_of}
-use Rattle.wsc_top.specs.Assembly.{IsAssembly, assembly_limit}
+use Rattle.wsc_top.specs.Job.{IsJob, IsTextAnswer, job_limit}
+use Rattle.asm_read.specs.Reads.{world_of}
+use Rattle.asm_read.specs.Assembly.{IsAssembly, assembly_limit}
 use Rattle.wsc_top.specs.Executions.{Rests, OrFailed}
 use Rattle.wsc_top.specs.Answers.{Answers, JobEndsSo, AssemblyEndsSo, TellWords, IsToldJob, IsToldAssembly}
 use Rattle.wsc_top.specs.Answers.{IsCompiled, ComesToItsEnd}

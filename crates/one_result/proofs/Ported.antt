@@ -19,18 +19,20 @@ use Rattle.wsc_top.specs.declared.task.JobTask.TheVariants.{Run, Plain, Format, 
 use Rattle.wsc_top.specs.declared.task.AssemblyTask.{AssemblyTask}
 use Rattle.wsc_top.specs.declared.task.AssemblyTask.TheVariants as task
 use Rattle.wsc_top.specs.declared.task.RunOptions.{RunOptions}
-use Rattle.wsc_top.specs.declared.task.Report.TheVariants.{Full}
+use Rattle.run_text.specs.declared.report.Report.TheVariants.{Full}
 use Rattle.wsc_top.specs.Job.{IsJob, IsTextAnswer}
-use Rattle.wsc_top.specs.Assembly.{IsAssembly}
+use Rattle.asm_read.specs.Assembly.{IsAssembly}
 use Rattle.wsc_top.specs.Texts.{names_of}
-use Rattle.wsc_top.specs.Executions.{Executes, PortsAre, end_report}
+use Rattle.wsc_top.specs.Executions.{Executes, PortsAre}
+use Rattle.run_text.specs.Reports.{end_report}
 use Rattle.wsc_top.specs.Executions as executions
 use Rattle.wsc_top.specs.Answers as answers
 use Rattle.wsc_top.specs.Answers.{TellWords, TellsRun, Answered, AssemblyAnswered}
 use Rattle.wsc_top.proofs.Reading.AnswersOnce.{RunsOnce}
 use Rattle.wsc_top.proofs.Told.RunsAlike as alike
 use Rattle.wsc_top.proofs.Told.RunsAlike.{one_job}
-use Rattle.wsc_top.proofs.Reading.AssembliesOnce.{WalksOnce, one_assembly, either_way, one_walk, one_effect}
+use Rattle.wsc_top.proofs.Reading.AssembliesOnce.{WalksOnce, either_way, one_walk, one_effect}
+use Rattle.asm_read.proofs.Once.{one_assembly}
 use Rattle.wsc_top.proofs.Reading.AssembliesOnce.{one_time, no_fault_here}
 use Rattle.wsc_top.proofs.Told.PortActs.{ports_moved}
 use Rattle.wsc_top.proofs.Told.Tells.{WalksEnd, input_words, run_tells, given_words}

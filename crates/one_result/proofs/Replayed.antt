@@ -14,15 +14,16 @@ use Rattle.wsc_top.specs.declared.status.Status.TheVariants.{Done}
 use Rattle.wsc_top.specs.declared.task.Task.TheVariants.{Assembly}
 use Rattle.wsc_top.specs.declared.task.AssemblyTask.{AssemblyTask}
 use Rattle.wsc_top.specs.declared.task.AssemblyTask.TheVariants as task
-use Rattle.wsc_top.specs.Job.{world_of}
-use Rattle.wsc_top.specs.Assembly.{IsAssembly}
-use Rattle.wsc_top.specs.Sections.{trace_line}
-use Rattle.wsc_top.specs.Texts.{done_text, firings_line}
+use Rattle.asm_read.specs.Reads.{world_of}
+use Rattle.asm_read.specs.Assembly.{IsAssembly}
+use Rattle.asm_read.specs.Sections.{trace_line}
+use Rattle.run_text.specs.Texts.{done_text, firings_line}
 use Rattle.wsc_top.specs.Traced.{IsTraced, replayed_text}
 use Rattle.wsc_top.specs.Executions.{Rests}
 use Rattle.wsc_top.specs.Answers as answers
 use Rattle.wsc_top.specs.Answers.{AssemblyAnswered}
-use Rattle.wsc_top.proofs.Reading.AssembliesOnce.{WalksOnce, one_assembly, no_fault_here}
+use Rattle.wsc_top.proofs.Reading.AssembliesOnce.{WalksOnce, no_fault_here}
+use Rattle.asm_read.proofs.Once.{one_assembly}
 use Rattle.one_result.specs.OneResult.{lines_of}
 use Rattle.one_result.specs.Others.{OneTrace}
 use Rattle.one_result.proofs.Written.{IsTrace, IsReplay, TextTold, trace_written, replay_written}

@@ -14,7 +14,7 @@ use Rattle.wsc_top.specs.declared.task.Task.{Task}
 use Rattle.wsc_top.specs.declared.task.Task.TheVariants.{Job, Assembly, Generate, Bench, Multi}
 use Rattle.wsc_top.specs.declared.task.JobTask.TheVariants.{Run}
 use Rattle.wsc_top.specs.declared.task.RunOptions.{RunOptions}
-use Rattle.wsc_top.specs.declared.task.Report.TheVariants.{Full}
+use Rattle.run_text.specs.declared.report.Report.TheVariants.{Full}
 use Rattle.wsc_top.specs.Job.{IsTextAnswer}
 use Rattle.wsc_top.specs.Jobs.{Piece, Jobs}
 use Rattle.wsc_top.specs.Executions.{IsFailed}

@@ -12,11 +12,12 @@ use Rattle.wsc_top.specs.declared.task.Task.TheVariants.{Job, Assembly}
 use Rattle.wsc_top.specs.declared.task.JobTask.TheVariants.{Run, Plain}
 use Rattle.wsc_top.specs.declared.task.AssemblyTask.TheVariants.{Exec, Grid}
 use Rattle.wsc_top.specs.Tasks.{AsksFor}
-use Rattle.wsc_top.specs.Job.{IsJob, job_limit, world_of}
+use Rattle.wsc_top.specs.Job.{IsJob, job_limit}
 use Rattle.ws_isa.specs.Image.{Image}
 use Rattle.ws_isa.specs.Operations.{NoFault}
 use Rattle.ws_isa.specs.Walk.{CostAtMost}
-use Rattle.wsc_top.specs.Assembly.{IsAssembly, assembly_limit}
+use Rattle.asm_read.specs.Reads.{world_of}
+use Rattle.asm_read.specs.Assembly.{IsAssembly, assembly_limit}
 use Rattle.one_result.specs.OneResult.{HasWritten, IsCodeOf, JobHasRun, IsResult, job_commands}
 use Rattle.one_result.specs.OneResult.{assembly_commands, input_section}
 

@@ -15,7 +15,7 @@ use Rattle.port_set.specs.Slots.{port_at}
 use Rattle.wsc_top.specs.declared.status.Status.{Status}
 use Rattle.wsc_top.specs.declared.status.Status.TheVariants.{Done, Budget}
 use Rattle.wsc_top.specs.Jobs.{Piece, Jobs}
-use Rattle.wsc_top.specs.Texts.{done_text, summary_text, firings_line}
+use Rattle.run_text.specs.Texts.{done_text, summary_text, firings_line}
 use Rattle.wsc_top.specs.Threads.{thread_line, status_of}
 use Rattle.one_result.specs.OneResult.{HasFlags, CalledBy, HasWritten, IsCodeOf, AssemblyHasRun}
 use Rattle.one_result.specs.OneResult.{input_section, JobHasRun, IsResult, IsFront, job_commands}

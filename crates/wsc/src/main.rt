@@ -10,7 +10,9 @@ ghost use Rattle.std.specs.Prelude.{◌≡◌, drop, map, string_bytes};
 ghost use Rattle.std.specs.Process.{exit_status};
 ghost use Rattle.port_set.specs.Slots.{AllOpen, contents};
 ghost use Rattle.wsc_top.specs.Answers.{TellWords};
-ghost use Rattle.wsc_top.specs.Calls.{EndsWithCode, reading, writing, in_first};
+ghost use Rattle.wsc_top.specs.Calls.{EndsWithCode, in_first};
+ghost use Rattle.asm_read.specs.Reads.{reading};
+ghost use Rattle.run_text.specs.Writes.{writing};
 
 use fire_crew::Free;
 use port_set::{LinePort, Port, Slots};

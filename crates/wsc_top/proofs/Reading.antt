@@ -1,7 +1,5 @@
 -- What the text of a job, of an assembly or of an input section comes to, and that it is one thing.
-pub mod Assemblies
 pub mod AssembliesOnce
-pub mod Inputs
 pub mod JobTexts
 pub mod Jobs
 pub mod JobsOnce

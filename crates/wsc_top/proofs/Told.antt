@@ -6,7 +6,6 @@ pub mod ShownActs
 pub mod WalkActs
 pub mod Runs
 pub mod RunsAlike
-pub mod RunTexts
 pub mod Replays
 pub mod Grids
 pub mod Walked

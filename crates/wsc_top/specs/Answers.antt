@@ -26,7 +26,7 @@ use Rattle.wsc_top.specs.declared.task.PlainOptions.{PlainOptions}
 use Rattle.wsc_top.specs.declared.task.RunOptions.{RunOptions}
 use Rattle.wsc_top.specs.declared.task.GridOptions.{GridOptions}
 use Rattle.wsc_top.specs.declared.task.BenchOptions.{BenchOptions}
-use Rattle.wsc_top.specs.declared.assembly.AsmRefusal.{AsmRefusal}
+use Rattle.asm_read.specs.declared.assembly.AsmRefusal.{AsmRefusal}
 use Rattle.port_set.specs.Ports.{Told}
 use Rattle.store_buf.specs.Outdoors.{AllTell, RoseAt, lefts_of, world_with}
 use Rattle.ws_isa.specs.Image.{Image}
@@ -37,16 +37,21 @@ use Rattle.wave_link.specs.Ripples.{ExactRipples}
 use Rattle.wave_build.specs.Compiled.{ShowsArrays, DoesAs, KeepsBound, HasDraft}
 use Rattle.asm_text.specs.Printed.{printed}
 use Rattle.list_out.specs.Listing.{listing}
-use Rattle.wsc_top.specs.Sections.{before_trace}
-use Rattle.wsc_top.specs.Assembly.{assembly_limit, IsAssembly, RefusesAssembly}
+use Rattle.asm_read.specs.Sections.{before_trace}
+use Rattle.asm_read.specs.Assembly.{assembly_limit, IsAssembly, RefusesAssembly}
 use Rattle.work_gen.specs.Job.{words_of, job_text}
 use Rattle.wsc_top.specs.Tasks.{AsksFor, IsNoLine}
-use Rattle.wsc_top.specs.Job.{job_limit, IsJob, Refuses, world_of}
-use Rattle.wsc_top.specs.Texts.{ended_text, faulted_text, going_text, turns_line, names_of, array_name}
-use Rattle.wsc_top.specs.Texts.{usage_text, unread_text, long_text, refusal_text, sound_text}
-use Rattle.wsc_top.specs.Texts.{asm_refusal_text}
-use Rattle.wsc_top.specs.Executions.{Executes, PortsAre, HasBegun, EndsRun, IsFailed, OrFailed, end_report}
-use Rattle.wsc_top.specs.Executions.{fault_report, spent_report, failed_report, tells_firings}
+use Rattle.wsc_top.specs.Job.{job_limit, IsJob, Refuses}
+use Rattle.asm_read.specs.Reads.{world_of}
+use Rattle.wsc_top.specs.Texts.{going_text, turns_line, names_of, array_name}
+use Rattle.run_text.specs.Texts.{ended_text, faulted_text}
+use Rattle.wsc_top.specs.Texts.{usage_text, sound_text}
+use Rattle.asm_read.specs.Texts.{unread_text, long_text, refusal_text}
+use Rattle.asm_read.specs.Texts.{asm_refusal_text}
+use Rattle.wsc_top.specs.Executions.{Executes, PortsAre, HasBegun, EndsRun, IsFailed, OrFailed}
+use Rattle.run_text.specs.Reports.{end_report}
+use Rattle.wsc_top.specs.Executions.{tells_firings}
+use Rattle.run_text.specs.Reports.{fault_report, spent_report, failed_report}
 use Rattle.wsc_top.specs.Generated.{IsGeneratedJob}
 use Rattle.trace_check.specs.declared.events.Lined.{Lined}
 use Rattle.wsc_top.specs.Traced.{IsTraced, IsReplayed, HasTrace, EndsReplay}

@@ -3,6 +3,8 @@ use Rattle.std.specs.Prelude.{◌≡◌, ◌≢◌, ◌⊎◌, ℕ, ◌≤◌, L
 use Rattle.std.specs.Prelude.{Result, IsOk, IfOk, OnErr}
 use Rattle.ws_io.specs.Streams.{Rose, Adds, Flushes}
 use Rattle.src_ast.specs.Syntax.{Part}
+use Rattle.asm_read.specs.Reads.{SourceCall}
+use Rattle.run_text.specs.Writes.{Writing}
 use Rattle.ws_isa.specs.Image.{Image}
 use Rattle.port_set.specs.Ports.{Told}
 use Rattle.store_buf.specs.Outdoors.{RoseAt, world_with}
@@ -27,44 +29,6 @@ use Rattle.wsc_top.specs.Jobs.{ProgramAndInput}
 use Rattle.wsc_top.specs.Executions.{EndsRun}
 use Rattle.wsc_top.specs.Threads.{Replies, Falls, AreToldJobs, AreToldNoJobs, MultiEndsSo, ComeToTheirEnd}
 use Rattle.wsc_top.specs.Threads.{WalksEndSo}
-
--- a source before and after a call: the bytes that it has left, where it tells them, and its faults
-pub record SourceCall : Type 0 where
-  pub left : Option (List ℕ)
-  pub after : Option (List ℕ)
-  pub faults : ℕ
-  pub counted : ℕ
-
--- a sink before and after a call: what it holds, how much of that the last good flush covered, where it
--- tells them, and its faults
-pub record Writing : Type 0 where
-  pub held : Option (List ℕ)
-  pub holds : Option (List ℕ)
-  pub flushed : Option ℕ
-  pub covered : Option ℕ
-  pub faults : ℕ
-  pub counted : ℕ
-
--- what a source tells of itself before and after a call
-abbrev pub reading : {S : Type 0} → (S → Option (List ℕ)) → (S → ℕ) → S → S → SourceCall
-reading left faults old new = record {
-  left = left old;
-  after = left new;
-  faults = faults old;
-  counted = faults new;
-}
-
--- what a sink does
-abbrev pub writing : {K : Type 0} → (K → Option (List ℕ)) → (K → Option ℕ) → (K → ℕ) → K → K
-    → Writing
-writing held flushed faults old new = record {
-  held = held old;
-  holds = held new;
-  flushed = flushed old;
-  covered = flushed new;
-  faults = faults old;
-  counted = faults new;
-}
 
 -- no fault of the source, or of the sink, came
 abbrev pub ReadsWell : SourceCall → Type 0

@@ -9,14 +9,14 @@ use Rattle.grid_clock.specs.Schedule.{Grid}
 use Rattle.grid_clock.specs.Clocks.{Clocks}
 use Rattle.wsc_top.specs.declared.status.Status.{Status}
 use Rattle.wsc_top.specs.declared.status.Status.TheVariants.{Done, Budget, Fault}
-use Rattle.wsc_top.specs.declared.task.Report.{Report}
-use Rattle.wsc_top.specs.declared.task.Report.TheVariants.{Full}
+use Rattle.run_text.specs.declared.report.Report.{Report}
+use Rattle.run_text.specs.declared.report.Report.TheVariants.{Full}
 use Rattle.wsc_top.specs.declared.task.GridOptions.{GridOptions}
 use Rattle.wsc_top.specs.declared.task.AssemblyTask.{AssemblyTask}
 use Rattle.wsc_top.specs.declared.task.AssemblyTask.TheVariants as task
-use Rattle.wsc_top.specs.Job.{world_of}
-use Rattle.wsc_top.specs.Texts.{shown_names, called}
-use Rattle.wsc_top.specs.Executions.{end_report, spent_report, fault_report}
+use Rattle.asm_read.specs.Reads.{world_of}
+use Rattle.run_text.specs.Texts.{shown_names, called}
+use Rattle.run_text.specs.Reports.{end_report, spent_report, fault_report}
 
 -- the numbers of a grid are those that it may have
 abbrev pub InRange : GridOptions → Type 0

@@ -10,33 +10,11 @@ use Rattle.port_set.specs.Ports.{Told}
 use Rattle.store_buf.specs.Outdoors.{RoseAt, SlotsAre, began_of, port_of}
 use Rattle.wsc_top.specs.declared.status.Status.{Status}
 use Rattle.wsc_top.specs.declared.status.Status.TheVariants.{Done, Budget, Fault, PortFault}
-use Rattle.wsc_top.specs.declared.task.Report.{Report}
-use Rattle.wsc_top.specs.declared.task.Report.TheVariants.{Full, Brief}
+use Rattle.run_text.specs.declared.report.Report.{Report}
+use Rattle.run_text.specs.declared.report.Report.TheVariants.{Full, Brief}
 use Rattle.wsc_top.specs.declared.task.RunOptions.{RunOptions}
-use Rattle.wsc_top.specs.Texts.{ended_text, faulted_text, spent_text, failed_text, firings_line, shown_names}
-use Rattle.wsc_top.specs.Texts.{called, summary_text, budget_line, fault_line, port_line}
-
--- what is told of a run that came to its end: of the names and the cells of the arrays that are shown,
--- of the words that it printed, and of how often it fired
-abbrev pub end_report : Report → List (List ℕ) → List ℕ → List (List ℕ) → ℕ → List ℕ
-end_report (Full memory stats) names words rows fired =
-    ended_text memory stats names words rows (firings_line fired)
-end_report Brief names words rows fired = summary_text words
-
--- of one that met an index fault on the array that is called so
-abbrev pub fault_report : Report → List ℕ → List (List ℕ) → List ℕ → List (List ℕ) → List ℕ
-fault_report (Full memory stats) name names words rows = faulted_text memory name names words rows
-fault_report Brief name names words rows = fault_line name
-
--- of one that spent its budget
-abbrev pub spent_report : Report → List ℕ → ℕ → List ℕ
-spent_report (Full memory stats) words budget = spent_text stats words budget
-spent_report Brief words budget = budget_line
-
--- of one of which a port failed
-abbrev pub failed_report : Report → List ℕ → ℕ → List ℕ
-failed_report (Full memory stats) words port = failed_text words port
-failed_report Brief words port = port_line port
+use Rattle.run_text.specs.Texts.{shown_names}
+use Rattle.run_text.specs.Texts.{called}
 
 -- whether firings are told of
 abbrev pub tells_firings : Report → Bool

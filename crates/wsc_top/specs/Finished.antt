@@ -6,9 +6,9 @@ use Rattle.store_buf.specs.declared.finish.RunFinish.{RunFinish}
 use Rattle.store_buf.specs.declared.finish.RunFinish.TheVariants as finish
 use Rattle.wsc_top.specs.declared.status.Status.{Status}
 use Rattle.wsc_top.specs.declared.status.Status.TheVariants.{Done, Budget, Fault, PortFault}
-use Rattle.wsc_top.specs.declared.task.Report.{Report}
-use Rattle.wsc_top.specs.Texts.{shown_names, called}
-use Rattle.wsc_top.specs.Executions.{end_report, fault_report, spent_report, failed_report}
+use Rattle.run_text.specs.declared.report.Report.{Report}
+use Rattle.run_text.specs.Texts.{shown_names, called}
+use Rattle.run_text.specs.Reports.{end_report, fault_report, spent_report, failed_report}
 
 -- Want of memory alone has none.
 abbrev pub ReportsSo : Report → ℕ → List Array → RunFinish → Status → List ℕ → Type 0

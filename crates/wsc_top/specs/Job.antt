@@ -1,6 +1,5 @@
 -- What the text of a job says, and why it is refused.
-use Rattle.std.specs.Prelude.{◌≡◌, ℕ, List, [], ◌∷◌, Result, Ok, Err}
-use Rattle.ws_words.specs.Outside.{World}
+use Rattle.std.specs.Prelude.{◌≡◌, ℕ, List, Result, Ok, Err}
 use Rattle.src_ast.specs.declared.lexeme.Place.{Place}
 use Rattle.src_ast.specs.declared.lexeme.Lexeme.{Lexeme}
 use Rattle.src_ast.specs.declared.fault.Refusal.{Refusal}
@@ -15,7 +14,7 @@ use Rattle.src_ast.specs.LexFaults.{LexFault}
 use Rattle.src_ast.specs.Grammar.{Tree}
 use Rattle.src_ast.specs.Faults.{SyntaxAt}
 use Rattle.src_ast.specs.Rules.{rules_of, IsAccepted, IsFirstBroken}
-use Rattle.wsc_top.specs.Sections.{program_of, input_of, input_place, InputWords, InputFault}
+use Rattle.asm_read.specs.Sections.{program_of, input_of, input_place, InputWords, InputFault}
 
 -- the most bytes of a job
 abbrev pub job_limit : ℕ
@@ -67,10 +66,6 @@ IsRefused text (Refused r) = Refuses text r
 abbrev pub IsProgramFault : List ℕ → TextFault → Type 0
 IsProgramFault section NoMemory = Unit {0}
 IsProgramFault section (Refused r) = ProgramFault section r
-
--- what a run is given: these input words, and nothing left in any of the seven ports
-abbrev pub world_of : List ℕ → World
-world_of words = record { input = words; left = [] ∷ [] ∷ [] ∷ [] ∷ [] ∷ [] ∷ [] ∷ [] }
 
 -- an accepted program with this tree is answered, unless memory runs out
 abbrev pub AnswersParts : Result Accepted TextFault → List Part → Type 0

@@ -10,9 +10,9 @@ use Rattle.wsc_top.specs.declared.batch.JobsRefusal.{JobsRefusal}
 use Rattle.wsc_top.specs.declared.batch.JobsRefusal.TheVariants.{Threads, OfJob}
 use Rattle.wsc_top.specs.declared.batch.JobsFault.{JobsFault}
 use Rattle.wsc_top.specs.declared.batch.JobsFault.TheVariants.{Refused, NoMemory}
-use Rattle.wsc_top.specs.Sections.{front_of, rest_of, after_line}
+use Rattle.asm_read.specs.Sections.{front_of, rest_of, after_line}
 use Rattle.wsc_top.specs.Job.{IsJob, Refuses}
-use Rattle.wsc_top.specs.Texts.{refusal_text}
+use Rattle.asm_read.specs.Texts.{refusal_text}
 
 -- the line that separates two jobs
 abbrev pub separator : List ℕ

@@ -1,8 +1,6 @@
 pub mod Codes
 pub mod Tasks
-pub mod Sections
 pub mod Job
-pub mod Assembly
 pub mod Texts
 pub mod Phrases
 pub mod Executions

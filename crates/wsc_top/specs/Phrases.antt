@@ -4,7 +4,8 @@ use Rattle.wsc_top.specs.declared.text.Phrase.{Phrase}
 use Rattle.wsc_top.specs.declared.text.Phrase.TheVariants.{Usage, Unread, Long, Sound}
 use Rattle.wsc_top.specs.declared.text.Kind.{Kind}
 use Rattle.wsc_top.specs.declared.text.Kind.TheVariants.{Fixed, Built}
-use Rattle.wsc_top.specs.Texts.{usage_text, unread_text, long_text, sound_text}
+use Rattle.wsc_top.specs.Texts.{usage_text, sound_text}
+use Rattle.asm_read.specs.Texts.{unread_text, long_text}
 
 abbrev pub phrase_text : Phrase → List ℕ
 phrase_text Usage = usage_text

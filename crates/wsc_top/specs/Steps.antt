@@ -13,7 +13,7 @@ use Rattle.wsc_top.specs.declared.task.JobTask.TheVariants.{Run, Compile}
 use Rattle.wsc_top.specs.declared.task.AssemblyTask.{AssemblyTask}
 use Rattle.wsc_top.specs.declared.task.AssemblyTask.TheVariants.{Exec}
 use Rattle.wsc_top.specs.Job.{IsJob}
-use Rattle.wsc_top.specs.Assembly.{IsAssembly}
+use Rattle.asm_read.specs.Assembly.{IsAssembly}
 use Rattle.wsc_top.specs.Answers.{IsCompiled, Yields, Answered, AssemblyYields, AssemblyAnswered, IsDue}
 use Rattle.wsc_top.specs.Answers.{RunsClosed, assembly_text}
 use Rattle.wsc_top.specs.Jobs.{RefusesJobs, jobs_refusal_text}

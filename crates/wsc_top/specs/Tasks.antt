@@ -6,8 +6,8 @@ use Rattle.wsc_words.specs.declared.command.Command.{Command}
 use Rattle.wsc_words.specs.declared.command.Command.TheVariants as command
 use Rattle.wsc_top.specs.declared.task.Task.{Task}
 use Rattle.wsc_top.specs.declared.task.Task.TheVariants.{Job, Assembly, Generate, Bench, Multi}
-use Rattle.wsc_top.specs.declared.task.Report.{Report}
-use Rattle.wsc_top.specs.declared.task.Report.TheVariants.{Full, Brief}
+use Rattle.run_text.specs.declared.report.Report.{Report}
+use Rattle.run_text.specs.declared.report.Report.TheVariants.{Full, Brief}
 use Rattle.wsc_top.specs.declared.task.RunOptions.{RunOptions}
 use Rattle.wsc_top.specs.declared.task.GridOptions.{GridOptions}
 use Rattle.wsc_top.specs.declared.task.JobTask.TheVariants.{Run, Format, Compile, Plain}

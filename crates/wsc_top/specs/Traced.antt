@@ -16,10 +16,12 @@ use Rattle.trace_check.specs.Replays.{Replays, StopsAt, events_of}
 use Rattle.trace_check.specs.Traces.{AllFit, events_in, events_text}
 use Rattle.wsc_top.specs.declared.status.Status.{Status}
 use Rattle.wsc_top.specs.declared.status.Status.TheVariants.{Done, Refused, Budget, Fault}
-use Rattle.wsc_top.specs.declared.assembly.AsmRefusal.TheVariants.{Text}
-use Rattle.wsc_top.specs.Job.{world_of}
-use Rattle.wsc_top.specs.Sections.{trace_section, trace_of, trace_line, last_line}
-use Rattle.wsc_top.specs.Texts.{word_line, with_input, firings_line, asm_refusal_text}
+use Rattle.asm_read.specs.declared.assembly.AsmRefusal.TheVariants.{Text}
+use Rattle.asm_read.specs.Reads.{world_of}
+use Rattle.asm_read.specs.Sections.{trace_section, trace_of, trace_line, last_line}
+use Rattle.wsc_top.specs.Texts.{with_input}
+use Rattle.run_text.specs.Texts.{word_line, firings_line}
+use Rattle.asm_read.specs.Texts.{asm_refusal_text}
 
 -- an image with its input words and events: a text that `replay` takes
 abbrev pub traced_text : Image → List ℕ → List Event → List ℕ

@@ -8,9 +8,9 @@ ghost use Rattle.wsc_top.specs.declared.status.Status.TheVariants.{Usage};
 ghost use Rattle.wsc_top.specs.declared.task.Task.{Task};
 ghost use Rattle.wsc_top.specs.Tasks.{AsksFor};
 ghost use Rattle.wsc_top.specs.Job.{job_limit};
-ghost use Rattle.wsc_top.specs.Sections.{input_of, trace_section};
+ghost use Rattle.asm_read.specs.Sections.{input_of, trace_section};
 ghost use Rattle.wsc_top.specs.declared.task.AssemblyTask.TheVariants.{Replay};
-ghost use Rattle.wsc_top.specs.Assembly.{assembly_limit};
+ghost use Rattle.asm_read.specs.Assembly.{assembly_limit};
 ghost use Rattle.wsc_top.specs.Clocked.{TaskInRange};
 ghost use Rattle.wsc_top.specs.declared.step.CallStep.TheVariants.{Ready};
 ghost use Rattle.wsc_top.specs.Phrases.{phrase_text};
@@ -18,16 +18,15 @@ ghost use Rattle.wsc_top.specs.Texts.{usage_text};
 ghost use Rattle.wsc_top.specs.Steps.{JobStep, JobBegun, JobsStep, AssemblyStep, AssemblyBegun, StepSo};
 ghost use Rattle.wsc_top.specs.Answers.{RunsOut, assembly_text};
 
-use crate::assembly::{self, AssemblyFault};
 use crate::batch::{self, JobsFault};
 use crate::bench::generated;
-use crate::sections::{split, split_trace};
 use crate::status::Status;
 use crate::step::{CallStep, StarvedCall};
 use crate::task::{AssemblyTask, JobTask, RunOptions, Task, read_task};
 use crate::text::{Phrase, Text};
 use crate::yields::{assembly_yielded, yielded};
 use crate::{job, refusals};
+use asm_read::{AssemblyFault, asm_refused, refused, split, split_trace};
 use src_ast::{TextFault, read_is_written};
 use std::alloc::Global;
 use work_gen::workload;
@@ -57,7 +56,7 @@ fn to_text(alloc: Global, task: JobTask, text: &[u8]) -> Result<CallStep, Starve
     match job::read(alloc, text) {
         Ok((accepted, input)) => Ok(yielded(alloc, task, &accepted, input)?),
         Err(TextFault::Refused(refusal)) => {
-            let text = refusals::refused(alloc, refusal)?;
+            let text = refused(alloc, refusal)?;
             Ok(CallStep::Ready(Status::Refused, Text::built(text), None))
         }
         Err(TextFault::NoMemory) => Err(StarvedCall { image: None }),
@@ -104,10 +103,10 @@ fn to_assembly(alloc: Global, task: AssemblyTask, text: &[u8]) -> Result<CallSte
 {
     let (section, behind) = split(text);
     let (input, trace) = words_and_trace(task, behind);
-    match assembly::read(alloc, section, input) {
+    match asm_read::read(alloc, section, input) {
         Ok((image, input)) => Ok(assembly_yielded(alloc, task, text, trace, image, input)?),
         Err(AssemblyFault::Refused(why)) => {
-            let text = refusals::asm_refused(alloc, why)?;
+            let text = asm_refused(alloc, why)?;
             Ok(CallStep::Ready(Status::Refused, Text::built(text), None))
         }
         Err(AssemblyFault::NoMemory) => Err(StarvedCall { image: None }),

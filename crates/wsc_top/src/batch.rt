@@ -2,15 +2,15 @@
 
 ghost use Rattle.std.specs.Prelude.{◌≡◌, ◌+◌, ◌<◌, ◌≤◌, ◌^◌, List, length, true, false, IfOk, IfErr};
 ghost use Rattle.std.specs.Prelude.{IfSome, IfNone, OnOk, [], ◌∷◌, ◌++◌};
-ghost use Rattle.wsc_top.specs.Sections.{rest_of};
+ghost use Rattle.asm_read.specs.Sections.{rest_of};
 ghost use Rattle.wsc_top.specs.Job.{job_limit};
 ghost use Rattle.wsc_top.specs.Jobs.{separator, first_job, behind, place_behind, IsLast, IsCrowded};
 ghost use Rattle.wsc_top.specs.Jobs.{IsJobsFault, Jobs, Piece, most_jobs};
 ghost use Rattle.wsc_top.specs.Running.{IsRead, IsPieceFault, AreRead};
 
 use crate::job;
-use crate::sections::{after_line, front_length};
 use crate::yields::checked_image;
+use asm_read::{after_line, front_length};
 use src_ast::{Place, Refusal, TextFault, read_is_written};
 use src_lex::place_after;
 use std::alloc::Global;

@@ -4,7 +4,9 @@ ghost use Rattle.std.specs.Prelude.{List, Option, ℕ, map, string_bytes};
 ghost use Rattle.port_set.specs.Ports.{Told};
 ghost use Rattle.port_set.specs.Slots.{AllOpen, contents};
 ghost use Rattle.wsc_top.specs.Answers.{TellWords};
-ghost use Rattle.wsc_top.specs.Calls.{CallEnds, IsReply, SourceCall, reading, writing};
+ghost use Rattle.wsc_top.specs.Calls.{CallEnds, IsReply};
+ghost use Rattle.asm_read.specs.Reads.{SourceCall, reading};
+ghost use Rattle.run_text.specs.Writes.{writing};
 
 use crate::answer::prepare;
 use crate::batch::ReadJobs;

@@ -2,16 +2,16 @@
 
 ghost use Rattle.std.specs.Prelude.{◌≡◌, ◌++◌, map, IfOk, OnOk};
 ghost use Rattle.ws_isa.specs.View as view;
-ghost use Rattle.wsc_top.specs.Job.{world_of};
+ghost use Rattle.asm_read.specs.Reads.{world_of};
 ghost use Rattle.wsc_top.specs.Executions.{EndsRun};
 ghost use Rattle.wsc_top.specs.Clocked.{InRange, IsClocked, maybe_cycles, clocked_status, clocked_text};
 
-use crate::run_texts::{rested, spent, stopped};
 use crate::status::Status;
-use crate::task::{GridOptions, Report};
-use crate::world::world;
+use crate::task::GridOptions;
+use asm_read::world;
 use df_core::Finish;
 use grid_clock::{Clocked, grid_run};
+use run_text::{Report, rested, spent, stopped};
 use std::alloc::Global;
 use ws_io::put_decimal;
 use ws_isa::{ArrayDecl, Checked};

@@ -8,8 +8,7 @@ ghost use Rattle.wsc_top.specs.Job.{job_limit, IsJob, IsRefused};
 
 mod program;
 
-use crate::input::input_words;
-use crate::sections::split;
+use asm_read::{input_words, split};
 use src_ast::TextFault;
 use src_check::Accepted;
 use std::alloc::Global;

@@ -1,11 +1,10 @@
 //! What the definitions of jobs and answers come to.
 
-ghost use Rattle.std.specs.Prelude.{◌≡◌, ◌⊎◌, ℕ, List, [], Option, Some, Result, Ok, true};
+ghost use Rattle.std.specs.Prelude.{◌≡◌, ◌⊎◌, ℕ, List, [], Option, Some, true};
 ghost use Rattle.std.specs.List.{AllByRecursion};
 ghost use Rattle.ws_words.specs.Outside.{IsMachineWord};
 ghost use Rattle.port_set.specs.Ports.{Told};
 ghost use Rattle.store_buf.specs.Outdoors.{world_with};
-ghost use Rattle.src_ast.specs.declared.lexeme.Place.{Place};
 ghost use Rattle.src_ast.specs.Syntax.{Part};
 ghost use Rattle.src_ast.specs.Once.{ExactlyOne};
 ghost use Rattle.ws_isa.specs.Image.{Image};
@@ -17,8 +16,6 @@ ghost use Rattle.asm_text.specs.Reading.{read};
 ghost use Rattle.trace_check.specs.declared.replaying.Replayed.{Replayed};
 ghost use Rattle.trace_check.specs.Replays.{Replays};
 ghost use Rattle.trace_check.specs.Traces.{numbered};
-ghost use Rattle.annot_check.specs.declared.fault.Bad.{Bad};
-ghost use Rattle.annot_check.specs.Breach.{BadBreach};
 ghost use Rattle.wsc_top.specs.declared.status.Status.{Status};
 ghost use Rattle.wsc_top.specs.declared.task.Task.{Task};
 ghost use Rattle.wsc_top.specs.declared.task.BenchOptions.{BenchOptions};
@@ -26,10 +23,10 @@ ghost use Rattle.wsc_top.specs.declared.task.JobTask.{JobTask};
 ghost use Rattle.wsc_top.specs.declared.task.RunOptions.{RunOptions};
 ghost use Rattle.wsc_top.specs.declared.task.AssemblyTask.{AssemblyTask};
 ghost use Rattle.wsc_top.specs.declared.task.GridOptions.{GridOptions};
-ghost use Rattle.wsc_top.specs.declared.assembly.AsmRefusal.{AsmRefusal};
-ghost use Rattle.wsc_top.specs.Sections.{program_of, before_trace, trace_line, IsInputAnswer};
-ghost use Rattle.wsc_top.specs.Job.{IsTextAnswer, world_of};
-ghost use Rattle.wsc_top.specs.Assembly.{IsAssembly, RefusesAssembly, IsAssemblyAnswer, IsUnsound};
+ghost use Rattle.asm_read.specs.Sections.{before_trace, trace_line};
+ghost use Rattle.wsc_top.specs.Job.{IsTextAnswer};
+ghost use Rattle.asm_read.specs.Reads.{world_of};
+ghost use Rattle.asm_read.specs.Assembly.{IsAssembly};
 ghost use Rattle.wsc_top.specs.Executions.{Executes, EndsRun, IsFailed};
 ghost use Rattle.wsc_top.specs.Generated.{IsGeneratedJob};
 ghost use Rattle.wsc_top.specs.Texts.{with_input};
@@ -51,11 +48,6 @@ use trace_check::{made_traces_are_replayed, written_traces_read_again};
 use work_gen::generated_programs_are_accepted;
 use ws_isa::{effects_are_one, walks_go_on};
 use wsc_words::words_are_one_line;
-
-/// Each input section comes to one thing alone: its words, or its first item that is no word.
-pub fn each_input_is_read_once()
-    ensures { (at : Place) (text : List ℕ) → ExactlyOne (IsInputAnswer at text) }
-{}
 
 /// Each text comes to one thing alone: it is a job, with one program and one list
 /// of words, or it is refused for one reason.
@@ -151,27 +143,6 @@ pub fn each_run_ends_as_its_walk()
 {
     words_are_one_line();
     each_text_is_a_job_or_refused();
-}
-
-/// The text of an assembly is one sound image with its words, or it is refused, and never both. It is
-/// refused for one reason, but that an image that breaks rules may be refused for any of them. That
-/// each text comes to one of the two rests on this: its image, where it has one, is sound or has
-/// numbers that break a rule.
-pub fn each_assembly_is_read_or_refused()
-    ensures one { (text : List ℕ) (image again : Image) (words more : List ℕ)
-        → IsAssembly text image words → IsAssembly text again more
-        → (image ≡ again) × (words ≡ more) }
-    ensures never_both { (text : List ℕ) (image : Image) (words : List ℕ) (r : AsmRefusal)
-        → IsAssembly text image words → RefusesAssembly text r → ⊥ }
-    ensures one_refusal { (text : List ℕ) (r s : AsmRefusal)
-        → RefusesAssembly text r → RefusesAssembly text s
-        → (r ≡ s) ⊎ (IsUnsound r × IsUnsound s) }
-    ensures some { (text : List ℕ)
-        → ((image : Image) → read (program_of text) ≡ Ok image
-        → Sound image ⊎ ((bad : Bad) × BadBreach image bad))
-        → (answer : Result (Image × List ℕ) AsmRefusal) × IsAssemblyAnswer text answer }
-{
-    breaches_break();
 }
 
 /// Two answers of `check`, `list`, `exec` or `grid` to an assembly that aren't cut short by the budget or

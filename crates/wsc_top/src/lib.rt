@@ -10,27 +10,23 @@
 #![tactic(auto)]
 
 mod answer;
-mod assembly;
 mod batch;
 mod bench;
 mod call;
 mod clocked;
 mod exec;
-mod input;
 mod job;
 mod laws;
 mod multi;
 mod multi_laws;
 mod refusals;
 mod run_texts;
-mod sections;
 mod status;
 mod step;
 mod task;
 mod text;
 mod texts;
 mod traces;
-mod world;
 mod yields;
 
 pub use answer::prepare;
@@ -38,10 +34,9 @@ pub use batch::ReadJobs;
 pub use call::wsc;
 pub use exec::decoupled;
 pub use laws::{
-    assemblies_are_answered_alike, each_answer_has_its_status, each_assembly_is_read_or_refused,
-    each_generated_job_is_a_job, each_input_is_read_once, each_run_ends_as_its_walk,
-    each_text_is_a_job_or_refused, every_text_is_answered_once, printed_texts_are_read_again,
-    runs_are_answered_alike, what_is_due_is_answered,
+    assemblies_are_answered_alike, each_answer_has_its_status, each_generated_job_is_a_job,
+    each_run_ends_as_its_walk, each_text_is_a_job_or_refused, every_text_is_answered_once,
+    printed_texts_are_read_again, runs_are_answered_alike, what_is_due_is_answered,
 };
 pub use multi_laws::{
     each_answer_of_threads_has_its_status, each_text_is_some_jobs_or_refused,
@@ -49,5 +44,5 @@ pub use multi_laws::{
 };
 pub use status::{Outcome, Status};
 pub use step::{CallStep, StarvedCall};
-pub use task::{Report, RunOptions};
+pub use task::RunOptions;
 pub use text::Text;

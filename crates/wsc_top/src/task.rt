@@ -4,8 +4,9 @@ ghost use Rattle.std.specs.Prelude.{◌≡◌, None, Ok, map, string_bytes, IfOk
 ghost use Rattle.wsc_words.specs.Lines.{HasCommand};
 ghost use Rattle.wsc_top.specs.Tasks.{AsksFor, IsNoLine, decoupled_options, grid_options, options_of};
 ghost use Rattle.wsc_top.specs.Tasks.{task_of};
-ghost use Rattle.wsc_top.specs.declared.task.Report.TheVariants.{Full};
+ghost use Rattle.run_text.specs.declared.report.Report.TheVariants.{Full};
 
+use run_text::Report;
 use std::alloc::Global;
 use ws_words::NoMemory;
 use wsc_words::{Command, Invocation, WordsFault, read_words, words_are_one_line};
@@ -19,20 +20,6 @@ pub struct PlainOptions {
     pub memory: bool,
     /// Whether the turns that it took are shown.
     pub stats: bool,
-}
-
-/// What is told of the run of an image.
-#[derive(Clone, Copy, Debug, PartialEq, Eq)]
-pub enum Report {
-    /// The words that it printed, and how it ended.
-    Full {
-        /// Whether the cells of the arrays that have names are shown at its end.
-        memory: bool,
-        /// Whether the instances that fired are counted.
-        stats: bool,
-    },
-    /// How it ended, and where it came to its end how many words it printed and their sum.
-    Brief,
 }
 
 /// How the run of an image is asked for.

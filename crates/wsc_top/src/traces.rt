@@ -2,25 +2,21 @@
 
 ghost use Rattle.std.specs.Prelude.{◌≡◌, ◌+◌, ◌≤◌, length, IfOk, OnOk};
 ghost use Rattle.trace_check.specs.Traces.{AllFit};
-ghost use Rattle.wsc_top.specs.Job.{world_of};
-ghost use Rattle.wsc_top.specs.Sections as sections;
-ghost use Rattle.wsc_top.specs.Assembly.{assembly_limit};
+ghost use Rattle.asm_read.specs.Reads.{world_of};
+ghost use Rattle.asm_read.specs.Sections as sections;
+ghost use Rattle.asm_read.specs.Assembly.{assembly_limit};
 ghost use Rattle.wsc_top.specs.Executions.{EndsRun};
 ghost use Rattle.wsc_top.specs.Traced.{IsTraced, IsMade, IsReplayed, HasTrace, EndsReplay, trace_status};
 ghost use Rattle.wsc_top.specs.Traced.{traced_text, replayed_text, illegal_text};
 ghost use Rattle.std.specs.Prelude.{List, IfErr, IfSome};
 ghost use Rattle.trace_check.specs.declared.events.Lined.{Lined};
 
-use crate::assembly::AsmRefusal;
-use crate::refusals::asm_refused;
-use crate::run_texts::put_firings;
-use crate::sections::after_line;
 use crate::status::Status;
 use crate::step::StarvedCall;
-use crate::texts::put_words;
-use crate::world::world;
+use asm_read::{AsmRefusal, after_line, asm_refused, world};
 use asm_text::{AsmFault, AsmKind, print_asm};
 use df_core::Event;
+use run_text::{put_firings, put_words};
 use src_ast::Place;
 use src_lex::place_after;
 use std::alloc::Global;

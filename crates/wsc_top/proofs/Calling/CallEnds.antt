@@ -26,7 +26,9 @@ use Rattle.wsc_top.specs.Jobs.{ProgramAndInput}
 use Rattle.wsc_top.specs.Executions.{EndsRun}
 use Rattle.wsc_top.specs.Threads.{Replies, Falls, AreToldJobs, MultiEndsSo, WalksEndSo}
 use Rattle.wsc_top.specs.Codes.{code_of}
-use Rattle.wsc_top.specs.Calls.{SourceCall, Writing, CallEnds, EndsWithCode, in_first}
+use Rattle.wsc_top.specs.Calls.{CallEnds, EndsWithCode, in_first}
+use Rattle.asm_read.specs.Reads.{SourceCall}
+use Rattle.run_text.specs.Writes.{Writing}
 use Rattle.wsc_top.proofs.Calling.Tasks.{OneLine}
 use Rattle.wsc_top.proofs.Calling.Calls.{unfailed, no_line_usage, generates, told_refused, told_unassembled}
 use Rattle.wsc_top.proofs.Several.ThreadAnswers.{reply_not_memory, reply_not_write_fault, reply_read_rose}

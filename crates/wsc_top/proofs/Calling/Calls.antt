@@ -20,17 +20,18 @@ use Rattle.wsc_top.specs.declared.task.BenchOptions.{BenchOptions}
 use Rattle.wsc_top.specs.declared.step.CallStep.{CallStep}
 use Rattle.wsc_top.specs.declared.step.StarvedCall.{StarvedCall}
 use Rattle.wsc_top.specs.declared.step.CallStep.TheVariants.{Ready, Run as Due, Threads as Many}
-use Rattle.wsc_top.specs.declared.assembly.AsmRefusal.{AsmRefusal}
-use Rattle.wsc_top.specs.declared.assembly.AssemblyFault.{AssemblyFault}
-use Rattle.wsc_top.specs.declared.assembly.AssemblyFault.TheVariants as fault
+use Rattle.asm_read.specs.declared.assembly.AsmRefusal.{AsmRefusal}
+use Rattle.asm_read.specs.declared.assembly.AssemblyFault.{AssemblyFault}
+use Rattle.asm_read.specs.declared.assembly.AssemblyFault.TheVariants as fault
 use Rattle.wsc_top.specs.declared.status.Status.{Status}
 use Rattle.wsc_top.specs.declared.status.Status.TheVariants.{Done, Usage, Refused, ReadFault, WriteFault}
 use Rattle.wsc_top.specs.declared.status.Status.TheVariants.{PortFault, NoMemory}
-use Rattle.wsc_top.specs.Assembly.{assembly_limit, IsAssembly, IsAssemblyFault}
+use Rattle.asm_read.specs.Assembly.{assembly_limit, IsAssembly, IsAssemblyFault}
 use Rattle.work_gen.specs.Job.{words_of, job_text}
 use Rattle.wsc_top.specs.Tasks.{AsksFor, IsNoLine}
 use Rattle.wsc_top.specs.Job.{job_limit, IsJob}
-use Rattle.wsc_top.specs.Texts.{usage_text, unread_text, long_text, asm_refusal_text}
+use Rattle.wsc_top.specs.Texts.{usage_text}
+use Rattle.asm_read.specs.Texts.{unread_text, long_text, asm_refusal_text}
 use Rattle.wsc_top.specs.Executions.{Executes, OrFailed}
 use Rattle.wsc_top.specs.Generated.{IsGeneratedJob}
 use Rattle.trace_check.specs.declared.recording.TraceEnd.{TraceEnd}

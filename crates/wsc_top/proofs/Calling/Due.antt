@@ -15,7 +15,8 @@ use Rattle.wsc_top.specs.Answers.{within}
 use Rattle.wsc_top.specs.Answers as answers
 use Rattle.wsc_top.specs.Threads.{Replies, alone, Falls}
 use Rattle.wsc_top.specs.Threads as threads
-use Rattle.wsc_top.specs.Calls.{SourceCall, IsReply}
+use Rattle.wsc_top.specs.Calls.{IsReply}
+use Rattle.asm_read.specs.Reads.{SourceCall}
 use Rattle.wsc_top.specs.Steps.{StepSo}
 use Rattle.wsc_top.specs.declared.step.CallStep.{CallStep}
 use Rattle.wsc_top.specs.declared.step.CallStep.TheVariants.{Ready}

@@ -19,8 +19,9 @@ use Rattle.wsc_top.specs.declared.task.BenchOptions.{BenchOptions}
 use Rattle.wsc_top.specs.declared.status.Status.{Status}
 use Rattle.wsc_top.specs.declared.status.Status.TheVariants.{ReadFault}
 use Rattle.wsc_top.specs.Tasks.{AsksFor}
-use Rattle.wsc_top.specs.Job.{IsJob, IsTextAnswer, world_of}
-use Rattle.wsc_top.specs.Assembly.{IsAssembly}
+use Rattle.wsc_top.specs.Job.{IsJob, IsTextAnswer}
+use Rattle.asm_read.specs.Reads.{world_of}
+use Rattle.asm_read.specs.Assembly.{IsAssembly}
 use Rattle.wsc_top.specs.Generated.{IsGeneratedJob}
 use Rattle.wsc_top.specs.Answers.{TellWords, Yields, formatted, compiled, ended, faulted, going, JobEndsSo}
 use Rattle.wsc_top.specs.Answers.{Answered, refused, done, assembly_text, AssemblyYields, checked, listed}
@@ -31,7 +32,7 @@ use Rattle.wsc_top.specs.Answers as answers
 use Rattle.wsc_top.specs.declared.task.Task.{Task}
 use Rattle.wsc_top.proofs.Calling.Tasks.{OneLine, same_task_by}
 use Rattle.wsc_top.proofs.Reading.AnswersOnce.{RunsOnce}
-use Rattle.wsc_top.proofs.Reading.AssembliesOnce.{one_assembly, never_both, BreachesBreak}
+use Rattle.asm_read.proofs.Once.{one_assembly, never_both, BreachesBreak}
 use Rattle.wsc_top.proofs.Told.RunsAlike.{refused_job, one_job}
 use Rattle.wsc_top.proofs.Told.Runs.{run_ends}
 use Rattle.wsc_top.proofs.Told.Tells.{input_words, run_so}

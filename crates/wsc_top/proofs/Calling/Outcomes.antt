@@ -21,9 +21,10 @@ use Rattle.wsc_top.specs.Executions.{EndsRun}
 use Rattle.wsc_top.specs.Traced.{IsTraced, IsReplayed, EndsReplay}
 use Rattle.wsc_top.specs.Clocked.{IsClocked}
 use Rattle.wsc_top.specs.declared.task.GridOptions.{GridOptions}
-use Rattle.wsc_top.specs.Texts.{sound_text, ended_text, faulted_text, going_text, turns_line, names_of}
+use Rattle.wsc_top.specs.Texts.{sound_text, going_text, turns_line, names_of}
+use Rattle.run_text.specs.Texts.{ended_text, faulted_text}
 use Rattle.wsc_top.specs.Texts.{array_name}
-use Rattle.wsc_top.specs.Job.{world_of}
+use Rattle.asm_read.specs.Reads.{world_of}
 use Rattle.port_set.specs.Ports.{Told}
 use Rattle.wsc_top.specs.Answers.{IsCompiled, Yields, formatted, compiled, ended, faulted, going}
 use Rattle.wsc_top.specs.Answers.{AssemblyYields, checked, listed, traced, replayed, gridded}
@@ -40,11 +41,6 @@ pub compile_yields : (parts : List Part) (image : Image) (out : List ℕ) → Is
     handed
 compile_yields parts image out h e ws handed =
     subst (λ o. Yields Compile parts ws handed Done o (Some image) handed) (sym e) (compiled image h)
-
--- so many empty lists
-abbrev pub empties : ℕ → List (List ℕ)
-empties zero = []
-empties (suc n) = empties n ++ [] ∷ []
 
 -- how the sequential run of a program answers
 abbrev Says : List Part → World → ℕ → Reply → Type 0

@@ -7,8 +7,8 @@ use Rattle.std.proofs.lemmas.List.{append_cancel_right, length-append, append_as
 use Rattle.std.proofs.Math.Seq.{take-append_seam}
 use Rattle.std.specs.List.{AllByRecursion}
 use Rattle.ws_words.proofs.Numbers.{eqb_is}
-use Rattle.wsc_top.specs.Sections.{ends_line, is_line, after_line, front_of, rest_of, program_of, input_of}
-use Rattle.wsc_top.specs.Sections.{trace_section, before_trace}
+use Rattle.asm_read.specs.Sections.{ends_line, is_line, after_line, front_of, rest_of, program_of, input_of}
+use Rattle.asm_read.specs.Sections.{trace_section, before_trace}
 use Rattle.wsc_top.specs.Answers.{assembly_text}
 use Rattle.wsc_top.specs.declared.task.AssemblyTask.{AssemblyTask}
 

@@ -16,7 +16,7 @@ use Rattle.work_gen.specs.Program.{product}
 use Rattle.work_gen.specs.Job.{size, word, words_of, further_word, words_line, job_text}
 use Rattle.work_gen.specs.Jobs.{IsGenerated}
 use Rattle.work_gen.proofs.Sizes.{at_each, sizes}
-use Rattle.wsc_top.specs.Sections.{program_of, input_of, stop, next, InputWords}
+use Rattle.asm_read.specs.Sections.{program_of, input_of, stop, next, InputWords}
 use Rattle.wsc_top.specs.Generated.{IsGeneratedJob}
 use Rattle.wsc_top.proofs.Reading.Bounds.{one_bound}
 use Rattle.wsc_top.proofs.Reading.Markers.{is_plain, program_is, input_is, word_item, word_text}

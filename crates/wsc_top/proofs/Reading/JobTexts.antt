@@ -9,7 +9,7 @@ use Rattle.ws_isa.specs.Image.{Image}
 use Rattle.wsc_top.specs.declared.batch.JobsFault.{JobsFault}
 use Rattle.wsc_top.specs.declared.batch.JobsFault.TheVariants as fault
 use Rattle.wsc_top.specs.declared.batch.JobsRefusal.TheVariants as refusal
-use Rattle.wsc_top.specs.Sections.{after_line, rest_of}
+use Rattle.asm_read.specs.Sections.{after_line, rest_of}
 use Rattle.wsc_top.specs.Job.{IsJob, Refuses}
 use Rattle.wsc_top.specs.Answers.{IsCompiled}
 use Rattle.wsc_top.specs.Jobs.{separator, most_jobs, Piece, IsLast, first_job, behind, place_behind, JobsFrom}

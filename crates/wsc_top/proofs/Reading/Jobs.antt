@@ -13,15 +13,15 @@ use Rattle.src_ast.specs.Rules.{IsAccepted}
 use Rattle.src_ast.specs.Written.{IsWritten}
 use Rattle.wsc_top.specs.declared.task.JobTask.{JobTask}
 use Rattle.wsc_top.specs.declared.status.Status.TheVariants.{Refused}
-use Rattle.wsc_top.specs.Sections.{program_of, input_of, place_below, InputWords, IsInputFault, AnswersWords}
-use Rattle.wsc_top.specs.Texts.{refusal_text}
+use Rattle.asm_read.specs.Sections.{program_of, input_of, place_below, InputWords, IsInputFault, AnswersWords}
+use Rattle.asm_read.specs.Texts.{refusal_text}
 use Rattle.wsc_top.specs.Job.{ReadsAs, ProgramFault, IsJob, Refuses, program, input, IsRefused}
 use Rattle.wsc_top.specs.Job.{IsProgramFault, AnswersParts}
 use Rattle.wsc_top.specs.declared.step.CallStep.{CallStep}
 use Rattle.wsc_top.specs.declared.step.CallStep.TheVariants.{Ready, Run as Due, Threads as Many}
 use Rattle.wsc_top.specs.Answers.{Answered, refused, done}
 use Rattle.wsc_top.specs.Steps.{YieldStep, JobStep}
-use Rattle.wsc_top.proofs.Reading.Inputs.{of_text, of_sections}
+use Rattle.asm_read.proofs.Inputs.{of_text, of_sections}
 
 -- a program that is refused is no job
 pub program_only : (text section : List ℕ) (e : TextFault) → section ≡ program_of text

@@ -9,9 +9,9 @@ use Rattle.ws_words.specs.Digits.{is_digit, is_number}
 use Rattle.src_ast.specs.declared.lexeme.Place.{Place}
 use Rattle.src_ast.specs.Lexemes.{after, is_blank}
 use Rattle.asm_text.proofs.Scanning.Spelt.{other}
-use Rattle.wsc_top.specs.Sections.{ends_line, is_line, after_line, front_of, rest_of, program_of, input_of}
-use Rattle.wsc_top.specs.Sections.{IsItem, IsWordText, stop, next, InputWords}
-use Rattle.wsc_top.specs.Texts.{word_line}
+use Rattle.asm_read.specs.Sections.{ends_line, is_line, after_line, front_of, rest_of, program_of, input_of}
+use Rattle.asm_read.specs.Sections.{IsItem, IsWordText, stop, next, InputWords}
+use Rattle.run_text.specs.Texts.{word_line}
 use Rattle.ws_words.specs.Letters.{starts_without}
 use Rattle.asm_text.proofs.Printing.Shown.{not_percent}
 use Rattle.ws_words.proofs.Decimals.{decimal_digits}

@@ -9,7 +9,8 @@ use Rattle.src_ast.specs.declared.lexeme.Place.{Place}
 use Rattle.src_ast.specs.declared.tree.Item.{Item}
 use Rattle.src_ast.specs.declared.tree.Item.TheVariants.{Array, Proc}
 use Rattle.src_ast.specs.View as view
-use Rattle.wsc_top.specs.Texts.{names_of, maybe_line, array_lines, name_at}
+use Rattle.wsc_top.specs.Texts.{names_of, name_at}
+use Rattle.run_text.specs.Texts.{maybe_line, array_lines}
 
 -- the line of the next array, and the lines of the others
 lines_more : (n : List ℕ) (ns : List (List ℕ)) (rows : List (List ℕ)) (k : ℕ)

@@ -27,16 +27,17 @@ use Rattle.wsc_top.specs.declared.status.Status.{Status}
 use Rattle.wsc_top.specs.declared.status.Status.TheVariants.{Done}
 use Rattle.wsc_top.specs.declared.task.JobTask.TheVariants.{Compile}
 use Rattle.wsc_top.specs.declared.task.AssemblyTask.TheVariants.{Replay}
-use Rattle.wsc_top.specs.Job.{world_of}
-use Rattle.wsc_top.specs.Assembly.{IsAssembly}
-use Rattle.wsc_top.specs.Sections.{after_line, input_place, trace_section, before_trace, trace_of, trace_line}
-use Rattle.wsc_top.specs.Sections.{InputItems, stop, next, InputWords}
-use Rattle.wsc_top.specs.Texts.{word_line, with_input}
+use Rattle.asm_read.specs.Reads.{world_of}
+use Rattle.asm_read.specs.Assembly.{IsAssembly}
+use Rattle.asm_read.specs.Sections.{after_line, input_place, trace_section, before_trace, trace_of, trace_line}
+use Rattle.asm_read.specs.Sections.{InputItems, stop, next, InputWords}
+use Rattle.wsc_top.specs.Texts.{with_input}
+use Rattle.run_text.specs.Texts.{word_line}
 use Rattle.wsc_top.specs.Traced as traces
 use Rattle.wsc_top.specs.Traced.{traced_text, trace_status, replayed_text, IsTraced, illegal, made}
 use Rattle.wsc_top.specs.Traced.{IsReplayed, missing, faulty, HasTrace, CanReplay}
 use Rattle.wsc_top.specs.Answers.{Yields, compiled, AssemblyYields, replayed, AssemblyAnswered, refused, done}
-use Rattle.wsc_top.proofs.Reading.AssembliesOnce.{BreachesBreak, one_assembly, never_both}
+use Rattle.asm_read.proofs.Once.{BreachesBreak, one_assembly, never_both}
 use Rattle.wsc_top.proofs.Told.Replays.{one_trace}
 use Rattle.asm_text.proofs.Printing.Shown.{not_percent}
 use Rattle.wsc_top.proofs.Reading.Markers.{is_plain, plain_line, rest_plain, rest_end, line_ends}

@@ -12,9 +12,9 @@ use Rattle.src_ast.specs.Grammar.{Tree}
 use Rattle.src_ast.specs.Faults.{SyntaxAt, IsTreeAnswer}
 use Rattle.src_ast.specs.Rules.{rules_of, IsAccepted, IsFirstBroken, IsRuleAnswer}
 use Rattle.src_ast.specs.Once.{ExactlyOne}
-use Rattle.wsc_top.specs.Sections.{program_of, input_of, input_place, InputWords, InputFault, IsInputAnswer}
+use Rattle.asm_read.specs.Sections.{program_of, input_of, input_place, InputWords, InputFault, IsInputAnswer}
 use Rattle.wsc_top.specs.Job.{ReadsAs, ProgramFault, lexemes, syntax, rules, program, input, IsTextAnswer}
-use Rattle.wsc_top.proofs.Reading.Inputs.{one_answer}
+use Rattle.asm_read.proofs.Inputs.{one_answer}
 
 -- what a program section comes to: its tree, or its first fault
 abbrev IsProgramAnswer : List ℕ → Result (List Part) Refusal → Type 0

@@ -33,7 +33,8 @@ use Rattle.wsc_top.specs.Threads.{MultiAnswered, Replies, alone, together, AreDu
 use Rattle.wsc_top.specs.Threads.{OthersEndSo, EachEndsSo, MultiEndsSo, ComeToTheirEnd, IsFreeAnswer}
 use Rattle.wsc_top.specs.Threads as threads
 use Rattle.wsc_words.specs.Lines.{HasCommand}
-use Rattle.wsc_top.specs.Calls.{SourceCall, IsReply}
+use Rattle.wsc_top.specs.Calls.{IsReply}
+use Rattle.asm_read.specs.Reads.{SourceCall}
 use Rattle.wsc_top.proofs.Calling.Tasks.{OneLine, same_task_by}
 use Rattle.wsc_top.proofs.Calling.Calls.{IsOfText, yields_status, not_memory, not_write_fault, read_rose}
 use Rattle.wsc_top.proofs.Calling.Calls.{port_rose, too_much, told_text}

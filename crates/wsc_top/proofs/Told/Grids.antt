@@ -15,7 +15,7 @@ use Rattle.wsc_words.specs.Lines.{Given, AreIn, is_flag, least, most, usual, tex
 use Rattle.wsc_top.specs.declared.task.Task.TheVariants.{Assembly}
 use Rattle.wsc_top.specs.declared.task.AssemblyTask.{AssemblyTask}
 use Rattle.wsc_top.specs.declared.task.AssemblyTask.TheVariants as task
-use Rattle.wsc_top.specs.declared.task.Report.TheVariants.{Full}
+use Rattle.run_text.specs.declared.report.Report.TheVariants.{Full}
 use Rattle.wsc_top.specs.Tasks.{AsksFor, task_of, task_by, options_of, decoupled_options, grid_options}
 use Rattle.wsc_top.specs.Executions.{EndsRun}
 use Rattle.wsc_top.specs.Clocked.{InRange, TaskInRange, clocked_status}

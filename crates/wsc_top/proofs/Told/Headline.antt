@@ -29,8 +29,9 @@ use Rattle.port_set.specs.Ports.{Told}
 use Rattle.store_buf.specs.Outdoors.{SlotsAre, port_of}
 use Rattle.wsc_top.specs.Answers.{DoesWithin, to_end, to_fault, so_far, IsOnPort}
 use Rattle.wsc_top.proofs.Told.PortActs.{ports_moved, shown_took, left_shown, port_act, within_next}
-use Rattle.wsc_top.specs.Texts.{names_of, shown_names, name_at, array_name, called, maybe_name}
-use Rattle.wsc_top.specs.Texts.{name_or_number}
+use Rattle.wsc_top.specs.Texts.{names_of, name_at, array_name}
+use Rattle.run_text.specs.Texts.{shown_names, called, maybe_name}
+use Rattle.run_text.specs.Texts.{name_or_number}
 use Rattle.wsc_top.proofs.Told.WalkActs.{sizes, HasArray, mem_is, mem_within, acts_next, fault_is_first}
 use Rattle.wsc_top.proofs.Told.ShownActs.{lengths, shown_place, shown_within, open_first, shown_first}
 use Rattle.wsc_top.proofs.Told.ShownActs.{shown_words, cells_after, left_cells, shown_after}

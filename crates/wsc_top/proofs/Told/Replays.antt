@@ -13,13 +13,13 @@ use Rattle.trace_check.specs.Recorded.{Traces}
 use Rattle.trace_check.specs.Replays.{StopsAt, events_of}
 use Rattle.trace_check.specs.Traces.{events_in}
 use Rattle.wsc_top.specs.declared.status.Status.{Status}
-use Rattle.wsc_top.specs.Job.{world_of}
-use Rattle.wsc_top.specs.Sections.{after_line, trace_section, trace_of, trace_line, last_line}
+use Rattle.asm_read.specs.Reads.{world_of}
+use Rattle.asm_read.specs.Sections.{after_line, trace_section, trace_of, trace_line, last_line}
 use Rattle.wsc_top.specs.Executions.{EndsRun}
 use Rattle.wsc_top.specs.Traced as traces
 use Rattle.wsc_top.specs.Traced.{illegal, made, IsReplayed, missing, faulty, trace_status, HasTrace}
 use Rattle.wsc_top.specs.Traced.{CanReplay, EndsReplay}
-use Rattle.wsc_top.proofs.Reading.Inputs.{empty_is}
+use Rattle.asm_read.proofs.Inputs.{empty_is}
 use Rattle.df_core.proofs.Telling.Saying.{no_fault_at}
 
 module _ (image : Image) (world : World) (budget : ℕ) (events : List Event) where

@@ -12,9 +12,10 @@ use Rattle.store_buf.specs.Answer.{RunTells}
 use Rattle.wsc_top.specs.declared.status.Status.{Status}
 use Rattle.wsc_top.specs.declared.status.Status.TheVariants.{Done, Budget, Fault, PortFault}
 use Rattle.wsc_top.specs.declared.task.RunOptions.{RunOptions}
-use Rattle.wsc_top.specs.Texts.{shown_names, called}
-use Rattle.wsc_top.specs.Executions.{Executes, rested, spent, stopped, failed, HasBegun, EndsRun, end_report}
-use Rattle.wsc_top.specs.Executions.{fault_report, spent_report, failed_report}
+use Rattle.run_text.specs.Texts.{shown_names, called}
+use Rattle.wsc_top.specs.Executions.{Executes, rested, spent, stopped, failed, HasBegun, EndsRun}
+use Rattle.run_text.specs.Reports.{end_report}
+use Rattle.run_text.specs.Reports.{fault_report, spent_report, failed_report}
 use Rattle.wsc_top.specs.Finished.{ReportsSo}
 use Rattle.df_core.proofs.Telling.Saying.{no_fault_at}
 

@@ -9,12 +9,14 @@ use Rattle.ws_isa.specs.Image.{Image}
 use Rattle.port_set.specs.Ports.{Told}
 use Rattle.store_buf.specs.Outdoors.{world_with}
 use Rattle.wsc_top.specs.declared.task.JobTask.TheVariants.{Run}
-use Rattle.wsc_top.specs.declared.task.Report.{Report}
+use Rattle.run_text.specs.declared.report.Report.{Report}
 use Rattle.wsc_top.specs.declared.task.RunOptions.{RunOptions}
 use Rattle.wsc_top.specs.declared.status.Status.{Status}
 use Rattle.wsc_top.specs.declared.status.Status.TheVariants.{Done, Refused, Fault}
-use Rattle.wsc_top.specs.Texts.{names_of, array_name, refusal_text}
-use Rattle.wsc_top.specs.Executions.{end_report, fault_report, tells_firings}
+use Rattle.wsc_top.specs.Texts.{names_of, array_name}
+use Rattle.asm_read.specs.Texts.{refusal_text}
+use Rattle.wsc_top.specs.Executions.{tells_firings}
+use Rattle.run_text.specs.Reports.{end_report, fault_report}
 use Rattle.wsc_top.specs.Job.{IsJob, Refuses, IsTextAnswer}
 use Rattle.wsc_top.specs.Answers.{TellsRun, Yields, ran, Answered, refused, done, IsFree}
 use Rattle.wsc_top.specs.Answers as answers

@@ -22,10 +22,11 @@ use Rattle.wsc_top.specs.declared.status.Status.TheVariants.{Done, Usage, Refuse
 use Rattle.wsc_top.specs.declared.status.Status.TheVariants.{WriteFault, PortFault, NoMemory, Fault}
 use Rattle.wsc_top.specs.declared.task.RunOptions.{RunOptions}
 use Rattle.wsc_top.specs.declared.task.JobTask.TheVariants.{Run}
-use Rattle.wsc_top.specs.Texts.{names_of, array_name, shown_names, called}
-use Rattle.wsc_top.specs.Sections.{InputWords, InputItems, stop, next}
+use Rattle.wsc_top.specs.Texts.{names_of, array_name}
+use Rattle.run_text.specs.Texts.{shown_names, called}
+use Rattle.asm_read.specs.Sections.{InputWords, InputItems, stop, next}
 use Rattle.wsc_top.specs.Executions.{PortsAre, StopsShort, Executes, rested, stopped, OrFailed}
-use Rattle.wsc_top.specs.Executions.{end_report, fault_report, spent_report, failed_report}
+use Rattle.run_text.specs.Reports.{end_report, fault_report, spent_report, failed_report}
 use Rattle.wsc_top.specs.Executions as executions
 use Rattle.wsc_top.specs.Answers.{TellWords, IsCompiled, TellsRun, Yields, ran, JobEndsSo, ComesToItsEnd}
 use Rattle.wsc_top.specs.Answers.{MeetsFault}

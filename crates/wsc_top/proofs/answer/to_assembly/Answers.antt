@@ -1,5 +1,5 @@
 use Rattle.std.proofs.Common.{◌∙◌, ap}
-use Rattle.wsc_top.specs.Texts.{asm_refusal_text}
+use Rattle.asm_read.specs.Texts.{asm_refusal_text}
 use Rattle.wsc_top.proofs.Reading.BeforeTrace.{program_for}
 use Rattle.wsc_top.proofs.Calling.Calls.{sound_step, unsound_step, err_same, assembly_begun}
 use Rattle.wsc_top.proofs.answer.to_assembly.Goals as goal

@@ -1,7 +1,7 @@
 use Rattle.std.proofs.Common.{◌≡◌, ◌∙◌, ap, subst}
 use Rattle.src_ast.specs.declared.fault.TextFault.TheVariants as fault
 use Rattle.src_ast.specs.View as view
-use Rattle.wsc_top.specs.Texts.{refusal_text}
+use Rattle.asm_read.specs.Texts.{refusal_text}
 use Rattle.wsc_top.specs.Job.{IsRefused}
 use Rattle.wsc_top.proofs.Reading.Jobs.{job_written, job_step, refused_step}
 use Rattle.wsc_top.proofs.Calling.Calls.{err_same, job_begun}

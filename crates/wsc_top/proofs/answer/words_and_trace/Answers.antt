@@ -1,5 +1,5 @@
 use Rattle.std.proofs.Common.{ap, sym, ◌∙◌, codes, true}
-use Rattle.wsc_top.specs.Sections.{front_of, rest_of, input_of}
+use Rattle.asm_read.specs.Sections.{front_of, rest_of, input_of}
 use Rattle.wsc_top.specs.Answers.{assembly_text}
 use Rattle.wsc_top.proofs.Reading.BeforeTrace.{words_before}
 use Rattle.wsc_top.proofs.answer.words_and_trace.Goals as goal

@@ -1,5 +1,5 @@
 use Rattle.std.proofs.Common.{◌<◌, List, ℕ, length, sym, ap, ◌∙◌, subst}
-use Rattle.wsc_top.specs.Sections.{after_line}
+use Rattle.asm_read.specs.Sections.{after_line}
 use Rattle.wsc_top.proofs.Reading.JobTexts.{behind_short}
 use Rattle.wsc_top.proofs.batch.next.Goals as goal
 

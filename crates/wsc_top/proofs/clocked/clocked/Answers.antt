@@ -1,7 +1,7 @@
 use Rattle.std.proofs.Common.{ap, sym, ◌∙◌, subst, map}
 use Rattle.ws_isa.specs.View as view
 use Rattle.grid_clock.specs.Clocks.{Clocks}
-use Rattle.wsc_top.specs.Job.{world_of}
+use Rattle.asm_read.specs.Reads.{world_of}
 use Rattle.wsc_top.specs.Executions.{EndsRun}
 use Rattle.wsc_top.specs.Clocked.{grid_of, clocked_text}
 use Rattle.wsc_top.proofs.Told.Grids.{ends_clocked}

@@ -1,8 +1,8 @@
 use Rattle.std.proofs.Common.{subst, sym}
 use Rattle.src_ast.specs.View as view
-use Rattle.wsc_top.specs.Sections.{InputWords}
+use Rattle.asm_read.specs.Sections.{InputWords}
 use Rattle.wsc_top.specs.Job.{ReadsAs}
-use Rattle.wsc_top.proofs.Reading.Inputs.{of_text, of_sections}
+use Rattle.asm_read.proofs.Inputs.{of_text, of_sections}
 use Rattle.wsc_top.proofs.Reading.Jobs.{program_only, program_refused, words_only, words_refused}
 use Rattle.wsc_top.proofs.job.read.Goals as goal
 

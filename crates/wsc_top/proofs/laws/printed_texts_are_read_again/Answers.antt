@@ -1,4 +1,4 @@
-use Rattle.wsc_top.specs.Job.{world_of}
+use Rattle.asm_read.specs.Reads.{world_of}
 use Rattle.wsc_top.proofs.Reading.ReadAgain.{image_again, input_again, compiled_again, traced_again}
 use Rattle.wsc_top.proofs.Reading.ReadAgain.{replayed_again}
 use Rattle.wsc_top.proofs.laws.printed_texts_are_read_again.Goals as goal

@@ -1,6 +1,7 @@
 use Rattle.std.proofs.Common.{◌+◌, ◌++◌, List, ℕ, drop, ap, ◌∙◌, arith}
 use Rattle.src_ast.specs.View as view
-use Rattle.wsc_top.specs.Texts.{names_of, array_lines}
+use Rattle.wsc_top.specs.Texts.{names_of}
+use Rattle.run_text.specs.Texts.{array_lines}
 use Rattle.wsc_top.proofs.Reading.PlainTexts.{after_array, after_procedure}
 use Rattle.wsc_top.proofs.texts.put_arrays.Goals as goal
 use Rattle.wsc_top.proofs.texts.put_arrays.Goals.{in-Array+in_ok-put_array_at, in_default}

@@ -1,6 +1,7 @@
 use Rattle.std.proofs.Common.{◌≡◌, ◌≤◌, ◌++◌, drop}
 use Rattle.src_ast.specs.View as view
-use Rattle.wsc_top.specs.Texts.{names_of, array_lines}
+use Rattle.wsc_top.specs.Texts.{names_of}
+use Rattle.run_text.specs.Texts.{array_lines}
 use Rattle.wsc_top.proofs.texts.put_arrays.Given as goal
 
 abbrev pub invariant-loop-item : goal.invariant-loop-item

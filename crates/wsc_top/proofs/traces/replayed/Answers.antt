@@ -5,9 +5,9 @@ use Rattle.asm_text.specs.declared.fault.AsmFault.TheVariants as fault
 use Rattle.asm_text.specs.Reading.{Fault, Reads}
 use Rattle.trace_check.specs.declared.events.Lined.{Lined}
 use Rattle.trace_check.specs.Traces.{events_in}
-use Rattle.wsc_top.specs.declared.assembly.AsmRefusal.TheVariants.{Text}
+use Rattle.asm_read.specs.declared.assembly.AsmRefusal.TheVariants.{Text}
 use Rattle.wsc_top.specs.declared.status.Status.TheVariants.{Refused}
-use Rattle.wsc_top.specs.Texts.{asm_refusal_text}
+use Rattle.asm_read.specs.Texts.{asm_refusal_text}
 use Rattle.wsc_top.specs.Traced as traces
 use Rattle.wsc_top.specs.Traced.{IsReplayed}
 use Rattle.wsc_top.proofs.Told.Replays.{ends_replay, nothing_there, something_there, section_events}

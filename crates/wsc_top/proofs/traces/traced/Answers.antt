@@ -1,6 +1,6 @@
 use Rattle.std.proofs.Common.{sym, subst}
 use Rattle.trace_check.specs.Recorded.{Traces}
-use Rattle.wsc_top.specs.Job.{world_of}
+use Rattle.asm_read.specs.Reads.{world_of}
 use Rattle.wsc_top.specs.Executions.{EndsRun}
 use Rattle.wsc_top.proofs.Told.Replays.{ends_run}
 use Rattle.wsc_top.proofs.traces.traced.Goals as goal

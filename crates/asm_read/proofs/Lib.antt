@@ -1,0 +1,4 @@
+pub mod Assemblies
+pub mod Inputs
+pub mod Once
+mod Empties

@@ -1,0 +1,4 @@
+pub mod Sections
+pub mod Assembly
+pub mod Texts
+pub mod Reads

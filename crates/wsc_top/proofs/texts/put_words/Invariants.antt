@@ -1,7 +1,0 @@
-use Rattle.std.proofs.Common.{◌≡◌, ◌++◌, take}
-use Rattle.std.specs.Prelude.{flat_map}
-use Rattle.wsc_top.specs.Texts.{word_line}
-use Rattle.wsc_top.proofs.texts.put_words.Given as goal
-
-abbrev pub invariant-loop-word : goal.invariant-loop-word
-invariant-loop-word l = l.text ≡ l.initial.text ++ flat_map word_line (take l.word-index l.words)
