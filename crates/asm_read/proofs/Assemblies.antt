@@ -14,7 +14,8 @@ use Rattle.asm_read.specs.declared.assembly.AssemblyFault.TheVariants as fault
 use Rattle.asm_read.specs.Sections.{program_of, input_of, input_place, IsInputFault, AnswersWords}
 use Rattle.src_ast.specs.declared.fault.TextFault.{TextFault}
 use Rattle.src_ast.specs.declared.fault.TextFault.TheVariants as text_fault
-use Rattle.asm_read.specs.Assembly.{fault_of_input, AnswersAssembly, IsSectionFault, IsAssemblyFault, assembly}
+use Rattle.asm_read.specs.Assembly.{fault_of_input, AnswersAssembly, IsSectionFault, IsAssemblyFault}
+use Rattle.asm_read.specs.Assembly.{assembly}
 use Rattle.asm_read.specs.Assembly.{unsound, input}
 
 pub bad_of : (image : Image) (f : CheckFault) (bad : Bad) → f ≡ check.Refused bad → Breach image f

@@ -1,8 +1,9 @@
-//! The text of an assembly with its input section: its image and the words that it reads, or why it is refused.
+//! The text of an assembly with its input section: its image and the words that it reads, or why it is
+//! refused.
 //!
-//! `read_source` reads it from a source: it is what the source gives (`GivesAssembly`), or there is none and why
-//! (`IsUnread`). No text is both, and none is two assemblies (`each_assembly_is_read_or_refused`). `read` reads the
-//! two sections of a text, and `split` finds them.
+//! `read_source` reads it from a source: it is what the source gives (`GivesAssembly`), or there is none
+//! and why (`IsUnread`). No text is both, and none is two assemblies (`each_assembly_is_read_or_refused`).
+//! `read` reads the two sections of a text, and `split` finds them.
 #![tactic(auto)]
 
 mod assembly;

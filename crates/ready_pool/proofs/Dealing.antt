@@ -49,7 +49,11 @@ module _ {T : Type 0} where
   full_on a b c e further f = (
     f.0,
     f.1,
-    λ d. (let l = f.2 d in let lt = f.1 in let m = further f.0 d (omega (arith, lt, e)) in omega (arith, l, m)),
+    λ d. (let l = f.2 d in let lt = f.1 in let m = further f.0 d (omega (arith, lt, e)) in omega (
+      arith,
+      l,
+      m,
+    )),
   )
 
   full_since : (a b c : List (Seat T)) → length b ≡ length a → ((i : ℕ) (d : Seat T) → i < length a

@@ -27,7 +27,8 @@ use Rattle.stream_top.specs.Calls.{CallEnds, IsAnswer, IsRefused, IsNoLine, IsDu
 use Rattle.stream_top.specs.Causes.{OrNoMemory, NoFaults, EndsBy, CallCaused}
 
 abbrev pub OneAsking : Type 0
-OneAsking = (words : List (List ℕ)) (options others : Options) → AsksForRun words options → AsksForRun words others
+OneAsking = (words : List (List ℕ)) (options others : Options) → AsksForRun words options
+    → AsksForRun words others
     → options ≡ others
 
 abbrev pub OneImage : Type 0
@@ -161,7 +162,8 @@ module _ (words : List (List ℕ)) (reads : SourceCall) (writes : Writing) where
 
     -- which is an assembly
     module _ (one : OneAsking) (alike : OneImage) (never : NeverBoth) (options : Options)
-        (line : AsksForRun words options) (image : Image) (input : List ℕ) (short : length text ≤ assembly_limit)
+        (line : AsksForRun words options) (image : Image) (input : List ℕ) (short : length text ≤
+        assembly_limit)
         (assembly : IsAssembly text image input) where
       too_long : (bytes : List ℕ) → length bytes ≡ assembly_limit + 1 → Takes reads.left bytes reads.after → ⊥
       too_long bytes more takes =

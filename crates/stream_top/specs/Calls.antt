@@ -70,8 +70,8 @@ pub data CallEnds (words : List (List ℕ)) (reads : SourceCall) (writes : Writi
   cut : (options : Options) (image : Image) (input : List ℕ) → IsDue words reads options image input
       → WritesPart options image (world_of input) writes stop.Unwritten
       → CallEnds words reads writes WriteFault
-  -- memory ran out: before a run, and nothing went out; or in it, and a line for each word that it had printed
-  -- went out
+  -- memory ran out: before a run, and nothing went out; or in it, and a line for each word that it had
+  -- printed went out
   starved : writes.holds ≡ writes.held → writes.covered ≡ writes.flushed
       → CallEnds words reads writes NoMemory
   stopped : (options : Options) (image : Image) (input : List ℕ) → IsDue words reads options image input

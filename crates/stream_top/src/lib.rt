@@ -1,9 +1,9 @@
 //! The call of the program `wss`: an assembly is read, and its image run, however long the run is.
 //!
-//! `wss` ends as `CallEnds` says: an answer without a run went out, or what is told of the run of the image that
-//! was read (`WritesWhole`), or where a write failed a front of these (`WritesFront`, `WritesPart`). Which status
-//! a call has, and when, says `CallCaused`: where no fault comes the words, the text and the walk of its image
-//! alone decide, want of memory aside.
+//! `wss` ends as `CallEnds` says: an answer without a run went out, or what is told of the run of the
+//! image that was read (`WritesWhole`), or where a write failed a front of these (`WritesFront`,
+//! `WritesPart`). Which status a call has, and when, says `CallCaused`: where no fault comes the words,
+//! the text and the walk of its image alone decide, want of memory aside.
 #![tactic(auto)]
 
 mod call;

@@ -29,7 +29,8 @@ use Rattle.wsc_top.specs.declared.task.JobTask.TheVariants.{Compile}
 use Rattle.wsc_top.specs.declared.task.AssemblyTask.TheVariants.{Replay}
 use Rattle.asm_read.specs.Reads.{world_of}
 use Rattle.asm_read.specs.Assembly.{IsAssembly}
-use Rattle.asm_read.specs.Sections.{after_line, input_place, trace_section, before_trace, trace_of, trace_line}
+use Rattle.asm_read.specs.Sections.{after_line, input_place, trace_section, before_trace, trace_of}
+use Rattle.asm_read.specs.Sections.{trace_line}
 use Rattle.asm_read.specs.Sections.{InputItems, stop, next, InputWords}
 use Rattle.wsc_top.specs.Texts.{with_input}
 use Rattle.run_text.specs.Texts.{word_line}

@@ -1,6 +1,7 @@
 use Rattle.std.proofs.Common.{◌+◌, refl, arith}
 use Rattle.match_table.specs.Rows.{contents}
-use Rattle.match_table.proofs.Shares.{all_count, all_taken, evenly_more, fits, front_below, give_more, take_more}
+use Rattle.match_table.proofs.Shares.{all_count, all_taken, evenly_more, fits, front_below, give_more}
+use Rattle.match_table.proofs.Shares.{take_more}
 use Rattle.fire_crew.proofs.shares.limits.Goals as goal
 
 pub loop-number-preserved : goal.loop-number-preserved
