@@ -92,6 +92,14 @@ def test_lines(tmp_path: Path) -> None:
     assert re.search(r"^store_L4: store \d+ ", call("a.c", "-g", cwd=tmp_path)[1], re.MULTILINE)
 
 
+def test_text(tmp_path: Path) -> None:
+    (tmp_path / "a.c").write_text('#include <stdio.h>\nint main(void) { printf("sum %d\\n", 55); }\n')
+    assert call("a.c", "--text", "--run", cwd=tmp_path) == (0, "sum 55\n", "halt\n")
+    assert call("a.c", "--run", cwd=tmp_path) == (0, "55\nhalt\n", "")
+    assert call("a.c", "--text", "--verify", cwd=tmp_path) == (
+        0, "sum 55\n", "halt\nverified 7 characters: natively they are the same\n")
+
+
 def test_headers(tmp_path: Path) -> None:
     assert call("--headers", cwd=tmp_path) == (0, f"{HEADERS}\n", "")
     assert (HEADERS / "wavescalar.h").is_file()

@@ -31,10 +31,11 @@ LEVELS = {
     1: "default<O1>",
     2: "default<O2>",
 }
-# What every level ends with: no switches, no constructs without a form on the machine.
+# What every level ends with: what is known of ranges, as flags; no switches, no constructs without a form on the machine.
 TIDY = ("always-inline,globaldce,function(lower-constant-intrinsics,lower-expect,simplifycfg,sroa,instcombine,adce,"
-        "simplifycfg,lowerswitch,loop-simplify)")
-OPTIONS = ["-internalize-public-api-list=main", "-replexitval=never", "-vectorize-loops=false",
+        "simplifycfg,correlated-propagation,lowerswitch,loop-simplify)")
+# A loop's test stays as it is written: `i < n` says more of i than `i != n`, and needs no other value than n.
+OPTIONS = ["-internalize-public-api-list=main", "-replexitval=never", "-disable-lftr", "-vectorize-loops=false",
            "-vectorize-slp=false"]
 # Below level 2 a loop keeps its test at its head, which makes for fewer firings. With the test at its end, as level 2
 # has it, a turn's values needn't wait for the test, but another test stands in front.
@@ -62,22 +63,24 @@ class Clang:
             raise ToolFault(f"{self.clang} doesn't tell its version")
         return int(number[1])
 
-    def ir(self, source: Path, level: int = 1, words: Sequence[str] = ()) -> bytes:
-        """The IR, as text, of a file of C at this level, 0 to 2. words: more for clang, as `-I` and `-D`.
+    def ir(self, source: Path, level: int = 1, words: Sequence[str] = (), as_text: bool = False) -> bytes:
+        """The IR, as text, of a file of C at this level, 0 to 2. words: more for clang, as `-I` and `-D`. as_text: whether
+        what is printed is characters.
 
         Raises ToolFault where clang or opt fails; clang has said why on standard error.
         """
         version = self.version()
+        words = [*words, *(["-D__WSCC_TEXT__=1"] if as_text else [])]
         text = self._optimized(self._compiled(source, words), level)
         for _ in range(ROUNDS):
-            more = completed(text, version, lambda: self._compiled(LIBRARY, ["-w", *words]))
+            more = completed(text, version, lambda: self._compiled(LIBRARY, ["-w", *words]), as_text)
             if more is None:
                 break
             text = self._optimized(more, level)
         return text
 
-    def native(self, source: Path, given: str, words: Sequence[str] = (), seconds: int = SECONDS) -> list[str]:
-        """The lines that a program prints natively that reads this text. words: more for clang.
+    def native(self, source: Path, given: str, words: Sequence[str] = (), seconds: int = SECONDS) -> str:
+        """What a program prints natively that reads this text. words: more for clang.
 
         Raises ToolFault where it can't be built, where a signal ends it, and where it takes more than so many seconds of
         processor time.
@@ -86,17 +89,18 @@ class Clang:
         with tempfile.TemporaryDirectory() as room:
             program = str(Path(room) / "native")
             _call([self.clang, *NATIVE, f"-I{HEADERS}", *words, str(source), "-o", program])
-            done = subprocess.run([program], input=given, capture_output=True, text=True, check=False, preexec_fn=limit)
+            done = subprocess.run([program], input=given, capture_output=True, text=True, errors="surrogateescape",
+                                  check=False, preexec_fn=limit)
         if done.returncode in (-signal.SIGXCPU, -signal.SIGKILL):
             raise ToolFault(f"natively {source} takes more than {seconds} s, or was killed", DIFFERS)
         if done.returncode < 0:
             raise ToolFault(f"natively {source} is ended by signal {-done.returncode}", DIFFERS)
-        return done.stdout.splitlines()
+        return done.stdout
 
     def _compiled(self, source: Path, words: Sequence[str]) -> bytes:
         """The IR of a file as it is written. clang would mark all loops as not to be unrolled at its level 1."""
         return _call([self.clang, "-O1", "-funroll-loops", "-Xclang", "-disable-llvm-passes", "-g",
-                      "-fno-discard-value-names", "-fno-builtin-printf", "-D__WAVESCALAR__=1", "-D__NO_CTYPE",
+                      "-fno-discard-value-names", "-fno-builtin-printf", "-D__WAVESCALAR__=1", "-D__NO_CTYPE", "-D__NO_INLINE__=1",
                       f"-I{HEADERS}", *words, "-emit-llvm", "-S", str(source), "-o", "-"])
 
     def _optimized(self, text: bytes, level: int) -> bytes:
