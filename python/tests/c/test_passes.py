@@ -47,7 +47,7 @@ def shared(graph: Graph) -> None:
     share(graph, cut(graph))
 
 
-@pytest.mark.parametrize("seed", [pytest.param(seed, marks=[pytest.mark.every] * (seed > 2)) for seed in range(8)])
+@pytest.mark.parametrize("seed", [pytest.param(seed, marks=[pytest.mark.long] * (seed > 2)) for seed in range(8)])
 def test_passes_keep_the_meaning(seed: int, tmp_path: Path) -> None:
     graph = graph_of(str(Program(seed)), tmp_path, seed % 3)
     wanted = prints(graph, GIVEN)
