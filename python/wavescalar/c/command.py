@@ -1,4 +1,4 @@
-"""The command `wscc`: from a file of C to an image of the dataflow machine, its run, and a native run beside it."""
+"""The command `wscc`: from files of C to an image of the dataflow machine, its run, and a native run beside it."""
 
 from __future__ import annotations
 
@@ -32,9 +32,9 @@ prints other words, or doesn't end."""
 
 
 def _parser() -> argparse.ArgumentParser:
-    parser = Line("Compile a file of C for the dataflow machine. Nothing of this is proved; wsl\n"
+    parser = Line("Compile files of C for the dataflow machine. Nothing of this is proved; wsl\n"
                   "gives what comes out its notes, and wsc checks it.", prog="wscc", epilog=STATUS)
-    parser.add_argument("file", metavar="FILE.c", type=Path)
+    parser.add_argument("files", metavar="FILE.c", type=Path, nargs="+", help="the files of one program")
     parser.add_argument("--headers", action="version", version=str(HEADERS),
                         help="say the folder of wavescalar.h, for a native compiler, and end")
     parser.add_argument("-o", dest="out", metavar="FILE.asm", type=Path,
@@ -75,7 +75,7 @@ def main(words: Sequence[str] | None = None) -> int:
     except Refusal as refusal:
         return _ended(2, str(refusal))
     except (Refused, BuildFault) as fault:
-        return _ended(2, f"{asked.file}: refused: the machine's limits: {fault}")
+        return _ended(2, f"{asked.files[0]}: refused: the machine's limits: {fault}")
     except ToolFault as fault:
         return _ended(fault.status, f"wscc: {fault}")
     except CallFault as fault:
@@ -100,14 +100,15 @@ def _for_clang(asked: argparse.Namespace) -> list[str]:
 
 
 def _answer(asked: argparse.Namespace) -> int:
-    with asked.file.open():  # so that a file that can't be read is told of in our words
-        pass
+    for file in asked.files:
+        with file.open():  # so that a file that can't be read is told of in our words
+            pass
     tools = Clang.found()
-    text = tools.ir(asked.file, asked.level, _for_clang(asked), asked.text)
+    text = tools.ir(asked.files, asked.level, _for_clang(asked), asked.text)
     if asked.emit_llvm:
         _write(asked, text.decode(errors="surrogateescape"))
         return 0
-    graph = optimized(text, str(asked.file), tools.version(), asked.result)
+    graph = optimized(text, str(asked.files[0]), tools.version(), asked.result)
     image = draft_of(graph, asked.lines)
     image = image if asked.draft else link(image)
     runs = asked.run or asked.verify
@@ -181,11 +182,11 @@ def _verify(asked: argparse.Namespace, tools: Clang, image: Image, given: str) -
     status, words = _answered(asked, image, given)
     if status:
         return status
-    printed = tools.native(asked.file, given, _for_clang(asked))
+    printed = tools.native(asked.files, given, _for_clang(asked))
     wanted = [str(code) for code in printed.encode(errors="surrogateescape")] if asked.text else printed.split()
     what = "character" if asked.text else "word"
     if words == wanted:
         return _ended(0, f"verified {len(words)} {what}s: natively they are the same")
     at = next((k for k, (one, other) in enumerate(zip(words, wanted)) if one != other), min(len(words), len(wanted)))
     ours, theirs = (some[at] if at < len(some) else "none" for some in (words, wanted))
-    return _ended(DIFFERS, f"{asked.file}: {what} {at + 1} is {ours}, and natively {theirs}")
+    return _ended(DIFFERS, f"{asked.files[0]}: {what} {at + 1} is {ours}, and natively {theirs}")

@@ -67,8 +67,10 @@ class _Whole:
     def print(self, as_text: bool) -> None:
         """Takes the calls of `printf` apart."""
         llvm = self.llvm
-        found = [it for it in self._calls() if llvm.GetValueKind(llvm.GetCalledValue(it)) == c.FUNCTION
-                 and llvm.name(llvm.GetCalledValue(it)) == "printf"]
+        printf = llvm.GetNamedFunction(self.module, b"printf")
+        if not llvm.IsDeclaration(printf):
+            return  # the program has its own
+        found = [it for it in self._calls() if llvm.GetCalledValue(it) == printf]
         Printing(llvm, self.module, self.context, as_text).expand(found)
 
     def resolve(self) -> bool:
