@@ -19,14 +19,14 @@ def pytest_addoption(parser: pytest.Parser) -> None:
     more.addoption("--drafts", type=int, default=60, help="how many drafts (60)")
     more.addoption("--machines", type=int, default=3, help="machines at random for each text that isn't long (3)")
     more.addoption("--generated", type=int, default=2, help="so many jobs of wsc gen more (2)")
-    more.addoption("--every", action="store_true", help="all tests of the front end from C, not only a choice")
+    more.addoption("--all-c", action="store_true", help="all tests of the front end from C, not only a choice")
     more.addoption("--seed", type=int, default=1, help="begins the numbers of these machines (1)")
     more.addoption("--every", type=int, default=1, help="of the site one line, text or event of so many (1)")
 
 
 def pytest_configure(config: pytest.Config) -> None:
     """Without the program there is nothing to test."""
-    config.addinivalue_line("markers", "every: a test that is left for --every")
+    config.addinivalue_line("markers", "long: a test that is left for --all-c")
     if not pathlib.Path(WSC).is_file():
         raise pytest.UsageError("there is no program crates/wsc/out/wsc, which the gate builds; the environment's WSC names another,"
                                 " as crates/wsc/out/unproved/wsc, which ./wsc builds without proof")

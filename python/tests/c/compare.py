@@ -42,9 +42,13 @@ class Case:
 
 
 def native(source: Path, given: Sequence[int]) -> list[int]:
+    """The words that a program prints that runs natively."""
+    return [int(line) for line in native_text(source, given).split()]
+
+
+def native_text(source: Path, given: Sequence[int]) -> str:
     """What a program prints that runs natively."""
-    lines = Clang.found().native(source, "\n".join(map(str, given)), seconds=SECONDS)
-    return [int(line) for line in lines]
+    return Clang.found().native(source, "\n".join(map(str, given)), seconds=SECONDS)
 
 
 def input_of(file: Path) -> tuple[int, ...]:

@@ -1,6 +1,6 @@
 """What the tests of the front end from C need: clang, opt and the linker, and a choice of tests that the gate has time for.
 
-They are left out, and that is said, where one of the three isn't there. `--every` takes all of them.
+They are left out, and that is said, where one of the three isn't there. `--all-c` takes all of them.
 """
 
 from __future__ import annotations
@@ -37,11 +37,11 @@ def source(tmp_path: Path) -> Callable[..., Path]:
 
 
 def pytest_collection_modifyitems(config: pytest.Config, items: list[pytest.Item]) -> None:
-    """Leaves out what is marked `every`, and says so, unless all is asked for."""
-    if config.getoption("--every"):
+    """Leaves out what is marked `long`, and says so, unless all is asked for."""
+    if config.getoption("--all-c"):
         return
-    left = [it for it in items if it.get_closest_marker("every")]
+    left = [it for it in items if it.get_closest_marker("long")]
     if left:
-        asked.say(f"left out: {len(left)} tests of tests/c; --every takes them too")
+        asked.say(f"left out: {len(left)} tests of tests/c; --all-c takes them too")
         config.hook.pytest_deselected(items=left)
         items[:] = [it for it in items if it not in left]

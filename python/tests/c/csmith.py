@@ -78,7 +78,7 @@ def tried(seed: int, level: int | None, each: bool, keep: Path | None) -> Answer
 
 def _compared(seed: int, level: int, file: Path, more: list[str]) -> Answer:
     try:
-        wanted = [int(line) for line in Clang.found().native(file, "", more, SECONDS)]
+        wanted = [int(line) for line in Clang.found().native(file, "", more, SECONDS).split()]
     except ToolFault as fault:
         if fault.status != DIFFERS:
             raise

@@ -92,6 +92,35 @@ def test_lines(tmp_path: Path) -> None:
     assert re.search(r"^store_L4: store \d+ ", call("a.c", "-g", cwd=tmp_path)[1], re.MULTILINE)
 
 
+def test_several_files(tmp_path: Path) -> None:
+    (tmp_path / "main.c").write_text("""#include "wavescalar.h"
+#include "more.h"
+static int own(int n) { return n + 1; }
+int main(void) {
+  for (int k = 0; k < 2; k++) ws_print((unsigned long)table[k](own((int)ws_read())));
+}
+""")
+    (tmp_path / "more.h").write_text("typedef int function(int);\nextern function *table[2];\n")
+    (tmp_path / "more.c").write_text("""#include "more.h"
+static int own(int n) { return 3 * n; }
+static int other(int n) { return n * n; }
+function *table[2] = {own, other};
+""")
+    (tmp_path / "words").write_text("4 6\n")
+    line = ("main.c", "more.c", "--verify", "--input", "words")
+    assert call(*line, cwd=tmp_path) == (0, "15\n49\nhalt\n", "verified 2 words: natively they are the same\n")
+    assert call("main.c", "--run", cwd=tmp_path)[0] == 2
+    assert call("main.c", "main.c", "more.c", "--run", cwd=tmp_path)[0] == 2
+
+
+def test_text(tmp_path: Path) -> None:
+    (tmp_path / "a.c").write_text('#include <stdio.h>\nint main(void) { printf("sum %d\\n", 55); }\n')
+    assert call("a.c", "--text", "--run", cwd=tmp_path) == (0, "sum 55\n", "halt\n")
+    assert call("a.c", "--run", cwd=tmp_path) == (0, "55\nhalt\n", "")
+    assert call("a.c", "--text", "--verify", cwd=tmp_path) == (
+        0, "sum 55\n", "halt\nverified 7 characters: natively they are the same\n")
+
+
 def test_headers(tmp_path: Path) -> None:
     assert call("--headers", cwd=tmp_path) == (0, f"{HEADERS}\n", "")
     assert (HEADERS / "wavescalar.h").is_file()

@@ -47,7 +47,7 @@ def shared(graph: Graph) -> None:
     share(graph, cut(graph))
 
 
-@pytest.mark.parametrize("seed", [pytest.param(seed, marks=[pytest.mark.every] * (seed > 2)) for seed in range(8)])
+@pytest.mark.parametrize("seed", [pytest.param(seed, marks=[pytest.mark.long] * (seed > 2)) for seed in range(8)])
 def test_passes_keep_the_meaning(seed: int, tmp_path: Path) -> None:
     graph = graph_of(str(Program(seed)), tmp_path, seed % 3)
     wanted = prints(graph, GIVEN)
@@ -153,6 +153,32 @@ def test_copies_of_a_turn(given: list[int], tmp_path: Path) -> None:
     tidy(graph)
     assert len(graph.blocks) > before + 3
     assert prints(graph, given) == wanted
+
+
+TWO_ENTRIES = """#include "wavescalar.h"
+int main(void) {
+  for (unsigned long m = ws_read(); m-- > 0;) {
+    unsigned long n = m, a = 0, b = 1;
+    if (n & 1) goto inside;
+    while (n) {
+      a += b;
+    inside:
+      b = a ^ n;
+      n = n > 3 ? n - 3 : 0;
+    }
+    ws_print(a * 31 + b);
+  }
+}
+"""
+
+
+def test_cycles_with_two_entries_stay(tmp_path: Path) -> None:
+    graph = graph_of(TWO_ENTRIES, tmp_path, 1)
+    tidy(graph)
+    wanted = prints(graph, [9])
+    unroll(graph)
+    tidy(graph)
+    assert prints(graph, [9]) == wanted and len(wanted) == 9
 
 
 def test_equal_operations_are_shared(tmp_path: Path) -> None:

@@ -78,8 +78,8 @@ def name_of(file: Path) -> str:
 
 
 def some(cases: Iterable[Any], which: range) -> list[Any]:
-    """All cases; those whose places aren't these are left for `--every`."""
-    return [case if place in which else pytest.param(case, marks=pytest.mark.every) for place, case in enumerate(cases)]
+    """All cases; those whose places aren't these are left for `--all-c`."""
+    return [case if place in which else pytest.param(case, marks=pytest.mark.long) for place, case in enumerate(cases)]
 
 
 @pytest.mark.parametrize("level", some((0, 1, 2), range(1, 2)))

@@ -28,9 +28,9 @@ ws_print((unsigned long)sum(2, 1l, 2l)); }"""),
     "a pointer to no array that is known here": (3, """int main(void) {
 unsigned long *p = (unsigned long *)ws_read();
 *p = 3; }"""),
-    "a call of puts": (4, """int puts(const char *);
+    "a call of system": (4, """int system(const char *);
 int main(void) {
-puts("a"); }"""),
+system("a"); }"""),
     "a vector of the type <4 x i32>": (5, """typedef unsigned v4 __attribute__((vector_size(16)));
 static v4 a;
 int main(void) {

@@ -17,7 +17,7 @@ from contextlib import contextmanager
 from pathlib import Path
 
 from wavescalar.image import Image
-from wavescalar.c.clang import Clang
+from wavescalar.c.clang import Clang, Sources
 from wavescalar.c.faults import Place, Refusal, ToolFault
 from wavescalar.c.flow import Graph
 
@@ -26,14 +26,17 @@ DEPTH = 20_000  # calls of Python inside of one another
 __all__ = ["Place", "Refusal", "ToolFault", "compile_c", "compile_ir"]
 
 
-def compile_c(source: Path, level: int = 1, words: Sequence[str] = (), result: bool = False) -> Image:
-    """The draft of a file of C, optimized at this level, 0 to 2.
+def compile_c(sources: Sources, level: int = 1, words: Sequence[str] = (), result: bool = False,
+              as_text: bool = False) -> Image:
+    """The draft of a file of C, or of several, optimized at this level, 0 to 2.
 
-    words: more for clang, as `-I` and `-D`. result: whether main's result is printed as the last word.
+    words: more for clang, as `-I` and `-D`. result: whether main's result is printed as the last word. as_text: whether
+    the words that are printed are the codes of characters.
     Raises Refusal for what the front end doesn't take, ToolFault where clang, opt or LLVM's library fails.
     """
     tools = Clang.found()
-    return compile_ir(tools.ir(source, level, words), str(source), tools.version(), result)
+    first = sources if isinstance(sources, Path) else sources[0]
+    return compile_ir(tools.ir(sources, level, words, as_text), str(first), tools.version(), result)
 
 
 def compile_ir(text: bytes, file: str, version: int = 14, result: bool = False) -> Image:

@@ -19,6 +19,8 @@ from wavescalar.c.whole import completed
 HEADERS = Path(__file__).parent / "include"
 LIBRARY = Path(__file__).parent / "library" / "library.c"
 ROUNDS = 4  # how often what was optimized may turn out to lack something, as a function that a pass calls
+# Headers of the system are to declare functions, not to define them by what only they know.
+MACROS = ["-D__WAVESCALAR__=1", "-D__NO_CTYPE", "-D__NO_INLINE__=1"]
 NATIVE = ["-O1", "-fno-finite-loops", "-w"]  # for a native program; endless loops stay endless, as on the machine
 SECONDS = 60  # of processor time that a native run may take
 DIFFERS = 9  # the status of `wscc` where a native run does something else
@@ -31,10 +33,11 @@ LEVELS = {
     1: "default<O1>",
     2: "default<O2>",
 }
-# What every level ends with: no switches, no constructs without a form on the machine.
+# What every level ends with: what is known of ranges, as flags; no switches, no constructs without a form on the machine.
 TIDY = ("always-inline,globaldce,function(lower-constant-intrinsics,lower-expect,simplifycfg,sroa,instcombine,adce,"
-        "simplifycfg,lowerswitch,loop-simplify)")
-OPTIONS = ["-internalize-public-api-list=main", "-replexitval=never", "-vectorize-loops=false",
+        "simplifycfg,correlated-propagation,lowerswitch,loop-simplify)")
+# A loop's test stays as it is written: `i < n` says more of i than `i != n`, and needs no other value than n.
+OPTIONS = ["-internalize-public-api-list=main", "-replexitval=never", "-disable-lftr", "-vectorize-loops=false",
            "-vectorize-slp=false"]
 # Below level 2 a loop keeps its test at its head, which makes for fewer firings. With the test at its end, as level 2
 # has it, a turn's values needn't wait for the test, but another test stands in front.
@@ -42,17 +45,23 @@ KEPT = ["-rotation-max-header-size=0"]
 DEFINED = re.compile(rb"^define .*?@([\w.$]+)\(", re.MULTILINE)
 
 
+Sources = Path | Sequence[Path]  # the files of a program
+
+
 @dataclass(frozen=True)
 class Clang:
-    """The programs; by default what the environment's WSCC_CLANG and WSCC_OPT name, else `clang` and `opt`."""
+    """The programs; by default what the environment's WSCC_CLANG, WSCC_OPT and WSCC_LINK name, else `clang`, `opt` and
+    `llvm-link`, which is called for programs of several files."""
 
     clang: str
     opt: str
+    link: str = "llvm-link"
 
     @staticmethod
     def found() -> Clang:
         """The programs that the environment names."""
-        return Clang(os.environ.get("WSCC_CLANG") or "clang", os.environ.get("WSCC_OPT") or "opt")
+        return Clang(*(os.environ.get(f"WSCC_{name}") or usual
+                       for name, usual in (("CLANG", "clang"), ("OPT", "opt"), ("LINK", "llvm-link"))))
 
     def version(self) -> int:
         """Its major version."""
@@ -62,22 +71,24 @@ class Clang:
             raise ToolFault(f"{self.clang} doesn't tell its version")
         return int(number[1])
 
-    def ir(self, source: Path, level: int = 1, words: Sequence[str] = ()) -> bytes:
-        """The IR, as text, of a file of C at this level, 0 to 2. words: more for clang, as `-I` and `-D`.
+    def ir(self, sources: Sources, level: int = 1, words: Sequence[str] = (), as_text: bool = False) -> bytes:
+        """The IR, as text, of files of C at this level, 0 to 2. words: more for clang, as `-I` and `-D`. as_text: whether
+        what is printed is characters.
 
         Raises ToolFault where clang or opt fails; clang has said why on standard error.
         """
         version = self.version()
-        text = self._optimized(self._compiled(source, words), level)
+        words = [*words, *(["-D__WSCC_TEXT__=1"] if as_text else [])]
+        text = self._optimized(self._linked([self._compiled(file, words) for file in _files(sources)]), level)
         for _ in range(ROUNDS):
-            more = completed(text, version, lambda: self._compiled(LIBRARY, ["-w", *words]))
+            more = completed(text, version, lambda: self._compiled(LIBRARY, ["-w", *words]), as_text)
             if more is None:
                 break
             text = self._optimized(more, level)
         return text
 
-    def native(self, source: Path, given: str, words: Sequence[str] = (), seconds: int = SECONDS) -> list[str]:
-        """The lines that a program prints natively that reads this text. words: more for clang.
+    def native(self, sources: Sources, given: str, words: Sequence[str] = (), seconds: int = SECONDS) -> str:
+        """What a program prints natively that reads this text. words: more for clang.
 
         Raises ToolFault where it can't be built, where a signal ends it, and where it takes more than so many seconds of
         processor time.
@@ -85,19 +96,29 @@ class Clang:
         limit = functools.partial(resource.setrlimit, resource.RLIMIT_CPU, (seconds, seconds + 1))
         with tempfile.TemporaryDirectory() as room:
             program = str(Path(room) / "native")
-            _call([self.clang, *NATIVE, f"-I{HEADERS}", *words, str(source), "-o", program])
-            done = subprocess.run([program], input=given, capture_output=True, text=True, check=False, preexec_fn=limit)
+            _call([self.clang, *NATIVE, f"-I{HEADERS}", *words, *map(str, _files(sources)), "-o", program])
+            done = subprocess.run([program], input=given, capture_output=True, text=True, errors="surrogateescape",
+                                  check=False, preexec_fn=limit)
         if done.returncode in (-signal.SIGXCPU, -signal.SIGKILL):
-            raise ToolFault(f"natively {source} takes more than {seconds} s, or was killed", DIFFERS)
+            raise ToolFault(f"natively {_files(sources)[0]} takes more than {seconds} s, or was killed", DIFFERS)
         if done.returncode < 0:
-            raise ToolFault(f"natively {source} is ended by signal {-done.returncode}", DIFFERS)
-        return done.stdout.splitlines()
+            raise ToolFault(f"natively {_files(sources)[0]} is ended by signal {-done.returncode}", DIFFERS)
+        return done.stdout
 
     def _compiled(self, source: Path, words: Sequence[str]) -> bytes:
         """The IR of a file as it is written. clang would mark all loops as not to be unrolled at its level 1."""
         return _call([self.clang, "-O1", "-funroll-loops", "-Xclang", "-disable-llvm-passes", "-g",
-                      "-fno-discard-value-names", "-fno-builtin-printf", "-D__WAVESCALAR__=1", "-D__NO_CTYPE",
-                      f"-I{HEADERS}", *words, "-emit-llvm", "-S", str(source), "-o", "-"])
+                      "-fno-discard-value-names", "-fno-builtin-printf", *MACROS, f"-I{HEADERS}", *words, "-emit-llvm", "-S", str(source), "-o", "-"])
+
+    def _linked(self, texts: list[bytes]) -> bytes:
+        """One module of several."""
+        if len(texts) == 1:
+            return texts[0]
+        with tempfile.TemporaryDirectory() as room:
+            files = [Path(room) / f"{place}.ll" for place in range(len(texts))]
+            for file, text in zip(files, texts):
+                file.write_bytes(text)
+            return _call([self.link, "-S", *map(str, files), "-o", "-"])
 
     def _optimized(self, text: bytes, level: int) -> bytes:
         """The IR with all inlined into `main`."""
@@ -110,6 +131,10 @@ class Clang:
             raw = Path(room) / "raw.ll"
             raw.write_bytes(text)
             return _call([self.opt, *OPTIONS, *kept, *forced, f"-passes={passes}", "-S", str(raw), "-o", "-"])
+
+
+def _files(sources: Sources) -> Sequence[Path]:
+    return [sources] if isinstance(sources, Path) else sources
 
 
 def _call(words: list[str]) -> bytes:

@@ -1,4 +1,4 @@
-"""The command `wscc`: from a file of C to an image of the dataflow machine, its run, and a native run beside it."""
+"""The command `wscc`: from files of C to an image of the dataflow machine, its run, and a native run beside it."""
 
 from __future__ import annotations
 
@@ -20,7 +20,6 @@ from wavescalar.image import Image
 from wavescalar.programs import NONE_BUILT, call, usual
 from wavescalar.tools import link
 
-HALTED = "halt"  # the last line of a run that came to its end
 FAULT = 8  # the status of `wsc exec` where an index is past the end of an array
 PASSED_ON = (4, 5, 7)  # statuses of wsl that are ours too: reading, writing, memory
 STATUS = """The status is 0; 1 where these words are no line; 2 where the program is
@@ -33,9 +32,9 @@ prints other words, or doesn't end."""
 
 
 def _parser() -> argparse.ArgumentParser:
-    parser = Line("Compile a file of C for the dataflow machine. Nothing of this is proved; wsl\n"
+    parser = Line("Compile files of C for the dataflow machine. Nothing of this is proved; wsl\n"
                   "gives what comes out its notes, and wsc checks it.", prog="wscc", epilog=STATUS)
-    parser.add_argument("file", metavar="FILE.c", type=Path)
+    parser.add_argument("files", metavar="FILE.c", type=Path, nargs="+", help="the files of one program")
     parser.add_argument("--headers", action="version", version=str(HEADERS),
                         help="say the folder of wavescalar.h, for a native compiler, and end")
     parser.add_argument("-o", dest="out", metavar="FILE.asm", type=Path,
@@ -53,6 +52,8 @@ def _parser() -> argparse.ArgumentParser:
                         help="names of instructions end with their lines of C, as sum_L12")
     parser.add_argument("--result", action="store_true", help="main's result is printed, as the last word")
     parser.add_argument("--run", action="store_true", help="run it by `wsc exec`; no assembly goes to standard output")
+    parser.add_argument("--text", action="store_true",
+                        help="what is printed is text, of which each character is a word; the run writes it")
     parser.add_argument("--verify", action="store_true",
                         help="as --run, and run it natively beside, with the same words, and compare what both print")
     parser.add_argument("--workers", metavar="N", type=int, default=1, help="workers of the run, 1 to 8")
@@ -67,14 +68,14 @@ def main(words: Sequence[str] | None = None) -> int:
     """Does what a line of words asks for; the status."""
     parser = _parser()
     asked = parser.parse_args(words)
-    if asked.verify and asked.result:
-        parser.error("--verify compares what is printed, which --result adds to")
+    if asked.result and (asked.verify or asked.text):
+        parser.error("--result prints a word more than the program: it doesn't go with --verify or --text")
     try:
         return _answer(asked)
     except Refusal as refusal:
         return _ended(2, str(refusal))
     except (Refused, BuildFault) as fault:
-        return _ended(2, f"{asked.file}: refused: the machine's limits: {fault}")
+        return _ended(2, f"{asked.files[0]}: refused: the machine's limits: {fault}")
     except ToolFault as fault:
         return _ended(fault.status, f"wscc: {fault}")
     except CallFault as fault:
@@ -99,14 +100,15 @@ def _for_clang(asked: argparse.Namespace) -> list[str]:
 
 
 def _answer(asked: argparse.Namespace) -> int:
-    with asked.file.open():  # so that a file that can't be read is told of in our words
-        pass
+    for file in asked.files:
+        with file.open():  # so that a file that can't be read is told of in our words
+            pass
     tools = Clang.found()
-    text = tools.ir(asked.file, asked.level, _for_clang(asked))
+    text = tools.ir(asked.files, asked.level, _for_clang(asked), asked.text)
     if asked.emit_llvm:
         _write(asked, text.decode(errors="surrogateescape"))
         return 0
-    graph = optimized(text, str(asked.file), tools.version(), asked.result)
+    graph = optimized(text, str(asked.files[0]), tools.version(), asked.result)
     image = draft_of(graph, asked.lines)
     image = image if asked.draft else link(image)
     runs = asked.run or asked.verify
@@ -146,6 +148,8 @@ def _exec(asked: argparse.Namespace) -> list[str]:
 
 def _run(asked: argparse.Namespace, image: Image, given: str) -> int:
     """Runs the image by `wsc exec`, whose answer and status are ours."""
+    if asked.text:
+        return _answered(asked, image, given)[0]
     words = [usual(), *_exec(asked)]
     try:
         return subprocess.run(words, input=f"{image}%input\n{given}", text=True, check=False).returncode
@@ -153,19 +157,36 @@ def _run(asked: argparse.Namespace, image: Image, given: str) -> int:
         raise CallFault(f"{words[0]} can't be run: {fault.strerror}") from fault
 
 
-def _verify(asked: argparse.Namespace, tools: Clang, image: Image, given: str) -> int:
-    """Runs the image, and the program natively, and compares the words."""
+def _answered(asked: argparse.Namespace, image: Image, given: str) -> tuple[int, list[str]]:
+    """Runs the image by `wsc exec`, and passes its answer on; its status, and the words that were printed.
+
+    Of a text the characters go to standard output, and how the run ended to standard error.
+    """
     status, told, errors = call(usual(), _exec(asked), f"{image}%input\n{given}")
-    sys.stdout.write(told)
-    sys.stdout.flush()
+    lines = told.splitlines(keepends=True)
+    count = next((k for k, line in enumerate(lines) if not line.strip().isdigit()), len(lines))
+    words = [line.strip() for line in lines[:count]]
+    if asked.text:
+        sys.stdout.buffer.write(bytes(int(word) % 256 for word in words))
+        sys.stdout.flush()
+        sys.stderr.write("".join(lines[count:]))
+    else:
+        sys.stdout.write(told)
+        sys.stdout.flush()
     sys.stderr.write(errors)
+    return status, words
+
+
+def _verify(asked: argparse.Namespace, tools: Clang, image: Image, given: str) -> int:
+    """Runs the image, and the program natively, and compares the words, or of a text the characters."""
+    status, words = _answered(asked, image, given)
     if status:
         return status
-    wanted = tools.native(asked.file, given, _for_clang(asked))
-    words = told.splitlines()
-    words = words[: words.index(HALTED)]
+    printed = tools.native(asked.files, given, _for_clang(asked))
+    wanted = [str(code) for code in printed.encode(errors="surrogateescape")] if asked.text else printed.split()
+    what = "character" if asked.text else "word"
     if words == wanted:
-        return _ended(0, f"verified {len(words)} words: natively they are the same")
+        return _ended(0, f"verified {len(words)} {what}s: natively they are the same")
     at = next((k for k, (one, other) in enumerate(zip(words, wanted)) if one != other), min(len(words), len(wanted)))
     ours, theirs = (some[at] if at < len(some) else "none" for some in (words, wanted))
-    return _ended(DIFFERS, f"{asked.file}: word {at + 1} is {ours}, and natively {theirs}")
+    return _ended(DIFFERS, f"{asked.files[0]}: {what} {at + 1} is {ours}, and natively {theirs}")

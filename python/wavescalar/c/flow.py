@@ -51,7 +51,7 @@ class Phi:
     args: dict["Block", Operand]
 
 
-@dataclass(eq=False)
+@dataclass(eq=False, repr=False)
 class Block:
     """A block. `exit` is `go` to one block, `if` to the first of two where `selector` isn't 0, or `stop`."""
 
@@ -61,6 +61,9 @@ class Block:
     exit: Literal["go", "if", "stop"] = "stop"
     selector: Operand = 0
     targets: list["Block"] = field(default_factory=list)
+
+    def __repr__(self) -> str:
+        return f"block {self.name}"
 
     def retarget(self, old: "Block", new: "Block") -> None:
         """Leads to `new` where it led to `old`."""

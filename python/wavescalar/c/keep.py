@@ -71,9 +71,24 @@ class _Keeper:
         if len(defined) == 1:
             return
         self.cells += 1
-        place = next((k + 1 for k, op in enumerate(home.ops) if op.result is var), 0)
-        home.ops.insert(place, Op("store", None, [cell, var], self.array))
+        store = Op("store", None, [cell, var], self.array)
+        front = self._front(var, loops)
+        if front:
+            front.ops.append(store)
+        else:
+            home.ops.insert(next((k + 1 for k, op in enumerate(home.ops) if op.result is var), 0), store)
         rename(self.graph, self.sources, var, defined)
+
+    def _front(self, var: Var, loops: list[Loop]) -> Block | None:
+        """The block in front of a loop, where a value need not be stored on another path that takes it anyway."""
+        fronts = [source for loop in loops for source in self.sources[loop.head] if source not in loop.blocks]
+        if len(loops) != 1 or len(fronts) != 1 or fronts[0].exit != "go" or len(self.sources[fronts[0]]) != 1:
+            return None
+        front, above = fronts[0], self.sources[fronts[0]][0]
+        others = [target for target in above.targets if target is not front]
+        is_deeper = any(front in loop.blocks and self.home[var] not in loop.blocks for loop in self.loops)
+        takes = any(var in self.enters[other] or any(phi.args[above] is var for phi in other.phis) for other in others)
+        return front if takes and not is_deeper and front is not self.home[var] else None
 
     def _landings(self, var: Var, loop: Loop) -> list[Block]:
         """The blocks behind a loop that need a value; where others lead there too, new ones on the edges."""

@@ -32,7 +32,8 @@ FLOATS = {1, 2, 3, 4, 5, 6, 18}
 PREDICATES = dict(zip(range(32, 42), ("eq", "ne", "ugt", "uge", "ult", "ule", "sgt", "sge", "slt", "sle")))
 
 HANDLE, NUMBER, TEXT = c_void_p, c_uint, c_char_p
-# Results of calls, by the letters of their arguments: h a handle, n a number.
+LETTERS = {"h": HANDLE, "n": NUMBER, "l": c_ulonglong}
+# Results of calls, by the letters of their arguments: h a handle, n a number, l a long one.
 SIGNATURES: dict[str, tuple[Any, str]] = {
     "LLVMContextCreate": (HANDLE, ""), "LLVMGetModuleDataLayout": (HANDLE, "h"),
     "LLVMGetFirstGlobal": (HANDLE, "h"), "LLVMGetNextGlobal": (HANDLE, "h"),
@@ -69,6 +70,10 @@ SIGNATURES: dict[str, tuple[Any, str]] = {
     "LLVMConstBitCast": (HANDLE, "hh"), "LLVMReplaceAllUsesWith": (None, "hh"),
     "LLVMInstructionEraseFromParent": (None, "h"), "LLVMBuildICmp": (HANDLE, "hnhhh"),
     "LLVMBuildCondBr": (HANDLE, "hhhh"), "LLVMBuildCall2": (HANDLE, "hhhhnh"), "LLVMBuildRetVoid": (HANDLE, "h"),
+    # What printing.py makes.
+    "LLVMIntTypeInContext": (HANDLE, "hn"), "LLVMVoidTypeInContext": (HANDLE, "h"), "LLVMPointerType": (HANDLE, "hn"),
+    "LLVMGetModuleContext": (HANDLE, "h"), "LLVMGetNamedFunction": (HANDLE, "hh"), "LLVMBuildTrunc": (HANDLE, "hhhh"),
+    "LLVMBuildSExt": (HANDLE, "hhhh"), "LLVMBuildZExt": (HANDLE, "hhhh"), "LLVMConstInt": (HANDLE, "hln"),
     "LLVMBuildRet": (HANDLE, "hh"), "LLVMBuildBitCast": (HANDLE, "hhhh"),
 }
 
@@ -83,7 +88,7 @@ class Llvm:
         self.library = self._load([name for name in names if name], version)
         for name, (result, letters) in SIGNATURES.items():
             call = getattr(self.library, name)
-            call.restype, call.argtypes = result, [HANDLE if letter == "h" else NUMBER for letter in letters]
+            call.restype, call.argtypes = result, [LETTERS[letter] for letter in letters]
             setattr(self, name[4:], call)
 
     @staticmethod

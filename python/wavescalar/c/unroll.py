@@ -18,12 +18,20 @@ def unroll(graph: Graph) -> None:
     """Copies the blocks of the loops that have no loop inside."""
     order = reverse_postorder(graph.blocks[0], lambda block: block.targets)
     loops = natural_loops(order, lambda block: block.targets)
-    for head, inside in loops.items():
-        blocks = [block for block in order if block in inside]
+    found = [[block for block in order if block in inside] for inside in loops.values()]
+    for blocks in [blocks for blocks in found if _is_innermost(blocks)]:  # looked at before any is copied
         count = min(COPIES, LARGE // sum(1 + len(block.ops) + len(block.phis) for block in blocks))
-        if count > 1 and not any(other in inside for other in loops if other is not head):
+        if count > 1:
             _close(graph, blocks)
             _Copies(graph, blocks).make(count)
+
+
+def _is_innermost(blocks: list[Block]) -> bool:
+    """Whether a loop's blocks, in reverse postorder, have no cycle but through the first; some cycles are no natural loops,
+    since they are entered in two places."""
+    place = {block: k for k, block in enumerate(blocks)}
+    return all(place.get(target, len(blocks)) > place[block] for block in blocks for target in block.targets
+               if target is not blocks[0])
 
 
 def _close(graph: Graph, blocks: list[Block]) -> None:
@@ -123,6 +131,8 @@ class _Copies:
                 same[op.result] = result_of
         copy.selector = _of(block.selector, same)
         copy.targets = [target if target is self.head else made.get(target, target) for target in self._targets(block)]
+        if copy.exit == "if" and isinstance(copy.selector, int):  # known in this copy; `tidy` takes the rest away
+            copy.exit, copy.targets = "go", [copy.targets[0 if copy.selector else 1]]
         for target in dict.fromkeys(copy.targets):
             if target in self.behind:
                 for phi in target.phis:

@@ -11,19 +11,25 @@ import re
 from collections.abc import Callable, Iterator
 
 from wavescalar.c import llvm_c as c
+from wavescalar.c.printing import Printing
 
 POINTED = "by_pointer."  # how the names of functions begin that are made for calls by pointers
 BY_POINTER = re.compile(rb"^ .*\bcall\b.*%[\w.$-]+\(", re.MULTILINE)
+PRINTS = re.compile(rb"^ .*\bcall\b.*@printf\(", re.MULTILINE)
 DECLARED = re.compile(rb"^declare .*?@([\w.$]+)\(", re.MULTILINE)
 OWN = (b"llvm.", b"ws_read", b"ws_print", b"exit")
 EQUAL, INTERNAL = 32, 8  # llvm-c/Core.h: LLVMIntEQ, LLVMInternalLinkage
 
 
-def completed(text: bytes, version: int, library: Callable[[], bytes]) -> bytes | None:
+def completed(text: bytes, version: int, library: Callable[[], bytes], as_text: bool = False) -> bytes | None:
     """The IR with what is missing; None where nothing is missing that can be added.
 
-    version: of LLVM, the major one. library: gives the IR of the library.
+    version: of LLVM, the major one. library: gives the IR of the library. as_text: whether `printf` prints characters.
     """
+    if PRINTS.search(text):
+        printing = _Whole(c.Llvm(version), text)
+        printing.print(as_text)
+        text = printing.text()
     lacks = {name for name in DECLARED.findall(text) if not name.startswith(OWN)}
     pointed = BY_POINTER.search(text) is not None
     if not lacks and not pointed:
@@ -57,6 +63,15 @@ class _Whole:
     def text(self) -> bytes:
         """The module."""
         return self.llvm.text(self.llvm.PrintModuleToString(self.module)).encode(errors="surrogateescape")
+
+    def print(self, as_text: bool) -> None:
+        """Takes the calls of `printf` apart."""
+        llvm = self.llvm
+        printf = llvm.GetNamedFunction(self.module, b"printf")
+        if not llvm.IsDeclaration(printf):
+            return  # the program has its own
+        found = [it for it in self._calls() if llvm.GetCalledValue(it) == printf]
+        Printing(llvm, self.module, self.context, as_text).expand(found)
 
     def resolve(self) -> bool:
         """Replaces calls by pointers; whether there was one that could be replaced."""

@@ -1,0 +1,84 @@
+"""What `printf` prints: natively and on the machine the same text, and words without it."""
+
+from __future__ import annotations
+
+from collections.abc import Callable, Sequence
+from pathlib import Path
+
+import pytest
+
+from tests.c.compare import native_text
+from wavescalar import link, run
+from wavescalar.c import Refusal, compile_c
+from wavescalar.c.printing import Part, parts
+
+HEAD = "#include <stdio.h>\n"
+SHOWN = {
+    "numbers": ([3], r"""int main(void) {
+  int n = (int)ws_read();
+  printf("n = %d, %5d|%-5d|%05d|%+d|% d|%.3d|%8.3d|%-8.3i|\n", n, n, n, n, n, n, n, -n, n);
+  printf("%d %d %ld %lld %hhd %hd\n", -n, 0, -5l * n, (long long)n << 40, 300 + n, 70000 + n);
+  printf("%u %lu %hhu %hu %zu\n", 7u - 9u - (unsigned)n, 1ul << 63, 300 + n, 70000 + n, sizeof n);
+}"""),
+    "bases": ([200], r"""int main(void) {
+  unsigned n = (unsigned)ws_read();
+  printf("%x %X %#x %#X %o %#o %#x %#o\n", n, n, n, n, n, n, n - 200, n - 200);
+  printf("%08x|%-8x|%#8x|%#08x|%.6x|%#.6x|%#05o|%.0x|%#.0o|\n", n, n, n, n, n, n, n / 25, n - 200, n - 200);
+}"""),
+    "strings": ([1, 5], r"""int main(void) {
+  char name[4] = "ab";
+  name[1] += (char)(ws_read() & 1);
+  int width = (int)ws_read();
+  printf("[%s] [%5s] [%-5s] [%.1s] [%.0s] [%4.1s]\n", name, name, name, name, name, name);
+  printf("[%*d] [%-*d] [%*s] [%.*d] [%*d]\n", width, 7, width, 7, width, name, width, 7, -width, 7);
+  printf("%c%c|%3c|%-3c|%%\n", name[0], 'a' + width, '!', '?');
+  puts(name), putchar('x'), putchar('\n');
+  ws_print(77);
+}"""),
+}
+
+
+@pytest.mark.parametrize("name", SHOWN)
+def test_text_is_that_of_a_native_run(name: str, source: Callable[..., Path]) -> None:
+    given, text = SHOWN[name]
+    file = source(HEAD + text)
+    done = run(link(compile_c(file, 1, ["-w"], as_text=True)), given)
+    assert (bytes(done.words).decode(), done.ending) == (native_text(file, given), "halt")
+
+
+def words_of(file: Path, given: Sequence[int]) -> list[int]:
+    """What a program prints as words."""
+    return list(run(link(compile_c(file, 1, ["-w"])), given).words)
+
+
+def test_words_have_no_text_between(source: Callable[..., Path]) -> None:
+    file = source(HEAD + r"""int main(void) {
+  int n = (int)ws_read();
+  printf("n is %5d, %x; %c%s\n", -n, n, 'a', "bc");
+}""")
+    assert words_of(file, [10]) == [2**64 - 10, 10, ord("a"), ord("b"), ord("c")]
+
+
+REFUSED = {
+    "the result of printf is used": 'return printf("%d", (int)ws_read());',
+    "the format of printf isn't constant": 'char f[3] = "%d"; f[1] += (char)ws_read(); printf(f, 3);',
+    "%f in a format of printf": 'printf("%d %f", (int)ws_read(), 1.5);',
+    "printf has fewer arguments than its format takes": 'printf("%d %d", (int)ws_read());',
+}
+
+
+@pytest.mark.parametrize("reason", REFUSED)
+def test_refused(reason: str, source: Callable[..., Path]) -> None:
+    with pytest.raises(Refusal) as found:
+        compile_c(source(f"{HEAD}int main(void) {{\n{REFUSED[reason]} }}"), 1, ["-w"])
+    assert found.value.reason == reason
+    assert found.value.place is not None and found.value.place.line == 4
+
+
+def test_parts_of_a_format() -> None:
+    assert list(parts(b"a%%b%-05.3hhx%*.*ld%.s")) == [
+        Part(b"a"), Part(b"%"), Part(b"b"), Part(b"", b"x", 1 + 16, 5, 3, 8), Part(b"", b"d", 0, None, None, 64),
+        Part(b"", b"s", 0, 0, 0, 32)]
+    for form in (b"%", b"%q", b"%5"):
+        with pytest.raises(ValueError):
+            list(parts(form))

@@ -1,0 +1,162 @@
+"""Takes calls of `printf` apart, whose formats are constants: each part of a format becomes a call of its own.
+
+What is printed is words: as *text* the codes of all characters, else one word for each number and character, without the
+text between them. The functions that are called are those of the library (library.c), or `ws_print`.
+"""
+
+from __future__ import annotations
+
+import ctypes
+import re
+from collections.abc import Iterator
+from dataclasses import dataclass
+
+from wavescalar.c import llvm_c as c
+from wavescalar.c.faults import Place, Refusal
+
+CONVERSION = re.compile(rb"%([-+ #0]*)(\*|\d*)(?:\.(\*|\d*))?(hh|h|ll|l|j|z|t)?(.)", re.DOTALL)
+WIDTHS = {b"hh": 8, b"h": 16, b"": 32}  # of numbers, in bits; others have 64
+FLAGS = {flag: 1 << place for place, flag in enumerate(b"-+ #0")}
+BASES = {b"u": 10, b"o": 8, b"x": 16, b"X": 17}  # 17 stands for 16 with capital letters
+
+
+@dataclass(frozen=True)
+class Part:
+    """A part of a format: text, or a conversion with its flags, its width and its precision, -1 where it has none and
+    None where it is an argument."""
+
+    text: bytes = b""
+    kind: bytes = b""
+    flags: int = 0
+    width: int | None = 0
+    precision: int | None = -1
+    bits: int = 32
+
+
+def parts(form: bytes) -> Iterator[Part]:
+    """The parts of a format. Raises ValueError, with the conversion, for one that isn't known."""
+    at = 0
+    while at < len(form):
+        percent = form.find(b"%", at)
+        if percent != at:
+            end = percent if percent >= 0 else len(form)
+            yield Part(form[at:end])
+            at = end
+            continue
+        found = CONVERSION.match(form, at)
+        if not found or found[5] not in b"diuoxXcs%":
+            raise ValueError(found[0].decode(errors="replace") if found else "%")
+        at = found.end()
+        if found[5] == b"%":
+            yield Part(b"%")
+            continue
+        flags = sum({FLAGS[flag] for flag in found[1]})
+        width = None if found[2] == b"*" else int(found[2] or 0)
+        precision = -1 if found[3] is None else None if found[3] == b"*" else int(found[3] or 0)
+        yield Part(b"", found[5].replace(b"i", b"d"), flags, width, precision, WIDTHS.get(found[4] or b"", 64))
+
+
+class Printing:
+    """The calls of `printf` in a module, by LLVM's library. as_text: whether characters are printed."""
+
+    def __init__(self, llvm: c.Llvm, module: int, context: int, as_text: bool) -> None:
+        self.llvm, self.module, self.as_text = llvm, module, as_text
+        self.builder = llvm.CreateBuilderInContext(context)
+        self.long, self.int = (llvm.IntTypeInContext(context, width) for width in (64, 32))
+        self.byte, self.void = llvm.IntTypeInContext(context, 8), llvm.VoidTypeInContext(context)
+        self.text_type = llvm.PointerType(self.byte, 0)
+
+    def expand(self, calls: list[int]) -> None:
+        """Replaces these calls. Raises Refusal for one that can't be."""
+        for it in calls:
+            self._expand(it)
+
+    def _refused(self, it: int, reason: str) -> Refusal:
+        place = Place(self.llvm.file(it), self.llvm.GetDebugLocLine(it))
+        return Refusal(reason, place, self.llvm.text(self.llvm.PrintValueToString(it)).split(", !dbg")[0])
+
+    def _expand(self, it: int) -> None:
+        llvm = self.llvm
+        if llvm.GetFirstUse(it):
+            raise self._refused(it, "the result of printf is used")
+        form = self._constant(llvm.GetOperand(it, 0))
+        if form is None:
+            raise self._refused(it, "the format of printf isn't constant")
+        given = [llvm.GetOperand(it, k) for k in range(1, llvm.GetNumArgOperands(it))]
+        llvm.PositionBuilderBefore(self.builder, it)
+        llvm.SetCurrentDebugLocation2(self.builder, llvm.InstructionGetDebugLoc(it))
+        try:
+            for part in parts(form):
+                self._print(part, given)
+        except ValueError as fault:
+            raise self._refused(it, f"{fault} in a format of printf") from fault
+        except IndexError as fault:
+            raise self._refused(it, "printf has fewer arguments than its format takes") from fault
+        llvm.InstructionEraseFromParent(it)
+
+    def _constant(self, value: int) -> bytes | None:
+        """The string to which a constant points, up to its end."""
+        llvm = self.llvm
+        while llvm.GetValueKind(value) == c.EXPRESSION:
+            op = c.OPCODES.get(llvm.GetConstOpcode(value))
+            indices = [llvm.GetOperand(value, k) for k in range(1, llvm.GetNumOperands(value))]
+            if op != "bitcast" and (op != "getelementptr" or any(llvm.ConstIntGetZExtValue(index) for index in indices)):
+                return None
+            value = llvm.GetOperand(value, 0)
+        if llvm.GetValueKind(value) != c.GLOBAL or not llvm.IsGlobalConstant(value):
+            return None
+        start = llvm.GetInitializer(value)
+        if not start or llvm.GetValueKind(start) not in (c.DATA_ARRAY, c.ZEROS):
+            return None
+        if llvm.GetValueKind(start) == c.ZEROS:
+            return b""
+        length = ctypes.c_size_t()
+        call = llvm.library.LLVMGetAsString
+        call.restype, call.argtypes = ctypes.c_void_p, [ctypes.c_void_p, ctypes.POINTER(ctypes.c_size_t)]
+        found = call(start, ctypes.byref(length))
+        return ctypes.string_at(found, length.value).partition(b"\0")[0]
+
+    def _print(self, part: Part, given: list[int]) -> None:
+        if not part.kind:
+            for code in part.text if self.as_text else b"":
+                self._call("ws_print", [self._number(code)])
+            return
+        width = self._number(part.width) if part.width is not None else self._wide(given.pop(0), 32, True)
+        precision = self._number(part.precision) if part.precision is not None else self._wide(given.pop(0), 32, True)
+        form = [self._number(part.flags), width, precision]
+        value = given.pop(0)
+        if part.kind == b"s":
+            value = self.llvm.BuildBitCast(self.builder, value, self.text_type, b"")
+            self._call("wscc_put_string", [value, *form])
+        elif part.kind == b"c":
+            self._call("wscc_put_char", [self._wide(value, 8, False), *form])
+        elif part.kind == b"d":
+            self._call("wscc_put_signed", [self._wide(value, part.bits, True), *form])
+        else:
+            base = self._number(BASES[part.kind])
+            self._call("wscc_put_unsigned", [self._wide(value, part.bits, False), base, *form])
+
+    def _number(self, value: int) -> int:
+        return int(self.llvm.ConstInt(self.long, value % (1 << 64), 0))
+
+    def _wide(self, value: int, bits: int, signed: bool) -> int:
+        """A number of so many bits as a word."""
+        llvm = self.llvm
+        own = llvm.TypeOf(value)
+        if llvm.GetTypeKind(own) != c.INTEGER:
+            raise ValueError("an argument that is no number")
+        if bits < llvm.GetIntTypeWidth(own):
+            value = llvm.BuildTrunc(self.builder, value, self.byte if bits == 8 else self._short(bits), b"")
+        extend = llvm.BuildSExt if signed else llvm.BuildZExt
+        return int(value if llvm.GetIntTypeWidth(llvm.TypeOf(value)) == 64 else extend(self.builder, value, self.long, b""))
+
+    def _short(self, bits: int) -> int:
+        return int(self.llvm.IntTypeInContext(self.llvm.GetModuleContext(self.module), bits))
+
+    def _call(self, name: str, given: list[int]) -> None:
+        llvm = self.llvm
+        kinds = (ctypes.c_void_p * len(given))(*(llvm.TypeOf(value) for value in given))
+        own = llvm.FunctionType(self.void, kinds, len(given), 0)
+        callee = llvm.GetNamedFunction(self.module, name.encode()) or llvm.AddFunction(self.module, name.encode(), own)
+        values = (ctypes.c_void_p * len(given))(*given)
+        llvm.BuildCall2(self.builder, own, callee, values, len(given), b"")
