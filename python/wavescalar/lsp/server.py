@@ -13,12 +13,12 @@ import threading
 import traceback
 from collections import Counter
 from dataclasses import dataclass
-from functools import lru_cache
+from functools import lru_cache, partial
 from typing import Any, BinaryIO, Callable
 
 from wavescalar.lsp import actions, colours, renames, wire
 from wavescalar.lsp.analysis import Analysis, Symbol
-from wavescalar.lsp.aside import Aside, hasty
+from wavescalar.lsp.aside import AT_ONCE, IN_TIME, Aside, Glance
 from wavescalar.lsp.assemblies import AssemblyText
 from wavescalar.lsp.background import DELAY, Checker
 from wavescalar.lsp.documents import Document, changed, document_of
@@ -207,19 +207,18 @@ class Server:
     def _ask_aside(self, aside: Aside, message: Message, body: bytes) -> None:
         """Has a request about a large text answered beside. What its line alone tells is told where that takes long."""
         document, method, params = self._documents[uri_of(message)], message["method"], message.get("params")
-        at_once, soon = hasty(method)
 
-        def quickly() -> Any:
+        def told(glance: Glance) -> Any:
             try:
-                return soon(document, params) if soon else None
+                return glance(document, params)
             except Exception:  # these parameters can't be taken; the other process says so, if it comes to it
                 traceback.print_exc(file=sys.stderr)
                 return None
 
-        if at_once and (made := quickly()) is not None:
+        if method in AT_ONCE and (made := told(AT_ONCE[method])) is not None:
             self._sender.answer(message["id"], made)
         else:
-            aside.ask(message["id"], body, quickly if soon else None)
+            aside.ask(message["id"], body, partial(told, IN_TIME[method]) if method in IN_TIME else None)
 
     def _answer(self, method: str, params: Any) -> Any:
         if self._state == "down":

@@ -1,6 +1,7 @@
 """What a page or a notebook shows of programs and runs: pictures, tables of words, the viewer's page.
 
-All pictures are drawn by `wavescalar.viewer`: the graph by `still`, waves by `overlap`, profiles by `profile_report`. Each is a `Picture`, whose text of SVG needs no other file.
+All pictures are drawn by `wavescalar.viewer`: the graph by `still`, waves by `overlap`, profiles by `profile_report`.
+Each is a `Picture`, whose text of SVG needs no other file.
 """
 
 from __future__ import annotations
