@@ -66,7 +66,8 @@ def test_vs_code_without_a_server() -> None:
               "const all = new Proxy({}, {get: (_, name) => name === 'createDiagnosticCollection' ?"
               " () => ({clear() {}}) : none});"
               "Module._load = (name, ...more) => name !== 'vscode' ? load(name, ...more) : {workspace: new Proxy({},"
-              " {get: (_, name) => name === 'getConfiguration' ? () => ({get: it => it === 'server' ? '/nowhere/wsc-lsp' : []}) : none}),"
+              " {get: (_, name) =>"
+              " name === 'getConfiguration' ? () => ({get: it => it === 'server' ? '/nowhere/wsc-lsp' : []}) : none}),"
               " languages: all, commands: all, window: {showWarningMessage: it => said.push(it)}};"
               "const it = require('./editors/vscode/extension.js');"
               "it.activate({subscriptions: []}).then(() => it.deactivate()).then(() => console.log(said.join()));")

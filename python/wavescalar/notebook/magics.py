@@ -196,7 +196,9 @@ def add_to(shell: Any) -> None:
         return call
 
     def plainly(told: Callable[[Any], str]) -> Callable[[Any, Any, bool], None]:
-        return lambda shown, printer, cycle: printer.text(told(shown))
+        def plain(shown: Any, printer: Any, cycle: bool) -> None:
+            printer.text(told(shown))
+        return plain
 
     programs.ready(programs.usual())
     formatters = shell.display_formatter.formatters
