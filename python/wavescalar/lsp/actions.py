@@ -230,6 +230,8 @@ def _of_line(document: Document, span: Span, line: Span) -> Iterator[Change]:
 def _notes(document: Document, programs: Programs) -> Change | None:
     """The notes of a draft, made by the linker; lines and comments stay."""
     own = sections(document.text)[0]
+    if "?" not in own:
+        return None
     try:
         draft = reading(own).image
         if not any(it.note == DRAFT for it in draft.instructions):

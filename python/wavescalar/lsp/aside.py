@@ -54,11 +54,14 @@ class Aside:
         """Whether the process runs."""
         return self._child.poll() is None
 
-    def open(self, document: Document) -> None:
-        """Begins with this text."""
+    def open(self, document: Document, body: bytes | None) -> None:
+        """Begins with this text. body: that of the message by which the editor has opened it so, where there is one."""
+        self._say(id=OWN, method="initialize", params={})
+        if body is not None:
+            self.tell(body)
+            return
         item = {"uri": document.uri, "version": document.version, "text": document.text,
                 "languageId": {"job": "wsjob", "assembly": "wsasm"}[document.language]}
-        self._say(id=OWN, method="initialize", params={})
         self._say(method="textDocument/didOpen", params={"textDocument": item})
 
     def _say(self, **message: Any) -> None:

@@ -156,7 +156,7 @@ class Server:
             "textDocument/rename": self._rename, "textDocument/codeAction": self._actions,
             "textDocument/semanticTokens/full": self._colours, "textDocument/semanticTokens/range": self._colours,
         }
-        self._notes: dict[str, Callable[[Any], None]] = {
+        self._notes: dict[str, Callable[[Any, bytes], None]] = {
             "textDocument/didOpen": self._opened, "textDocument/didChange": self._changed,
             "textDocument/didSave": self._saved, "textDocument/didClose": self._closed,
         }
@@ -251,7 +251,7 @@ class Server:
             return
         try:
             aside = self._asides.get(uri_of({"params": params}))
-            act(params)
+            act(params, body)
             if aside:
                 aside.tell(body)
         except Closed:
@@ -273,38 +273,38 @@ class Server:
 
     # Texts.
 
-    def _opened(self, params: Any) -> None:
+    def _opened(self, params: Any, body: bytes) -> None:
         document = document_of(params["textDocument"])
         if old := self._asides.pop(document.uri, None):
             old.end()
         self._documents[document.uri] = document
-        if not self._set_aside(document):
+        if not self._set_aside(document, body):
             self._checker.look(document, at_once=True)
 
-    def _set_aside(self, document: Document) -> bool:
-        """Gives a large text a process of its own: whether it has one."""
+    def _set_aside(self, document: Document, body: bytes | None = None) -> bool:
+        """Gives a large text a process of its own: whether it has one. body: as `Aside.open` has it."""
         if not self._settings.large or len(document.text) <= self._settings.large:
             return False
         self._checker.leave(document.uri)
         options = ["--wsc", self._programs.wsc, "--wsl", self._programs.wsl, "--delay", str(self._settings.delay)]
         aside = Aside(options, self._sender, lambda: self._documents.get(document.uri))
         self._asides[document.uri] = aside
-        aside.open(document)
+        aside.open(document, body)
         return True
 
-    def _changed(self, params: Any) -> None:
+    def _changed(self, params: Any, body: bytes) -> None:
         uri = params["textDocument"]["uri"]
         document = changed(self._documents[uri], params["textDocument"]["version"], params["contentChanges"])
         self._documents[uri] = document
         if uri not in self._asides and not self._set_aside(document):
             self._checker.look(document)
 
-    def _saved(self, params: Any) -> None:
+    def _saved(self, params: Any, body: bytes) -> None:
         uri = params["textDocument"]["uri"]
         if uri not in self._asides:
             self._checker.look(self._documents[uri], at_once=True)
 
-    def _closed(self, params: Any) -> None:
+    def _closed(self, params: Any, body: bytes) -> None:
         document = self._documents.pop(params["textDocument"]["uri"])
         if aside := self._asides.pop(document.uri, None):
             aside.end()
