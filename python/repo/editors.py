@@ -12,7 +12,7 @@ import sys
 from collections.abc import Sequence
 from typing import NamedTuple
 
-from wavescalar.isa import BRANCHING, DECLARING, DOING, EVENTS, EXITS, HEADS, KINDS
+from wavescalar.isa import BRANCHING, DECLARING, DOING, EVENTS, EXITS, HEADS, KINDS, RESERVED
 from wavescalar.programs import ROOT
 
 PLACE = ROOT / "editors"
@@ -30,6 +30,10 @@ class List(NamedTuple):
 
 
 FILES: dict[str, tuple[List, ...]] = {
+    "emacs/wsc.el": (
+        List("(defvar wsc-job-words\n  '(\"", '" "', '")\n', RESERVED),
+        List("(defvar wsc-assembly-words\n  '(\"", '" "', '")\n', (*HEADS, *EXITS)),
+    ),
     "vim/syntax/wsjob.vim": (
         List("syntax keyword wsjobKeyword ", " ", "\n", DECLARING),
         List("syntax keyword wsjobStatement ", " ", "\n", DOING),

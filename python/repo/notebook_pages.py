@@ -161,8 +161,8 @@ def pages() -> dict[str, str]:
         parts = [nav, *(part for one in notebook["cells"] for part in cell(one)), nav]
         made[f"{name}.html"] = PAGE.format(title=escape(title_of(notebook)), style=STYLE, body="\n".join(parts))
     rows = "".join(f'<li><a href="{name}.html">{inline(title_of(notebook))}</a></li>' for name, notebook in found.items())
-    body = (f"<h1>Notebooks</h1>\n<p>A course in WaveScalar, as it was run. <a href=\"../../docs/NOTEBOOKS.md\">NOTEBOOKS.md</a> says "
-            f"how it is run by yourself.</p>\n<ul>{rows}</ul>")
+    body = ("<h1>Notebooks</h1>\n<p>A course in WaveScalar, as it was run. <a href=\"../../docs/NOTEBOOKS.md\">NOTEBOOKS.md</a>"
+            f" says how to run it yourself.</p>\n<ul>{rows}</ul>")
     made["index.html"] = PAGE.format(title="Notebooks", style=STYLE, body=body)
     return made
 

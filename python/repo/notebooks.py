@@ -4,9 +4,9 @@
     python/run repo.notebooks --update [NOTEBOOK ..]   writes the outputs that come in the place of those that are kept
 
 A notebook is executed twice: as it is, where no cell may end with an error and each exercise has to be *not yet* solved;
-and with the folded solutions in the place of the exercises, where each check has to say *Solved*. WSC and WSL name the programs, else those of the
-repository are taken. It wants Jupyter (Debian: python3-nbconvert, python3-ipykernel). Pages of the
-notebooks, for those who have none, are made by repo.notebook_pages.
+and with the folded solutions in the place of the exercises, where each check has to say *Solved*. WSC and WSL name the
+programs, else those of the repository are taken. It wants Jupyter (Debian: python3-nbconvert, python3-ipykernel). Pages
+of the notebooks, for those who have none, are made by repo.notebook_pages.
 """
 
 from __future__ import annotations
@@ -52,8 +52,8 @@ def convert(file: pathlib.Path, into: pathlib.Path, *words: str) -> pathlib.Path
         raise Wrong("there is no Jupyter (Debian: python3-nbconvert, python3-ipykernel)")
     paths = os.pathsep.join(filter(None, (str(ROOT / "python"), os.environ.get("PYTHONPATH"))))
     environment = {**os.environ, "PYTHONPATH": paths, "PYDEVD_DISABLE_FILE_VALIDATION": "1"}
-    done = subprocess.run([python, "-m", "nbconvert", *words, "--output-dir", str(into), str(file)], cwd=file.parent, env=environment,
-                          capture_output=True, text=True, check=False)
+    done = subprocess.run([python, "-m", "nbconvert", *words, "--output-dir", str(into), str(file)], cwd=file.parent,
+                          env=environment, capture_output=True, text=True, check=False)
     if done.returncode:
         raise Wrong(f"{file.name}: nbconvert ended with status {done.returncode}:\n{done.stderr[-2000:]}")
     return into / file.name

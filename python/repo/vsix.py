@@ -51,7 +51,8 @@ def files() -> list[pathlib.Path]:
 def manifest(package: dict[str, Any]) -> str:
     """The manifest that stands beside the files."""
     told = {key: escape(str(package[key])) for key in ("name", "version", "publisher", "displayName", "description")}
-    return MANIFEST.format(**told, categories=escape(",".join(package["categories"])), engine=escape(package["engines"]["vscode"]))
+    engine, categories = package["engines"]["vscode"], ",".join(package["categories"])
+    return MANIFEST.format(**told, categories=escape(categories), engine=escape(engine))
 
 
 def kinds(names: list[str]) -> str:

@@ -21,7 +21,7 @@ def pytest_addoption(parser: pytest.Parser) -> None:
     more.addoption("--generated", type=int, default=2, help="so many jobs of wsc gen more (2)")
     more.addoption("--all-c", action="store_true", help="all tests of the front end from C, not only a choice")
     more.addoption("--seed", type=int, default=1, help="begins the numbers of these machines (1)")
-    more.addoption("--every", type=int, default=1, help="of the site one line, text or event of so many (1)")
+    more.addoption("--site-every", type=int, default=1, help="of the site one line, text or event of so many (1)")
 
 
 def pytest_configure(config: pytest.Config) -> None:

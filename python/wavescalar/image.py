@@ -8,7 +8,7 @@ from __future__ import annotations
 from collections.abc import Iterator
 from dataclasses import dataclass
 from functools import cached_property
-from typing import Any, Literal, Union
+from typing import Literal, Union
 
 from wavescalar.isa import KINDS
 
@@ -125,17 +125,6 @@ class Image:
 
     def __str__(self) -> str:
         return "".join(f"{line}\n" for line in lines_of(self))
-
-    def _repr_html_(self) -> str | None:
-        from wavescalar.faults import Fault
-        from wavescalar.notebook.show import graph, html_of
-        try:
-            return html_of(graph(self))
-        except Fault:  # it is too large to be drawn
-            return None
-
-    def _repr_pretty_(self, printer: Any, cycle: bool) -> None:
-        printer.text(f"Image of {len(self.waves)} waves, {len(self.blocks)} blocks, {len(self.instructions)} instructions")
 
 
 def label(number: int, name: str | None, version: int) -> str:

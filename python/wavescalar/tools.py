@@ -10,7 +10,7 @@ from __future__ import annotations
 import re
 from collections.abc import Iterable
 from dataclasses import dataclass
-from typing import Any, Literal, Union, cast
+from typing import Literal, Union, cast
 
 from wavescalar.diagnose.findings import faults_of
 from wavescalar.faults import CallFault, Fault, Refused
@@ -56,10 +56,6 @@ class Run:
                 return cells
         raise KeyError(name)
 
-    def _repr_html_(self) -> str:
-        from wavescalar.notebook.show import html_of_run
-        return html_of_run(self)
-
 
 @dataclass(frozen=True)
 class Match:
@@ -98,13 +94,6 @@ class Trace:
 
     def __str__(self) -> str:
         return "".join([str(self.image), *(f"{line}\n" for line in ("%input", *self.input, "%trace", *self.events))])
-
-    def _repr_html_(self) -> str:
-        from wavescalar.notebook.show import html_of, overlap
-        return html_of(overlap(str(self)))
-
-    def _repr_pretty_(self, printer: Any, cycle: bool) -> None:
-        printer.text(f"Trace of {len(self.events)} events, {self.ending or 'no ending'}")
 
 
 @dataclass(frozen=True)

@@ -13,6 +13,7 @@ from typing import Any
 from tests.places import LIBRARY, WSC
 
 PATIENCE = 300.0  # seconds for an answer: a loaded machine takes long
+ENDED = "$/ended"  # stands for a notification once the server has ended
 
 
 class Client:
@@ -41,6 +42,9 @@ class Client:
                 head = self.source.readline()
             message = json.loads(self.source.read(length))
             (self.answers if "id" in message else self.notes).put(message)
+        # whoever waits is told at once
+        self.answers.put({"id": None, "error": {"code": 0, "message": "the server has ended"}})
+        self.notes.put({"method": ENDED})
 
     def _listen(self) -> None:
         self.said += self.errors
@@ -66,7 +70,7 @@ class Client:
         self.number += 1
         self.send(id=self.number, method=method, params=params)
         answer = self.answers.get(timeout=PATIENCE)
-        assert answer["id"] == self.number, answer
+        assert answer["id"] == self.number, (answer, b"".join(self.said).decode())
         return answer["result"] if "result" in answer else (answer["error"]["code"], answer["error"]["message"])
 
     def start(self) -> Any:
@@ -86,6 +90,7 @@ class Client:
         """The parameters of the next notification of this method; others are left aside."""
         while True:
             message = self.notes.get(timeout=PATIENCE)
+            assert message["method"] != ENDED, b"".join(self.said).decode()
             if message["method"] == method:
                 return message["params"]
 

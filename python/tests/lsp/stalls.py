@@ -8,6 +8,7 @@ it, which other programs of the machine don't change; and how long diagnostics a
 
 from __future__ import annotations
 
+import contextlib
 import pathlib
 import statistics
 import sys
@@ -28,7 +29,8 @@ def used(number: int) -> float:
     """Milliseconds of processor that a process has used, in all its threads."""
     told = 0.0
     for task in pathlib.Path(f"/proc/{number}/task").iterdir():
-        told += int((task / "schedstat").read_text().split()[0]) / 1e6
+        with contextlib.suppress(FileNotFoundError):  # a thread has ended meanwhile
+            told += int((task / "schedstat").read_text().split()[0]) / 1e6
     return told
 
 

@@ -46,7 +46,8 @@ def test_emacs() -> None:
     if asked.returncode and not parts:
         pytest.skip("no eglot (Debian: elpa-eglot)")
     told = tried("emacs", "-q", "--batch", "-l", "editors/emacs/try.el")
-    for line in ('its line: 8', 'definition of add at line: 2', "renamed: 3", "mended: no diagnostics", "formatted: t", "shut down"):
+    for line in ("its line: 8", "definition of add at line: 2", "renamed: 3", "mended: no diagnostics", "formatted: t",
+                 "shut down"):
         assert line in told, told
 
 
@@ -62,9 +63,11 @@ def test_vs_code_without_a_server() -> None:
     if not shutil.which("node"):
         pytest.skip("no Node (Debian: nodejs)")
     script = ("const Module = require('module'), said = []; const load = Module._load; const none = () => ({dispose() {}});"
-              "const all = new Proxy({}, {get: (_, name) => name === 'createDiagnosticCollection' ? () => ({clear() {}}) : none});"
-              "Module._load = (name, ...more) => name !== 'vscode' ? load(name, ...more) : {workspace: new Proxy({}, {get: (_, name)"
-              " => name === 'getConfiguration' ? () => ({get: it => it === 'server' ? '/nowhere/wsc-lsp' : []}) : none}),"
+              "const all = new Proxy({}, {get: (_, name) => name === 'createDiagnosticCollection' ?"
+              " () => ({clear() {}}) : none});"
+              "Module._load = (name, ...more) => name !== 'vscode' ? load(name, ...more) : {workspace: new Proxy({},"
+              " {get: (_, name) =>"
+              " name === 'getConfiguration' ? () => ({get: it => it === 'server' ? '/nowhere/wsc-lsp' : []}) : none}),"
               " languages: all, commands: all, window: {showWarningMessage: it => said.push(it)}};"
               "const it = require('./editors/vscode/extension.js');"
               "it.activate({subscriptions: []}).then(() => it.deactivate()).then(() => console.log(said.join()));")

@@ -220,7 +220,8 @@ def large(size: int) -> str:
         lines.append(f"go b{wave + 1}")
         made += lines
         count += sum(len(line) + 1 for line in lines)
-    last = [f"wave {wave + 1}", f"block b{wave + 1}", f"a{wave + 1}: advance -> end.0", "end: halt <., 1, .>.1", "stop", "end", ""]
+    wave += 1
+    last = [f"wave {wave}", f"block b{wave}", f"a{wave}: advance -> end.0", "end: halt <., 1, .>.1", "stop", "end", ""]
     return "\n".join([*made, *last])
 
 

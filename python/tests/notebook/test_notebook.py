@@ -114,11 +114,20 @@ class Magics(unittest.TestCase):
             def register_magic_function(self, act: Any, kind: str, name: str) -> None:
                 self.magics[f"{kind} {name}"] = act
 
+            class Formatter(dict[type, Any]):
+                def for_type(self, kind: type, act: Any) -> None:
+                    self[kind] = act
+
+            class display_formatter:
+                formatters: dict[str, Any] = {}
+
             def push(self, names: dict[str, Any]) -> None:
                 self.names.update(names)
 
         shell = Shell()
+        shell.display_formatter.formatters = {"text/html": Shell.Formatter(), "text/plain": Shell.Formatter()}
         load_ipython_extension(shell)
+        self.assertIn(">7<", shell.display_formatter.formatters["text/html"][ws.Run](ws.run(SEVEN)))
         shell.magics["cell job"]("total --input 3", SUM)
         self.assertEqual(shell.names["total"].run().words, (6,))
         with contextlib.redirect_stdout(io.StringIO()) as told:
@@ -138,17 +147,18 @@ class Shown(unittest.TestCase):
         minidom.parseString(timed(job).picture().svg)
 
     def test_objects(self) -> None:
-        self.assertEqual(drawn(ws.read(SEVEN)._repr_html_())[0].count("data-node"), 4)
-        self.assertIn("Waves side by side", drawn(ws.trace(SEVEN)._repr_html_())[0])
+        self.assertEqual(drawn(show.html_of(ws.read(SEVEN)))[0].count("data-node"), 4)
+        self.assertIn("Waves side by side", drawn(show.html_of(ws.trace(SEVEN)))[0])
         self.assertIn("Use of the elements", drawn(timed(SEVEN)._repr_html_())[0])
-        self.assertIn(">7<", ws.run(SEVEN)._repr_html_())
-        self.assertIn("fault a", Job("array a[1]; proc main() { a[1] = 2; }").run()._repr_html_())
+        self.assertIn(">7<", show.html_of(ws.run(SEVEN)))
+        self.assertIn("fault a", show.html_of(Job("array a[1]; proc main() { a[1] = 2; }").run()))
         self.assertIn("&lt;", Job("proc main() { print 1 < 2; }")._repr_html_())
 
     def test_too_large(self) -> None:
         lines = "".join(f"  print {number};\n" for number in range(400))
         image = Job(f"proc main() {{\n{lines}}}\n").image()
-        self.assertIsNone(image._repr_html_())
+        self.assertIsNone(show.html_of_image(image))
+        self.assertIn("instructions", show.brief(image))
         with self.assertRaises(ws.Fault):
             show.graph(image)
         with self.assertRaises(ws.Fault):

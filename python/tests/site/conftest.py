@@ -20,4 +20,4 @@ def site() -> pathlib.Path:
 @pytest.fixture(scope="session")
 def every(request: pytest.FixtureRequest) -> int:
     """One line, text or event of so many is looked at."""
-    return int(request.config.getoption("--every"))
+    return int(request.config.getoption("--site-every"))

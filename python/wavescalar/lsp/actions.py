@@ -219,8 +219,8 @@ def _of_line(document: Document, span: Span, line: Span) -> Iterator[Change]:
     if found := re.search(r"\b(?:load|store)\s+([A-Za-z_]\w*)", own):
         arrays = [it.text(1) if it.text(0) == "array" else "" for it in said.rows if it.text(0) in ("array", "hidden")]
         if found[1] in arrays:
-            number = str(arrays.index(found[1]) + 1)
-            yield Change(f"write {number}, the number of `{found[1]}`", (line[0] + found.start(1), line[0] + found.end(1)), number)
+            number, place = str(arrays.index(found[1]) + 1), (line[0] + found.start(1), line[0] + found.end(1))
+            yield Change(f"write {number}, the number of `{found[1]}`", place, number)
     if found := re.match(r"(?:\s*#.*\n|\s*\n)*\s*wavescalar\s+(1)\b", text):
         yield Change("write `wavescalar 2`, which has names", found.span(1), "2")
 
@@ -230,6 +230,8 @@ def _of_line(document: Document, span: Span, line: Span) -> Iterator[Change]:
 def _notes(document: Document, programs: Programs) -> Change | None:
     """The notes of a draft, made by the linker; lines and comments stay."""
     own = sections(document.text)[0]
+    if "?" not in own:
+        return None
     try:
         draft = reading(own).image
         if not any(it.note == DRAFT for it in draft.instructions):

@@ -30,14 +30,10 @@ MARKS = re.compile(rb'\{"jsonrpc":"2\.0","method":"textDocument/publishDiagnosti
 Glance = Callable[[Document, Any], Any]
 
 
-def hasty(method: str) -> tuple[bool, Glance | None]:
-    """How a request about a large text is answered without the other process: whether that is tried first, and what tells
-    it, which gives None where it can't."""
-    known: dict[str, tuple[bool, Glance]] = {
-        "textDocument/hover": (False, glances.hover), "textDocument/completion": (False, glances.completion),
-        "textDocument/semanticTokens/range": (True, glances.colours), "textDocument/codeAction": (True, glances.actions),
-    }
-    return known.get(method, (False, None))
+# What is told of a large text before the other process is asked, and what where it has no answer in time. The first kind
+# gives None where it has to be asked.
+AT_ONCE: dict[str, Glance] = {"textDocument/semanticTokens/range": glances.colours, "textDocument/codeAction": glances.actions}
+IN_TIME: dict[str, Glance] = {"textDocument/hover": glances.hover, "textDocument/completion": glances.completion}
 
 
 class Aside:
@@ -58,11 +54,14 @@ class Aside:
         """Whether the process runs."""
         return self._child.poll() is None
 
-    def open(self, document: Document) -> None:
-        """Begins with this text."""
+    def open(self, document: Document, body: bytes | None) -> None:
+        """Begins with this text. body: that of the message by which the editor has opened it so, where there is one."""
+        self._say(id=OWN, method="initialize", params={})
+        if body is not None:
+            self.tell(body)
+            return
         item = {"uri": document.uri, "version": document.version, "text": document.text,
                 "languageId": {"job": "wsjob", "assembly": "wsasm"}[document.language]}
-        self._say(id=OWN, method="initialize", params={})
         self._say(method="textDocument/didOpen", params={"textDocument": item})
 
     def _say(self, **message: Any) -> None:

@@ -10,7 +10,7 @@ from bisect import bisect_right
 from dataclasses import dataclass, field
 from typing import NamedTuple, cast
 
-from wavescalar.isa import KINDS
+from wavescalar.isa import EXITS, HEADS, KINDS
 from wavescalar.lsp import meanings
 from wavescalar.lsp.analysis import (
     ARRAY, FUNCTION_ITEM, KEYWORD_ITEM, MODULE, NAMESPACE, OPERATOR, OPERATOR_ITEM, REFERENCE_ITEM, Hover, Index, Item,
@@ -21,8 +21,6 @@ from wavescalar.reader import is_number
 
 LEXEME = re.compile(r"%\w+|[A-Za-z_][A-Za-z0-9_]*|[0-9]+|->|[^ \t]")
 MARKS = ("%input", "%trace")
-EXITS = ("go", "if", "send", "stop")
-HEADS = ("wavescalar", "array", "hidden", "wave", "block", "pad", *EXITS, "end")
 # What a label stands for: a kind, and a name or a number as it is written.
 Key = tuple[str, str]
 
@@ -297,7 +295,7 @@ class AssemblyText:
                   if kind == "instruction"]
         blocks = [Item(name, FUNCTION_ITEM, f"block {name}") for kind, name in self.lines if kind == "block"]
         if not before:
-            return [Item(word, KEYWORD_ITEM, meanings.LINES.get(word, meanings.SEND_EXIT)) for word in HEADS]
+            return [Item(word, KEYWORD_ITEM, meanings.LINES.get(word, meanings.SEND_EXIT)) for word in (*HEADS, *EXITS)]
         if before[1:2] == [":"] and len(before) == 2:
             return [Item(op, OPERATOR_ITEM, meanings.INSTRUCTIONS[op]) for op in KINDS]
         if before[0] in ("if", "send") and len(before) == 1 or "->" in before or before[0] == "pad":

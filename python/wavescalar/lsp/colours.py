@@ -5,11 +5,11 @@ from __future__ import annotations
 from bisect import bisect_right
 from collections.abc import Iterable, Iterator
 
-from wavescalar.isa import KINDS
+from wavescalar.isa import EXITS, HEADS, KINDS, RESERVED
 from wavescalar.lsp.analysis import Analysis
-from wavescalar.lsp.assemblies import EXITS, HEADS, AssemblyText, Row
+from wavescalar.lsp.assemblies import AssemblyText, Row
 from wavescalar.lsp.documents import Document, Span
-from wavescalar.lsp.jobs import LEXEME, RESERVED, SECTION, Declaration, JobText, parts_of as programs_of
+from wavescalar.lsp.jobs import LEXEME, SECTION, Declaration, JobText, parts_of as programs_of
 from wavescalar.reader import is_name, is_number
 
 TYPES = ("keyword", "function", "parameter", "variable", "property", "namespace", "number", "operator", "comment", "macro",
@@ -107,7 +107,7 @@ def _of_word(row: Row, at: int) -> tuple[str, bool] | None:
     if word[0] == "%":
         return "macro", False
     if at == 0 and not row.op:
-        return ("keyword", False) if word in HEADS or row.section else None
+        return ("keyword", False) if word in (*HEADS, *EXITS) or row.section else None
     if at == 2 and row.op:
         return ("function", False) if word in KINDS else None
     if is_number(word) and at:

@@ -1,8 +1,8 @@
 """Diagnostics of a text: every fault with its range, its rule and its reason.
 
 Of a job `wsc format` names the first fault; where it is one of names, the others of names are told too, if what is found
-here has the program's among them. Of an assembly the linter (`wavescalar.diagnose`) tells all, and is compared with `wsc check`. A
-draft, whose notes don't count, has the verdict of `wsl` besides, a trace that of `wsc replay`.
+here has the program's among them. Of an assembly the linter (`wavescalar.diagnose`) tells all, and is compared with
+`wsc check`. A draft, whose notes don't count, has the verdict of `wsl` besides, a trace that of `wsc replay`.
 """
 
 from __future__ import annotations

@@ -12,6 +12,7 @@ from collections.abc import Iterator
 from dataclasses import dataclass
 from typing import NamedTuple
 
+from wavescalar.isa import RESERVED
 from wavescalar.lsp import meanings
 from wavescalar.lsp.analysis import (
     ARRAY, FUNCTION, FUNCTION_ITEM, KEYWORD_ITEM, MODULE, VARIABLE, VARIABLE_ITEM, Hover, Index, Item, Occurrence, Symbol,
@@ -21,7 +22,6 @@ from wavescalar.lsp.documents import Document, Span
 from wavescalar.reader import is_number
 
 LEXEME = re.compile(r"[ \t\r\n]+|#[^\n]*|[A-Za-z_][A-Za-z0-9_]*|[0-9]+|<<|>>|<=|>=|==|!=|.", re.DOTALL)
-RESERVED = ("proc", "array", "var", "if", "else", "while", "print", "read", "give", "take", "return")
 OUTER = ("proc", "array")
 SECTION = re.compile(r"^%(input|job)\r?$", re.MULTILINE)
 

@@ -9,10 +9,11 @@ from __future__ import annotations
 import re
 from collections.abc import Callable
 
+from wavescalar.isa import RESERVED
 from wavescalar.lsp.analysis import Analysis, Occurrence
 from wavescalar.lsp.assemblies import AssemblyText
 from wavescalar.lsp.documents import Document, Span
-from wavescalar.lsp.jobs import RESERVED, JobText
+from wavescalar.lsp.jobs import JobText
 from wavescalar.reader import is_number
 
 NAME = re.compile(r"[A-Za-z_][A-Za-z0-9_]*")

@@ -13,12 +13,12 @@ import threading
 import traceback
 from collections import Counter
 from dataclasses import dataclass
-from functools import lru_cache
+from functools import lru_cache, partial
 from typing import Any, BinaryIO, Callable
 
 from wavescalar.lsp import actions, colours, renames, wire
 from wavescalar.lsp.analysis import Analysis, Symbol
-from wavescalar.lsp.aside import Aside, hasty
+from wavescalar.lsp.aside import AT_ONCE, IN_TIME, Aside, Glance
 from wavescalar.lsp.assemblies import AssemblyText
 from wavescalar.lsp.background import DELAY, Checker
 from wavescalar.lsp.documents import Document, changed, document_of
@@ -156,7 +156,7 @@ class Server:
             "textDocument/rename": self._rename, "textDocument/codeAction": self._actions,
             "textDocument/semanticTokens/full": self._colours, "textDocument/semanticTokens/range": self._colours,
         }
-        self._notes: dict[str, Callable[[Any], None]] = {
+        self._notes: dict[str, Callable[[Any, bytes], None]] = {
             "textDocument/didOpen": self._opened, "textDocument/didChange": self._changed,
             "textDocument/didSave": self._saved, "textDocument/didClose": self._closed,
         }
@@ -207,19 +207,18 @@ class Server:
     def _ask_aside(self, aside: Aside, message: Message, body: bytes) -> None:
         """Has a request about a large text answered beside. What its line alone tells is told where that takes long."""
         document, method, params = self._documents[uri_of(message)], message["method"], message.get("params")
-        at_once, soon = hasty(method)
 
-        def quickly() -> Any:
+        def told(glance: Glance) -> Any:
             try:
-                return soon(document, params) if soon else None
+                return glance(document, params)
             except Exception:  # these parameters can't be taken; the other process says so, if it comes to it
                 traceback.print_exc(file=sys.stderr)
                 return None
 
-        if at_once and (made := quickly()) is not None:
+        if method in AT_ONCE and (made := told(AT_ONCE[method])) is not None:
             self._sender.answer(message["id"], made)
         else:
-            aside.ask(message["id"], body, quickly if soon else None)
+            aside.ask(message["id"], body, partial(told, IN_TIME[method]) if method in IN_TIME else None)
 
     def _answer(self, method: str, params: Any) -> Any:
         if self._state == "down":
@@ -252,7 +251,7 @@ class Server:
             return
         try:
             aside = self._asides.get(uri_of({"params": params}))
-            act(params)
+            act(params, body)
             if aside:
                 aside.tell(body)
         except Closed:
@@ -274,38 +273,38 @@ class Server:
 
     # Texts.
 
-    def _opened(self, params: Any) -> None:
+    def _opened(self, params: Any, body: bytes) -> None:
         document = document_of(params["textDocument"])
         if old := self._asides.pop(document.uri, None):
             old.end()
         self._documents[document.uri] = document
-        if not self._set_aside(document):
+        if not self._set_aside(document, body):
             self._checker.look(document, at_once=True)
 
-    def _set_aside(self, document: Document) -> bool:
-        """Gives a large text a process of its own: whether it has one."""
+    def _set_aside(self, document: Document, body: bytes | None = None) -> bool:
+        """Gives a large text a process of its own: whether it has one. body: as `Aside.open` has it."""
         if not self._settings.large or len(document.text) <= self._settings.large:
             return False
         self._checker.leave(document.uri)
         options = ["--wsc", self._programs.wsc, "--wsl", self._programs.wsl, "--delay", str(self._settings.delay)]
         aside = Aside(options, self._sender, lambda: self._documents.get(document.uri))
         self._asides[document.uri] = aside
-        aside.open(document)
+        aside.open(document, body)
         return True
 
-    def _changed(self, params: Any) -> None:
+    def _changed(self, params: Any, body: bytes) -> None:
         uri = params["textDocument"]["uri"]
         document = changed(self._documents[uri], params["textDocument"]["version"], params["contentChanges"])
         self._documents[uri] = document
         if uri not in self._asides and not self._set_aside(document):
             self._checker.look(document)
 
-    def _saved(self, params: Any) -> None:
+    def _saved(self, params: Any, body: bytes) -> None:
         uri = params["textDocument"]["uri"]
         if uri not in self._asides:
             self._checker.look(self._documents[uri], at_once=True)
 
-    def _closed(self, params: Any) -> None:
+    def _closed(self, params: Any, body: bytes) -> None:
         document = self._documents.pop(params["textDocument"]["uri"])
         if aside := self._asides.pop(document.uri, None):
             aside.end()

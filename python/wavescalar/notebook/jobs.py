@@ -21,8 +21,8 @@ if TYPE_CHECKING:
 class Job:
     """A job: the text of a program, and behind a line `%input` the words that it reads.
 
-    All calls ask the program `wsc` (that of WSC, as `tools` has it), and raise Refused where it refuses the text. `input` takes the
-    place of the text's own words; `timeout` is in seconds.
+    All calls ask the program `wsc`, that of WSC as `tools` has it, and raise Refused where it refuses the text. `input`
+    takes the place of the text's own words; `timeout` is in seconds.
     """
 
     text: str

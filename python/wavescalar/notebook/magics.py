@@ -183,7 +183,8 @@ def _shown(given: Given, told: argparse.Namespace) -> Any:
 
 
 def add_to(shell: Any) -> None:
-    """Adds the magics to a shell of IPython, and lets `wsc` be built where it must be first."""
+    """Adds the magics to a shell of IPython, lets images, runs and traces show themselves there, and lets `wsc` be built
+    where it must be first."""
     def magic(act: Callable[..., Any]) -> Callable[[str, str], Any]:
         def call(line: str, cell: str) -> Any:
             try:
@@ -194,6 +195,15 @@ def add_to(shell: Any) -> None:
         call.__doc__ = __doc__
         return call
 
+    def plainly(told: Callable[[Any], str]) -> Callable[[Any, Any, bool], None]:
+        def plain(shown: Any, printer: Any, cycle: bool) -> None:
+            printer.text(told(shown))
+        return plain
+
     programs.ready(programs.usual())
+    formatters = shell.display_formatter.formatters
+    for kind, (html, line) in show.OWN.items():
+        formatters["text/html"].for_type(kind, html)
+        formatters["text/plain"].for_type(kind, plainly(line))
     shell.register_magic_function(magic(job), "cell", "job")
     shell.register_magic_function(magic(asm), "cell", "asm")

@@ -1,22 +1,24 @@
 """What a page or a notebook shows of programs and runs: pictures, tables of words, the viewer's page.
 
-All pictures are drawn by `wavescalar.viewer`: the graph by `still`, waves by `overlap`, profiles by `profile_report`. Each is a `Picture`, whose text of SVG needs no other file.
+All pictures are drawn by `wavescalar.viewer`: the graph by `still`, waves by `overlap`, profiles by `profile_report`.
+Each is a `Picture`, whose text of SVG needs no other file.
 """
 
 from __future__ import annotations
 
 from base64 import b64encode
-from collections.abc import Sequence
+from collections.abc import Callable, Sequence
 from dataclasses import dataclass, field
 from html import escape
 from pathlib import Path
 from typing import Any
 
 from wavescalar import numbered
+from wavescalar.cli import UNSOUND
 from wavescalar.faults import Fault
 from wavescalar.image import Image
 from wavescalar.programs import usual
-from wavescalar.tools import Run
+from wavescalar.tools import Run, Trace
 from wavescalar.viewer import measure, profile_report, still, view
 from wavescalar.viewer import overlap as waves_by_round
 
@@ -81,9 +83,34 @@ class Several:
 
 
 def html_of(shown: Any) -> str:
-    """An object as HTML: as it shows itself, else its text."""
+    """An object as HTML: a run, an image and a trace as they are drawn here, another as it shows itself, else its text."""
+    for kind, made_of in OWN.items():
+        if isinstance(shown, kind) and (told := made_of[0](shown)):
+            return told
     made = getattr(shown, "_repr_html_", None)
     return str(made()) if made else f"<pre>{escape(str(shown))}</pre>"
+
+
+def html_of_image(image: Image) -> str | None:
+    """The graph of an image; nothing where it is too large to be drawn, or isn't sound."""
+    try:
+        return html_of(graph(image))
+    except Fault:
+        return None
+
+
+def html_of_trace(trace: Trace) -> str:
+    """The wave numbers of a trace by ideal rounds."""
+    return html_of(overlap(str(trace)))
+
+
+def brief(shown: Image | Run | Trace) -> str:
+    """An object of the library in a line."""
+    if isinstance(shown, Image):
+        return f"Image of {len(shown.waves)} waves, {len(shown.blocks)} blocks, {len(shown.instructions)} instructions"
+    if isinstance(shown, Trace):
+        return f"Trace of {len(shown.events)} events, {shown.ending or 'no ending'}"
+    return repr(shown)
 
 
 def table(heads: Sequence[str], rows: Sequence[Sequence[Any]]) -> str:
@@ -115,6 +142,12 @@ def html_of_run(run: Run) -> str:
     return f"<table>{body}</table>"
 
 
+# What is shown of objects of the library, which know nothing of this: as HTML, and in a line.
+OWN: dict[type, tuple[Callable[[Any], str | None], Callable[[Any], str]]] = {
+    Image: (html_of_image, brief), Run: (html_of_run, brief), Trace: (html_of_trace, brief),
+}
+
+
 def _drawn(image: Image | str) -> Any:
     """An assembly as the tools read it; Fault where it can't be read."""
     return numbered.read(str(image))
@@ -130,10 +163,12 @@ def graph(image: Image | str, wave: int | None = None, title: str = "") -> Pictu
     shown = sum(wave in (None, drawn.blocks[it.block].wave) for it in drawn.instrs[1:])
     if shown > MOST_DRAWN:
         raise Fault(f"{shown} instructions are too many to be drawn: at most {MOST_DRAWN}")
+    if wave is not None and not 1 <= wave <= drawn.waves:
+        raise Fault(f"there is no wave {wave}: the image has {drawn.waves}")
     try:
         made = still.picture(drawn, wave)
-    except KeyError as fault:
-        raise Fault(f"there is no wave {wave}: the image has {drawn.waves}") from fault
+    except UNSOUND as fault:
+        raise Fault("this isn't a sound image; wsc check says why") from fault
     waves = "1 wave" if drawn.waves == 1 else f"{drawn.waves} waves"
     return Picture(made, title or f"{f'wave {wave}' if wave else waves}, {shown} instructions")
 
