@@ -27,6 +27,7 @@ class Place(NamedTuple):
 
 PLACES = (
     Place("clap", "wsc_words", "command words", ("use clap::", "clap::Command::new(")),
+    Place("clap", "stream_top", "command words of wss", ("use clap::",)),
     Place("crossbeam_deque", "ready_pool", "stealing", ("use crossbeam_deque::", "Stealer<", "Steal::Success(")),
     Place("crossbeam_utils", "match_table", "padding of locks", ("use crossbeam_utils::", "CachePadded<Mutex<")),
     Place("crossbeam_utils", "multi_wave", "padding of locks", ("use crossbeam_utils::", "CachePadded<")),

@@ -131,15 +131,6 @@ module _ {T : Type 0} where
     all = one_all ss new i o s x r lt at is put refused more;
   }
 
-  -- without a seat nothing is dealt
-  pub dealt_nowhere : (ss : List (Seat T)) (xs : List T) → length ss ≤ 0 → Dealt ss xs ss
-  dealt_nowhere ss xs none = record {
-    count = refl;
-    wider = λ i d lt. omega arith;
-    further = λ i d lt. omega arith;
-    all = inr (inl (no_seat ss [] (omega (arith, none)) refl));
-  }
-
 -- Of these things so many are left, each of which is an item; the others were dealt.
 module _ {A T : Type 0} (f : A → T) where
   pub record Left (old : List (Seat T)) (all rest : List A) (new : List (Seat T)) : Type 0 where
