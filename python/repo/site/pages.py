@@ -26,6 +26,7 @@ LINKS = {"index": "playground", "lesson": "lesson", "exercises": "exercises", "a
 # Under a heading of the lesson or of a slide, the address within the playground to begin with.
 BEGINNINGS = {
     "One program in two orders": "example=sum&A=trace&B=random-1&by=event&at=0",
+    "One program, two orders": "example=sum&A=trace&B=random-1&by=event&at=40",
     "Tokens": "example=sum&A=rounds&B=grid-1-1&by=round&at=0&one=1",
     "Exercise 1: how long is a turn": "example=sum&A=rounds&B=grid-1-1&by=round&at=0",
     "Exercise 2: turns side by side": "example=squares&A=grid-4-1&B=grid-4-2&by=round&at=0",
