@@ -60,7 +60,7 @@ class Page:
     def link(self, text: str, to: str) -> str:
         """A link, if it leads to a page of the site; else its text alone."""
         path, mark, place = to.partition("#")
-        if path.startswith("index.html") or not path:
+        if not path:
             return f'<a href="{to}">{text}</a>'
         page = self.known.get(pathlib.PurePosixPath(path).name)
         return f'<a href="{page}.html{mark}{place}">{text}</a>' if page else text
