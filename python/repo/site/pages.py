@@ -26,6 +26,7 @@ LINKS = {"index": "playground", "lesson": "lesson", "exercises": "exercises", "a
 # Under a heading of the lesson or of a slide, the address within the playground to begin with.
 BEGINNINGS = {
     "One program in two orders": "example=sum&A=trace&B=random-1&by=event&at=0",
+    "One program, two orders": "example=sum&A=trace&B=random-1&by=event&at=40",
     "Tokens": "example=sum&A=rounds&B=grid-1-1&by=round&at=0&one=1",
     "Exercise 1: how long is a turn": "example=sum&A=rounds&B=grid-1-1&by=round&at=0",
     "Exercise 2: turns side by side": "example=squares&A=grid-4-1&B=grid-4-2&by=round&at=0",
@@ -59,7 +60,7 @@ class Page:
     def link(self, text: str, to: str) -> str:
         """A link, if it leads to a page of the site; else its text alone."""
         path, mark, place = to.partition("#")
-        if path.startswith("index.html") or not path:
+        if not path:
             return f'<a href="{to}">{text}</a>'
         page = self.known.get(pathlib.PurePosixPath(path).name)
         return f'<a href="{page}.html{mark}{place}">{text}</a>' if page else text
