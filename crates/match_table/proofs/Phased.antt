@@ -1,5 +1,5 @@
 -- Tables that leave their list by number, and come back by number.
-use Rattle.std.proofs.Common.{◌≡◌, ◌+◌, ◌<◌, ◌≤◌, ℕ, suc, List, [], ◌∷◌, ◌++◌, length}
+use Rattle.std.proofs.Common.{◌≡◌, ◌+◌, ◌<◌, ◌≤◌, ℕ, zero, suc, List, [], ◌∷◌, ◌++◌, length}
 use Rattle.std.proofs.Common.{None, slice_index, slice_index_or, slice_set, ap, subst, arith}
 use Rattle.std.proofs.lemmas.Bool.{cases_lt}
 use Rattle.std.proofs.lemmas.List.{length-set, get_or_read, get_or-set_same, get_or-set_other}
@@ -23,6 +23,13 @@ fresh_more (d ∷ cs) c f none e = (f.0, f.1, fresh_more cs c f.2 none e)
 pub fresh_fit : (k : ℕ) (cs : List TableContent) → Fresh cs → (most : List ℕ) → FitFrom k cs most
 fresh_fit k [] f most = tt
 fresh_fit k (c ∷ cs) f most = grind (arith, fresh_serves, fresh_fit (suc k) cs f.2 most)
+
+-- none of them holds anything
+pub fresh_empty : (cs : List TableContent) → Fresh cs → (k w i p : ℕ) → k < length cs
+    → held (content_at cs k) w i p ≡ None
+fresh_empty [] f k w i p lt = absurd (omega (arith, lt))
+fresh_empty (c ∷ cs) f zero w i p lt = f.0 w i p
+fresh_empty (c ∷ cs) f (suc k) w i p lt = fresh_empty cs f.2 k w i p (omega (arith, lt))
 
 fit_at : (n : ℕ) (cs : List TableContent) (most : List ℕ) (k : ℕ) → FitFrom n cs most → k < length cs
     → Serves (n + k) (content_at cs k) × (length (content_at cs k).fired ≤ slice_index most (n + k))

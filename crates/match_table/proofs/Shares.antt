@@ -1,7 +1,8 @@
 -- How many instances tables list together, and what limits allow together.
 use Rattle.std.proofs.Common.{◌≡◌, ◌+◌, ◌<◌, ◌≤◌, ℕ, zero, suc, List, [], ◌∷◌, ◌++◌, length, length-append}
-use Rattle.std.proofs.Common.{◌-◌, ◌/◌, take, slice_index, add-one, refl, ap, subst, arith}
+use Rattle.std.proofs.Common.{◌-◌, ◌*◌, ◌/◌, ◌⊎◌, inl, inr, take, slice_index, add-one, refl, ap, subst, arith}
 use Rattle.std.specs.Prelude.{sum}
+use Rattle.std.proofs.Math.Nat.{div-mul-le_self, le-div_iff_mul-le, mul-suc}
 use Rattle.std.proofs.lemmas.Bool.{cases_lt}
 use Rattle.std.proofs.lemmas.List.{get_or_append_left, get_or_push}
 use Rattle.std.proofs.lemmas.List.Sums.{sum_by-cons, sum_by_push}
@@ -99,6 +100,48 @@ pub give_more : (cs : List TableContent) (first n : ℕ) (items : List ℕ) (lef
     → Given cs first (n + 1) (items ++ limit ∷ []) now all
 give_more cs first n items left all share len sixteen g s is now now_is limit limit_is =
     grind (arith, length-append, cases_lt, get_or_append_left, slice_index, get_or_push, sum_push, take_more)
+
+-- Each limit allows a sixteenth of all beyond what is listed, and what is left is enough for those to come.
+pub record Evenly (cs : List TableContent) (n : ℕ) (items : List ℕ) (left all : ℕ) : Type 0 where
+  pub each : (k : ℕ) → k < n → length (content_at cs k).fired + all / 16 ≤ slice_index items k
+  pub rest : n < 16 → all / 16 ≤ left / (16 - n)
+
+-- an even share of what is left leaves as much for each of the others
+even_left : (left e : ℕ) → 0 < e → left / suc e ≤ (left - left / suc e) / e
+even_left left e pos =
+    let m = left / suc e in
+    let a : m * suc e ≤ left = div-mul-le_self left (suc e) in
+    let b : m * suc e ≡ m * e + m = mul-suc m e in
+    (le-div_iff_mul-le {k = e} {x = m} {y = left - m} pos).1 (omega (arith, a, b))
+
+rest_more : (n left all share : ℕ) → n + 1 < 16 → all / 16 ≤ left / (16 - n)
+    → (0 < left / (16 - n) → share ≡ left / (16 - n)) → all / 16 ≤ (left - share) / (16 - (n + 1))
+rest_more n left all share lt h same =
+    elim (cases_lt 0 (left / (16 - n))) [
+      inl pos ↦ let d : 16 - n ≡ suc (16 - (n + 1)) = omega (arith, lt) in
+          let s : share ≡ left / suc (16 - (n + 1)) = subst (λ (k : ℕ). share ≡ left / k) d (same pos) in
+          let g : all / 16 ≤ left / suc (16 - (n + 1)) = subst (λ (k : ℕ). all / 16 ≤ left / k) d h in
+          let r = even_left left (16 - (n + 1)) (omega (arith, lt)) in
+          rw s (omega (arith, g, r))
+    | inr none ↦ omega (arith, h, none)
+    ]
+
+each_more : (f : ℕ → ℕ) (q n m : ℕ) (items : List ℕ) → length items ≡ n
+    → ((k : ℕ) → k < n → f k + q ≤ slice_index items k) → f n + q ≤ m → (k : ℕ) → k < n + 1
+    → f k + q ≤ slice_index (items ++ m ∷ []) k
+each_more f q n m items is each last k lt =
+    grind (arith, slice_index, cases_lt, get_or_append_left, get_or_push)
+
+pub evenly_more : (cs : List TableContent) (n : ℕ) (items : List ℕ) (left all share : ℕ) → n < 16
+    → length items ≡ n → Evenly cs n items left all → left / (16 - n) ≤ share
+    → (0 < left / (16 - n) → share ≡ left / (16 - n))
+    → Evenly cs (n + 1) (items ++ (length (content_at cs n).fired + share) ∷ []) (left - share) all
+evenly_more cs n items left all share sixteen is e even same = record {
+  each = each_more (λ k. length (content_at cs k).fired) (all / 16) n
+      (length (content_at cs n).fired + share) items is e.each
+      (let r = e.rest sixteen in omega (arith, even, r));
+  rest = λ lt. rest_more n left all share lt (e.rest sixteen) same;
+}
 
 -- what serves apart and keeps within its limit fits
 within_from : (n : ℕ) (cs : List TableContent) (most : List ℕ)

@@ -1,8 +1,9 @@
 //! The tables between two phases.
 
-ghost use Rattle.std.specs.Prelude.{◌≡◌, ◌<◌, ◌≤◌, ℕ, List, [], IfOk, length};
+ghost use Rattle.std.specs.Prelude.{◌≡◌, ◌<◌, ◌≤◌, ℕ, List, [], IfOk, None, length};
 ghost use Rattle.match_table.specs.Growth.{content_at};
 ghost use Rattle.match_table.specs.Rows.{Fits, contents};
+ghost use Rattle.match_table.specs.Together.{part_of};
 
 use crate::Table;
 use df_core::Job;
@@ -33,6 +34,8 @@ impl<J: Job> Tables<J> {
     pub fn new(alloc: Global) -> Result<Tables<J>, NoMemory>
         ensures all { IfOk result (λ tables. length (contents tables) ≡ 16) }
         ensures fits { IfOk result (λ tables. (most : List ℕ) → Fits tables most) }
+        ensures empty { IfOk result (λ tables.
+            (w i p : ℕ) → (part_of tables).held w i p ≡ None) }
     {
         let mut all = Vec::with_capacity(alloc, 16)?;
         while all.len() < 16 {

@@ -145,7 +145,8 @@ impl<J: Job> Rounds<J> {
 
     /// Puts all tokens of a list on the way.
     pub fn pour(&mut self, tokens: TokenList<J>) -> Result<(), NoMemory>
-        ensures { OnOk result (Covers tokens self.new) }
+        ensures old { OnOk result (Covers self.old self.new) }
+        ensures taken { OnOk result (Covers tokens self.new) }
     {
         let mut rest = tokens;
         while let Some(token) = rest.pop() {
