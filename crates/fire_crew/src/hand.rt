@@ -1,5 +1,7 @@
 //! What a worker has in hand.
 
+ghost use Rattle.std.specs.Prelude.{◌≡◌};
+
 use crate::pouring::pour_sent;
 use df_core::{Job, Sent, Token, TokenList};
 use match_table::Results;
@@ -9,8 +11,11 @@ use store_buf::BufferAnswers;
 
 /// How a token is an item of seats, which may have other items too.
 pub trait Wrap<X, T> {
+    ghost wrapped: { X → T };
+
     /// The item.
-    fn wrap(token: X) -> T;
+    fn wrap(token: X) -> T
+        ensures { result ≡ wrapped token };
 
     /// The token of an item, if it is one.
     fn unwrap(item: T) -> Option<X>;
@@ -20,6 +25,8 @@ pub trait Wrap<X, T> {
 pub struct Bare;
 
 impl<X: Drop> Wrap<X, X> for Bare {
+    ghost wrapped = { λ x. x };
+
     #[inline(always)]
     fn wrap(token: X) -> X {
         token

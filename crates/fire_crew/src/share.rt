@@ -1,6 +1,7 @@
 //! A phase of several workers, and what is owed behind it.
 
-ghost use Rattle.std.specs.Prelude.{◌≡◌, ◌<◌, ◌≤◌, ◌-◌, IfOk, IfSome, None, OnOk, length, true};
+ghost use Rattle.std.specs.Prelude.{◌≡◌, ◌<◌, ◌≤◌, ◌-◌, IfOk, IfSome, None, OnOk, false, length};
+ghost use Rattle.std.specs.Prelude.{true};
 ghost use Rattle.match_table.specs.Growth.{AllGrow};
 ghost use Rattle.match_table.specs.Rows.{contents};
 ghost use Rattle.match_table.specs.Together.{AllServe, part_of};
@@ -53,6 +54,7 @@ impl<'a, G: Gate, R: Threads + Wait + Sync> Crew<'a, G, R> {
             (self.now.budget - length (part_of result.left.tables).fired) result.left.buffer
             result.left.tokens result.left.ending }
         ensures some { result.is_phase ≡ true → length (part_of tables).fired < self.now.budget }
+        ensures still { result.is_phase ≡ false → contents result.left.tables ≡ contents tables }
         ensures moved { result.is_phase ≡ true → result.left.ending ≡ None
             → length (part_of result.left.tables).fired < self.now.budget
             → BroughtOne (part_of tables).held (part_of result.left.tables).held }

@@ -1,6 +1,7 @@
 //! How the budget is shared out to tables.
 
-ghost use Rattle.std.specs.Prelude.{◌≡◌, ◌+◌, ◌-◌, ◌/◌, ◌<◌, ◌≤◌, ◌^◌, IfOk, length, slice_index, sum};
+ghost use Rattle.std.specs.Prelude.{◌≡◌, ◌+◌, ◌-◌, ◌/◌, ◌<◌, ◌≤◌, ◌^◌, ℕ, IfOk, length, slice_index};
+ghost use Rattle.std.specs.Prelude.{sum};
 ghost use Rattle.match_table.specs.Rows.{Fits};
 ghost use Rattle.match_table.specs.Together.{AllServe, part_of};
 ghost use Rattle.match_table.specs.Growth.{content_at};
@@ -11,8 +12,8 @@ use match_table::{Tables, count_of, table_at};
 use std::alloc::Global;
 use ws_words::NoMemory;
 
-/// So many firings, all of them shared out evenly: for each table the length that its list may have. The
-/// table `first` gets one of them at least.
+/// So many firings, all of them shared out evenly: for each table the length that its list may have, which
+/// is a sixteenth of them at least beyond what it lists. The table `first` gets one of them at least.
 pub fn limits<J: Job>(
     alloc: Global,
     tables: &Tables<J>,
@@ -25,6 +26,8 @@ pub fn limits<J: Job>(
     ensures fits { IfOk result (λ limits. Fits tables.now limits.items) }
     ensures sum { IfOk result (λ limits.
         sum limits.items ≡ length (part_of tables.now).fired + left) }
+    ensures even { IfOk result (λ limits. (k : ℕ) → k < 16
+        → length (content_at (contents tables.now) k).fired + left / 16 ≤ slice_index limits.items k) }
     ensures first { IfOk result (λ limits. first < 16 → 0 < left
         → length (content_at (contents tables.now) first).fired < slice_index limits.items first) }
 {
@@ -64,6 +67,7 @@ fn share_of(left: u64, number: u64, first: u64) -> u64
     requires { number < 16 }
     ensures within { result ≤ left }
     ensures even { left / (16 - number) ≤ result }
+    ensures same { 0 < left / (16 - number) → result ≡ left / (16 - number) }
     ensures others { (number ≡ first → ⊥) → result ≡ left / (16 - number) }
     ensures first { number ≡ first → 0 < left → 0 < result }
 {

@@ -1,7 +1,9 @@
 //! A turn: the budget is shared out, tokens are dealt, and workers run.
 
-ghost use Rattle.std.specs.Prelude.{◌≡◌, ◌<◌, ◌≤◌, IfOk, cond, length, min, nat_lt, true, false};
+ghost use Rattle.std.specs.Prelude.{◌≡◌, ◌<◌, ◌≤◌, IfOk, cond, length, map, min, nat_lt};
+ghost use Rattle.std.specs.Prelude.{false, true};
 ghost use Rattle.df_core.specs.Core.{has};
+ghost use Rattle.ready_pool.specs.Dealt.{Dealt};
 ghost use Rattle.match_table.specs.Together.{AllServe, part_of};
 ghost use Rattle.match_table.specs.Growth.{AllGrow};
 ghost use Rattle.match_table.specs.Rows.{contents};
@@ -14,7 +16,7 @@ use crate::{Bare, Gate, Wrap};
 use df_core::{Code, Job, Token, TokenList};
 use match_table::{Tables, fired, table_of};
 use port_set::Port;
-use ready_pool::{SeatList, seats};
+use ready_pool::{SeatList, put_next, seats};
 use std::alloc::Global;
 use std::marker::Brand;
 use std::sync::Wait;
@@ -107,24 +109,19 @@ fn dealt<J: Job>(
     Ok(seats)
 }
 
-/// Puts tokens into seats, one after another from this one on. Answers which comes next.
+/// Puts tokens into seats, one after another from this one on. What a seat's deque refuses is let go, which
+/// it does only where it is full. Answers which seat comes next.
 pub fn deal<L: Wrap<Token<J>, T>, J: Job, T: Drop>(
     seats: &mut SeatList<T>,
     first: usize,
     tokens: TokenList<J>,
 ) -> usize
-    ensures { length seats.new.items ≡ length seats.old.items }
+    ensures { Dealt seats.old.items (map L.wrapped tokens) seats.new.items }
 {
     let mut tokens = tokens;
     let mut at = first;
     while let Some(token) = tokens.pop() {
-        if at >= seats.len() {
-            at = 0;
-        }
-        if at < seats.len() {
-            let _ = seats[at].put(L::wrap(token));
-            at += 1;
-        }
+        at = put_next(seats, at, L::wrap(token));
     }
     at
 }

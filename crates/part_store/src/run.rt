@@ -1,7 +1,7 @@
 //! A run of an image on one thread, over one table and one buffer with partial store queues. Tokens are
-//! brought in rounds by wave, first in first out: what comes of a token is brought after all of its round
-//! if it is of that token's wave or an earlier one, and in the next round else. So a wave is brought as far
-//! as it goes before a later one begins, and all that is on the way comes in turn.
+//! brought in rounds by wave, and of each round the one that came last first: what comes of a token is of
+//! its round if it is of that token's wave or an earlier one, and of the next round else. So a wave is
+//! brought as far as it goes before a later one begins, and all that is on the way comes in turn.
 
 ghost use Rattle.std.specs.Prelude.{◌≡◌, ◌+◌, ◌≤◌, ◌∷◌, List, [], Option, true, length, MatchOption};
 ghost use Rattle.std.specs.Prelude.{OnOk};

@@ -12,4 +12,4 @@ pub go_on-ending-requires-clause-paid : goal.go_on-ending-requires-clause-paid
 go_on-ending-requires-clause-paid g c κs within =
     let t = part_of c.args.tables in
     rw c.none-2.ensures.0 (pay_more g.J.Job.image (Knows c.args.buffer) (Owes g.J.Job.image c.args.buffer) t
-    c.args.tokens c.pour.new.self c.in-Ok.ensures c.requires.paid)
+    c.args.tokens c.pour.new.self c.in-Ok.ensures.taken c.requires.paid)
