@@ -87,5 +87,6 @@ pub linked_plain : (image draft made : Image) → draft ≡ bare image → made 
 linked_plain image draft made e m formed sound = grind (arith, has_plain)
 
 pub refused_plain : (image draft : Image) (lack : Unfit) (fault : LinkFault) → draft ≡ bare image
-    → lacks draft ≡ Some lack → StillLacks draft lack fault → RefusesImage image fault
-refused_plain image draft lack fault e l h = grind arith
+    → ShapeRules image → SlotRules image → lacks draft ≡ Some lack → StillLacks draft lack fault
+    → RefusesImage image fault
+refused_plain image draft lack fault e shape slots l h = grind arith

@@ -86,7 +86,8 @@ BreaksDraft image (Shape b) = ShapeBreach image b
 abbrev pub BreaksImage : Image → LinkRefusal → Type 0
 BreaksImage image (Text kind line) = ⊥
 BreaksImage image (Unsound bad) = BreaksDraft image bad
-BreaksImage image (Unfit lack) = (lacks (bare image) ≡ Some lack) × (Sound (noted (bare image)) → ⊥)
+BreaksImage image (Unfit lack) = ShapeRules image × SlotRules image × (lacks (bare image) ≡ Some lack)
+    × (Sound (noted (bare image)) → ⊥)
 
 abbrev pub RefusesImage : Image → LinkFault → Type 0
 RefusesImage image (Refused refusal) = BreaksImage image refusal
