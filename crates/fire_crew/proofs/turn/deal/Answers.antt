@@ -1,5 +1,4 @@
-use Rattle.std.proofs.Common.{arith}
-use Rattle.ready_pool.proofs.Dealing.{left_all, left_next, left_none}
+use Rattle.ready_pool.proofs.Dealing.{left_all, left_next}
 use Rattle.fire_crew.proofs.turn.deal.Goals as goal
 
 pub loop-token-init : goal.loop-token-init
