@@ -7,7 +7,9 @@
 //! had, enough to cover what is owed (`Paid`). The verdict is in terms of the walk: all of it has fired
 //! (`all_run`); it has more instances and the outside is a prefix's (`some_run`); its first index fault
 //! has stopped the chain (`fault_run`); its next operation is on a port whose count of faults rose
-//! (`port_run`). `limits` shares out all firings; n instances have at most 3 n tokens (`few_tokens`).
+//! (`port_run`). `limits` shares out all firings, at least a sixteenth to
+//! each table; `deal` puts each token into a seat unless a deque is full (`Dealt`); n instances have at most
+//! 3 n tokens (`few_tokens`).
 //!
 //! `run_image`, with 1 to 8 workers (`Crew`), a hook (`Gate`) and a budget, runs an image and returns the
 //! ports. **Whatever the workers did** (`RunTells`): `Done` has the words, cells and ports of the whole walk,
@@ -17,9 +19,10 @@
 //! tables too (`LeavesAll`, `EndsSo`). Ends are stated in the walk's terms alone (`ends_are_told`).
 //!
 //! **Every phase makes progress**: it begins with a token that no table has had, and after `turn` a table
-//! has had it or no more may fire (`MovedOn`, `find_course`). `run_on` reports at most 3 n + 1 phases for n
-//! instances. No clause says that it returns, since workers may wait, or that a second phase follows the
-//! first. **One worker** (`run_solo`, and `go_alone` between phases) waits for nothing, so it returns.
+//! has had it or no more may fire (`MovedOn`, `find_course`). `run_on` reports at most 3 n + 1 phases for
+//! n instances, and a phase that `share` does not report has changed no table. No clause says that it
+//! returns, since workers may wait, or that a second phase follows the first. **One worker** (`run_solo`,
+//! and `go_alone` between phases) waits for nothing, so it returns.
 #![tactic(auto)]
 
 mod crew;
