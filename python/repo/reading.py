@@ -37,11 +37,11 @@ NEED_NO_UNFOLDING = (r"wsc_top/Calls\.CallEnds", r"wsc_top/Answers\.TellWords", 
 STATEMENTS = {
     "OneResult": ("OneResult", "OneImageResult", "OneFront", "OneImageFront"),
     "Others": (
-        *("OneMemory", "OneImageMemory", "OneCount", "OneRunCount", "OneResultWith", "OneImageResultWith"),
-        *("OneMulti", "OneTrace", "OneBench"),
+        *("OneMemory", "OneImageMemory", "OneStats", "OneImageStats", "OneCount", "OneRunCount"),
+        *("OneResultWith", "OneImageResultWith", "OneMulti", "OneTrace", "OneBench"),
     ),
     "Sequential": ("OneMeaning", "JobMeaning"),
-    "Ends": ("JobsEnd", "CodeEnds", "NeverEnds"),
+    "Ends": ("JobsEnd", "CodeEnds", "AssembliesEnd", "NeverEnds"),
 }
 
 # The lists of the page: a heading, what stands above the files, the statements, and what is left out.

@@ -10,7 +10,7 @@ use Rattle.src_ast.specs.Once.{ExactlyOne}
 use Rattle.src_ast.specs.Runs.{Runs}
 use Rattle.src_ast.specs.Syntax.{Part}
 use Rattle.ws_isa.specs.Image.{Image, array_at}
-use Rattle.ws_isa.specs.Walk.{mem}
+use Rattle.ws_isa.specs.Walk.{mem, CostAtMost}
 use Rattle.ws_isa.specs.Operations.{past, FaultsAt, NoFault}
 use Rattle.df_core.specs.Ends.{FirstWithin}
 use Rattle.port_set.specs.Ports.{Told}
@@ -41,7 +41,7 @@ use Rattle.wsc_top.proofs.Calling.Tasks.{OneLine}
 use Rattle.wsc_top.proofs.Told.Tells.{input_words}
 use Rattle.wsc_top.proofs.Several.ThreadAnswers.{reply_other}
 use Rattle.one_result.specs.OneResult.{CalledBy, HasWritten, input_section, job_commands, assembly_commands}
-use Rattle.one_result.specs.Ends.{MaySpend, AskToSpend, HasFailed, JobsEnd, CodeEnds}
+use Rattle.one_result.specs.Ends.{MaySpend, AskToSpend, HasFailed, JobsEnd, CodeEnds, AssembliesEnd}
 use Rattle.one_result.proofs.Words.{asked}
 use Rattle.one_result.proofs.Written.{RunsJob, RunsImage, Replied, replied, job_kind, image_kind}
 use Rattle.one_result.proofs.Jobs.{silent_world}
@@ -230,3 +230,43 @@ pub code_ends : OneLine → RunsOnce → ((text : List ℕ) → ExactlyOne (IsTe
 code_ends one law once jobs assemblies codes_read text code parts input turns end s out job runs is short h =
     by_status s (code_unfailed one law once jobs assemblies codes_read text code parts input turns end s out
     job runs (code_of text code is) short h)
+
+module _ (one : OneLine) (jobs : JobsDecided) (assemblies : AssembliesDecided) (text : List ℕ)
+    (image : Image) (input : List ℕ) (firings : ℕ) (s : Status) (out : List ℕ)
+    (assembly : IsAssembly text image input) (none : NoFault image (world_of input))
+    (cost : CostAtMost image (world_of input) firings) (short : length text ≤ assembly_limit)
+    (h : HasWritten assembly_commands (AskToSpend firings 0) text s out) where
+  rests : (most : ℕ) → firings ≤ most → Rests image (world_of input) most
+  rests most le = (none, λ t. omega (arith, cost t, le))
+
+  is_told_so : (t : AssemblyTask) → AsksFor h.called.words (Assembly t)
+      → IsAssembly (answers.assembly_text t text) image input
+      → IsToldAssembly h.called.words (Some text) t image input
+  is_told_so t line is = grind arith
+
+  image_task : (t : Task) (memory stats : Bool) → RunsImage memory stats t → AsksFor h.called.words t
+      → MaySpend firings 0 t → Unfailed s
+  image_task (Assembly (task.Exec options)) memory stats k line may w m f =
+      let told = is_told_so (task.Exec options) line assembly in
+      let ends = assembly_status one jobs assembly_commands (AskToSpend firings 0) text h.ports s out h.image
+      h.back h.called assemblies (task.Exec options) image input line told w m f in
+      ends.done (subst (λ (w : World). Rests image w options.budget)
+      (sym (silent_world input h.ports h.silent)) (rests options.budget may))
+  image_task (Assembly (task.Grid options)) memory stats k line may w m f =
+      let told = is_told_so (task.Grid options) line assembly in
+      let ends = assembly_status one jobs assembly_commands (AskToSpend firings 0) text h.ports s out h.image
+      h.back h.called assemblies (task.Grid options) image input line told w m f in
+      ends.done (rests options.budget may)
+  image_task t memory stats k line may w m f = absurd k
+
+  image_unfailed : Unfailed s
+  image_unfailed =
+      let c = h.called in
+      let asks = asked assembly_commands (AskToSpend firings 0) c.words c.such.0 c.call c.such c.such.1 in
+      let line = line_of asks.command asks.given in
+      image_task c.such.0 line.memory line.stats (image_kind (AskToSpend firings 0) c.such.0 asks) c.such.1
+      c.such.2
+
+pub assemblies_end : OneLine → JobsDecided → AssembliesDecided → AssembliesEnd
+assemblies_end one jobs assemblies text image input firings s out assembly none cost short h =
+    by_status s (image_unfailed one jobs assemblies text image input firings s out assembly none cost short h)

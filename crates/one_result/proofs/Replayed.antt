@@ -23,7 +23,8 @@ use Rattle.wsc_top.specs.Executions.{Rests}
 use Rattle.wsc_top.specs.Answers as answers
 use Rattle.wsc_top.specs.Answers.{AssemblyAnswered}
 use Rattle.wsc_top.proofs.Reading.AssembliesOnce.{WalksOnce, one_assembly, no_fault_here}
-use Rattle.one_result.specs.Others.{OneTrace, lines_of}
+use Rattle.one_result.specs.OneResult.{lines_of}
+use Rattle.one_result.specs.Others.{OneTrace}
 use Rattle.one_result.proofs.Written.{IsTrace, IsReplay, TextTold, trace_written, replay_written}
 use Rattle.one_result.proofs.Written as written
 use Rattle.one_result.proofs.Jobs.{told_result}

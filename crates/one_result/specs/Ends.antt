@@ -1,5 +1,5 @@
--- That a job comes to its result: so what OneResult.antt says of results speaks of every job whose sequential
--- run ends.
+-- What a call on a job comes to that has ended: its result, where the sequential run ends and the budget
+-- suffices.
 use Rattle.std.specs.Prelude.{◌≡◌, ◌⊎◌, ℕ, suc, ◌*◌, ◌≤◌, Bool, List, ◌++◌, length}
 use Rattle.ws_words.specs.Outside.{Outside}
 use Rattle.src_ast.specs.Bound.{bound}
@@ -13,7 +13,10 @@ use Rattle.wsc_top.specs.declared.task.JobTask.TheVariants.{Run, Plain}
 use Rattle.wsc_top.specs.declared.task.AssemblyTask.TheVariants.{Exec, Grid}
 use Rattle.wsc_top.specs.Tasks.{AsksFor}
 use Rattle.wsc_top.specs.Job.{IsJob, job_limit, world_of}
-use Rattle.wsc_top.specs.Assembly.{assembly_limit}
+use Rattle.ws_isa.specs.Image.{Image}
+use Rattle.ws_isa.specs.Operations.{NoFault}
+use Rattle.ws_isa.specs.Walk.{CostAtMost}
+use Rattle.wsc_top.specs.Assembly.{IsAssembly, assembly_limit}
 use Rattle.one_result.specs.OneResult.{HasWritten, IsCodeOf, JobHasRun, IsResult, job_commands}
 use Rattle.one_result.specs.OneResult.{assembly_commands, input_section}
 
@@ -52,6 +55,16 @@ CodeEnds = (text code : List ℕ) (parts : List Part) (input : List ℕ) (turns 
     → length (code ++ input_section text) ≤ assembly_limit
     → HasWritten assembly_commands (AskToSpend (bound parts * suc turns) turns) (code ++ input_section text)
     status out
+    → (status ≡ Done) ⊎ HasFailed status
+
+-- An assembly whose walk meets no index fault comes to its end where its budget is at least what the walk
+-- costs.
+abbrev pub AssembliesEnd : Type 0
+AssembliesEnd = (text : List ℕ) (image : Image) (input : List ℕ) (firings : ℕ) (status : Status)
+    (out : List ℕ)
+    → IsAssembly text image input → NoFault image (world_of input)
+    → CostAtMost image (world_of input) firings → length text ≤ assembly_limit
+    → HasWritten assembly_commands (AskToSpend firings 0) text status out
     → (status ≡ Done) ⊎ HasFailed status
 
 -- A job whose sequential run never ends never comes to a result, whatever it may spend.

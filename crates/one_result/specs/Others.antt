@@ -1,12 +1,13 @@
 -- One text, one result, beside what OneResult.antt says: with `--memory` and without it, with `--stats`, with
 -- ports that have words left, by `multi`, by `trace` and `replay`, and by `bench`.
 --
--- `--stats` is said of `exec` and `decouple` on one assembly, and of calls of `run` that hand back the same
--- image: the number of firings is that of the image, and nothing says that two calls compile a program to one
--- image. `plain` counts turns, `grid` cycles as well, which its size decides. `plain` and `grid` let ports
--- alone, and so the laws of ports leave them out.
+-- With `--stats` a line follows what is written without it. That two runs tell the same in it is said of
+-- `exec` and `decouple` on one assembly, and of calls of `run` that hand back the same image: the number of
+-- firings is that of the image, and nothing says that two calls compile a program to one image. `plain`
+-- counts turns, `grid` cycles as well, which its size decides. `plain` and `grid` let ports alone, and so
+-- the laws of ports leave them out.
 use Rattle.std.specs.Prelude.{◌≡◌, ◌⊎◌, ℕ, suc, ◌≤◌, Bool, true, false, IsTrue, List, [], ◌∷◌, ◌++◌, codes}
-use Rattle.std.specs.Prelude.{flat_map, map, Option, Some, None}
+use Rattle.std.specs.Prelude.{map, Option, Some, None}
 use Rattle.ws_words.specs.Digits.{is_number}
 use Rattle.ws_isa.specs.Image.{Image}
 use Rattle.port_set.specs.Ports.{Told}
@@ -14,10 +15,11 @@ use Rattle.port_set.specs.Slots.{port_at}
 use Rattle.wsc_top.specs.declared.status.Status.{Status}
 use Rattle.wsc_top.specs.declared.status.Status.TheVariants.{Done, Budget}
 use Rattle.wsc_top.specs.Jobs.{Piece, Jobs}
-use Rattle.wsc_top.specs.Texts.{word_line, done_text, summary_text, firings_line}
+use Rattle.wsc_top.specs.Texts.{done_text, summary_text, firings_line}
 use Rattle.wsc_top.specs.Threads.{thread_line, status_of}
 use Rattle.one_result.specs.OneResult.{HasFlags, CalledBy, HasWritten, IsCodeOf, AssemblyHasRun}
-use Rattle.one_result.specs.OneResult.{input_section, JobHasRun, IsResult, IsFront}
+use Rattle.one_result.specs.OneResult.{input_section, JobHasRun, IsResult, IsFront, job_commands}
+use Rattle.one_result.specs.OneResult.{lines_of}
 
 -- With `--memory` a job writes what it writes without it, and the arrays behind that.
 abbrev pub OneMemory : Type 0
@@ -52,6 +54,20 @@ OneRunCount = (memory : Bool) (text : List ℕ) (ports back after : List (Option
     → CalledBy run_commands (HasFlags memory true) text ports status out (Some image) back
     → CalledBy run_commands (HasFlags memory true) text ports other again (Some image) after
     → IsResult status → IsResult other → (status ≡ other) × (out ≡ again)
+
+-- With `--stats` a job writes what it writes without it, and a line behind that, which is empty at a fault.
+abbrev pub OneStats : Type 0
+OneStats = (memory : Bool) (text : List ℕ) (status other : Status) (out again : List ℕ)
+    → HasWritten job_commands (HasFlags memory true) text status out → JobHasRun memory text other again
+    → IsResult status → IsResult other
+    → (status ≡ other) × ((line : List ℕ) × (out ≡ again ++ line))
+
+-- So does an assembly, by `exec` and `decouple`.
+abbrev pub OneImageStats : Type 0
+OneImageStats = (memory : Bool) (text : List ℕ) (status other : Status) (out again : List ℕ)
+    → HasWritten crew_commands (HasFlags memory true) text status out
+    → AssemblyHasRun memory text other again → IsResult status → IsResult other
+    → (status ≡ other) × ((line : List ℕ) × (out ≡ again ++ line))
 
 -- two slots are empty, or their ports tell that they have the same left, and have taken the same
 abbrev pub IsLeftAlike : Option Told → Option Told → Type 0
@@ -131,10 +147,6 @@ trace_commands = codes "trace" ∷ []
 
 abbrev pub replay_commands : List (List ℕ)
 replay_commands = codes "replay" ∷ []
-
--- the lines of some words
-abbrev pub lines_of : List ℕ → List ℕ
-lines_of words = flat_map word_line words
 
 -- A trace that has come to rest prints the words of the result, as `replay` tells them.
 abbrev pub OneTrace : Type 0
