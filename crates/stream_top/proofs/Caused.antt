@@ -41,8 +41,7 @@ NeverBoth = (text : List ℕ) (image : Image) (words : List ℕ) (r : AsmRefusal
 
 never_past : (image : Image) (world : World) (t : ℕ) → NoFault image world → FaultsAt image world t → ⊥
 never_past image world t none fault =
-    let no = none t fault.inst fault.fired in let yes = fault.is_past in
-    let two : true ≡ false = sym yes ∙ no in cc
+    let two : true ≡ false = sym fault.is_past ∙ none t fault.inst fault.fired in cc
 
 -- how a run that keeps `RunSo` ended is what the walk decides
 ends_by : (image : Image) (world : World) (budget : ℕ) (how : Finish) (left : Left)
@@ -50,17 +49,17 @@ ends_by : (image : Image) (world : World) (budget : ℕ) (how : Finish) (left : 
 ends_by image world budget finish.Rest left r = record {
   done = (λ e. r.rests.0 refl, λ h. refl);
   fault = λ t f cost. absurd (never_past image world t (r.rests.0 refl).0 f);
-  budget = λ none dear. absurd (dear (r.rests.0 refl).1);
+  spent = λ none dear. absurd (dear (r.rests.0 refl).1);
 }
 ends_by image world budget finish.Budget left r = record {
-  done = (λ e. absurd cc, λ h. let no : false ≡ true = r.rests.1 h in absurd cc);
-  fault = λ t f cost. let no : false ≡ true = r.faults t f cost in absurd cc;
-  budget = λ none dear. refl;
+  done = (λ e. absurd cc, λ h. let two : false ≡ true = r.rests.1 h in absurd cc);
+  fault = λ t f cost. let two : false ≡ true = r.faults t f cost in absurd cc;
+  spent = λ none dear. refl;
 }
 ends_by image world budget (finish.Fault array) left r = record {
-  done = (λ e. absurd cc, λ h. let no : false ≡ true = r.rests.1 h in absurd cc);
+  done = (λ e. absurd cc, λ h. let two : false ≡ true = r.rests.1 h in absurd cc);
   fault = λ t f cost. refl;
-  budget = λ none dear. absurd (never_past image world _ none r.told.fault);
+  spent = λ none dear. absurd (never_past image world _ none r.told.fault);
 }
 
 not_usage : (how : Finish) → status_of how ≡ Usage → ⊥
@@ -100,7 +99,7 @@ module _ (words : List (List ℕ)) (reads : SourceCall) (writes : Writing) where
 
   usage_of : (status : Status) → CallEnds words reads writes status → IsNoLine words
       → (Rose writes.faults writes.counted → ⊥) → OrNoMemory status Usage
-  usage_of status (ends.CallEnds.answered text (ends.IsAnswer.usage no same) w) none sink = inl refl
+  usage_of status (ends.CallEnds.answered text (ends.IsAnswer.usage unlined same) w) none sink = inl refl
   usage_of status (ends.CallEnds.answered text (ends.IsAnswer.refused o line r) w) none sink =
       absurd (none o line)
   usage_of status (ends.CallEnds.ran o image input how due w) none sink = absurd (none o due.line)
@@ -110,7 +109,7 @@ module _ (words : List (List ℕ)) (reads : SourceCall) (writes : Writing) where
   usage_of status (ends.CallEnds.stopped o image input due part) none sink = inr refl
 
   no_line_of : (status : Status) → CallEnds words reads writes status → status ≡ Usage → IsNoLine words
-  no_line_of status (ends.CallEnds.answered text (ends.IsAnswer.usage no same) w) e = no
+  no_line_of status (ends.CallEnds.answered text (ends.IsAnswer.usage unlined same) w) e = unlined
   no_line_of status (ends.CallEnds.answered text (ends.IsAnswer.refused o line r) w) e =
       elim (refused_by reads status text r) [ inl s ↦ absurd cc | inr s ↦ absurd (cc s.0) ]
   no_line_of status (ends.CallEnds.ran o image input how due w) e = absurd (not_usage how e)
@@ -121,7 +120,7 @@ module _ (words : List (List ℕ)) (reads : SourceCall) (writes : Writing) where
 
   read_rose : (status : Status) → CallEnds words reads writes status → status ≡ ReadFault
       → Rose reads.faults reads.counted
-  read_rose status (ends.CallEnds.answered text (ends.IsAnswer.usage no same) w) e = absurd cc
+  read_rose status (ends.CallEnds.answered text (ends.IsAnswer.usage unlined same) w) e = absurd cc
   read_rose status (ends.CallEnds.answered text (ends.IsAnswer.refused o line r) w) e =
       elim (refused_by reads status text r) [ inl s ↦ absurd cc | inr s ↦ s.1 ]
   read_rose status (ends.CallEnds.ran o image input how due w) e = absurd (not_read how e)
@@ -132,7 +131,7 @@ module _ (words : List (List ℕ)) (reads : SourceCall) (writes : Writing) where
 
   write_rose : (status : Status) → CallEnds words reads writes status → status ≡ WriteFault
       → Rose writes.faults writes.counted
-  write_rose status (ends.CallEnds.answered text (ends.IsAnswer.usage no same) w) e = absurd cc
+  write_rose status (ends.CallEnds.answered text (ends.IsAnswer.usage unlined same) w) e = absurd cc
   write_rose status (ends.CallEnds.answered text (ends.IsAnswer.refused o line r) w) e =
       elim (refused_by reads status text r) [ inl s ↦ absurd cc | inr s ↦ absurd (cc s.0) ]
   write_rose status (ends.CallEnds.ran o image input how due w) e = absurd (not_written how e)
@@ -146,8 +145,8 @@ module _ (words : List (List ℕ)) (reads : SourceCall) (writes : Writing) where
     refused_of : (options : Options) → AsksForRun words options → (length text ≤ assembly_limit
         → (image : Image) (input : List ℕ) → IsAssembly text image input → ⊥)
         → (status : Status) → CallEnds words reads writes status → OrNoMemory status Refused
-    refused_of options line other status (ends.CallEnds.answered t (ends.IsAnswer.usage no same) w) =
-        absurd (no options line)
+    refused_of options line other status (ends.CallEnds.answered t (ends.IsAnswer.usage unlined same) w) =
+        absurd (unlined options line)
     refused_of options line other status (ends.CallEnds.answered t (ends.IsAnswer.refused o l r) w) =
         elim (refused_by reads status t r) [ inl s ↦ inl s | inr s ↦ absurd (well.source s.1) ]
     refused_of options line other status (ends.CallEnds.ran o image input how due w) =
@@ -196,7 +195,7 @@ module _ (words : List (List ℕ)) (reads : SourceCall) (writes : Writing) where
 
       ends_of : (status : Status) → CallEnds words reads writes status
           → EndsBy image (world_of input) options.budget status ⊎ (status ≡ NoMemory)
-      ends_of status (ends.CallEnds.answered t (ends.IsAnswer.usage no same) w) = absurd (no options line)
+      ends_of status (ends.CallEnds.answered t (ends.IsAnswer.usage unlined same) w) = absurd (unlined options line)
       ends_of status (ends.CallEnds.answered t (ends.IsAnswer.refused o l r) w) =
           absurd (not_refused status t r)
       ends_of status (ends.CallEnds.ran o ran words_in how due w) = inl (ran_so o ran words_in how due

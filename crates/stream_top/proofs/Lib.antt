@@ -1,3 +1,4 @@
 mod Asked
 mod Budgets
 mod Caused
+mod Ending

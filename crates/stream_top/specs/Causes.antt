@@ -31,7 +31,7 @@ pub record NoFaults (reads : SourceCall) (writes : Writing) : Type 0 where
 pub record EndsBy (image : Image) (world : World) (budget : ℕ) (status : Status) : Type 0 where
   pub done : (status ≡ Done) ↔ (NoFault image world × CostAtMost image world budget)
   pub fault : (t : ℕ) → FaultsAt image world t → CostAtMost image world budget → status ≡ Fault
-  pub budget : NoFault image world → (CostAtMost image world budget → ⊥) → status ≡ Budget
+  pub spent : NoFault image world → (CostAtMost image world budget → ⊥) → status ≡ Budget
 
 -- the causes of a status of a call on these words
 pub record CallCaused (words : List (List ℕ)) (reads : SourceCall) (writes : Writing) (status : Status)
