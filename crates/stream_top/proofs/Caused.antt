@@ -195,7 +195,8 @@ module _ (words : List (List ℕ)) (reads : SourceCall) (writes : Writing) where
 
       ends_of : (status : Status) → CallEnds words reads writes status
           → EndsBy image (world_of input) options.budget status ⊎ (status ≡ NoMemory)
-      ends_of status (ends.CallEnds.answered t (ends.IsAnswer.usage unlined same) w) = absurd (unlined options line)
+      ends_of status (ends.CallEnds.answered t (ends.IsAnswer.usage unlined same) w) = absurd (unlined
+          options line)
       ends_of status (ends.CallEnds.answered t (ends.IsAnswer.refused o l r) w) =
           absurd (not_refused status t r)
       ends_of status (ends.CallEnds.ran o ran words_in how due w) = inl (ran_so o ran words_in how due
