@@ -13,8 +13,8 @@ use Rattle.wsc_top.specs.declared.status.Status.TheVariants.{Done, Budget, Fault
 use Rattle.run_text.specs.declared.report.Report.{Report}
 use Rattle.run_text.specs.declared.report.Report.TheVariants.{Full, Brief}
 use Rattle.wsc_top.specs.declared.task.RunOptions.{RunOptions}
-use Rattle.run_text.specs.Texts.{shown_names}
-use Rattle.run_text.specs.Texts.{called}
+use Rattle.run_text.specs.Texts.{shown_names, called}
+use Rattle.run_text.specs.Reports.{end_report, spent_report, fault_report, failed_report}
 
 -- whether firings are told of
 abbrev pub tells_firings : Report → Bool
