@@ -234,7 +234,9 @@ make_assembly() {
     exec <"$text"
     rm "$text"
     program=$streamer
-    [ "$status" -eq 0 ] || { cat && exit "$status"; }
+    [ "$status" -ne 0 ] || return 0
+    cat || status=5
+    exit "$status"
 }
 
 # Whether the first line of the text that is neither blank nor a comment is the head of an assembly.

@@ -145,6 +145,6 @@ fn a_read_that_fails_is_told(rt: HostRuntime) -> Result<(), Fail> {
         ..SOUND
     };
     let (code, told) = heard(alloc, asked, ends)?;
-    assert!(rt; code == 4 && told.as_slice() == b"fault read\n");
+    assert!(rt; code == 4 && told.as_slice() == b"fault read\n".as_slice());
     Ok(())
 }
