@@ -35,15 +35,17 @@ function made(tag, attributes, ...parts) {
   return it;
 }
 
+// The programs of the site; serve.js, which reads the same element, comes behind this script.
+const PROGRAMS = JSON.parse(document.getElementById("data").textContent).programs;
 // The lines that can be run. Those that read an assembly are given that of a job, `replay` is given a trace.
 const LINES = ["run", "plain", "multi", "format", "compile", "check", "list", "exec", "decouple", "grid", "trace", "replay",
-  "gen", "bench", ...DATA.programs.filter(it => it !== "wsc")];
+  "gen", "bench", ...PROGRAMS.filter(it => it !== "wsc")];
 const PLACEHOLDERS = {
   run: "--workers 8 --memory --stats", plain: "--turns 1000 --memory --stats", multi: "--stats", exec: "--workers 8 --stats",
   decouple: "--budget 1000 --stats", grid: "--elements 16 --waves 4 --stats", trace: "--budget 100", gen: "7", bench: "7",
 };
 // Whether a line is one of a program beside wsc.
-const isProgram = word => DATA.programs.includes(word);
+const isProgram = word => PROGRAMS.includes(word);
 // What such a program reads: wsl the draft itself, each other an assembly, of a job that which it compiles to.
 const readBy = async (name, text, signal) =>
   name === "wsl" ? text : (await moduleOf("wsc")).ask("saved", [text, "assembly"], {signal});
