@@ -266,28 +266,33 @@ def table(found: dict[str, Times], program: str, base: Call, by_clock: bool) -> 
         row(name, *first, *ratios, *([times.size(crew(program, 1))] if by_clock else []))
 
 
-def instructions(program: str, image: str, budget: str) -> int:
-    """What one worker executes in a run, by valgrind's count."""
+def instructions(call: Call, image: str, budget: str) -> int:
+    """What a call executes, by valgrind's count."""
     counter = ("valgrind", "--tool=cachegrind", "--cache-sim=no", f"--cachegrind-out-file={os.devnull}")
-    command = (*counter, program, *crew(program, 1).words, "--budget", budget)
+    command = (*counter, call.program, *call.words, "--budget", budget)
     done = subprocess.run(command, input=image, capture_output=True, text=True)
     counted = re.search(r"I +refs: +([\d,]+)", done.stderr)
     assert counted, done.stderr
     return int(counted[1].replace(",", ""))
 
 
-def within(program: str, kind: Kind) -> float:
+def within(call: Call, image: str) -> float:
     """Instructions a firing between two budgets of one run."""
-    image = image_of(program, kind.make(kind.size))
-    few, many = (instructions(program, image, str(budget)) for budget in BUDGETS)
+    few, many = (instructions(call, image, str(budget)) for budget in BUDGETS)
     return (many - few) / (BUDGETS[1] - BUDGETS[0])
 
 
-def to_end(program: str, kind: Kind) -> float:
+def to_end(call: Call, images: Sequence[str]) -> float:
     """Instructions a firing between two runs that come to their ends."""
-    images = [image_of(program, kind.make(size)) for size in kind.counted or ()]
-    few, many = ((crew(program, 1).run(it, MOST).firings, instructions(program, it, MOST)) for it in images)
+    few, many = ((call.run(it, MOST).firings, instructions(call, it, MOST)) for it in images)
     return (many[1] - few[1]) / (many[0] - few[0])
+
+
+def counts(program: str, kind: Kind) -> Iterator[str]:
+    """Instructions a firing of one worker, within a run and to its end."""
+    image, *others = (image_of(program, kind.make(size)) for size in (kind.size, *(kind.counted or ())))
+    yield f"{within(crew(program, 1), image):.0f}"
+    yield f"{to_end(crew(program, 1), others):.0f}"
 
 
 def options() -> argparse.Namespace:
@@ -323,7 +328,7 @@ def main() -> None:
         parts = ("within a run", "to its end", "within a run (older)", "to its end (older)")
         head("Job", *parts[: 2 * len(programs)])
         for name in counted:
-            row(name, *(f"{count(it, kinds[name]):.0f}" for it in programs for count in (within, to_end)))
+            row(name, *(count for it in programs for count in counts(it, kinds[name])))
 
 
 if __name__ == "__main__":

@@ -173,6 +173,20 @@ module _ (law : RunsOnce) (parts : List Part) (image : Image) (is : IsCompiled p
   comes_to_rest most le = let cost = is.cost (world_of input) of_words turns end runs.passes in
       (no_fault image (world_of input) never_faults, grind arith)
 
+-- the image of what `compile` has written of a job whose run ends
+module _ (law : RunsOnce) (once : (text : List ℕ) → ExactlyOne (IsTextAnswer text)) (text code : List ℕ)
+    (parts : List Part) (input : List ℕ) (turns : ℕ) (end : Outside) (job : IsJob text parts input)
+    (runs : Runs parts (world_of input) turns end) (a : Code text code) where
+  same_job : ◌≡◌ {A = alike.Job} (parts, input) (a.parts, a.input)
+  same_job = one_job text (once text) parts a.parts input a.input job a.job
+
+  pub code_rests : (most : ℕ) → bound parts * suc turns ≤ most → Rests a.image (world_of a.input) most
+  code_rests most le =
+      let runs_here = subst (λ (x : alike.Job). Runs x.0 (world_of x.1) turns end) same_job runs in
+      let le_here = subst (λ (x : alike.Job). bound x.0 * suc turns ≤ most) same_job le in
+      comes_to_rest law a.parts a.image a.is a.input (input_words _ _ a.input a.job.words) turns end runs_here
+      most le_here
+
 module _ (one : OneLine) (law : RunsOnce) (once : (text : List ℕ) → ExactlyOne (IsTextAnswer text))
     (jobs : JobsDecided) (assemblies : AssembliesDecided) (codes_read : CodesRead)
     (text code : List ℕ) (parts : List Part) (input : List ℕ) (turns : ℕ) (end : Outside) (s : Status)
@@ -189,15 +203,8 @@ module _ (one : OneLine) (law : RunsOnce) (once : (text : List ℕ) → ExactlyO
   abbrev Such : List (List ℕ) → Type 0
   Such = AskToSpend enough turns
 
-  same_job : ◌≡◌ {A = alike.Job} (parts, input) (a.parts, a.input)
-  same_job = one_job text (once text) parts a.parts input a.input job a.job
-
-  code_rests : (most : ℕ) → enough ≤ most → Rests a.image (world_of a.input) most
-  code_rests most le =
-      let runs_here = subst (λ (x : alike.Job). Runs x.0 (world_of x.1) turns end) same_job runs in
-      let le_here = subst (λ (x : alike.Job). bound x.0 * suc turns ≤ most) same_job le in
-      comes_to_rest law a.parts a.image a.is a.input (input_words _ _ a.input a.job.words) turns end runs_here
-      most le_here
+  rests_here : (most : ℕ) → enough ≤ most → Rests a.image (world_of a.input) most
+  rests_here = code_rests law once text code parts input turns end job runs a
 
   is_told_here : (t : AssemblyTask) → AsksFor h.called.words (Assembly t)
       → IsAssembly (answers.assembly_text t there) a.image a.input
@@ -211,12 +218,12 @@ module _ (one : OneLine) (law : RunsOnce) (once : (text : List ℕ) → ExactlyO
       let ends = assembly_status one jobs assembly_commands Such there h.ports s out h.image h.back h.called
       assemblies (task.Exec options) a.image a.input line told w m f in
       ends.done (subst (λ (w : World). Rests a.image w options.budget)
-      (sym (silent_world a.input h.ports h.silent)) (code_rests options.budget may))
+      (sym (silent_world a.input h.ports h.silent)) (rests_here options.budget may))
   code_task (Assembly (task.Grid options)) memory stats k line may w m f =
       let told = is_told_here (task.Grid options) line (codes_read text code a) in
       let ends = assembly_status one jobs assembly_commands Such there h.ports s out h.image h.back h.called
       assemblies (task.Grid options) a.image a.input line told w m f in
-      ends.done (code_rests options.budget may)
+      ends.done (rests_here options.budget may)
   code_task t memory stats k line may w m f = absurd k
 
   code_unfailed : Unfailed s

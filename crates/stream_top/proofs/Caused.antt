@@ -24,7 +24,7 @@ use Rattle.stream_run.specs.Ends.{WritesPart}
 use Rattle.stream_top.specs.Lines.{AsksForRun}
 use Rattle.stream_top.specs.Calls as ends
 use Rattle.stream_top.specs.Calls.{CallEnds, IsAnswer, IsRefused, IsNoLine, IsDue, status_of}
-use Rattle.stream_top.specs.Causes.{OrNoMemory, NoFaults, EndsBy, CallCaused}
+use Rattle.stream_top.specs.Causes.{OrNoMemory, FailedStatus, NoFaults, EndsBy, CallCaused}
 
 abbrev pub OneAsking : Type 0
 OneAsking = (words : List (List ℕ)) (options others : Options) → AsksForRun words options
@@ -159,53 +159,50 @@ module _ (words : List (List ℕ)) (reads : SourceCall) (writes : Writing) where
     refused_of options line other status (ends.CallEnds.starved same covered) = inr refl
     refused_of options line other status (ends.CallEnds.stopped o image input due part) = inr refl
 
-    -- which is an assembly
-    module _ (one : OneAsking) (alike : OneImage) (never : NeverBoth) (options : Options)
-        (line : AsksForRun words options) (image : Image) (input : List ℕ) (short : length text ≤
-        assembly_limit)
-        (assembly : IsAssembly text image input) where
-      too_long : (bytes : List ℕ) → length bytes ≡ assembly_limit + 1 → Takes reads.left bytes reads.after → ⊥
-      too_long bytes more takes =
-          let found : (rest : List ℕ) × (text ≡ bytes ++ rest) × (reads.after ≡ Some rest) =
-          subst (λ (o : Option (List ℕ)). Takes o bytes reads.after) told takes in
-          let sum : length text ≡ length bytes + length found.0 =
-          ap length found.1 ∙ length-append bytes found.0 in
-          absurd (omega arith)
+  -- one that is an assembly
+  module _ (text : List ℕ) (told : reads.left ≡ Some text) (one : OneAsking) (alike : OneImage)
+      (never : NeverBoth) (options : Options) (line : AsksForRun words options) (image : Image)
+      (input : List ℕ) (short : length text ≤ assembly_limit) (assembly : IsAssembly text image input) where
+    too_long : (bytes : List ℕ) → length bytes ≡ assembly_limit + 1 → Takes reads.left bytes reads.after → ⊥
+    too_long bytes more takes =
+        let found : (rest : List ℕ) × (text ≡ bytes ++ rest) × (reads.after ≡ Some rest) =
+        subst (λ (o : Option (List ℕ)). Takes o bytes reads.after) told takes in
+        let sum : length text ≡ length bytes + length found.0 =
+        ap length found.1 ∙ length-append bytes found.0 in
+        absurd (omega arith)
 
-      not_refused : (status : Status) (t : List ℕ) → IsRefused reads status t → ⊥
-      not_refused status t (ends.IsRefused.failed u) = well.source u.1
-      not_refused status t (ends.IsRefused.long u) = too_long u.0 u.1 u.2
-      not_refused status t (ends.IsRefused.faulty why u) =
-          let same = whole_is reads.left reads.after text u.0 told u.2 in
-          never text image input why assembly
-          (subst (λ (x : List ℕ). RefusesAssembly x why) (sym same) u.3)
+    unread : (status : Status) (t : List ℕ) → IsRefused reads status t → FailedStatus status
+    unread status t (ends.IsRefused.failed u) = inr (inl refl)
+    unread status t (ends.IsRefused.long u) = absurd (too_long u.0 u.1 u.2)
+    unread status t (ends.IsRefused.faulty why u) =
+        let same = whole_is reads.left reads.after text u.0 told u.2 in
+        absurd (never text image input why assembly
+        (subst (λ (x : List ℕ). RefusesAssembly x why) (sym same) u.3))
 
-      ran_so : (o : Options) (ran : Image) (words_in : List ℕ) (how : Finish)
-          → IsDue words reads o ran words_in
-          → EndsBy ran (world_of words_in) o.budget (status_of how)
-          → EndsBy image (world_of input) options.budget (status_of how)
-      ran_so o ran words_in how due h =
-          let same = whole_is reads.left reads.after text due.read.text told due.read.takes in
-          let its = subst (λ (t : List ℕ). IsAssembly t ran words_in) (sym same) due.read.assembly in
-          let both = alike text ran image words_in input its assembly in
-          let asked = one words o options due.line line in
-          subst (λ (p : Options). EndsBy image (world_of input) p.budget (status_of how)) asked
-          (subst (λ (i : Image). EndsBy i (world_of input) o.budget (status_of how)) both.0
-          (subst (λ (ws : List ℕ). EndsBy ran (world_of ws) o.budget (status_of how)) both.1 h))
+    ran_so : (o : Options) (ran : Image) (words_in : List ℕ) (how : Finish)
+        → IsDue words reads o ran words_in
+        → EndsBy ran (world_of words_in) o.budget (status_of how)
+        → EndsBy image (world_of input) options.budget (status_of how)
+    ran_so o ran words_in how due h =
+        let same = whole_is reads.left reads.after text due.read.text told due.read.takes in
+        let its = subst (λ (t : List ℕ). IsAssembly t ran words_in) (sym same) due.read.assembly in
+        let both = alike text ran image words_in input its assembly in
+        let asked = one words o options due.line line in
+        subst (λ (p : Options). EndsBy image (world_of input) p.budget (status_of how)) asked
+        (subst (λ (i : Image). EndsBy i (world_of input) o.budget (status_of how)) both.0
+        (subst (λ (ws : List ℕ). EndsBy ran (world_of ws) o.budget (status_of how)) both.1 h))
 
-      ends_of : (status : Status) → CallEnds words reads writes status
-          → EndsBy image (world_of input) options.budget status ⊎ (status ≡ NoMemory)
-      ends_of status (ends.CallEnds.answered t (ends.IsAnswer.usage unlined same) w) = absurd (unlined
-          options line)
-      ends_of status (ends.CallEnds.answered t (ends.IsAnswer.refused o l r) w) =
-          absurd (not_refused status t r)
-      ends_of status (ends.CallEnds.ran o ran words_in how due w) = inl (ran_so o ran words_in how due
-          (ends_by ran (world_of words_in) o.budget how w.left w.leaves.so))
-      ends_of status (ends.CallEnds.unwritten s t a front) = absurd (well.sink front.rose)
-      ends_of status (ends.CallEnds.cut o ran words_in due part) =
-          absurd (well.sink (part_rose o ran (world_of words_in) part))
-      ends_of status (ends.CallEnds.starved same covered) = inr refl
-      ends_of status (ends.CallEnds.stopped o ran words_in due part) = inr refl
+    ends_of : (status : Status) → CallEnds words reads writes status
+        → EndsBy image (world_of input) options.budget status ⊎ FailedStatus status
+    ends_of status (ends.CallEnds.answered t (ends.IsAnswer.usage unlined same) w) = absurd (unlined
+        options line)
+    ends_of status (ends.CallEnds.answered t (ends.IsAnswer.refused o l r) w) = inr (unread status t r)
+    ends_of status (ends.CallEnds.ran o ran words_in how due w) = inl (ran_so o ran words_in how due
+        (ends_by ran (world_of words_in) o.budget how w.left w.leaves.so))
+    ends_of status (ends.CallEnds.unwritten s t a front) = inr (inr (inr refl))
+    ends_of status (ends.CallEnds.cut o ran words_in due part) = inr (inr (inr refl))
+    ends_of status (ends.CallEnds.starved same covered) = inr (inl refl)
+    ends_of status (ends.CallEnds.stopped o ran words_in due part) = inr (inl refl)
 
   pub caused : OneAsking → OneImage → NeverBoth → (status : Status) → CallEnds words reads writes status
       → CallCaused words reads writes status
@@ -215,6 +212,6 @@ module _ (words : List (List ℕ)) (reads : SourceCall) (writes : Writing) where
     read_fault = read_rose status e;
     write_fault = write_rose status e;
     refused = λ options text line told other well. refused_of text told well options line other status e;
-    ends = λ options text image input line told short assembly well.
-        ends_of text told well one alike never options line image input short assembly status e;
+    ends = λ options text image input line told short assembly.
+        ends_of text told one alike never options line image input short assembly status e;
   }

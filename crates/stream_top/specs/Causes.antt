@@ -20,6 +20,10 @@ use Rattle.stream_top.specs.Calls.{IsNoLine}
 abbrev pub OrNoMemory : Status → Status → Type 0
 OrNoMemory status wanted = (status ≡ wanted) ⊎ (status ≡ NoMemory)
 
+-- memory ran out, or the source or the sink failed
+abbrev pub FailedStatus : Status → Type 0
+FailedStatus status = (status ≡ NoMemory) ⊎ ((status ≡ ReadFault) ⊎ (status ≡ WriteFault))
+
 -- no fault of the source, and none of the sink, came
 pub record NoFaults (reads : SourceCall) (writes : Writing) : Type 0 where
   pub source : ¬ Rose reads.faults reads.counted
@@ -49,5 +53,4 @@ pub record CallCaused (words : List (List ℕ)) (reads : SourceCall) (writes : W
   -- and one that is an assembly is run
   pub ends : (options : Options) (text : List ℕ) (image : Image) (input : List ℕ) → AsksForRun words options
       → reads.left ≡ Some text → length text ≤ assembly_limit → IsAssembly text image input
-      → NoFaults reads writes
-      → EndsBy image (world_of input) options.budget status ⊎ (status ≡ NoMemory)
+      → EndsBy image (world_of input) options.budget status ⊎ FailedStatus status
