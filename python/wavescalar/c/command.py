@@ -4,7 +4,6 @@ from __future__ import annotations
 
 import argparse
 import functools
-import subprocess
 import sys
 from collections.abc import Sequence
 from pathlib import Path
@@ -17,7 +16,7 @@ from wavescalar.c.follow import follow
 from wavescalar.cli import Line, whole
 from wavescalar.faults import BuildFault, CallFault, Refused
 from wavescalar.image import Image
-from wavescalar.programs import NONE_BUILT, call, usual
+from wavescalar.programs import NONE_BUILT, Stream, call, exchange, usual
 from wavescalar.tools import link
 
 FAULT = 8  # the status of `wsc exec` where an index is past the end of an array
@@ -150,11 +149,8 @@ def _run(asked: argparse.Namespace, image: Image, given: str) -> int:
     """Runs the image by `wsc exec`, whose answer and status are ours."""
     if asked.text:
         return _answered(asked, image, given)[0]
-    words = [usual(), *_exec(asked)]
-    try:
-        return subprocess.run(words, input=f"{image}%input\n{given}", text=True, check=False).returncode
-    except OSError as fault:
-        raise CallFault(f"{words[0]} can't be run: {fault.strerror}") from fault
+    text = f"{image}%input\n{given}".encode(errors="surrogateescape")
+    return exchange([usual(), *_exec(asked)], [text], answer=Stream.PASSED_ON, errors=Stream.PASSED_ON)[0]
 
 
 def _answered(asked: argparse.Namespace, image: Image, given: str) -> tuple[int, list[str]]:

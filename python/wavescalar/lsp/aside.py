@@ -11,7 +11,6 @@ import os
 import pathlib
 import queue
 import re
-import subprocess
 import sys
 import threading
 from typing import Any, BinaryIO, Callable, cast
@@ -19,6 +18,7 @@ from typing import Any, BinaryIO, Callable, cast
 from wavescalar.lsp import glances, wire
 from wavescalar.lsp.documents import Document
 from wavescalar.lsp.wire import BadMessage, Closed, Sender
+from wavescalar.programs import Stream, start
 
 PATIENCE = 0.06  # seconds for an answer about a place, before its line alone is looked at
 OWN = "aside"  # the number of the request that begins such a process
@@ -41,7 +41,7 @@ class Aside:
 
     def __init__(self, options: list[str], sender: Sender, current: Callable[[], Document | None]) -> None:
         line = [sys.executable, "-m", "wavescalar.lsp.command", "--large", "0", *options]
-        self._child = subprocess.Popen(line, stdin=subprocess.PIPE, stdout=subprocess.PIPE, env=REACH)
+        self._child = start(line, errors=Stream.PASSED_ON, environment=REACH)
         self._sender, self._current = sender, current
         self._bodies: queue.Queue[bytes | None] = queue.Queue()
         self._waiting: dict[int | str, threading.Timer | None] = {}
