@@ -1,7 +1,7 @@
 """What the program says of a text, as JSON for the page of wsc-serve: `explain_json.py [--wsc PROGRAM] < TEXT`.
 
 A job is run statement by statement, and its image with one worker and with eight; an assembly is run with one and
-with eight. A refusal has its place in the text, in the units that a page counts by, and why/ says it in words.
+with eight. A refusal has its place in the text, in the units that a page counts by, and words of wavescalar.diagnose.
 """
 
 import functools
