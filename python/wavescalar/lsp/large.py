@@ -3,6 +3,7 @@
 from __future__ import annotations
 
 import re
+import threading
 from typing import Any
 
 from wavescalar.lsp.documents import Document, Language, Place, of_units
@@ -23,36 +24,51 @@ def lines_of(text: str) -> list[str]:
 
 
 class LargeText:
-    """A text that the editor has open, which changes. uri: the editor's name of the file; version: the editor's count."""
+    """A text that the editor has open, which changes; several threads may ask for parts of it.
+
+    uri: the editor's name of the file; version: the editor's count. It is cut into lines once one of them is asked for.
+    """
 
     def __init__(self, document: Document) -> None:
         self.uri, self.version = document.uri, document.version
         self.language: Language = document.language
-        self._lines = lines_of(document.text)
+        self._lock = threading.Lock()
+        self._whole: str | None = document.text
+        self._cut: list[str] = []
+
+    @property
+    def _lines(self) -> list[str]:
+        if self._whole is not None:
+            self._cut, self._whole = lines_of(self._whole), None
+        return self._cut
 
     def __len__(self) -> int:
         """How many lines it has."""
-        return len(self._lines)
+        with self._lock:
+            return len(self._lines)
 
     @property
     def text(self) -> str:
         """All of it, which takes long."""
-        return "".join(self._lines)
+        with self._lock:
+            return "".join(self._lines)
 
     def part(self, first: int, last: int) -> tuple[Document, int]:
         """Lines from one to another, as a text of its own, and the number of the first, all from 0."""
-        first = min(max(first, 0), len(self._lines) - 1)
-        last = min(max(last, first), len(self._lines) - 1)
-        return Document(self.uri, self.version, self.language, "".join(self._lines[first:last + 1])), first
+        with self._lock:
+            first = min(max(first, 0), len(self._lines) - 1)
+            last = min(max(last, first), len(self._lines) - 1)
+            return Document(self.uri, self.version, self.language, "".join(self._lines[first:last + 1])), first
 
     def change(self, version: int, changes: list[dict[str, Any]]) -> None:
         """Makes these changes, each of the whole text or of a range of the text before it."""
-        for change in changes:
-            if "range" in change:
-                self._put(self._place(change["range"]["start"]), self._place(change["range"]["end"]), change["text"])
-            else:
-                self._lines = lines_of(change["text"])
-        self.version = version
+        with self._lock:
+            for change in changes:
+                if "range" in change:
+                    self._put(self._place(change["range"]["start"]), self._place(change["range"]["end"]), change["text"])
+                else:
+                    self._whole = change["text"]
+            self.version = version
 
     def _place(self, place: Place) -> tuple[int, int]:
         """A place of the protocol as a line and a count of characters; one past the end of either is its end."""
