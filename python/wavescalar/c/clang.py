@@ -14,7 +14,7 @@ from dataclasses import dataclass
 from pathlib import Path
 
 from wavescalar.c.faults import ToolFault
-from wavescalar.c.whole import completed
+from wavescalar.c.whole import completed, prepared, takes_arguments
 
 HEADERS = Path(__file__).parent / "include"
 LIBRARY = Path(__file__).parent / "library" / "library.c"
@@ -49,6 +49,14 @@ Sources = Path | Sequence[Path]  # the files of a program
 
 
 @dataclass(frozen=True)
+class Built:
+    """The IR of a program, as text, and whether its input begins with the arguments of its `main`."""
+
+    text: bytes
+    takes_arguments: bool
+
+
+@dataclass(frozen=True)
 class Clang:
     """The programs; by default what the environment's WSCC_CLANG, WSCC_OPT and WSCC_LINK name, else `clang`, `opt` and
     `llvm-link`, which is called for programs of several files."""
@@ -72,23 +80,30 @@ class Clang:
         return int(number[1])
 
     def ir(self, sources: Sources, level: int = 1, words: Sequence[str] = (), as_text: bool = False) -> bytes:
-        """The IR, as text, of files of C at this level, 0 to 2. words: more for clang, as `-I` and `-D`. as_text: whether
-        what is printed is characters.
+        """The IR that `built` makes."""
+        return self.built(sources, level, words, as_text).text
+
+    def built(self, sources: Sources, level: int = 1, words: Sequence[str] = (), as_text: bool = False) -> Built:
+        """The IR of files of C at this level, 0 to 2. words: more for clang, as `-I` and `-D`. as_text: whether what is
+        printed is characters.
 
         Raises ToolFault where clang or opt fails; clang has said why on standard error.
         """
         version = self.version()
         words = [*words, *(["-D__WSCC_TEXT__=1"] if as_text else [])]
-        text = self._optimized(self._linked([self._compiled(file, words) for file in _files(sources)]), level)
+        written = self._linked([self._compiled(file, words) for file in _files(sources)])
+        text = self._optimized(prepared(written, version), level)
         for _ in range(ROUNDS):
             more = completed(text, version, lambda: self._compiled(LIBRARY, ["-w", *words]), as_text)
             if more is None:
                 break
-            text = self._optimized(more, level)
-        return text
+            text = self._optimized(prepared(more, version), level)
+        return Built(text, takes_arguments(written))
 
-    def native(self, sources: Sources, given: str, words: Sequence[str] = (), seconds: int = SECONDS) -> str:
-        """What a program prints natively that reads this text. words: more for clang.
+    def native(self, sources: Sources, given: str, words: Sequence[str] = (), seconds: int = SECONDS,
+               arguments: Sequence[str] = ()) -> str:
+        """What a program prints natively that reads this text. words: more for clang. arguments: those of `main`, behind
+        an empty name.
 
         Raises ToolFault where it can't be built, where a signal ends it, and where it takes more than so many seconds of
         processor time.
@@ -97,18 +112,19 @@ class Clang:
         with tempfile.TemporaryDirectory() as room:
             program = str(Path(room) / "native")
             _call([self.clang, *NATIVE, f"-I{HEADERS}", *words, *map(str, _files(sources)), "-o", program])
-            done = subprocess.run([program], input=given, capture_output=True, text=True, errors="surrogateescape",
-                                  check=False, preexec_fn=limit)
+            done = subprocess.run(["", *arguments], executable=program, input=given.encode(errors="surrogateescape"),
+                                  stdout=subprocess.PIPE, stderr=subprocess.PIPE, check=False, preexec_fn=limit)
         if done.returncode in (-signal.SIGXCPU, -signal.SIGKILL):
             raise ToolFault(f"natively {_files(sources)[0]} takes more than {seconds} s, or was killed", DIFFERS)
         if done.returncode < 0:
             raise ToolFault(f"natively {_files(sources)[0]} is ended by signal {-done.returncode}", DIFFERS)
-        return done.stdout
+        return done.stdout.decode(errors="surrogateescape")
 
     def _compiled(self, source: Path, words: Sequence[str]) -> bytes:
         """The IR of a file as it is written. clang would mark all loops as not to be unrolled at its level 1."""
         return _call([self.clang, "-O1", "-funroll-loops", "-Xclang", "-disable-llvm-passes", "-g",
-                      "-fno-discard-value-names", "-fno-builtin-printf", *MACROS, f"-I{HEADERS}", *words, "-emit-llvm", "-S", str(source), "-o", "-"])
+                      "-fno-discard-value-names", "-fno-builtin-printf", *MACROS, f"-I{HEADERS}", *words, "-emit-llvm",
+                      "-S", str(source), "-o", "-"])
 
     def _linked(self, texts: list[bytes]) -> bytes:
         """One module of several."""

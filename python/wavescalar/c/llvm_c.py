@@ -72,9 +72,27 @@ SIGNATURES: dict[str, tuple[Any, str]] = {
     "LLVMBuildCondBr": (HANDLE, "hhhh"), "LLVMBuildCall2": (HANDLE, "hhhhnh"), "LLVMBuildRetVoid": (HANDLE, "h"),
     # What printing.py makes.
     "LLVMIntTypeInContext": (HANDLE, "hn"), "LLVMVoidTypeInContext": (HANDLE, "h"), "LLVMPointerType": (HANDLE, "hn"),
-    "LLVMGetModuleContext": (HANDLE, "h"), "LLVMGetNamedFunction": (HANDLE, "hh"), "LLVMBuildTrunc": (HANDLE, "hhhh"),
+    "LLVMGetNamedFunction": (HANDLE, "hh"), "LLVMBuildTrunc": (HANDLE, "hhhh"),
     "LLVMBuildSExt": (HANDLE, "hhhh"), "LLVMBuildZExt": (HANDLE, "hhhh"), "LLVMConstInt": (HANDLE, "hln"),
     "LLVMBuildRet": (HANDLE, "hh"), "LLVMBuildBitCast": (HANDLE, "hhhh"),
+    # What edit.py, variadic.py, labels.py and start.py make.
+    "LLVMSetValueName2": (None, "hhl"), "LLVMDeleteFunction": (None, "h"), "LLVMDeleteBasicBlock": (None, "h"),
+    "LLVMMoveBasicBlockBefore": (None, "hh"), "LLVMSetSubprogram": (None, "hh"),
+    "LLVMGetAttributeCountAtIndex": (NUMBER, "hn"), "LLVMGetAttributesAtIndex": (None, "hnh"),
+    "LLVMAddAttributeAtIndex": (None, "hnh"), "LLVMGetCallSiteAttributeCount": (NUMBER, "hn"),
+    "LLVMGetCallSiteAttributes": (None, "hnh"), "LLVMAddCallSiteAttribute": (None, "hnh"),
+    "LLVMGetEnumAttributeKindForName": (NUMBER, "hl"), "LLVMGetCallSiteEnumAttribute": (HANDLE, "hnn"),
+    "LLVMGetTypeAttributeValue": (HANDLE, "h"), "LLVMABIAlignmentOfType": (NUMBER, "hh"),
+    "LLVMBuildGEP2": (HANDLE, "hhhhnh"), "LLVMBuildStore": (HANDLE, "hhh"), "LLVMBuildAlloca": (HANDLE, "hhh"),
+    "LLVMBuildMemCpy": (HANDLE, "hhnhnh"), "LLVMConstNull": (HANDLE, "h"), "LLVMArrayType": (HANDLE, "hn"),
+    "LLVMGetEntryBasicBlock": (HANDLE, "h"), "LLVMGetBasicBlockParent": (HANDLE, "h"),
+    "LLVMGetInstructionParent": (HANDLE, "h"), "LLVMAddGlobal": (HANDLE, "hhh"), "LLVMSetInitializer": (None, "hh"),
+    "LLVMBlockAddress": (HANDLE, "hh"), "LLVMConstInBoundsGEP2": (HANDLE, "hhhn"), "LLVMBuildUnreachable": (HANDLE, "h"),
+    "LLVMBuildSub": (HANDLE, "hhhh"), "LLVMBuildPtrToInt": (HANDLE, "hhhh"), "LLVMConstPtrToInt": (HANDLE, "hh"),
+    "LLVMBuildSwitch": (HANDLE, "hhhn"), "LLVMAddCase": (None, "hhh"),
+    # What division.py makes.
+    "LLVMStructTypeInContext": (HANDLE, "hhnn"), "LLVMBuildExtractValue": (HANDLE, "hhnh"),
+    "LLVMBuildLShr": (HANDLE, "hhhh"), "LLVMBuildShl": (HANDLE, "hhhh"), "LLVMBuildOr": (HANDLE, "hhhh"),
 }
 
 
