@@ -49,7 +49,7 @@ def test_folders(tmp_path: Path) -> None:
 
 def test_statuses(tmp_path: Path) -> None:
     (tmp_path / "bad.c").write_text("int main(void) { return x; }\n")
-    (tmp_path / "float.c").write_text('#include "wavescalar.h"\nint main(void) {\nws_print(ws_read() * 1.5); }\n')
+    (tmp_path / "float.c").write_text('#include "wavescalar.h"\nint main(void) {\nws_print(ws_read() * 1.5L); }\n')
     (tmp_path / "a.c").write_text(ECHO)
     assert call(cwd=tmp_path)[0] == 1
     assert call("a.c", "-O7", cwd=tmp_path)[0] == 1
@@ -58,7 +58,7 @@ def test_statuses(tmp_path: Path) -> None:
     status, out, said = call("bad.c", cwd=tmp_path)
     assert status == 2 and out == "" and "undeclared identifier 'x'" in said
     status, out, said = call("float.c", cwd=tmp_path)
-    assert status == 2 and out == "" and said.startswith("float.c:3: refused: floating point (double): ")
+    assert status == 2 and out == "" and said.startswith("float.c:3: refused: floating point (x86_fp80): ")
     assert "usage" in call("--help", cwd=tmp_path)[1]
     assert call("a.c", "--verify", "--result", cwd=tmp_path)[0] == 1
 

@@ -10,8 +10,8 @@ import pytest
 from wavescalar.c import Refusal, compile_c
 
 CASES = {
-    "floating point (double)": (3, """int main(void) {
-double x = (double)ws_read();
+    "floating point (x86_fp80)": (3, """int main(void) {
+long double x = (long double)ws_read();
 ws_print((unsigned long)(x * 1.5)); }"""),
     "path is recursive, and has a local array of 40000 bytes": (2, """static int path(int n) {
 int seen[10000]; seen[n & 3] = n;

@@ -9,6 +9,7 @@ import resource
 import signal
 import subprocess
 import tempfile
+from collections import Counter
 from collections.abc import Sequence
 from dataclasses import dataclass
 from pathlib import Path
@@ -17,11 +18,12 @@ from wavescalar.c.faults import ToolFault
 from wavescalar.c.whole import completed, prepared, takes_arguments
 
 HEADERS = Path(__file__).parent / "include"
-LIBRARY = Path(__file__).parent / "library" / "library.c"
+LIBRARY = Path(__file__).parent / "library"
 ROUNDS = 4  # how often what was optimized may turn out to lack something, as a function that a pass calls
 # Headers of the system are to declare functions, not to define them by what only they know.
 MACROS = ["-D__WAVESCALAR__=1", "-D__NO_CTYPE", "-D__NO_INLINE__=1"]
-NATIVE = ["-O1", "-fno-finite-loops", "-w"]  # for a native program; endless loops stay endless, as on the machine
+EXACT = "-ffp-contract=off"  # a product and a sum of floating point are rounded each
+NATIVE = ["-O1", "-fno-finite-loops", "-w", EXACT]  # for a native program; endless loops stay endless, as on the machine
 SECONDS = 60  # of processor time that a native run may take
 DIFFERS = 9  # the status of `wscc` where a native run does something else
 # What every level of optimization begins with: whatever main calls is inlined into it; calls of a function by itself at
@@ -42,6 +44,8 @@ OPTIONS = ["-internalize-public-api-list=main", "-replexitval=never", "-disable-
 # Below level 2 a loop keeps its test at its head, which makes for fewer firings. With the test at its end, as level 2
 # has it, a turn's values needn't wait for the test, but another test stands in front.
 KEPT = ["-rotation-max-header-size=0"]
+CALLED = re.compile(rb"\bcall\b[^\n]*@(wscc_f(?:32|64)_\w+)\(")  # functions of floating point, which are large
+SITES = 32  # how many calls of such a function are inlined at most; of more none is
 DEFINED = re.compile(rb"^define .*?@([\w.$]+)\(", re.MULTILINE)
 
 
@@ -94,7 +98,7 @@ class Clang:
         written = self._linked([self._compiled(file, words) for file in _files(sources)])
         text = self._optimized(prepared(written, version), level)
         for _ in range(ROUNDS):
-            more = completed(text, version, lambda: self._compiled(LIBRARY, ["-w", *words]), as_text)
+            more = completed(text, version, lambda file: self._compiled(LIBRARY / file, ["-w", *words]), as_text)
             if more is None:
                 break
             text = self._optimized(prepared(more, version), level)
@@ -111,7 +115,7 @@ class Clang:
         limit = functools.partial(resource.setrlimit, resource.RLIMIT_CPU, (seconds, seconds + 1))
         with tempfile.TemporaryDirectory() as room:
             program = str(Path(room) / "native")
-            _call([self.clang, *NATIVE, f"-I{HEADERS}", *words, *map(str, _files(sources)), "-o", program])
+            _call([self.clang, *NATIVE, f"-I{HEADERS}", *words, *map(str, _files(sources)), "-lm", "-o", program])
             done = subprocess.run(["", *arguments], executable=program, input=given.encode(errors="surrogateescape"),
                                   stdout=subprocess.PIPE, stderr=subprocess.PIPE, check=False, preexec_fn=limit)
         if done.returncode in (-signal.SIGXCPU, -signal.SIGKILL):
@@ -123,7 +127,7 @@ class Clang:
     def _compiled(self, source: Path, words: Sequence[str]) -> bytes:
         """The IR of a file as it is written. clang would mark all loops as not to be unrolled at its level 1."""
         return _call([self.clang, "-O1", "-funroll-loops", "-Xclang", "-disable-llvm-passes", "-g",
-                      "-fno-discard-value-names", "-fno-builtin-printf", *MACROS, f"-I{HEADERS}", *words, "-emit-llvm",
+                      "-fno-discard-value-names", "-fno-builtin-printf", EXACT, *MACROS, f"-I{HEADERS}", *words, "-emit-llvm",
                       "-S", str(source), "-o", "-"])
 
     def _linked(self, texts: list[bytes]) -> bytes:
@@ -138,10 +142,13 @@ class Clang:
 
     def _optimized(self, text: bytes, level: int) -> bytes:
         """The IR with all inlined into `main`."""
-        inlined = [name.decode() for name in DEFINED.findall(text) if name != b"main"]
+        sites = Counter(CALLED.findall(text))
+        often = [name.decode() for name, count in sites.items() if count > SITES]
+        inlined = [name for name in map(bytes.decode, DEFINED.findall(text)) if name != "main" and name not in often]
         passes = ",".join([INLINE, LEVELS[level], TIDY])
         forced = [word for name in inlined for word in (f"-force-attribute={name}:alwaysinline",
                                                         f"-force-remove-attribute={name}:noinline")]
+        forced += [f"-force-attribute={name}:noinline" for name in often]
         kept = KEPT if level < 2 else []
         with tempfile.TemporaryDirectory() as room:
             raw = Path(room) / "raw.ll"

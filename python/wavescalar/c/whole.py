@@ -10,7 +10,7 @@ from __future__ import annotations
 import re
 from collections.abc import Callable
 
-from wavescalar.c import division, labels, llvm_c as c, start, variadic
+from wavescalar.c import division, floats, labels, llvm_c as c, start, variadic
 from wavescalar.c.edit import INTERNAL, Edited
 from wavescalar.c.printing import expand
 
@@ -19,6 +19,7 @@ BY_POINTER = re.compile(rb"^ .*\bcall\b.*%[\w.$-]+\(", re.MULTILINE)
 PRINTS = re.compile(rb"^ .*\bcall\b.*@printf\(", re.MULTILINE)
 COMPUTED = re.compile(rb"^ *indirectbr ", re.MULTILINE)
 DECLARED = re.compile(rb"^declare .*?@([\w.$]+)\(", re.MULTILINE)
+DEFINED = re.compile(rb"^define .*?@([\w.$]+)\(", re.MULTILINE)
 OWN = (b"llvm.", b"ws_read", b"ws_print", b"exit")
 EQUAL = 32  # llvm-c/Core.h: LLVMIntEQ
 
@@ -43,31 +44,38 @@ def prepared(text: bytes, version: int) -> bytes:
     return edited.text()
 
 
-def completed(text: bytes, version: int, library: Callable[[], bytes], as_text: bool = False) -> bytes | None:
+def completed(text: bytes, version: int, library: Callable[[str], bytes], as_text: bool = False) -> bytes | None:
     """The IR with what is missing; None where nothing is missing that can be added.
 
-    version: of LLVM, the major one. library: gives the IR of the library. as_text: whether `printf` prints characters.
+    version: of LLVM, the major one. library: gives the IR of a file of the library. as_text: whether `printf` prints characters.
     """
-    prints, divides = PRINTS.search(text), division.WIDE.search(text)
-    if prints or divides:
+    prints, divides, floating = PRINTS.search(text), division.WIDE.search(text), floats.FLOATING.search(text)
+    if prints or divides or floating:
         edited = Edited(c.Llvm(version), text)
         if prints:
             expand(edited, as_text)
         if divides:
             division.call(edited)
+        if floating:
+            floats.call(edited)
         text = edited.text()
     lacks = {name for name in DECLARED.findall(text) if not name.startswith(OWN)}
     pointed = BY_POINTER.search(text) is not None
     if not lacks and not pointed:
         return None
-    more = library() if lacks else b""
-    takes = lacks & set(re.findall(rb"^define .*?@([\w.$]+)\(", more, re.MULTILINE))
-    if not takes and not pointed:
+    more = [found for found in (library(file) for file in _files(lacks)) if lacks & set(DEFINED.findall(found))]
+    if not more and not pointed:
         return None
     whole = _Whole(c.Llvm(version), text)
-    if takes:
-        whole.link(more)
-    return whole.text() if whole.resolve() or takes else None
+    for found in more:
+        whole.link(found)
+    return whole.text() if whole.resolve() or more else None
+
+
+def _files(lacks: set[bytes]) -> list[str]:
+    """The files of the library in which these functions may be."""
+    of_floats = {name for name in lacks if floats.NAMES.fullmatch(name)}
+    return ["float.c"] * bool(of_floats) + ["library.c"] * bool(lacks - of_floats)
 
 
 class _Whole(Edited):

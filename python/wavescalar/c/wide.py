@@ -33,6 +33,13 @@ def _number(value: int) -> Int:
     return Int(value % (1 << 64), 64)
 
 
+def _drop_ways(phi: Instr, reached: set[int]) -> None:
+    """Takes away what would come from blocks to which no run comes."""
+    kept = [k for k, source in enumerate(phi.blocks) if source in reached]
+    phi.operands, phi.types = tuple(phi.operands[k] for k in kept), tuple(phi.types[k] for k in kept)
+    phi.blocks = tuple(phi.blocks[k] for k in kept)
+
+
 class _Narrow:
     def __init__(self, module: Module) -> None:
         self.module = module
@@ -46,10 +53,14 @@ class _Narrow:
         """Replaces what is wide, and numbers all instructions again."""
         blocks = self.module.blocks
         phis: list[tuple[Instr, list[Instr]]] = []
-        for number in reverse_postorder(0, lambda number: blocks[number].targets):
+        order = reverse_postorder(0, lambda number: blocks[number].targets)
+        reached = set(order)
+        for number in order:
             self.made = []
             for it in blocks[number].instrs:
                 self.it = it
+                if it.op == "phi" and not reached.issuperset(it.blocks):
+                    _drop_ways(it, reached)
                 if it.op == "phi" and _is_wide(it.type):
                     self.parts[it.number] = [self._make("phi", (), ()) for _ in range(-(-it.type.width // 64))]
                     phis.append((it, self.made[-len(self.parts[it.number]):]))
