@@ -1,5 +1,5 @@
-"""The text that `wsc compile`, `wsc trace` or a hand writes, for the programs here and in why/: assembly, `%input`,
-`%trace`. Assembly is read by the package `wavescalar`.
+"""The text that `wsc compile`, `wsc trace` or a hand writes, for the tools: assembly, `%input`, `%trace`. It is read by
+`reader`; here instructions and blocks go by their numbers.
 
 Every text is taken that `wsc check` calls sound. Of a faulty one the first line that can't be read is named, and no more.
 """

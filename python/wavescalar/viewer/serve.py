@@ -15,7 +15,6 @@ import secrets
 import select
 import signal
 import socket
-import subprocess
 import sys
 import tempfile
 import threading
@@ -28,7 +27,7 @@ from typing import Any, Callable
 from wavescalar.cli import Line, add_program, given, whole
 from wavescalar.faults import Fault
 from wavescalar.isa import EXITS, HEADS, KINDS, RESERVED
-from wavescalar.programs import ROOT, ready
+from wavescalar.programs import ROOT, Child, heard, ready, start
 from wavescalar.viewer.orders import is_order
 from wavescalar.viewer.view import SCRIPTS, written
 
@@ -110,7 +109,7 @@ class Workers:
     def __init__(self, program: str, folder: str, seconds: int):
         self.program, self.folder, self.seconds = program, folder, seconds
         self.room = threading.Semaphore(WORKING)
-        self.children: set[subprocess.Popen[bytes]] = set()
+        self.children: set[Child] = set()
         self.lock, self.ending = threading.Lock(), False
 
     def work(self, words: list[str], text: bytes, is_gone: Callable[[], bool]) -> bytes:
@@ -129,15 +128,14 @@ class Workers:
         said = errors.decode(errors="replace").strip().splitlines()
         raise Refused(422, said[-1] if said else f"{words[0]} ended with status {child.returncode}")
 
-    def told_by(self, child: subprocess.Popen[bytes], text: bytes, is_gone: Callable[[], bool]) -> tuple[bytes, bytes]:
+    def told_by(self, child: Child, text: bytes, is_gone: Callable[[], bool]) -> tuple[bytes, bytes]:
         """What a process writes to its two outputs."""
         last = time.monotonic() + self.seconds
         given_to_it: bytes | None = text
         while True:
-            try:
-                return child.communicate(given_to_it, timeout=LOOK)
-            except subprocess.TimeoutExpired:
-                given_to_it = None
+            if told := heard(child, given_to_it, LOOK):
+                return told
+            given_to_it = None
             late, gone = time.monotonic() > last, is_gone()
             if late or gone:
                 self.end(child)
@@ -147,18 +145,17 @@ class Workers:
             if late:
                 raise Refused(408, f"This takes longer than it may ({self.seconds} s), and was ended.")
 
-    def begun(self, words: list[str]) -> subprocess.Popen[bytes]:
+    def begun(self, words: list[str]) -> Child:
         """A process that begins to work, a group of its own."""
         line = [sys.executable, "-B", "-m", f"wavescalar.viewer.{words[0]}", "--bound", "--wsc", self.program, *words[1:]]
         with self.lock:
             if self.ending:
                 raise Refused(503, "The server ends.")
-            child = subprocess.Popen(line, stdin=subprocess.PIPE, stdout=subprocess.PIPE, stderr=subprocess.PIPE,
-                                     cwd=self.folder, env=REACH, start_new_session=True)
+            child = start(line, folder=self.folder, environment=REACH, is_group=True)
             self.children.add(child)
         return child
 
-    def end(self, child: subprocess.Popen[bytes]) -> None:
+    def end(self, child: Child) -> None:
         """Ends a process that wasn't waited for, with those that it has started: they are its group."""
         if child.returncode is None:
             os.killpg(child.pid, signal.SIGKILL)
