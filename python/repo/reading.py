@@ -43,6 +43,10 @@ STATEMENTS = {
     ),
     "Sequential": ("OneMeaning", "JobMeaning"),
     "Ends": ("JobsEnd", "CodeEnds", "AssembliesEnd", "NeverEnds"),
+    "Streams": (
+        *("OneStreamResult", "OneStreamAgain", "OneStreamCount", "OneStreamFront", "OneStreamJob", "StreamMeaning"),
+        *("StreamsEnd", "StreamCodeEnds"),
+    ),
 }
 
 # The lists of the page: a heading, what stands above the files, the statements, and what is left out.

@@ -31,7 +31,7 @@ from wavescalar.programs import ROOT
 CRATES = ROOT / "crates"
 ALLOWED = ROOT / ".ci" / "checks" / "users.allowed"
 PAGES = ("THEOREM", "DEFINITIONS", "PROVED", "BACKEND")
-STATEMENTS = [f"Rattle.one_result.specs.{name}" for name in ("OneResult", "Others", "Sequential", "Ends")]
+STATEMENTS = [f"Rattle.one_result.specs.{name}" for name in ("OneResult", "Others", "Sequential", "Ends", "Streams")]
 
 WORD = re.compile(r"[^\s(){}\[\],;]+")
 QUOTED = re.compile(r'"(?:\\.|[^"\\])*"')

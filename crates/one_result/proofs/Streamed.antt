@@ -171,8 +171,8 @@ called_stream : (memory stats : Bool) (text : List ℕ) (s : Status) (out : List
 called_stream memory stats text s out h e =
     let c = h.called in
     subst (λ (v : Status). TextImage memory stats text v out) c.means
-    (told_by_end memory stats h.words c.reads c.writes text out h.arrays h.counts c.given c.before c.after c.own
-    c.ends (subst (λ (v : Status). is_told v ≡ true) (sym c.means) e))
+    (told_by_end memory stats h.words c.reads c.writes text out h.arrays h.counts c.given c.before c.after
+    c.own c.ends (subst (λ (v : Status). is_told v ≡ true) (sym c.means) e))
 
 pub one_stream_result : WalksOnce → OneStreamResult
 one_stream_result known memory text s v out again h k e f = texts_alike known memory false text s v out again

@@ -28,7 +28,8 @@ returns-clause-front c = one_stream_front (record {
 }) c.walks_go_on.ensures.acts
 
 pub returns-clause-says : goal.returns-clause-says
-returns-clause-says c = stream_meaning (code_told c.printed_reads_again.ensures c.printed_texts_have_no_marker.ensures.bytes
+returns-clause-says c = stream_meaning (code_told c.printed_reads_again.ensures
+    c.printed_texts_have_no_marker.ensures.bytes
     c.printed_texts_have_no_marker.ensures.end (record {
       instances = c.walks_go_on.ensures.instances;
       effects = c.effects_are_one.ensures;
