@@ -100,6 +100,7 @@ impl<'w> Flow<'w> {
                 self.early.reserve(asked)?;
                 self.memory.reserve(asked)?;
                 self.asked.reserve(more)?;
+                self.hints.reserve(asked);
                 Ok(())
             }
             None => Err(NoMemory),
@@ -142,7 +143,7 @@ impl<'w> Flow<'w> {
             × (is_some self.now.fault ≡ false)
             × AskedMay (image_of program.now) self.now place) }
     {
-        let place = self.hints.next(&self.chain) as usize;
+        let place = self.hints.next(&self.chain)? as usize;
         if self.fault.is_none()
             && place < self.asked.len()
             && self.may_issue(program, self.asked[place])
@@ -212,6 +213,7 @@ impl<'w> Flow<'w> {
             .memory
             .run(op, asked.operands.first, asked.operands.second);
         self.asked.swap_remove(place);
+        self.hints.forget(asked.wave, program.note(asked.instr));
         look_again(program, &self.asked, &mut self.hints, place);
         self.chain = pass_on(program, self.chain, &mut self.early, asked.instr);
         let dests = program.destinations(asked.instr, selector(op, asked.operands));
@@ -247,7 +249,7 @@ impl<'w> Flow<'w> {
     {
         self.fired += 1;
         if op.is_memory() {
-            self.hints.set(program.note(instr), self.asked.len());
+            self.hints.set(wave, program.note(instr), self.asked.len());
             self.asked.push_reserved(Asked {
                 wave,
                 instr,
@@ -265,6 +267,6 @@ impl<'w> Flow<'w> {
 // A request may have come to this place.
 fn look_again(program: &Program<'_>, asked: &[Asked], hints: &mut Hints, place: usize) {
     if place < asked.len() {
-        hints.set(program.note(asked[place].instr), place);
+        hints.set(asked[place].wave, program.note(asked[place].instr), place);
     }
 }

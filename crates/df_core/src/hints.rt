@@ -2,60 +2,77 @@
 
 use crate::chain::Chain;
 use std::alloc::Global;
+use std::collections::HashMap;
 use ws_isa::{Link, Note};
-use ws_words::NoMemory;
 
-/// Where requests stood when they were last seen, by the number of their operation and by that of the
-/// one before it. Numbers that lie far apart may share a place, and what is found here may be long
-/// out of date: whoever asks looks for himself.
+/// Where requests stand, by their wave and the number of their operation, or that of the one before
+/// it. One is lacking where there was no room for it, so whoever asks has another way to find it.
 #[derive(Drop)]
 pub struct Hints {
-    own: Vec<u32>,
-    before: Vec<u32>,
+    own: HashMap<(u64, u32), u32>,
+    before: HashMap<(u64, u32), u32>,
 }
 
 impl Hints {
-    /// For an image with so many instructions.
-    pub fn open(alloc: Global, count: usize) -> Result<Hints, NoMemory> {
-        Ok(Hints {
-            own: vec![in alloc; 0u32; count]?,
-            before: vec![in alloc; 0u32; count]?,
-        })
-    }
-
-    /// The request of an operation with this note stands at a place.
-    pub fn set(&mut self, note: Note, place: usize) {
-        let place = u32::try_from(place).unwrap_or(u32::MAX);
-        put(&mut self.own, note.seq, place);
-        match note.pred {
-            Link::Is(number) => put(&mut self.before, number, place),
-            Link::Nothing => put(&mut self.before, 0, place),
-            Link::Unknown => {}
+    /// No hints.
+    pub fn empty(alloc: Global) -> Hints {
+        Hints {
+            own: HashMap::new(alloc),
+            before: HashMap::new(alloc),
         }
     }
 
-    /// The place at which the request of the operation behind the chain may stand.
-    pub fn next(&self, chain: &Chain) -> u32 {
+    /// Makes room for those of so many more requests, where there is memory for it.
+    pub fn reserve(&mut self, more: usize) {
+        let _ = self.own.reserve(more);
+        let _ = self.before.reserve(more);
+    }
+
+    /// The request of a wave's operation with this note stands at a place. Takes no memory.
+    pub fn set(&mut self, wave: u64, note: Note, place: usize) {
+        if let Ok(place) = u32::try_from(place) {
+            put(&mut self.own, wave, note.seq, place);
+            if let Some(number) = number_before(note) {
+                put(&mut self.before, wave, number, place);
+            }
+        }
+    }
+
+    /// The request of a wave's operation with this note waits no more.
+    pub fn forget(&mut self, wave: u64, note: Note) {
+        self.own.remove(&(wave, note.seq));
+        if let Some(number) = number_before(note) {
+            self.before.remove(&(wave, number));
+        }
+    }
+
+    /// The place of the request of the operation behind the chain, where there is a hint of it.
+    pub fn next(&self, chain: &Chain) -> Option<u32> {
         match chain.last {
-            None => get(&self.before, 0),
+            None => get(&self.before, chain.wave, 0),
             Some(last) => match last.succ {
-                Link::Is(number) => get(&self.own, number),
-                _ => get(&self.before, last.seq),
+                Link::Is(number) => get(&self.own, chain.wave, number),
+                _ => get(&self.before, chain.wave, last.seq),
             },
         }
     }
 }
 
-fn put(places: &mut [u32], number: u32, place: u32) {
-    if !places.is_empty() {
-        let key = number as usize % places.len();
-        places[key] = place;
+// The number of the operation before this one, where its note has it: 0 at the first of a wave.
+fn number_before(note: Note) -> Option<u32> {
+    match note.pred {
+        Link::Is(number) => Some(number),
+        Link::Nothing => Some(0),
+        Link::Unknown => None,
     }
 }
 
-fn get(places: &[u32], number: u32) -> u32 {
-    if places.is_empty() {
-        return 0;
+fn put(places: &mut HashMap<(u64, u32), u32>, wave: u64, number: u32, place: u32) {
+    if places.len() < places.capacity() {
+        let _ = places.insert((wave, number), place);
     }
-    places[number as usize % places.len()]
+}
+
+fn get(places: &HashMap<(u64, u32), u32>, wave: u64, number: u32) -> Option<u32> {
+    places.get(&(wave, number)).copied()
 }

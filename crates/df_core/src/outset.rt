@@ -37,7 +37,7 @@ pub fn open<'w>(
         slots: MatchStore::open(alloc, program.places.len().saturating_add(1))?,
         way,
         asked: Vec::new(alloc),
-        hints: Hints::open(alloc, program.places.len().saturating_add(1))?,
+        hints: Hints::empty(alloc),
         early: Vec::new(alloc),
         chain: Chain {
             wave: 1,

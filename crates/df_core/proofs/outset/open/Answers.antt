@@ -33,4 +33,4 @@ returns c = λ sound formed.
     (subst (λ ds. SentTo old c.send.new.self (tokens_to 0 0 ds)) c.start.ensures c.send.ensures.sent)
     c.new-3.ensures.items c.new-4.ensures.items refl refl
     (subst (λ xs. MemoryIs (opening_out (cells_of (map view.array xs)) (world_of c.args.world.now))
-    c.in_ok-open-3.field-0) c.deref.ensures.value c.in_ok-open-3.ensures) refl sound formed
+    c.in_ok-open-2.field-0) c.deref.ensures.value c.in_ok-open-2.ensures) refl sound formed
