@@ -1,12 +1,10 @@
 -- What a call of `wss` tells is what is told of its image.
-use Rattle.std.specs.Prelude.{◌≡◌, ◌⊎◌, ℕ, suc, ◌*◌, ◌≤◌, Bool, true, false, IsTrue, List, [], ◌++◌, codes}
+use Rattle.std.specs.Prelude.{◌≡◌, ◌⊎◌, ℕ, ◌≤◌, Bool, true, false, List, [], ◌++◌, codes}
 use Rattle.std.specs.Prelude.{length, Option, Some, refl}
 use Rattle.std.proofs.Common.{sym, ap, ◌∙◌, subst, inl, inr, arith}
-use Rattle.ws_words.specs.Digits.{is_number}
 use Rattle.ws_words.specs.Outside.{World, printed_words}
 use Rattle.ws_io.specs.Streams.{Adds, TakesAll}
 use Rattle.src_ast.specs.Once.{ExactlyOne}
-use Rattle.src_ast.specs.Syntax.{Part}
 use Rattle.ws_isa.specs.Image.{Image, array_at}
 use Rattle.ws_isa.specs.Shown.{shown_cells}
 use Rattle.ws_isa.specs.Walk.{mem, walk, CostAtMost}
@@ -16,13 +14,11 @@ use Rattle.df_core.specs.declared.drive.Finish.{Finish}
 use Rattle.df_core.specs.declared.drive.Finish.TheVariants as finish
 use Rattle.df_core.specs.Answer.{RunSo}
 use Rattle.df_core.specs.Told.{run_from}
-use Rattle.wsc_words.specs.declared.key.Key.{Key}
 use Rattle.wsc_words.specs.declared.key.Key.TheVariants as key
-use Rattle.wsc_words.specs.Lines.{Given, IsKeyOf, is_flag, text_of, dashed}
+use Rattle.wsc_words.specs.Lines.{Given}
 use Rattle.wsc_words.proofs.Results.{given_some}
 use Rattle.wsc_top.specs.declared.status.Status.{Status}
-use Rattle.wsc_top.specs.declared.status.Status.TheVariants.{Done, Budget, Fault, ReadFault, WriteFault}
-use Rattle.wsc_top.specs.declared.status.Status.TheVariants.{NoMemory}
+use Rattle.wsc_top.specs.declared.status.Status.TheVariants.{Done, Budget, Fault}
 use Rattle.wsc_top.specs.Job.{IsTextAnswer}
 use Rattle.wsc_top.proofs.Reading.AnswersOnce.{RunsOnce}
 use Rattle.wsc_top.proofs.Reading.AssembliesOnce.{WalksOnce}
@@ -33,23 +29,21 @@ use Rattle.run_text.specs.Writes.{Writing}
 use Rattle.stream_run.specs.declared.options.Options.{Options}
 use Rattle.stream_run.specs.Ends.{text_of as run_text}
 use Rattle.stream_top.specs.declared.status.Status.{Status as StreamStatus}
-use Rattle.stream_top.specs.declared.status.Status.TheVariants as stream
 use Rattle.stream_top.specs.Lines.{keys, AsksForRun, HasBudget}
 use Rattle.stream_top.specs.Calls as calls
 use Rattle.stream_top.specs.Calls.{CallEnds, IsRefused, status_of}
 use Rattle.stream_top.specs.Causes.{FailedStatus, EndsBy, CallCaused}
-use Rattle.one_result.specs.OneResult.{is_among, IsResult, IsCodeOf, input_section}
+use Rattle.one_result.specs.OneResult.{is_among, IsCodeOf, input_section}
 use Rattle.one_result.specs.Ends.{HasFailed}
 use Rattle.one_result.specs.Streams.{as_status, StreamCalled, StreamHasRun, OneStreamResult, OneStreamAgain}
 use Rattle.one_result.specs.Streams.{OneStreamCount, OneStreamJob, StreamMeaning, OneStreamFront, StreamsEnd}
 use Rattle.one_result.specs.Streams.{StreamCodeEnds}
-use Rattle.one_result.proofs.Words.{NoNumber, NoJoined, AreNumbers, no_memory, not_memory, no_stats, not_stats}
-use Rattle.one_result.proofs.Words.{flag_given}
+use Rattle.one_result.proofs.Words.{AreNumbers, flag_given, no_memory, not_memory, no_stats, not_stats}
 use Rattle.one_result.proofs.Written.{is_told}
 use Rattle.one_result.proofs.Jobs.{TextJob, told_result, jobs_alike}
 use Rattle.one_result.proofs.Images.{ImageTold, rested, stopped, spent, TextImage, called_image, called_count}
 use Rattle.one_result.proofs.Images.{texts_alike}
-use Rattle.one_result.proofs.Compiled.{Code, code_of, JobsTold, CodesTold}
+use Rattle.one_result.proofs.Compiled.{code_of, JobsTold, CodesTold}
 use Rattle.one_result.proofs.Meanings.{told_sequential}
 use Rattle.one_result.proofs.ImageFronts.{ActsGrow, images_begin}
 use Rattle.one_result.proofs.Ported.{CodesRead}
@@ -103,8 +97,8 @@ module _ (memory stats : Bool) (image : Image) (world : World) where
       let cost = subst (λ (n : ℕ). CostAtMost image world n) t.fired t.cost in
       rested_as options.memory options.stats d.printed (printed_words (mem image world t.steps).acts)
       (shown_cells image.arrays d.arrays) (shown_cells image.arrays (mem image world t.steps).cells) d.fired
-      (length (walk image world t.steps)) p q tells.printed (ap (shown_cells image.arrays) tells.arrays) t.fired
-      (rested t.steps t.no_fault cost)
+      (length (walk image world t.steps)) p q tells.printed (ap (shown_cells image.arrays) tells.arrays)
+      t.fired (rested t.steps t.no_fault cost)
   told_by_stream options p q finish.Budget d r =
       let t = r.told in
       spent_as options.stats d.printed (printed_words (mem image world t.front).acts) options.budget q

@@ -4,7 +4,6 @@ use Rattle.std.proofs.Common.{refl, sym, ap, ◌∙◌, subst, inl, inr, length-
 use Rattle.ws_words.specs.Outside.{World}
 use Rattle.ws_io.specs.Streams.{Rose, Takes, TakesAll}
 use Rattle.ws_isa.specs.Image.{Image}
-use Rattle.ws_isa.specs.Walk.{CostAtMost}
 use Rattle.ws_isa.specs.Operations.{FaultsAt, NoFault}
 use Rattle.df_core.specs.Answer.{RunSo}
 use Rattle.df_core.specs.Told.{run_from}
@@ -13,7 +12,7 @@ use Rattle.df_core.specs.declared.drive.Finish.{Finish}
 use Rattle.df_core.specs.declared.drive.Finish.TheVariants as finish
 use Rattle.stream_top.specs.declared.status.Status.{Status}
 use Rattle.stream_top.specs.declared.status.Status.TheVariants.{Done, Usage, Refused, Budget, ReadFault}
-use Rattle.stream_top.specs.declared.status.Status.TheVariants.{WriteFault, NoMemory, Fault}
+use Rattle.stream_top.specs.declared.status.Status.TheVariants.{WriteFault, Fault}
 use Rattle.asm_read.specs.declared.assembly.AsmRefusal.{AsmRefusal}
 use Rattle.asm_read.specs.Assembly.{assembly_limit, IsAssembly, RefusesAssembly}
 use Rattle.asm_read.specs.Reads.{SourceCall, world_of}
