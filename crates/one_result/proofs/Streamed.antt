@@ -52,7 +52,7 @@ use Rattle.one_result.proofs.Ending.{code_rests}
 -- the flags of a run are those among the words
 stream_numbers : (given : List Given) → HasBudget given → AreNumbers keys given
 stream_numbers given budget key.Budget text g known e = (budget text e).0
-stream_numbers given budget k text g known e = grind arith
+stream_numbers given budget k text g known e = grind (arith, budget)
 
 module _ (words : List (List ℕ)) (options : Options) (line : AsksForRun words options) where
   abbrev numbers_here : AreNumbers keys line.given
