@@ -4,12 +4,12 @@
 //! its limit and lost nothing (`AllGrow`). That tokens were brought and the hook called is tested.
 //!
 //! After a phase, `unknown` gives requests that the buffer lacks and `missing` tokens that no table has
-//! had, enough to cover what is owed (`Paid`). The verdict is in terms of the walk: all of it has fired
-//! (`all_run`); it has more instances and the outside is a prefix's (`some_run`); its first index fault
-//! has stopped the chain (`fault_run`); its next operation is on a port whose count of faults rose
-//! (`port_run`). `limits` shares out all firings, at least a sixteenth of them to each table. `deal` puts
-//! each token into the queue of a worker, unless that is full (`Dealt`). n instances have at most 3 n
-//! tokens (`few_tokens`). If `share` reports no phase, no table has changed.
+//! had: enough to cover what is owed (`Paid`), unless it gives as many as were asked for. The verdict is in
+//! terms of the walk: all of it has fired (`all_run`); it has more instances and the outside is a prefix's
+//! (`some_run`); its first index fault has stopped the chain (`fault_run`); its next operation is on a port
+//! whose count of faults rose (`port_run`). `limits` shares out all firings, at least a sixteenth of them to
+//! each table. `deal` puts each token into the queue of a worker, unless that is full (`Dealt`). n instances
+//! have at most 3 n tokens (`few_tokens`). If `share` reports no phase, no table has changed.
 //!
 //! `run_image`, with 1 to 8 workers (`Crew`), a hook (`Gate`) and a budget, runs an image and returns the
 //! ports. **Whatever the workers did** (`RunTells`): `Done` has the words, cells and ports of the whole walk,
