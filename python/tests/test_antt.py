@@ -125,8 +125,8 @@ def test_file() -> None:
     file = File(THEORY)
     assert file.imports.names == {"x": ("Rattle.a.specs.B", "x"), "z": ("Rattle.a.specs.B", "y")}
     assert [(it.name, it.head.kind, it.number) for it in file.declarations] == [
-        ("sum", "", 8), ("Run", "record", 15), ("Ending", "data", 20), ("rules", "ruleset", 25), ("first", "", 29), ("deep", "", 32),
-        ("f", "", 41), ("g", "", 43), ("last", "", 45)]
+        ("sum", "", 8), ("Run", "record", 15), ("Ending", "data", 20), ("rules", "ruleset", 25), ("first", "", 29),
+        ("deep", "", 32), ("f", "", 41), ("g", "", 43), ("last", "", 45)]
 
 
 def test_equations() -> None:

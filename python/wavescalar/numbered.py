@@ -95,7 +95,8 @@ def read(text: str) -> Image:
     scanned, image = Text(own[0]), Image()
     if fault := scanned.first():
         line = own[0][fault.line - 1] if fault.line <= len(own[0]) else ""
-        raise Fault(f"line {fault.line} can't be read: {line.strip()}" if not fault.seen else f"line {fault.line}: {fault.message}")
+        told = f": {fault.message}" if fault.seen else f" can't be read: {line.strip()}"
+        raise Fault(f"line {fault.line}{told}")
     image.text, image.waves = own[0], scanned.waves
     image.arrays += scanned.arrays
     image.blocks += map(Block, scanned.blocks)

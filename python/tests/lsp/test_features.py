@@ -290,7 +290,8 @@ def test_a_change_is_cheap() -> None:
         told = glances.hover(text, {"position": {"line": line + 1, "character": 12}})
         data = glances.colours(text, {"range": range_})["data"]
         times.append(time.process_time() - begun)
-        assert data[:5] == [line, 0, 8, TYPES.index("comment"), 0] and (told is None or told["range"]["start"]["line"] == line + 1)
+        assert data[:5] == [line, 0, 8, TYPES.index("comment"), 0]
+        assert told is None or told["range"]["start"]["line"] == line + 1
     assert max(times) < 0.1, times
 
 

@@ -1,9 +1,9 @@
 """A page for a class, served to this machine alone: edit a job, see what the program says, and step through two orders
 of its events side by side.
 
-JOB is the text that the page begins with. Each text is given to `explain_json.py`, `layout_json.py` and `runs_json.py`, in processes that
-may run for some seconds and write no file. The address that is printed has a token, without which nothing is answered.
-Ctrl-C ends it.
+JOB is the text that the page begins with. Each text is given to `explain_json.py`, `layout_json.py` and `runs_json.py`, in
+processes that may run for some seconds and write no file. The address that is printed has a token, without which nothing is
+answered. Ctrl-C ends it.
 """
 
 import functools
@@ -47,7 +47,18 @@ LOOK = 0.1
 CHANCE = 12
 FIRST = ROOT / "examples" / "sum.job"
 # What it begins with where no examples are, as where pip has installed the package.
-SMALL = "proc main() {\n  var i, s, n;\n  read n;\n  while (i < n) {\n    i = i + 1;\n    s = s + i;\n  }\n  print s;\n}\n%input\n10\n"
+SMALL = """proc main() {
+  var i, s, n;
+  read n;
+  while (i < n) {
+    i = i + 1;
+    s = s + i;
+  }
+  print s;
+}
+%input
+10
+"""
 EXAMPLES = [ROOT / "examples" / f"{name}.job" for name in
             ("sum", "fibonacci", "order", "calls", "matrix", "sorting", "past")]
 EXAMPLES += [ROOT / "examples" / "viewer" / f"{name}.job" for name in ("squares", "early", "arrays", "turns")]
