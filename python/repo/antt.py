@@ -1,19 +1,22 @@
-"""Reads crates.txt, and of the files of specs/, proofs/ and src/ what several checks ask for: lines, imports, and the
-heads of declarations.
+"""Reads crates.txt, and the files of specs/ and proofs/: imports, and declarations with their statements and bodies.
 
-What a check alone wants to know of a file, as the parts of a statement, it reads itself from these.
+A declaration begins where a line has a kind (`record`, `data`, `ruleset`) or a colon behind its name. What stands deeper
+than its first line belongs to it, and so do the equations behind it, up to the next declaration. What a check alone wants
+to know, as what a name stands for, it makes of this.
 """
 
 from __future__ import annotations
 
 import functools
 import re
-from collections.abc import Iterator
+from collections.abc import Iterable, Iterator
+from dataclasses import dataclass, field
 from typing import NamedTuple
 
 from wavescalar.programs import ROOT
 
 MODIFIERS = ("pub", "abbrev", "unfoldable", "opaque", "private")
+NO_DECLARATION = ("mod ", "pub mod ", "infixl ", "infixr ", "infix ")
 HEAD = re.compile(rf"((?:(?:{'|'.join(MODIFIERS)})\s+)*)(?:(record|data|ruleset|mutual|module)(?:\s+|$))?"
                   r"(\S*)(\s+:(?=\s|$))?(.*)", re.S)
 COMMENT = re.compile(r"(^|\s)--(\s.*)?$")
@@ -101,12 +104,125 @@ def head_of(line: str) -> Head:
     return Head(frozenset(modifiers.split()), kind, name, bool(colon), rest)
 
 
-def lines_of(text: str) -> Iterator[tuple[int, int, str]]:
-    """The lines that say something: number, column, and text without comment."""
+class Line(NamedTuple):
+    """A line that says something, without its comment."""
+
+    number: int
+    column: int
+    text: str
+
+
+def lines_of(text: str) -> Iterator[Line]:
+    """The lines of a text that say something."""
     for number, line in enumerate(text.splitlines(), 1):
         line = COMMENT.sub("", line).rstrip()
         if line:
-            yield number, len(line) - len(line.lstrip()), line.strip()
+            yield Line(number, len(line) - len(line.lstrip()), line.strip())
+
+
+def blocks(lines: Iterable[Line]) -> list[list[Line]]:
+    """What begins at the column of the first line, each with the lines that belong to it."""
+    found: list[list[Line]] = []
+    for line in lines:
+        if found and (line.column > found[0][0].column or line.text[0] in ")}]|"):
+            found[-1].append(line)
+        else:
+            found.append([line])
+    return found
+
+
+def parted(block: list[Line]) -> tuple[list[Line], list[Line]]:
+    """The lines of a module, record or data up to its `where`, and those behind it."""
+    head = next((at for at, line in enumerate(block, 1) if line.text.endswith("where")), len(block))
+    return block[:head], block[head:]
+
+
+@dataclass
+class Declaration:
+    """A declaration of a file.
+
+    head: that of its first line: modifiers, kind, name.
+    around: the parameters of the modules around it.
+    group: the lines of the mutual group that it stands in, with that which begins it; else nothing.
+    statement: its lines without equations. Of a record or data they go up to `where`.
+    members: the lines of each field of a record, and of each constructor of data.
+    derives: the lines `deriving ..` behind them.
+    unfolds: the lines `unfolding ..` before equations; those at the head of a mutual group are its first declaration's.
+    equations: the lines of each.
+    """
+
+    head: Head
+    statement: list[Line]
+    members: list[list[Line]]
+    around: tuple[str, ...]
+    group: list[Line]
+    derives: list[Line] = field(default_factory=list)
+    unfolds: list[Line] = field(default_factory=list)
+    equations: list[list[Line]] = field(default_factory=list)
+
+    @property
+    def name(self) -> str:
+        return self.head.name
+
+    @property
+    def number(self) -> int:
+        """Its first line."""
+        return self.statement[0].number
+
+    @property
+    def type(self) -> str:
+        """What stands behind its name, in one line, up to a `where`."""
+        return " ".join([self.head.rest.strip(), *(line.text for line in self.statement[1:])]).strip()
+
+    @property
+    def body(self) -> list[Line]:
+        """All lines behind the statement."""
+        return [line for part in (*self.members, self.derives, self.unfolds, *self.equations) for line in part]
+
+
+def member_name(member: list[Line]) -> str:
+    """The name of a field or constructor."""
+    return next(word for word in member[0].text.split() if word not in MODIFIERS)
+
+
+class File:
+    """A file of specs/ or proofs/: its imports, and its declarations in their order, those inside modules and of mutual
+    groups too."""
+
+    def __init__(self, text: str) -> None:
+        self.imports = Imports()
+        self.declarations: list[Declaration] = []
+        self._read(lines_of(text), (), [])
+
+    def _read(self, lines: Iterable[Line], around: tuple[str, ...], group: list[Line]) -> None:
+        last: Declaration | None = None
+        before: list[Line] = []
+        for block in blocks(lines):
+            first = block[0].text
+            head = head_of(first)
+            if self.imports.take(" ".join(line.text for line in block)) or first.startswith(NO_DECLARATION):
+                continue
+            if head.kind == "mutual":
+                self._read(block[1:], around, block)
+            elif head.kind == "module":
+                opening, body = parted(block)
+                told = " ".join(line.text for line in opening).removesuffix("where").strip().split(" ", 2)
+                self._read(body, (*around, *told[2:]), group)
+            elif head.kind or head.is_typed:
+                last = self._declare(head, block, around, group)
+                last.unfolds, before = before, []
+            elif first.startswith("unfolding "):
+                (last.unfolds if last else before).extend(block)
+            elif last:
+                last.equations.append(block)
+
+    def _declare(self, head: Head, block: list[Line], around: tuple[str, ...], group: list[Line]) -> Declaration:
+        statement, body = parted(block) if head.kind else (block, [])
+        parts = blocks(body)
+        derives = [line for part in parts for line in part if part[0].text.startswith("deriving ")]
+        members = [part for part in parts if part[0] not in derives]
+        self.declarations.append(Declaration(head, statement, members, around, group, derives))
+        return self.declarations[-1]
 
 
 def joined(text: str) -> Iterator[tuple[int, str]]:

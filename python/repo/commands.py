@@ -4,9 +4,9 @@
 
 What a user meets is copied to a folder, with the program, and `./install` puts it into a home that is new.
 
-- docs/TUTORIAL.md and docs/BACKEND.md are typed, each in a folder with nothing in it. A block whose first line begins with `$ ` is a session: such
-  a line is a command, with what stands behind it up to the line END where it ends with <<'END', and what it prints
-  stands below; a line `..` stands for any lines. All sessions of a page are one shell's.
+- docs/TUTORIAL.md and docs/BACKEND.md are typed, each in a folder with nothing in it. A block whose first line begins with
+  `$ ` is a session: such a line is a command, with what stands behind it up to the line END where it ends with <<'END', and
+  what it prints stands below; a line `..` stands for any lines. All sessions of a page are one shell's.
 - The commands in the blocks of the other pages are run at the top of the copy, and have to end with status 0, or with 2
   where they show a refusal, within ten minutes. Of a plan the first two lines are run. What needs other machines, and
   what serves until it is ended, is left out.

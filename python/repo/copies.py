@@ -21,7 +21,7 @@ import re
 import sys
 from collections.abc import Iterable
 
-from repo.antt import MODIFIERS, Imports, lines_of
+from repo.antt import MODIFIERS, Declaration, File, Line, member_name
 from wavescalar.programs import ROOT
 
 ALLOWED = ROOT / ".ci" / "checks" / "copies.allowed"
@@ -31,8 +31,7 @@ RELATIONS = {"≡", "<", "≤", "≢", "⊥"}
 CONSTRUCTORS = {"zero", "suc", "true", "false", "inl", "inr", "refl", "tt", "[]", "∷"}
 SIGNS = {":", "→", "=", "λ", ".", "×", "⊎", "∀", "_", "..", "|", "↦", "⊥"}
 WORDS = SIGNS | {"let", "in", "where", "record", "elim", "rw", "at", "if", "then", "else", "Type"}
-# A number, a column and a text; files and names on the way to a meaning.
-Line = tuple[int, int, str]
+# Files and names on the way to a meaning.
 Seen = tuple[tuple[str, str], ...]
 LITERAL = {"=", "codes", "∷", "[]", "+", "-", "*", "^", "++"}
 
@@ -63,69 +62,40 @@ class Module:
         self.every: list[Item] = []
         self.items: dict[str, Item] = {}
         self.constructors: dict[str, str] = {}  # of data that is declared here, and whose they are
-        self.imports = Imports()
-        read(self, list(lines_of((ROOT / path).read_text())), [], False)
+        file = File((ROOT / path).read_text())
+        self.imports = file.imports
+        for it in file.declarations:
+            if it.head.kind != "ruleset":
+                self.add(it)
 
-    def add(self, item: Item) -> Item:
+    def add(self, it: Declaration) -> None:
+        """Takes a declaration, with the parameters of the modules around it."""
+        says = [word for word in words_of(it.type) + [word for part in it.members for word in told_in(part)]
+                if word not in MODIFIERS or not it.head.kind]
+        item = Item(self, it.name, kind_of(it), it.number, words_of(" ".join(it.around)) + says, bool(it.group))
+        item.equations = [told_in(equation) for equation in it.equations]
         self.every.append(item)
         self.items[item.name] = item
-        return item
+        if it.head.kind == "data":
+            self.constructors.update({member_name(part): it.name for part in it.members})
 
 
-def words_of(lines: Iterable[Line]) -> list[str]:
-    """The words of lines; the dot behind the variables of a λ is one of them."""
+def words_of(text: str) -> list[str]:
+    """The words of a text; the dot behind the variables of a λ is one of them."""
     found: list[str] = []
-    for word in TOKEN.findall(" ".join(text for _, _, text in lines)):
+    for word in TOKEN.findall(text):
         found += (word[:-1], ".") if len(word) > 1 and word.endswith(".") and word != ".." else (word,)
     return found
 
 
-def groups(lines: Iterable[Line]) -> list[list[Line]]:
-    """What begins at the column of the first line, each with the lines that belong to it."""
-    found: list[list[Line]] = []
-    for line in lines:
-        if found and (line[1] > found[0][0][1] or line[2][0] in ")}]|"):
-            found[-1].append(line)
-        else:
-            found.append([line])
-    return found
+def told_in(lines: Iterable[Line]) -> list[str]:
+    """The words of lines."""
+    return words_of(" ".join(line.text for line in lines))
 
 
-def body_of(group: list[Line]) -> tuple[list[Line], list[Line]]:
-    """The lines behind the `where` of a record, data or module."""
-    head = next((at for at, line in enumerate(group, 1) if line[2].endswith("where")), len(group))
-    return group[:head], group[head:]
-
-
-def read(module: Module, lines: list[Line], around: list[str], mutual: bool) -> None:
-    """Takes the declarations of a file, or of a module in it, with the parameters around them."""
-    last = None
-    for group in groups(lines):
-        number, _, first = group[0]
-        if module.imports.take(" ".join(text for _, _, text in group)):
-            continue
-        words, before = words_of(group), set()
-        while words and words[0] in MODIFIERS:
-            before.add(words.pop(0))
-        kind = "definition" if before & {"abbrev", "unfoldable"} else ""
-        if not words or words[0] in ("mod", "unfolding"):
-            continue
-        if words[0] == "mutual":
-            read(module, group[1:], around, True)
-        elif words[0] == "module":
-            head, body = body_of(group)
-            read(module, body, around + words_of(head)[2:-1], mutual)
-        elif words[0] in ("record", "data"):
-            says = [word for word in words[2:] if word not in MODIFIERS]
-            module.add(Item(module, words[1], words[0], number, around + says, mutual))
-            if words[0] == "data":
-                for part in groups(body_of(group)[1]):
-                    name = next(word for word in words_of(part) if word not in MODIFIERS)
-                    module.constructors[name] = words[1]
-        elif words[1:2] == [":"]:
-            last = module.add(Item(module, words[0], kind, number, around + words[2:], mutual))
-        elif last:
-            last.equations.append(words)
+def kind_of(it: Declaration) -> str:
+    """The kind of a declaration where its head says that: a record or data, or that it is a definition."""
+    return it.head.kind or ("definition" if it.head.modifiers & {"abbrev", "unfoldable"} else "")
 
 
 def matching(words: list[str], at: int) -> int:

@@ -88,7 +88,8 @@ def main() -> int:
         told = {name: paragraphs(lines) for name, _, _, lines in sections(page)}
         wrong += [f"{page.name}: no section {name}" for name in sorted(names - set(told))]
         wrong += [f"{page.name}: a section {name}, and no such crate" for name in sorted(set(told) - names)]
-        wrong += [f"{page.name}: the section {name} isn't its head" for name in sorted(names & set(told)) if told[name] != head(name)]
+        differ = [name for name in sorted(names & set(told)) if told[name] != head(name)]
+        wrong += [f"{page.name}: the section {name} isn't its head" for name in differ]
     print("".join(f"{text}\n" for text in wrong), end="")
     print(f"{sum(map(len, pages.values())) + len(ELSEWHERE)} crates, {len(wrong)} whose page and head differ")
     return 1 if wrong else 0

@@ -27,7 +27,8 @@ def anchors(page: pathlib.Path) -> set[str]:
 
 
 def main() -> int:
-    pages = [it for it in sorted(ROOT.rglob("*.md")) if not {"crates", "out", ".git", "node_modules"} & set(it.relative_to(ROOT).parts)]
+    left_out = {"crates", "out", ".git", "node_modules"}
+    pages = [it for it in sorted(ROOT.rglob("*.md")) if not left_out & set(it.relative_to(ROOT).parts)]
     seen, wrong = 0, list[str]()
     for page in pages:
         for link in LINK.findall(BLOCK.sub("", page.read_text())):

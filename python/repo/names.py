@@ -16,27 +16,22 @@ import re
 import sys
 from collections.abc import Iterator
 
-from repo.antt import crates, head_of, stands_on
+from repo.antt import File, crates, stands_on
 from wavescalar.programs import ROOT
 
 ALLOWED = ROOT / ".ci" / "checks" / "names.allowed"
 CAPITAL = re.compile(r"[A-Z]\w*")
 TYPE = re.compile(r"\s*(?:pub(?:\(\w+\))?\s+)?(?:struct|enum|trait|type)\s+([A-Z]\w*)")
-FIELD = re.compile(r"\s+pub\s+[A-Z]\w* :")
 
 
 def names_of(crate: str) -> Iterator[tuple[str, str, bool]]:
     """Each name that a crate defines: where, and whether it is a type of Rust."""
     base = ROOT / "crates" / crate
     for path in sorted(base.glob("specs/**/*.antt")):
-        in_record = False
-        for number, line in enumerate(path.read_text().splitlines(), 1):
-            head = head_of(line.strip())
-            if line.strip() and not line.startswith((" ", ")")):
-                in_record = head.kind == "record"
-            name = CAPITAL.match(head.name)
-            if name and head.is_marked and not (in_record and FIELD.match(line)):
-                yield name[0], f"{path.relative_to(ROOT)}:{number}", False
+        for it in File(path.read_text()).declarations:
+            name = CAPITAL.match(it.name)
+            if name and it.head.is_marked:
+                yield name[0], f"{path.relative_to(ROOT)}:{it.number}", False
     for path in sorted(base.glob("src/**/*.rt")):
         for number, line in enumerate(path.read_text().splitlines(), 1):
             name = TYPE.match(line)

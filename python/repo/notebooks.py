@@ -25,7 +25,8 @@ from typing import Any
 from wavescalar.programs import ROOT
 
 HERE = ROOT / "examples" / "notebooks"
-SECONDS = 600  # a cell
+SECONDS = 600  # by the clock, of a cell
+MOST_SECONDS = 60  # of processor, of a notebook with its kernel
 # The page in a frame: of it is compared that it is there. It has the scripts of the viewer, which have tests of their own.
 FRAME = re.compile(r'<iframe srcdoc="[^"]*"')
 FENCED = re.compile(r"```\n(.*?)```", re.DOTALL)
@@ -153,10 +154,21 @@ def kept_form(notebook: Notebook) -> str:
     return json.dumps(notebook, indent=1, ensure_ascii=False) + "\n"
 
 
-def check(file: pathlib.Path, update: bool) -> None:
-    """Checks a notebook. Raises Wrong with the first that is wrong."""
+def timed(notebook: Notebook, name: str) -> tuple[Notebook, float]:
+    """The notebook with what its cells answer, and the seconds of processor that it took with its kernel."""
+    before = os.times()
+    come = executed(notebook, name)
+    after = os.times()
+    took = after.children_user - before.children_user + after.children_system - before.children_system
+    if took > MOST_SECONDS:
+        raise Wrong(f"{name}: it takes {took:.0f} s of processor, and {MOST_SECONDS} are the most")
+    return come, took
+
+
+def check(file: pathlib.Path, update: bool) -> float:
+    """Checks a notebook: the seconds of processor that it took as it is. Raises Wrong with the first that is wrong."""
     kept: Notebook = json.loads(file.read_text())
-    come = executed(kept, file.name)
+    come, took = timed(kept, file.name)
     errors(come, file.name)
     verdicts(come, file.name, "Not yet")
     if update:
@@ -164,9 +176,10 @@ def check(file: pathlib.Path, update: bool) -> None:
     else:
         compare(kept, come, file.name)
     if tagged(kept, "exercise"):
-        right = executed(solved(kept, file.name), file.name)
+        right, _ = timed(solved(kept, file.name), file.name)
         errors(right, f"{file.name}, solved")
         verdicts(right, f"{file.name}, solved", "Solved")
+    return took
 
 
 def main() -> int:
@@ -178,8 +191,9 @@ def main() -> int:
     wrong = 0
     for file in line.files or sorted(HERE.glob("[0-9]*.ipynb")):
         try:
-            check(file.resolve(), line.update)
-            print(f"{file.name}: as it is kept, and its exercises are solved by their solutions", flush=True)
+            took = check(file.resolve(), line.update)
+            print(f"{file.name}: as it is kept ({took:.0f} s of processor), and its exercises are solved by their solutions",
+                  flush=True)
         except Wrong as fault:
             wrong += 1
             print(fault, file=sys.stderr)

@@ -1,7 +1,7 @@
 """Makes the pictures of pages that stand in the docs: `python/run repo.pictures [NAME ..]`. It needs Chromium.
 
-Each is a page of the viewer, or that of serve.py, at an event, as PNG of at most 256 colours. The plots, which are SVG, are made by the
-lines that EXPERIMENTS.md tells.
+Each is a page of the viewer, or that of serve.py, at an event, as PNG of at most 256 colours. The plots, which are SVG, are
+made by the lines that EXPERIMENTS.md tells.
 """
 
 import pathlib

@@ -23,7 +23,8 @@ import textwrap
 from collections.abc import Sequence
 from dataclasses import dataclass, field
 
-from repo.antt import Imports, head_of, joined
+from repo import antt
+from repo.antt import Declaration, Imports, Line, joined, member_name
 from wavescalar.programs import ROOT
 
 CRATES = ROOT / "crates"
@@ -88,22 +89,26 @@ TOPICS = (
 )
 
 NAME = re.compile(r"[A-Za-z_][\w'-]*(?:\.[A-Za-z_][\w'-]*)*")
-MEMBER = re.compile(r"  (?:(?:pub|record|data)\s+)+([\w']+)|  ([\w']+) :")
 BINDER = re.compile(r"[({]\s*((?:[\w']+\s+)+):")
 LAMBDA = re.compile(r"λ\s+([^.]*)\.")
 
 
 @dataclass
 class Definition:
-    """A definition, or several of one `mutual`."""
+    """A definition, or several of one `mutual`.
+
+    names: its own; of a `mutual` those of all that are declared in it.
+    pieces: its parts, each with its name: its head, and fields, cases or equations.
+    heads: what binds names for all of it: the parameters of modules around it, and those of a record or data.
+    """
 
     crate: str
     file: str
     line: int
     kind: str
     names: list[str]
-    lines: list[str] = field(default_factory=list)
-    params: str = ""
+    pieces: list[tuple[str, list[str]]] = field(default_factory=list)
+    heads: str = ""
 
     @property
     def label(self) -> str:
@@ -127,44 +132,40 @@ Found = Definition | Declared
 Reached = dict[str, tuple[Definition, int]]
 
 
-def begin(file: File, name: str, number: int, line: str, params: str) -> Definition | None:
-    """A definition that begins with this line, or nothing; the file has its name."""
-    head = head_of(line)
-    if not head.is_marked:
-        return None
-    now = Definition(file.crate, name, number, head.kind or "abbrev", [head.name] if head.name else [], [line], params)
-    file.definitions.update({it: now for it in now.names})
-    return now
+def texts(lines: Sequence[Line]) -> list[str]:
+    """Lines without what says where they stand."""
+    return [line.text for line in lines]
 
 
-def go_on(file: File, now: Definition, line: str) -> None:
-    """One more line of a definition. The names of a `mutual`, and those of cases, stand for the whole of it."""
-    now.lines.append(line)
-    member = MEMBER.match(line) if now.kind == "mutual" else None
-    for name in filter(None, member.groups() if member else ()):
-        now.names += [name] * (name not in now.names)
-        file.definitions.setdefault(name, now)
-    case = re.match(r"\s+([\w']+) :", line) if now.kind in ("data", "mutual") else None
-    if case:
-        file.definitions.setdefault(case[1], now)
+def left_side(equation: Sequence[Line]) -> str:
+    """What stands before the `=` of an equation."""
+    return " ".join(texts(equation)).partition("=")[0].strip()
+
+
+def definition_of(crate: str, file: str, it: Declaration) -> Definition:
+    """A declaration that is no part of a `mutual`."""
+    made = Definition(crate, file, it.number, it.head.kind or "abbrev", [it.name], [("", texts(it.statement))])
+    made.heads = " ".join([*it.around, *(texts(it.statement) if it.members else [])])
+    made.pieces += [(member_name(member), texts(member)) for member in it.members]
+    made.pieces += [(left_side(equation), texts(equation)) for equation in it.equations]
+    return made
 
 
 def read_specs(path: pathlib.Path) -> File:
-    """A file of specs/ with its definitions. What stands in a `module` is read as if it stood by itself."""
-    file, now, depth, params = File(path.relative_to(CRATES).parts[0]), None, 0, ""
-    for number, line in joined(path.read_text()):
-        if not line.strip() or line.lstrip().startswith("--"):
-            continue
-        if len(line) - len(line.lstrip()) < depth:
-            depth, params = 0, ""
-        if file.imports.take(line):
-            now = None
-        elif head_of(line[depth:]).kind == "module":
-            params, depth, now = params + line, depth + 2, None
-        elif begun := begin(file, path.stem, number, line[depth:], params):
-            now = begun
-        elif now:
-            go_on(file, now, line[depth:])
+    """A file of specs/ with its definitions. The names of a `mutual`, and those of cases, stand for the whole of it."""
+    crate, read = path.relative_to(CRATES).parts[0], antt.File(path.read_text())
+    file, groups = File(crate, read.imports), dict[int, Definition]()
+    for it in read.declarations:
+        if it.group:
+            first = it.group[0].number
+            whole = Definition(crate, path.stem, first, "mutual", [], [("", texts(it.group))], " ".join(it.around))
+            now = groups.setdefault(first, whole)
+            now.names.append(it.name)
+        else:
+            now = definition_of(crate, path.stem, it)
+        file.definitions[it.name] = now
+        for member in it.members if it.head.kind == "data" else ():
+            file.definitions.setdefault(member_name(member), now)
     return file
 
 
@@ -188,30 +189,12 @@ def declared(crate: str, module: str, name: str) -> int:
     return 0
 
 
-def pieces(definition: Definition) -> list[tuple[str, str]]:
-    """The parts of a definition, each with its name: its head, and fields, cases or equations."""
-    parts: list[tuple[str, list[str]]] = [("", [])]
-    for at, line in enumerate(definition.lines):
-        found = None
-        if at and definition.kind == "record":
-            found = re.match(r"  (?:pub )?([\w']+) :", line)
-        elif at and definition.kind == "data":
-            found = re.match(r" {2,4}([\w']+) :", line)
-        elif at and definition.kind == "abbrev":
-            found = re.match(rf"({re.escape(definition.names[0])}\b[^=]*)=", line)
-        if found:
-            parts.append((found[1].strip(), []))
-        parts[-1][1].append(line)
-    return [(name, "\n".join(lines)) for name, lines in parts]
-
-
 def bound(definition: Definition, name: str, text: str) -> set[str]:
     """The names that a piece binds: in its head and its binders, in a λ, as its fields, and on the left of `=`."""
-    head = definition.lines[0] if definition.kind in ("record", "data") else ""
-    groups = BINDER.findall(definition.params + head + text) + LAMBDA.findall(text)
+    groups = BINDER.findall(f"{definition.heads} {text}") + LAMBDA.findall(text)
     found = {it for group in groups for it in re.findall(r"[\w']+", group)}
     if definition.kind == "record":
-        found |= {it for it, _ in pieces(definition)}
+        found |= {it for it, _ in definition.pieces}
     elif definition.kind == "abbrev" and name:
         found |= {it for it in NAME.findall(name) if it.islower() and "." not in it}
     return found - set(definition.names)
@@ -249,10 +232,11 @@ def words_of(file: File, text: str) -> set[str]:
 def uses(definition: Definition, leave_out: Sequence[str]) -> tuple[list[Found], int]:
     """What a definition uses, and how many lines of it are read."""
     file, found, lines = specs()[definition.crate, definition.file], [], 0
-    for name, text in pieces(definition):
+    for name, told in definition.pieces:
         if any(re.fullmatch(it, f"{definition.label}:{name}", re.DOTALL) for it in leave_out):
             continue
-        lines += len(text.splitlines())
+        lines += len(told)
+        text = "\n".join(told)
         without = bound(definition, name, text)
         found += [resolve(file, it) for it in sorted(words_of(file, text) - without)]
     return [it for it in found if it], lines

@@ -25,7 +25,7 @@ import re
 import sys
 from collections.abc import Iterable, Iterator
 
-from repo.antt import Imports, crates, head_of, joined, stands_on
+from repo.antt import Declaration, File, Imports, crates, member_name, stands_on
 from wavescalar.programs import ROOT
 
 CRATES = ROOT / "crates"
@@ -34,10 +34,8 @@ PAGES = ("THEOREM", "DEFINITIONS", "PROVED", "BACKEND")
 STATEMENTS = [f"Rattle.one_result.specs.{name}" for name in ("OneResult", "Others", "Sequential", "Ends")]
 
 WORD = re.compile(r"[^\s(){}\[\],;]+")
-CONSTRUCTOR = re.compile(r"(?:pub )?[^\s(){}]+(?: :| *$)")
 QUOTED = re.compile(r'"(?:\\.|[^"\\])*"')
 SHOWN = re.compile(r"\{(\w+)")
-COMMENT = re.compile(r"(?<!\S)--(?:\s.*)?$", re.MULTILINE)
 RUST_COMMENT = re.compile(r"//.*$", re.MULTILINE)
 KINDS = "fn|struct|enum|trait|type|const|static|impl|use|mod"
 RUST_HEAD = re.compile(rf"(?:pub(?:\(\w+\))? )?(?:(?:const|unsafe|ghost) )*({KINDS})\b ?(.*)")
@@ -87,79 +85,31 @@ class Theory:
     def __init__(self, path: pathlib.Path) -> None:
         self.path, self.crate = path, path.relative_to(CRATES).parts[0]
         self.name = ".".join(["Rattle", *path.relative_to(CRATES).with_suffix("").parts])
-        self.imports = Imports()
         self.items: dict[str, Item] = {}
         self.every: list[Item] = []
         self.answers: list[Item] = []
-        text = path.read_text()
-        text = COMMENT.sub("", text) if "--" in text else text
-        for _, line in joined(text):
-            self.imports.take(line)
-        self.read(text.splitlines())
+        file = File(path.read_text())
+        self.imports = file.imports
+        for declaration in file.declarations:
+            self.take(declaration)
         # The folder of a module of src/ has the module's name, that of a group of lemmas a capital one.
         _, _, folder, *_ = path.relative_to(CRATES).parts
         if folder != path.name and not folder[0].isupper():
             self.answers = [item for item in self.every if self.is_goal(item.type)]
             self.every = [item for item in self.every if not self.is_goal(item.type)]
 
-    def read(self, lines: list[str]) -> None:
-        """Takes the declarations, those inside modules and of mutual groups too."""
-        levels, around = [0], [""]
-        last: Item | None = None
-        heading = False
-        for number, line in enumerate(lines, 1):
-            text = line.lstrip()
-            if not text:
-                continue
-            column = len(line) - len(text)
-            if heading:
-                around[-1] += " " + text
-                heading = not text.endswith("where")
-                # A `where` that stands alone stands deeper than its module, and what is in it deeper still.
-                levels[-1] = column + 2 if text == "where" else levels[-1]
-                continue
-            while column < levels[-1]:
-                levels.pop()
-                around.pop()
-            if column > levels[-1] or text[0] in ")}]|":
-                if last:
-                    last.text.append(text)
-                    last.type = last.type or text
-                    if last.kind == "data" and CONSTRUCTOR.match(text):
-                        self.items.setdefault(WORD.findall(text.removeprefix("pub "))[0], last)
-                continue
-            first = text.split(" ", 1)[0]
-            if text.startswith(("use ", "pub use ", "mod ", "pub mod ")):
-                last = None
-            elif first == "unfolding":
-                if last:
-                    last.text.append(text)
-            elif head_of(text).kind == "mutual":
-                levels.append(column + 2)
-                around.append("")
-            elif first == "module":
-                levels.append(column + 2)
-                around.append(text)
-                heading = not text.endswith("where")
-            else:
-                last = self.declare(text, number, last, around)
-
-    def declare(self, text: str, number: int, last: Item | None, before: list[str]) -> Item | None:
-        """The item that a line begins, or the last one, of which it is one more equation."""
-        head = head_of(text)
-        if not (head.kind or head.is_typed):
-            if last:
-                last.text.append(text)
-            return last
-        item = Item(self.crate, head.name, self.path, number, head.kind or "statement")
-        item.text = [*before, head.rest]
-        item.type = head.rest
+    def take(self, it: Declaration) -> None:
+        """The item that a declaration is. Constructors stand for their type."""
+        item = Item(self.crate, it.name, self.path, it.number, it.head.kind or "statement")
+        item.type = it.type
+        item.text = [*it.around, it.type, *(line.text for line in it.body)]
         if item.name in self.items:
             # Modules of a file may have the same name each: those are used together.
             item.uses.add(self.items[item.name])
         self.items[item.name] = item
         self.every.append(item)
-        return item
+        for member in it.members if item.kind == "data" else ():
+            self.items.setdefault(member_name(member), item)
 
     def is_goal(self, type_: str) -> bool:
         """Whether a type is a goal that the prover states."""

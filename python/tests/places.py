@@ -18,6 +18,18 @@ LIBRARY = pathlib.Path(__file__).resolve().parent.parent
 EXAMPLES = ROOT / "examples"
 # The folders of jobs that have sizes of their own for machines and grids.
 JOBS = (EXAMPLES, EXAMPLES / "viewer")
+# An assembly that prints 7.
+SEVEN = """wavescalar 2
+wave 1
+block start
+pad 0 in.0
+in: advance -> seven.0 end.0
+seven: const 7 -> show.0
+show: out <., 1, 2>.1
+end: halt <1, 2, .>.2
+stop
+end
+"""
 
 
 def _program(name: str) -> str:

@@ -1,8 +1,8 @@
 """The instructions of the machine and the limits of its assembly (docs/ASSEMBLY.md): the one table of both in Python.
 
 Reader, builder, machine, timing model, linter and the editor of wsc-serve take their words, counts and meanings from
-here, and `repo.editors` puts the words into the files of editors/. Two models that others are compared with have tables of their own, on purpose: `viewer/grid_model.py` and that of
-the builder's tests.
+here, and `repo.editors` puts the words into the files of editors/. Two models that others are compared with have tables
+of their own, on purpose: `viewer/grid_model.py` and that of the builder's tests.
 """
 
 from __future__ import annotations

@@ -1,5 +1,5 @@
-"""The text that `wsc compile`, `wsc trace` or a hand writes, for the programs here and in why/: assembly, `%input`,
-`%trace`. Assembly is read by the package `wavescalar`.
+"""The text that `wsc compile`, `wsc trace` or a hand writes, for the tools: assembly, `%input`, `%trace`. It is read by
+`reader`; here instructions and blocks go by their numbers.
 
 Every text is taken that `wsc check` calls sound. Of a faulty one the first line that can't be read is named, and no more.
 """
@@ -95,7 +95,8 @@ def read(text: str) -> Image:
     scanned, image = Text(own[0]), Image()
     if fault := scanned.first():
         line = own[0][fault.line - 1] if fault.line <= len(own[0]) else ""
-        raise Fault(f"line {fault.line} can't be read: {line.strip()}" if not fault.seen else f"line {fault.line}: {fault.message}")
+        told = f": {fault.message}" if fault.seen else f" can't be read: {line.strip()}"
+        raise Fault(f"line {fault.line}{told}")
     image.text, image.waves = own[0], scanned.waves
     image.arrays += scanned.arrays
     image.blocks += map(Block, scanned.blocks)

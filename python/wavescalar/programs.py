@@ -1,14 +1,22 @@
-"""Calls the program wsc: compiles jobs, and traces what they compile to."""
+"""Starts other programs, and calls wsc: compiles jobs, and traces what they compile to.
+
+No other module of the package starts a process, but for `c/clang.py`, which calls clang and what it makes.
+"""
 
 from __future__ import annotations
 
+import contextlib
+import enum
 import os
 import pathlib
 import shutil
 import subprocess
 import sys
+import tempfile
 import threading
-from collections.abc import Iterable
+import time
+from collections.abc import Iterable, Iterator, Mapping, Sequence
+from dataclasses import dataclass
 from typing import IO
 
 from wavescalar.faults import CallFault, Fault
@@ -36,57 +44,148 @@ def usual_linker() -> str:
     return os.environ.get("WSL") or (str(beside) if beside.is_file() else "wsc-link")
 
 
-def relay(source: IO[bytes], kept: list[str]) -> None:
-    """Keeps what a program writes to standard error, and passes on that it is being built, which takes a while."""
-    for line in source:
-        kept.append(line.decode(errors="replace"))
-        if kept[-1].startswith("wsc: building"):
-            print(kept[-1], end="", file=sys.stderr, flush=True)
+class Stream(enum.Enum):
+    """What becomes of what a program writes: it is kept, it goes where ours goes, or it is dropped."""
+
+    KEPT = subprocess.PIPE
+    PASSED_ON = None
+    DROPPED = subprocess.DEVNULL
 
 
-def call(program: str, words: list[str], text: str | Iterable[str], timeout: float | None = None) -> tuple[int, str, str]:
-    """The status of a call and what it wrote to standard output and to standard error. A text may come by pieces, and
-    then is never kept whole. After so many seconds, where they are told, the call is ended. Raises CallFault where there
-    is no answer at all. All calls of the tools and of the library go through here."""
-    kept: list[str] = []
-    made: list[bytes] = []
-    late = threading.Event()
+# A program that runs.
+Child = subprocess.Popen[bytes]
+
+
+@dataclass(frozen=True)
+class Measured:
+    """How a measured call ended, what it wrote to standard output, and what it took.
+
+    status: below 0 where a signal ended it.
+    wall, user, system: seconds by the clock, and of processor in the program and in the kernel.
+    kilobytes: the most that the program, or a child of it that it waited for, had at a time.
+    """
+
+    status: int
+    answer: bytes
+    wall: float
+    user: float
+    system: float
+    kilobytes: int
+
+
+def start(line: Sequence[str], source: int | IO[bytes] = subprocess.PIPE, sink: Stream | IO[bytes] = Stream.KEPT,
+          errors: Stream = Stream.KEPT, folder: str | None = None, environment: Mapping[str, str] | None = None,
+          is_group: bool = False) -> Child:
+    """Starts a program. is_group: it is a group of processes of its own, to which belong all that it starts. Raises
+    CallFault where it can't be run."""
     try:
-        child = subprocess.Popen([program, *words], stdin=subprocess.PIPE, stdout=subprocess.PIPE, stderr=subprocess.PIPE)
+        return subprocess.Popen(line, stdin=source, stdout=sink.value if isinstance(sink, Stream) else sink,
+                                stderr=errors.value, cwd=folder, env=environment, start_new_session=is_group)
     except OSError as fault:
-        raise CallFault(f"{program} can't be run: {fault.strerror}") from fault
-    assert child.stdin and child.stdout and child.stderr
+        raise CallFault(f"{line[0]} can't be run: {fault.strerror}") from fault
+
+
+def heard(child: Child, given: bytes | None, seconds: float) -> tuple[bytes, bytes] | None:
+    """What a program wrote to its two outputs until its end; nothing where it hasn't ended within so many seconds, and
+    then this can be asked again, without what it was given."""
+    try:
+        return child.communicate(given, timeout=seconds)
+    except subprocess.TimeoutExpired:
+        return None
+
+
+@contextlib.contextmanager
+def ended_after(child: Child, seconds: float | None) -> Iterator[threading.Event]:
+    """Ends a program that takes longer, where a time is told; the event says that this happened."""
+    late = threading.Event()
 
     def end() -> None:
         late.set()
         child.kill()
 
-    timer = threading.Timer(timeout or 0, end)
-    if timeout is not None:
+    timer = threading.Timer(seconds or 0, end)
+    if seconds is not None:
         timer.start()
-    with child.stdout as answer, child.stderr as errors:
-        beside = [threading.Thread(target=relay, args=(errors, kept)),
-                  threading.Thread(target=lambda: made.append(answer.read()))]
+    try:
+        yield late
+    finally:
+        # also where the key for an interrupt ends this: nothing waits for a timer
+        timer.cancel()
+
+
+def relay(source: IO[bytes], kept: list[str]) -> None:
+    """Keeps what a program writes to standard error, and passes on that it is being built, which takes a while."""
+    with source:
+        for line in source:
+            kept.append(line.decode(errors="replace"))
+            if kept[-1].startswith("wsc: building"):
+                print(kept[-1], end="", file=sys.stderr, flush=True)
+
+
+def gather(source: IO[bytes], kept: list[bytes]) -> None:
+    """Keeps what a program writes to standard output."""
+    with source:
+        kept.append(source.read())
+
+
+def exchange(line: Sequence[str], given: Iterable[bytes], answer: Stream = Stream.KEPT, errors: Stream = Stream.KEPT,
+             timeout: float | None = None) -> tuple[int, bytes, str]:
+    """Runs a program on these bytes: its status, what is kept of standard output, and of standard error. The bytes may
+    come by pieces, and then are never kept whole. After so many seconds, where they are told, the call is ended. Raises
+    CallFault then, and where the program can't be run."""
+    made: list[bytes] = []
+    kept: list[str] = []
+    child = start(line, sink=answer, errors=errors)
+    beside: list[threading.Thread] = []
+    if child.stdout:
+        beside.append(threading.Thread(target=gather, args=(child.stdout, made)))
+    if child.stderr:
+        beside.append(threading.Thread(target=relay, args=(child.stderr, kept)))
+    assert child.stdin
+    with ended_after(child, timeout) as late:
         for each in beside:
             each.start()
         try:
             with child.stdin as sink:
-                for piece in [text] if isinstance(text, str) else text:
-                    sink.write(piece.encode(errors="surrogateescape"))
+                for piece in given:
+                    sink.write(piece)
         except BrokenPipeError:
             # it has answered before it read all
             pass
         finally:
             for each in beside:
                 each.join()
-            # also where the key for an interrupt ends this: nothing waits for a timer
-            timer.cancel()
-    status, said = child.wait(), "".join(kept)
+        status = child.wait()
     if late.is_set():
-        raise CallFault(f"{program} {' '.join(words)} took more than {timeout} s")
+        raise CallFault(f"{' '.join(line)} took more than {timeout} s")
+    return status, b"".join(made), "".join(kept)
+
+
+def call(program: str, words: list[str], text: str | Iterable[str], timeout: float | None = None) -> tuple[int, str, str]:
+    """The status of a call and what it wrote to standard output and to standard error. A text may come by pieces, and
+    then is never kept whole. After so many seconds, where they are told, the call is ended. Raises CallFault where there
+    is no answer at all."""
+    pieces = (piece.encode(errors="surrogateescape") for piece in ([text] if isinstance(text, str) else text))
+    status, made, said = exchange([program, *words], pieces, timeout=timeout)
     if status == NONE_BUILT:
         raise CallFault(said.strip() or "there is no program", status)
-    return status, b"".join(made).decode(errors="replace"), said
+    return status, made.decode(errors="replace"), said
+
+
+def measured(line: Sequence[str], given: bytes, errors: Stream = Stream.PASSED_ON, limit: float | None = None) -> Measured:
+    """Runs a program on these bytes, and measures it. It reads and writes files, so that nothing here takes part in its
+    time. After so many seconds, where they are told, it is killed, which its status says."""
+    with tempfile.TemporaryFile() as source, tempfile.TemporaryFile() as sink:
+        source.write(given)
+        source.seek(0)
+        begun = time.perf_counter()
+        child = start(line, source, sink, errors)
+        with ended_after(child, limit):
+            _, status, used = os.wait4(child.pid, 0)
+            took = time.perf_counter() - begun
+            child.returncode = os.waitstatus_to_exitcode(status)
+        sink.seek(0)
+        return Measured(child.returncode, sink.read(), took, used.ru_utime, used.ru_stime, used.ru_maxrss)
 
 
 def needs_program(program: str) -> None:

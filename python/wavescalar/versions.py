@@ -7,10 +7,9 @@ import hashlib
 import pathlib
 import platform
 import shutil
-import subprocess
 
 from wavescalar import __version__
-from wavescalar.programs import ROOT
+from wavescalar.programs import ROOT, Stream, exchange
 
 # So many digits of a program's checksum tell it from others.
 DIGITS = 12
@@ -25,7 +24,7 @@ def of_tools() -> str:
         told = placed.read_text().splitlines()[0]
     elif (ROOT / ".git").exists() and shutil.which("git"):
         line = ["git", "-C", str(ROOT), "describe", "--always", "--dirty", "--abbrev=12"]
-        told = subprocess.run(line, capture_output=True, text=True, check=False).stdout.strip()
+        told = exchange(line, [], errors=Stream.DROPPED)[1].decode(errors="replace").strip()
     return f"{__version__} ({told})" if told else __version__
 
 
@@ -39,9 +38,9 @@ def of_program(program: str) -> str:
     with path.open("rb") as file:
         is_script = file.read(2) == b"#!"
     if is_script:
-        done = subprocess.run([found, "--version"], capture_output=True, text=True, check=False)
-        told = done.stdout.partition("\n")[0]
-        return told if done.returncode == 0 and told.startswith("wsc ") else "unknown"
+        status, answer, _ = exchange([found, "--version"], [], errors=Stream.DROPPED)
+        told = answer.decode(errors="replace").partition("\n")[0]
+        return told if status == 0 and told.startswith("wsc ") else "unknown"
     return f"sha256:{hashlib.sha256(path.read_bytes()).hexdigest()[:DIGITS]}"
 
 

@@ -36,6 +36,10 @@ SHAPES = (
     ["--max-funcs", "2", "--max-expr-complexity", "6", "--builtins", "--disable-builtin-kinds", "x86"],
     ["--max-funcs", "5", "--max-block-size", "3", "--max-block-depth", "3", "--no-unions"],
     ["--max-funcs", "3", "--max-array-dim", "2", "--max-array-len-per-dim", "6", "--no-packed-struct"],
+    ["--max-funcs", "3", "--float"],
+    ["--max-funcs", "8", "--max-struct-fields", "14", "--max-union-fields", "8"],
+    ["--max-funcs", "6", "--max-block-size", "6", "--max-pointer-depth", "4", "--inline-function"],
+    ["--max-funcs", "4", "--float", "--max-array-dim", "4", "--max-expr-complexity", "14"],
 )
 
 

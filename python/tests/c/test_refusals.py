@@ -10,8 +10,8 @@ import pytest
 from wavescalar.c import Refusal, compile_c
 
 CASES = {
-    "floating point (double)": (3, """int main(void) {
-double x = (double)ws_read();
+    "floating point (x86_fp80)": (3, """int main(void) {
+long double x = (long double)ws_read();
 ws_print((unsigned long)(x * 1.5)); }"""),
     "path is recursive, and has a local array of 40000 bytes": (2, """static int path(int n) {
 int seen[10000]; seen[n & 3] = n;
@@ -20,11 +20,11 @@ int main(void) { ws_print((unsigned long)path((int)ws_read())); }"""),
     "a call by a pointer to no function that is known here": (4, """static unsigned long (*volatile called)(unsigned long);
 int main(void) {
 ws_print(called(5)); }"""),
-    "sum has a variable number of arguments": (6, """#include <stdarg.h>
+    "a variable number of arguments, and one of them of 16 bytes": (6, """#include <stdarg.h>
 static long sum(int n, ...) {
-  va_list l; long s = 0; va_start(l, n); while (n--) s += va_arg(l, long); va_end(l); return s; }
+  va_list l; long s = 0; va_start(l, n); while (n--) s += (long)va_arg(l, __int128); va_end(l); return s; }
 int main(void) {
-ws_print((unsigned long)sum(2, 1l, 2l)); }"""),
+ws_print((unsigned long)sum(2, (__int128)1, (__int128)2)); }"""),
     "a pointer to no array that is known here": (3, """int main(void) {
 unsigned long *p = (unsigned long *)ws_read();
 *p = 3; }"""),
@@ -38,13 +38,12 @@ a[ws_read() & 3] += 5; v4 b = a + a; ws_print(b[ws_read() & 1]); }"""),
     "a would take 100000 cells": (2, """static int a[100000];
 int main(void) { a[ws_read()] = 1; ws_print(a[ws_read()]); }"""),
     "an integer of 128 bits": (3, """int main(void) {
-unsigned __int128 x = (unsigned __int128)ws_read() << 64 | 5; ws_print((unsigned long)(x / ws_read())); }"""),
+unsigned __int128 x = (unsigned __int128)ws_read() << 64 | 5; ws_print((unsigned long)__builtin_add_overflow(x, x, &x)); }"""),
     "an array whose length isn't known": (4, """int main(void) {
 unsigned long n = ws_read();
 int a[n]; for (unsigned long i = 0; i < n; i++) a[i] = (int)i; ws_print((unsigned long)a[ws_read()]); }"""),
     "inline assembly": (3, """int main(void) {
 unsigned long x = ws_read(); __asm__("incq %0" : "+r"(x)); ws_print(x); }"""),
-    "a parameter of main": (2, """int main(int n, char **words) { (void)words; ws_print((unsigned long)n); }"""),
 }
 
 

@@ -9,6 +9,7 @@ it, which other programs of the machine don't change; and how long diagnostics a
 from __future__ import annotations
 
 import contextlib
+import json
 import pathlib
 import statistics
 import sys
@@ -52,17 +53,20 @@ def main() -> int:
 
     client.open(JOB, SUM)
     client.marks(JOB)
-    begun = time.perf_counter()
+    item = {"uri": BIG, "languageId": "", "version": 1, "text": text}
+    message = {"jsonrpc": "2.0", "method": "textDocument/didOpen", "params": {"textDocument": item}}
+    body = json.dumps(message).encode()  # before the clock: this is the editor's work
 
     def opened() -> None:
-        client.open(BIG, text)
+        client.body(body)
         client.at("hover", JOB, 9, 9)
 
     def changed(version: int) -> None:
         client.change(BIG, version, {"range": {"start": place, "end": place}, "text": "#"})
         client.at("hover", JOB, 9, 9)
 
-    timed("open", opened)
+    begun = time.perf_counter()
+    timed("open, and a hover in a small text", opened)
     place = {"line": LINE, "character": 0}
     whole = {"start": place, "end": {"line": LINE + LINES, "character": 0}}
     for count in range(CHANGES):

@@ -17,11 +17,12 @@ from tests.places import LIBRARY, ROOT, WSC, WSL
 EDITORS = ROOT / "editors"
 ENVIRONMENT = {**os.environ, "WSC": WSC, "WSL": WSL, "PATH": f"{LIBRARY}:{os.environ['PATH']}", "PYTHONDONTWRITEBYTECODE": "1"}
 SECONDS = 600  # a loaded machine takes long
+RECORDED = "NVIM v0.7.2"  # the editor of editors/session.txt; another one may draw otherwise
 
 
-def tried(*line: str) -> str:
-    """What a trial says; it has to end with status 0."""
-    done = subprocess.run(line, capture_output=True, text=True, check=False, cwd=ROOT, env=ENVIRONMENT, timeout=SECONDS)
+def tried(*line: str, **more: str) -> str:
+    """What a trial says, with more in its environment; it has to end with status 0."""
+    done = subprocess.run(line, capture_output=True, text=True, check=False, cwd=ROOT, env=ENVIRONMENT | more, timeout=SECONDS)
     assert done.returncode == 0, done.stdout + done.stderr
     return done.stdout + done.stderr
 
@@ -29,12 +30,15 @@ def tried(*line: str) -> str:
 def test_neovim(tmp_path: pathlib.Path) -> None:
     if not shutil.which("nvim"):
         pytest.skip("no Neovim (Debian: neovim)")
-    ENVIRONMENT["XDG_STATE_HOME"] = str(tmp_path)
-    told = tried("nvim", "--headless", "-u", "NONE", "--cmd", "set rtp+=editors/vim", "-c", "luafile editors/nvim/try.lua")
+    session = tmp_path / "session.txt"
+    told = tried("nvim", "--headless", "-u", "NONE", "--cmd", "set rtp+=editors/vim", "-c", "luafile editors/nvim/try.lua",
+                 XDG_STATE_HOME=str(tmp_path), WSC_SESSION=str(session))
     assert "diagnostic 8:9 unknown" in told
     for line in ("gd went to line 2", "renamed: 3 lines have it", "code action: write `total`", "mended: no diagnostics",
                  "formatted:   print total;"):
         assert line in told, told
+    if RECORDED in subprocess.run(["nvim", "--version"], capture_output=True, text=True, check=True).stdout:
+        assert session.read_text() == (EDITORS / "session.txt").read_text()
 
 
 def test_emacs() -> None:

@@ -6,16 +6,20 @@ from __future__ import annotations
 
 import random
 import re
+import time
 from typing import Any
 
 import pytest
 
 from tests.lsp.client import PATIENCE, Client
-from tests.lsp.test_protocol import ASM, JOB, SEVEN, SUM, places, starts
-from tests.places import EXAMPLES, WSC, WSL, answer, needs_linker
-from wavescalar.lsp.colours import MODIFIERS, TYPES
+from tests.lsp.test_protocol import ASM, JOB, SUM, places, starts
+from tests.places import EXAMPLES, SEVEN, WSC, WSL, answer, needs_linker
+from wavescalar.lsp import glances
+from wavescalar.lsp.assemblies import AssemblyText
+from wavescalar.lsp.colours import MODIFIERS, TYPES, encoded as colours_of
 from wavescalar.lsp.documents import Document, changed
 from wavescalar.lsp.faults import verdict
+from wavescalar.lsp.large import LargeText
 
 DRAFT = "file:///work/seven.draft"
 UNLINKED = re.sub(r"<.*?>\.\d", "<?, 0, ?>.0", SEVEN)
@@ -207,6 +211,51 @@ def test_lines_of_changed_texts() -> None:
         assert (document.starts, document.own_starts) == (anew.starts, anew.own_starts), repr(document.text)
 
 
+def test_changes_of_large_texts() -> None:
+    """After changes by lot a text that is kept as its lines has the same lines as one that is kept whole."""
+    lot = random.Random(6)
+    for first in ("a\r\nb\rc\n\nd", "", "x\n", "é\x0b\u2028\r"):
+        document = Document("", 0, "job", first)
+        text = LargeText(document)
+        for version in range(1, 400):
+            count = len(document.text)
+            begin = lot.randint(0, count)
+            places = [document.place(at) for at in (begin, min(count, begin + lot.randint(0, 4)))]
+            if lot.random() < 0.1:
+                places[1] = {"line": places[1]["line"] + lot.randint(0, 2), "character": 90}
+            new = "".join(lot.choice("\r\n\rx𝄞\n\x0b") for _ in range(lot.randint(0, 5)))
+            changes: list[dict[str, Any]] = [{"range": {"start": places[0], "end": places[1]}, "text": new}]
+            if lot.random() < 0.02:
+                changes = [{"text": new}, *changes]
+            document = changed(document, version, changes)
+            text.change(version, changes)
+            assert (text.text, len(text), text.version) == (document.text, len(document.starts), version)
+            low = lot.randint(0, len(text))
+            part, number = text.part(low, low + lot.randint(0, 3))
+            assert document.text.startswith(part.text, document.starts[number]) and number == min(low, len(text) - 1)
+
+
+def test_what_lines_tell() -> None:
+    """What is told of a few lines of a large text is what the whole of it tells."""
+    document = Document("file:///a.asm", 1, "assembly", "# é𝄞\n" + large(3000))
+    text, said = LargeText(document), AssemblyText(document)
+    for first in range(-1, len(text) + 1, 3):
+        range_ = {"start": {"line": max(first, 0), "character": 0}, "end": {"line": first + 5, "character": 0}}
+        begin, end = (document.offset(range_[edge]) for edge in ("start", "end"))
+        data = glances.colours(text, {"range": range_})["data"]
+        assert data[:5 * 3] == colours_of(document, said, (begin, end))[:5 * 3]
+    told = 0
+    for line in range(len(text)):
+        for character in (0, 4, 9, 12, 30):
+            params = {"position": {"line": line, "character": character}}
+            found = glances.hover(text, params)
+            wanted = said.hover(document.offset(params["position"]))
+            if found and wanted:
+                assert found["range"] == document.range(wanted.span)
+                told += 1
+    assert told > 100
+
+
 def large(size: int) -> str:
     """A sound assembly of about so many characters: waves in a chain, each prints 25 values."""
     made, count, wave = ["wavescalar 2"], 0, 0
@@ -226,6 +275,24 @@ def large(size: int) -> str:
 
 
 BIG = "file:///work/big.asm"
+
+
+def test_a_change_is_cheap() -> None:
+    """A change of 5 MB, and what is told of its place, takes less than a tenth of a second of processor, each of 20 times."""
+    text = LargeText(Document(BIG, 1, "assembly", large(5000000)))
+    times = []
+    for count in range(20):
+        line = count * len(text) // 20
+        place = {"line": line, "character": 0}
+        range_ = {"start": place, "end": {"line": line + 60, "character": 0}}
+        begun = time.process_time()
+        text.change(count + 2, [{"range": {"start": place, "end": place}, "text": "# a line\n"}])
+        told = glances.hover(text, {"position": {"line": line + 1, "character": 12}})
+        data = glances.colours(text, {"range": range_})["data"]
+        times.append(time.process_time() - begun)
+        assert data[:5] == [line, 0, 8, TYPES.index("comment"), 0]
+        assert told is None or told["range"]["start"]["line"] == line + 1
+    assert max(times) < 0.1, times
 
 
 def test_a_large_text(client: Client) -> None:

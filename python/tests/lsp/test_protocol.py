@@ -8,7 +8,7 @@ import unittest
 from typing import Any
 
 from tests.lsp.client import PATIENCE, Client
-from tests.places import ROOT, WSC, WSL, answer
+from tests.places import ROOT, SEVEN, WSC, WSL, answer
 from wavescalar.lsp.documents import Document
 from wavescalar.lsp.faults import Programs, faults_of
 from wavescalar.lsp.jobs import JobText, parts_of
@@ -29,17 +29,6 @@ proc main() {
 }
 %input
 3
-"""
-SEVEN = """wavescalar 2
-wave 1
-block start
-pad 0 in.0
-in: advance -> seven.0 end.0
-seven: const 7 -> show.0
-show: out <., 1, 2>.1
-end: halt <1, 2, .>.2
-stop
-end
 """
 JOB, ASM = "file:///work/sum.job", "file:///work/seven.asm"
 

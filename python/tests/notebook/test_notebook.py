@@ -13,7 +13,7 @@ from xml.dom import minidom
 
 import wavescalar as ws
 from repo import notebooks as check
-from tests.places import ROOT, needs_linker
+from tests.places import ROOT, SEVEN, needs_linker
 from wavescalar.notebook import load_ipython_extension, magics, show
 from wavescalar.notebook.explain import explain, is_draft
 from wavescalar.notebook.jobs import Job
@@ -24,17 +24,6 @@ from wavescalar.notebook.timing import machines, sweep, timed
 SUM = "proc main() {\n  var i, s, n;\n  read n;\n  while (i < n) {\n    i = i + 1;\n    s = s + i;\n  }\n  print s;\n}\n"
 CELLS = ("array a[4];\nproc main() {\n  var i, s;\n  while (i < 3) {\n    a[i] = i * i;\n    s = s + a[0] + a[i];\n"
          "    i = i + 1;\n  }\n  print s;\n}\n")
-SEVEN = """wavescalar 2
-wave 1
-block start
-pad 0 in.0
-in: advance -> seven.0 end.0
-seven: const 7 -> show.0
-show: out <., 1, 2>.1
-end: halt <1, 2, .>.2
-stop
-end
-"""
 DRAFT = re.sub(r"<.*?>\.\d", "<?, 0, ?>.0", SEVEN)
 
 

@@ -9,19 +9,21 @@ import resource
 import signal
 import subprocess
 import tempfile
+from collections import Counter
 from collections.abc import Sequence
 from dataclasses import dataclass
 from pathlib import Path
 
 from wavescalar.c.faults import ToolFault
-from wavescalar.c.whole import completed
+from wavescalar.c.whole import completed, prepared, takes_arguments
 
 HEADERS = Path(__file__).parent / "include"
-LIBRARY = Path(__file__).parent / "library" / "library.c"
+LIBRARY = Path(__file__).parent / "library"
 ROUNDS = 4  # how often what was optimized may turn out to lack something, as a function that a pass calls
 # Headers of the system are to declare functions, not to define them by what only they know.
 MACROS = ["-D__WAVESCALAR__=1", "-D__NO_CTYPE", "-D__NO_INLINE__=1"]
-NATIVE = ["-O1", "-fno-finite-loops", "-w"]  # for a native program; endless loops stay endless, as on the machine
+EXACT = "-ffp-contract=off"  # a product and a sum of floating point are rounded each
+NATIVE = ["-O1", "-fno-finite-loops", "-w", EXACT]  # for a native program; endless loops stay endless, as on the machine
 SECONDS = 60  # of processor time that a native run may take
 DIFFERS = 9  # the status of `wscc` where a native run does something else
 # What every level of optimization begins with: whatever main calls is inlined into it; calls of a function by itself at
@@ -42,10 +44,20 @@ OPTIONS = ["-internalize-public-api-list=main", "-replexitval=never", "-disable-
 # Below level 2 a loop keeps its test at its head, which makes for fewer firings. With the test at its end, as level 2
 # has it, a turn's values needn't wait for the test, but another test stands in front.
 KEPT = ["-rotation-max-header-size=0"]
+CALLED = re.compile(rb"\bcall\b[^\n]*@(wscc_f(?:32|64)_\w+)\(")  # functions of floating point, which are large
+SITES = 32  # how many calls of such a function are inlined at most; of more none is
 DEFINED = re.compile(rb"^define .*?@([\w.$]+)\(", re.MULTILINE)
 
 
 Sources = Path | Sequence[Path]  # the files of a program
+
+
+@dataclass(frozen=True)
+class Built:
+    """The IR of a program, as text, and whether its input begins with the arguments of its `main`."""
+
+    text: bytes
+    takes_arguments: bool
 
 
 @dataclass(frozen=True)
@@ -72,23 +84,30 @@ class Clang:
         return int(number[1])
 
     def ir(self, sources: Sources, level: int = 1, words: Sequence[str] = (), as_text: bool = False) -> bytes:
-        """The IR, as text, of files of C at this level, 0 to 2. words: more for clang, as `-I` and `-D`. as_text: whether
-        what is printed is characters.
+        """The IR that `built` makes."""
+        return self.built(sources, level, words, as_text).text
+
+    def built(self, sources: Sources, level: int = 1, words: Sequence[str] = (), as_text: bool = False) -> Built:
+        """The IR of files of C at this level, 0 to 2. words: more for clang, as `-I` and `-D`. as_text: whether what is
+        printed is characters.
 
         Raises ToolFault where clang or opt fails; clang has said why on standard error.
         """
         version = self.version()
         words = [*words, *(["-D__WSCC_TEXT__=1"] if as_text else [])]
-        text = self._optimized(self._linked([self._compiled(file, words) for file in _files(sources)]), level)
+        written = self._linked([self._compiled(file, words) for file in _files(sources)])
+        text = self._optimized(prepared(written, version), level)
         for _ in range(ROUNDS):
-            more = completed(text, version, lambda: self._compiled(LIBRARY, ["-w", *words]), as_text)
+            more = completed(text, version, lambda file: self._compiled(LIBRARY / file, ["-w", *words]), as_text)
             if more is None:
                 break
-            text = self._optimized(more, level)
-        return text
+            text = self._optimized(prepared(more, version), level)
+        return Built(text, takes_arguments(written))
 
-    def native(self, sources: Sources, given: str, words: Sequence[str] = (), seconds: int = SECONDS) -> str:
-        """What a program prints natively that reads this text. words: more for clang.
+    def native(self, sources: Sources, given: str, words: Sequence[str] = (), seconds: int = SECONDS,
+               arguments: Sequence[str] = ()) -> str:
+        """What a program prints natively that reads this text. words: more for clang. arguments: those of `main`, behind
+        an empty name.
 
         Raises ToolFault where it can't be built, where a signal ends it, and where it takes more than so many seconds of
         processor time.
@@ -96,19 +115,20 @@ class Clang:
         limit = functools.partial(resource.setrlimit, resource.RLIMIT_CPU, (seconds, seconds + 1))
         with tempfile.TemporaryDirectory() as room:
             program = str(Path(room) / "native")
-            _call([self.clang, *NATIVE, f"-I{HEADERS}", *words, *map(str, _files(sources)), "-o", program])
-            done = subprocess.run([program], input=given, capture_output=True, text=True, errors="surrogateescape",
-                                  check=False, preexec_fn=limit)
+            _call([self.clang, *NATIVE, f"-I{HEADERS}", *words, *map(str, _files(sources)), "-lm", "-o", program])
+            done = subprocess.run(["", *arguments], executable=program, input=given.encode(errors="surrogateescape"),
+                                  stdout=subprocess.PIPE, stderr=subprocess.PIPE, check=False, preexec_fn=limit)
         if done.returncode in (-signal.SIGXCPU, -signal.SIGKILL):
             raise ToolFault(f"natively {_files(sources)[0]} takes more than {seconds} s, or was killed", DIFFERS)
         if done.returncode < 0:
             raise ToolFault(f"natively {_files(sources)[0]} is ended by signal {-done.returncode}", DIFFERS)
-        return done.stdout
+        return done.stdout.decode(errors="surrogateescape")
 
     def _compiled(self, source: Path, words: Sequence[str]) -> bytes:
         """The IR of a file as it is written. clang would mark all loops as not to be unrolled at its level 1."""
         return _call([self.clang, "-O1", "-funroll-loops", "-Xclang", "-disable-llvm-passes", "-g",
-                      "-fno-discard-value-names", "-fno-builtin-printf", *MACROS, f"-I{HEADERS}", *words, "-emit-llvm", "-S", str(source), "-o", "-"])
+                      "-fno-discard-value-names", "-fno-builtin-printf", "-fno-builtin-fprintf", EXACT, *MACROS,
+                      f"-I{HEADERS}", *words, "-emit-llvm", "-S", str(source), "-o", "-"])
 
     def _linked(self, texts: list[bytes]) -> bytes:
         """One module of several."""
@@ -122,10 +142,13 @@ class Clang:
 
     def _optimized(self, text: bytes, level: int) -> bytes:
         """The IR with all inlined into `main`."""
-        inlined = [name.decode() for name in DEFINED.findall(text) if name != b"main"]
+        sites = Counter(CALLED.findall(text))
+        often = [name.decode() for name, count in sites.items() if count > SITES]
+        inlined = [name for name in map(bytes.decode, DEFINED.findall(text)) if name != "main" and name not in often]
         passes = ",".join([INLINE, LEVELS[level], TIDY])
         forced = [word for name in inlined for word in (f"-force-attribute={name}:alwaysinline",
                                                         f"-force-remove-attribute={name}:noinline")]
+        forced += [f"-force-attribute={name}:noinline" for name in often]
         kept = KEPT if level < 2 else []
         with tempfile.TemporaryDirectory() as room:
             raw = Path(room) / "raw.ll"

@@ -4,9 +4,10 @@ from __future__ import annotations
 
 import argparse
 import functools
-import subprocess
+import os
 import sys
 from collections.abc import Sequence
+from dataclasses import dataclass
 from pathlib import Path
 
 from wavescalar.c import draft_of, optimized
@@ -17,7 +18,7 @@ from wavescalar.c.follow import follow
 from wavescalar.cli import Line, whole
 from wavescalar.faults import BuildFault, CallFault, Refused
 from wavescalar.image import Image
-from wavescalar.programs import NONE_BUILT, call, usual
+from wavescalar.programs import NONE_BUILT, Stream, call, exchange, usual
 from wavescalar.tools import link
 
 FAULT = 8  # the status of `wsc exec` where an index is past the end of an array
@@ -59,6 +60,12 @@ def _parser() -> argparse.ArgumentParser:
     parser.add_argument("--workers", metavar="N", type=int, default=1, help="workers of the run, 1 to 8")
     parser.add_argument("--input", metavar="FILE", type=Path,
                         help="the words that the run gives the program; without it there are none")
+    parser.add_argument("--arg", dest="arguments", metavar="TEXT", action="append", default=[],
+                        help="an argument of main, behind the program's name; argv[0] is empty")
+    parser.add_argument("--stdin", metavar="FILE", type=Path,
+                        help="what the program reads as standard input, in place of words")
+    parser.add_argument("--words", action="store_true",
+                        help="the words of the input, with those of --arg and --stdin, in place of the assembly")
     parser.add_argument("--budget", metavar="N", type=int, default=4_000_000, help="firings of the run, at most 4000000")
     parser.add_argument("--stats", action="store_true", help="the run says its firings")
     return parser
@@ -70,6 +77,8 @@ def main(words: Sequence[str] | None = None) -> int:
     asked = parser.parse_args(words)
     if asked.result and (asked.verify or asked.text):
         parser.error("--result prints a word more than the program: it doesn't go with --verify or --text")
+    if asked.input and asked.stdin:
+        parser.error("--input and --stdin don't go together: natively both are standard input")
     try:
         return _answer(asked)
     except Refusal as refusal:
@@ -104,11 +113,15 @@ def _answer(asked: argparse.Namespace) -> int:
         with file.open():  # so that a file that can't be read is told of in our words
             pass
     tools = Clang.found()
-    text = tools.ir(asked.files, asked.level, _for_clang(asked), asked.text)
+    built = tools.built(asked.files, asked.level, _for_clang(asked), asked.text)
     if asked.emit_llvm:
-        _write(asked, text.decode(errors="surrogateescape"))
+        _write(asked, built.text.decode(errors="surrogateescape"))
         return 0
-    graph = optimized(text, str(asked.files[0]), tools.version(), asked.result)
+    given = _given(asked, built.takes_arguments)
+    if asked.words:
+        _write(asked, given.words)
+        return 0
+    graph = optimized(built.text, str(asked.files[0]), tools.version(), asked.result)
     image = draft_of(graph, asked.lines)
     image = image if asked.draft else link(image)
     runs = asked.run or asked.verify
@@ -116,11 +129,36 @@ def _answer(asked: argparse.Namespace) -> int:
         _write(asked, str(image))
     if not runs:
         return 0
-    given = asked.input.read_text(errors="surrogateescape") if asked.input else ""
-    status = _verify(asked, tools, image, given) if asked.verify else _run(asked, image, given)
+    status = _verify(asked, tools, image, given) if asked.verify else _run(asked, image, given.words)
     if status == FAULT:
-        _say_where(graph, given)
+        _say_where(graph, given.words)
     return status
+
+
+@dataclass(frozen=True)
+class _Given:
+    """What a run reads: words, one in a line, and natively a text."""
+
+    words: str
+    text: str
+
+
+def _given(asked: argparse.Namespace, takes_arguments: bool) -> _Given:
+    """The input as library.c takes it: arguments of main, then standard input, or words."""
+    words: list[int] = []
+    if takes_arguments:
+        words = [len(asked.arguments), *(word for text in asked.arguments for word in _counted(os.fsencode(text)))]
+    before = "".join(f"{word}\n" for word in words)
+    if asked.stdin:
+        data = asked.stdin.read_bytes()
+        return _Given(before + "".join(f"{word}\n" for word in _counted(data)), data.decode(errors="surrogateescape"))
+    text = asked.input.read_text(errors="surrogateescape") if asked.input else ""
+    return _Given(before + text, text)
+
+
+def _counted(data: bytes) -> list[int]:
+    """A text as words: its length, and its bytes."""
+    return [len(data), *data]
 
 
 def _say_where(graph: Graph, given: str) -> None:
@@ -150,11 +188,8 @@ def _run(asked: argparse.Namespace, image: Image, given: str) -> int:
     """Runs the image by `wsc exec`, whose answer and status are ours."""
     if asked.text:
         return _answered(asked, image, given)[0]
-    words = [usual(), *_exec(asked)]
-    try:
-        return subprocess.run(words, input=f"{image}%input\n{given}", text=True, check=False).returncode
-    except OSError as fault:
-        raise CallFault(f"{words[0]} can't be run: {fault.strerror}") from fault
+    text = f"{image}%input\n{given}".encode(errors="surrogateescape")
+    return exchange([usual(), *_exec(asked)], [text], answer=Stream.PASSED_ON, errors=Stream.PASSED_ON)[0]
 
 
 def _answered(asked: argparse.Namespace, image: Image, given: str) -> tuple[int, list[str]]:
@@ -177,12 +212,12 @@ def _answered(asked: argparse.Namespace, image: Image, given: str) -> tuple[int,
     return status, words
 
 
-def _verify(asked: argparse.Namespace, tools: Clang, image: Image, given: str) -> int:
+def _verify(asked: argparse.Namespace, tools: Clang, image: Image, given: _Given) -> int:
     """Runs the image, and the program natively, and compares the words, or of a text the characters."""
-    status, words = _answered(asked, image, given)
+    status, words = _answered(asked, image, given.words)
     if status:
         return status
-    printed = tools.native(asked.files, given, _for_clang(asked))
+    printed = tools.native(asked.files, given.text, _for_clang(asked), arguments=asked.arguments)
     wanted = [str(code) for code in printed.encode(errors="surrogateescape")] if asked.text else printed.split()
     what = "character" if asked.text else "word"
     if words == wanted:

@@ -6,11 +6,10 @@ operation of memory. A copy for each wave that leads to it costs nothing but ins
 
 from __future__ import annotations
 
-from collections.abc import Iterator
-
 from wavescalar.c.cut import waves_of
 from wavescalar.c.flow import Block, Graph, Op, Operand, Phi, Var
 from wavescalar.c.order import reverse_postorder, sources_of
+from wavescalar.c.rename import users
 
 LARGE = 12  # operations; a larger block isn't copied
 MOST = 4  # waves that lead to a block which is copied
@@ -18,48 +17,54 @@ MOST = 4  # waves that lead to a block which is copied
 
 def part(graph: Graph) -> None:
     """Copies what is small, and leads to one block to which others lead too."""
-    while block := next((one for one in _meetings(graph) if not _escapes(graph, one)), None):
-        _part(graph, block)
+    while _Round(graph).part():
+        pass
 
 
-def _meetings(graph: Graph) -> list[Block]:
-    """The blocks to copy, as the graph is now."""
-    order = reverse_postorder(graph.blocks[0], lambda block: block.targets)
-    place = {block: k for k, block in enumerate(order)}
-    sources = sources_of(order, lambda one: one.targets)
-    waves, of = waves_of(order)
-    heads = {wave.head for wave in waves}
-    return [block for block in order[1:] if block in heads and block.exit == "go" and len(block.ops) <= LARGE
-            and 1 < len({of[source] for source in sources[block]}) <= MOST
-            and all(place[source] < place[block] for source in sources[block])
-            and len(sources[block.targets[0]]) > 1 and block.targets[0] is not block]
+class _Round:
+    """What is known of a graph while blocks are copied that have nothing to do with each other."""
 
+    def __init__(self, graph: Graph) -> None:
+        self.graph = graph
+        self.order = reverse_postorder(graph.blocks[0], lambda block: block.targets)
+        self.sources = sources_of(self.order, lambda block: block.targets)
+        self.waves, self.of = waves_of(self.order)
+        self.users = users(graph.blocks)
 
-def _escapes(graph: Graph, block: Block) -> bool:
-    """Whether something that a block computes is used elsewhere than in it and by the phis behind it."""
-    made = {op.result for op in block.ops} | {phi.result for phi in block.phis}
+    def part(self) -> bool:
+        """Copies blocks; whether there was one."""
+        touched: set[Block] = set()
+        for block in self._meetings():
+            near = [block, *self.sources[block], *block.targets]
+            if touched.isdisjoint(near) and not self._escapes(block):
+                touched.update(near)
+                groups: dict[object, list[Block]] = {}
+                for source in dict.fromkeys(self.sources[block]):
+                    groups.setdefault(self.of[source], []).append(source)
+                for group in list(groups.values())[1:]:
+                    _copy(self.graph, block, group)
+        return bool(touched)
 
-    def uses() -> Iterator[Operand]:
-        for other in graph.blocks:
-            for phi in other.phis:
-                yield from (arg for source, arg in phi.args.items() if source is not block)
+    def _meetings(self) -> list[Block]:
+        """The blocks to copy."""
+        place, sources = {block: k for k, block in enumerate(self.order)}, self.sources
+        heads = {wave.head for wave in self.waves}
+        return [block for block in self.order[1:] if block in heads and block.exit == "go" and len(block.ops) <= LARGE
+                and 1 < len({self.of[source] for source in sources[block]}) <= MOST
+                and all(place[source] < place[block] for source in sources[block])
+                and len(sources[block.targets[0]]) > 1 and block.targets[0] is not block]
+
+    def _escapes(self, block: Block) -> bool:
+        """Whether something that a block computes is used elsewhere than in it and by the phis behind it."""
+        made = {op.result for op in block.ops if op.result} | {phi.result for phi in block.phis}
+        others = {other for var in made for other in self.users.get(var, ())}
+        for other in others:
+            found = {arg for phi in other.phis for source, arg in phi.args.items() if source is not block}
             if other is not block:
-                yield other.selector
-                yield from (arg for op in other.ops for arg in op.args)
-
-    return any(isinstance(arg, Var) and arg in made for arg in uses())
-
-
-def _part(graph: Graph, block: Block) -> None:
-    """Gives each wave but the first that leads to a block a copy of it."""
-    order = reverse_postorder(graph.blocks[0], lambda one: one.targets)
-    sources = sources_of(order, lambda one: one.targets)
-    _, of = waves_of(order)
-    groups: dict[object, list[Block]] = {}
-    for source in dict.fromkeys(sources[block]):
-        groups.setdefault(of[source], []).append(source)
-    for group in list(groups.values())[1:]:
-        _copy(graph, block, group)
+                found |= {other.selector, *(arg for op in other.ops for arg in op.args)}
+            if not made.isdisjoint(arg for arg in found if isinstance(arg, Var)):
+                return True
+        return False
 
 
 def _copy(graph: Graph, block: Block, group: list[Block]) -> None:

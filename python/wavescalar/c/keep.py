@@ -14,22 +14,25 @@ from wavescalar.c.cleanup import drop_same_phis
 from wavescalar.c.flow import ArraySpec, Block, Graph, Op, Operand, Var
 from wavescalar.c.live import live_in
 from wavescalar.c.order import natural_loops, reverse_postorder, sources_of
-from wavescalar.c.rename import rename
+from wavescalar.c.rename import rename, users
 
 
 @dataclass(eq=False)
 class Loop:
-    """A natural loop: its head, and all its blocks."""
+    """A natural loop: its head, all its blocks, and those of them that lead out of it."""
 
     head: Block
     blocks: set[Block]
+    exits: list[Block]
 
 
 def keep(graph: Graph) -> None:
     """Stores and loads what loops only hand on."""
     order = reverse_postorder(graph.blocks[0], lambda block: block.targets)
     found = natural_loops(order, lambda block: block.targets)
-    loops = sorted((Loop(head, blocks) for head, blocks in found.items()), key=lambda loop: -len(loop.blocks))
+    exits = {head: [block for block in order if block in blocks and not blocks.issuperset(block.targets)]
+             for head, blocks in found.items()}
+    loops = sorted((Loop(head, blocks, exits[head]) for head, blocks in found.items()), key=lambda loop: -len(loop.blocks))
     if loops:
         _Keeper(graph, order, loops).keep()
         drop_same_phis(graph)
@@ -42,6 +45,7 @@ class _Keeper:
         self.enters = live_in(order)
         self.home = {phi.result: block for block in order for phi in block.phis}
         self.home.update({op.result: block for block in order for op in block.ops if op.result})
+        self.used = users(order)
         self.ranks = {var: rank for rank, var in enumerate(self.home)}
         self.array = len(graph.arrays)
         self.cells = 0
@@ -77,7 +81,7 @@ class _Keeper:
             front.ops.append(store)
         else:
             home.ops.insert(next((k + 1 for k, op in enumerate(home.ops) if op.result is var), 0), store)
-        rename(self.graph, self.sources, var, defined)
+        rename(self.sources, var, defined, dict.fromkeys([*self.used.get(var, ()), *([front] if front else []), home]))
 
     def _front(self, var: Var, loops: list[Loop]) -> Block | None:
         """The block in front of a loop, where a value need not be stored on another path that takes it anyway."""
@@ -93,7 +97,7 @@ class _Keeper:
     def _landings(self, var: Var, loop: Loop) -> list[Block]:
         """The blocks behind a loop that need a value; where others lead there too, new ones on the edges."""
         found: list[Block] = []
-        for block in [block for block in self.graph.blocks if block in loop.blocks]:
+        for block in loop.exits:
             for target in list(block.targets):
                 if target in loop.blocks or var not in self.enters[target]:
                     continue

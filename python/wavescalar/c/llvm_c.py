@@ -26,9 +26,11 @@ OPCODES = {
     66: "fneg", 67: "callbr", 68: "freeze",
 }
 VOID, INTEGER, STRUCT, ARRAY, POINTER_TYPE, VECTOR, METADATA = 0, 8, 10, 11, 12, 13, 14
-FLOATS = {1, 2, 3, 4, 5, 6, 18}
+FLOATS = {2: 32, 3: 64}  # types of floating point, and their bits: float and double
+REALS = ("false", "oeq", "ogt", "oge", "olt", "ole", "one", "ord", "uno", "ueq", "ugt", "uge", "ult", "ule", "une", "true")
 (ARGUMENT, FUNCTION, GLOBAL, BLOCK_ADDRESS, EXPRESSION, CONSTANT_ARRAY, CONSTANT_STRUCT, UNDEF, ZEROS, DATA_ARRAY,
- CONSTANT_INT, NULL, METADATA_VALUE, INSTRUCTION, POISON) = (0, 5, 8, 9, 10, 11, 12, 14, 15, 16, 18, 20, 22, 24, 25)
+ CONSTANT_INT, CONSTANT_REAL, NULL, METADATA_VALUE, INSTRUCTION, POISON) = (
+    0, 5, 8, 9, 10, 11, 12, 14, 15, 16, 18, 19, 20, 22, 24, 25)
 PREDICATES = dict(zip(range(32, 42), ("eq", "ne", "ugt", "uge", "ult", "ule", "sgt", "sge", "slt", "sle")))
 
 HANDLE, NUMBER, TEXT = c_void_p, c_uint, c_char_p
@@ -72,9 +74,30 @@ SIGNATURES: dict[str, tuple[Any, str]] = {
     "LLVMBuildCondBr": (HANDLE, "hhhh"), "LLVMBuildCall2": (HANDLE, "hhhhnh"), "LLVMBuildRetVoid": (HANDLE, "h"),
     # What printing.py makes.
     "LLVMIntTypeInContext": (HANDLE, "hn"), "LLVMVoidTypeInContext": (HANDLE, "h"), "LLVMPointerType": (HANDLE, "hn"),
-    "LLVMGetModuleContext": (HANDLE, "h"), "LLVMGetNamedFunction": (HANDLE, "hh"), "LLVMBuildTrunc": (HANDLE, "hhhh"),
+    "LLVMGetNamedFunction": (HANDLE, "hh"), "LLVMBuildTrunc": (HANDLE, "hhhh"),
     "LLVMBuildSExt": (HANDLE, "hhhh"), "LLVMBuildZExt": (HANDLE, "hhhh"), "LLVMConstInt": (HANDLE, "hln"),
     "LLVMBuildRet": (HANDLE, "hh"), "LLVMBuildBitCast": (HANDLE, "hhhh"),
+    # What edit.py, variadic.py, labels.py and start.py make.
+    "LLVMSetValueName2": (None, "hhl"), "LLVMDeleteFunction": (None, "h"), "LLVMDeleteBasicBlock": (None, "h"),
+    "LLVMMoveBasicBlockBefore": (None, "hh"), "LLVMSetSubprogram": (None, "hh"),
+    "LLVMGetAttributeCountAtIndex": (NUMBER, "hn"), "LLVMGetAttributesAtIndex": (None, "hnh"),
+    "LLVMAddAttributeAtIndex": (None, "hnh"), "LLVMGetCallSiteAttributeCount": (NUMBER, "hn"),
+    "LLVMGetCallSiteAttributes": (None, "hnh"), "LLVMAddCallSiteAttribute": (None, "hnh"),
+    "LLVMGetEnumAttributeKindForName": (NUMBER, "hl"), "LLVMGetCallSiteEnumAttribute": (HANDLE, "hnn"),
+    "LLVMGetTypeAttributeValue": (HANDLE, "h"), "LLVMABIAlignmentOfType": (NUMBER, "hh"),
+    "LLVMBuildGEP2": (HANDLE, "hhhhnh"), "LLVMBuildStore": (HANDLE, "hhh"), "LLVMBuildAlloca": (HANDLE, "hhh"),
+    "LLVMBuildMemCpy": (HANDLE, "hhnhnh"), "LLVMConstNull": (HANDLE, "h"), "LLVMArrayType": (HANDLE, "hn"),
+    "LLVMGetEntryBasicBlock": (HANDLE, "h"), "LLVMGetBasicBlockParent": (HANDLE, "h"),
+    "LLVMGetInstructionParent": (HANDLE, "h"), "LLVMAddGlobal": (HANDLE, "hhh"), "LLVMSetInitializer": (None, "hh"),
+    "LLVMBlockAddress": (HANDLE, "hh"), "LLVMConstInBoundsGEP2": (HANDLE, "hhhn"), "LLVMBuildUnreachable": (HANDLE, "h"),
+    "LLVMBuildSub": (HANDLE, "hhhh"), "LLVMBuildPtrToInt": (HANDLE, "hhhh"), "LLVMConstPtrToInt": (HANDLE, "hh"),
+    "LLVMBuildSwitch": (HANDLE, "hhhn"), "LLVMAddCase": (None, "hhh"),
+    # What division.py makes.
+    "LLVMStructTypeInContext": (HANDLE, "hhnn"), "LLVMBuildExtractValue": (HANDLE, "hhnh"),
+    "LLVMBuildLShr": (HANDLE, "hhhh"), "LLVMBuildShl": (HANDLE, "hhhh"), "LLVMBuildOr": (HANDLE, "hhhh"),
+    # What floats.py makes.
+    "LLVMGetFCmpPredicate": (c_int, "h"), "LLVMGetTypeContext": (HANDLE, "h"),
+    "LLVMBuildXor": (HANDLE, "hhhh"), "LLVMBuildAnd": (HANDLE, "hhhh"),
 }
 
 

@@ -12,7 +12,7 @@ from collections.abc import Iterator
 from dataclasses import dataclass
 
 from wavescalar.c import llvm_c as c
-from wavescalar.c.faults import Place, Refusal
+from wavescalar.c.edit import Edited
 
 CONVERSION = re.compile(rb"%([-+ #0]*)(\*|\d*)(?:\.(\*|\d*))?(hh|h|ll|l|j|z|t)?(.)", re.DOTALL)
 WIDTHS = {b"hh": 8, b"h": 16, b"": 32}  # of numbers, in bits; others have 64
@@ -56,43 +56,56 @@ def parts(form: bytes) -> Iterator[Part]:
         yield Part(b"", found[5].replace(b"i", b"d"), flags, width, precision, WIDTHS.get(found[4] or b"", 64))
 
 
-class Printing:
-    """The calls of `printf` in a module, by LLVM's library. as_text: whether characters are printed."""
+def expand(edited: Edited, as_text: bool) -> None:
+    """Replaces the calls of `printf` and `fprintf` in a module, unless the program has its own. as_text: whether characters
+    are printed.
 
-    def __init__(self, llvm: c.Llvm, module: int, context: int, as_text: bool) -> None:
-        self.llvm, self.module, self.as_text = llvm, module, as_text
-        self.builder = llvm.CreateBuilderInContext(context)
-        self.long, self.int = (llvm.IntTypeInContext(context, width) for width in (64, 32))
-        self.byte, self.void = llvm.IntTypeInContext(context, 8), llvm.VoidTypeInContext(context)
-        self.text_type = llvm.PointerType(self.byte, 0)
+    Raises Refusal for a call that can't be replaced.
+    """
+    llvm = edited.llvm
+    for before, name in enumerate((b"printf", b"fprintf")):
+        function = llvm.GetNamedFunction(edited.module, name)
+        if not function or not llvm.IsDeclaration(function):
+            continue
+        for it in edited.instructions("call"):
+            if llvm.GetCalledValue(it) == function:
+                _Printing(edited, as_text, before).expand(it)
 
-    def expand(self, calls: list[int]) -> None:
-        """Replaces these calls. Raises Refusal for one that can't be."""
-        for it in calls:
-            self._expand(it)
 
-    def _refused(self, it: int, reason: str) -> Refusal:
-        place = Place(self.llvm.file(it), self.llvm.GetDebugLocLine(it))
-        return Refusal(reason, place, self.llvm.text(self.llvm.PrintValueToString(it)).split(", !dbg")[0])
+class _Printing:
+    def __init__(self, edited: Edited, as_text: bool, before: int) -> None:
+        """before: how many arguments stand before the format."""
+        self.edited, self.llvm, self.as_text, self.before = edited, edited.llvm, as_text, before
+        self.builder = edited.builder
 
-    def _expand(self, it: int) -> None:
+    def expand(self, it: int) -> None:
+        """Replaces a call."""
         llvm = self.llvm
         if llvm.GetFirstUse(it):
-            raise self._refused(it, "the result of printf is used")
-        form = self._constant(llvm.GetOperand(it, 0))
+            raise self.edited.refused(it, "the result of printf is used")
+        if self.before and self._stream(llvm.GetOperand(it, 0)) != "stdout":
+            if self._stream(llvm.GetOperand(it, 0)) != "stderr":
+                raise self.edited.refused(it, "fprintf to another stream than stdout and stderr")
+            llvm.InstructionEraseFromParent(it)
+            return
+        form = self._constant(llvm.GetOperand(it, self.before))
         if form is None:
-            raise self._refused(it, "the format of printf isn't constant")
-        given = [llvm.GetOperand(it, k) for k in range(1, llvm.GetNumArgOperands(it))]
-        llvm.PositionBuilderBefore(self.builder, it)
-        llvm.SetCurrentDebugLocation2(self.builder, llvm.InstructionGetDebugLoc(it))
+            raise self.edited.refused(it, "the format of printf isn't constant")
+        given = self.edited.arguments(it)[self.before + 1:]
+        self.edited.before(it)
         try:
             for part in parts(form):
                 self._print(part, given)
         except ValueError as fault:
-            raise self._refused(it, f"{fault} in a format of printf") from fault
+            raise self.edited.refused(it, f"{fault} in a format of printf") from fault
         except IndexError as fault:
-            raise self._refused(it, "printf has fewer arguments than its format takes") from fault
+            raise self.edited.refused(it, "printf has fewer arguments than its format takes") from fault
         llvm.InstructionEraseFromParent(it)
+
+    def _stream(self, value: int) -> str:
+        """The name of the variable from which a stream is loaded; empty where there is none."""
+        is_load = self.llvm.GetValueKind(value) == c.INSTRUCTION and self.edited.op(value) == "load"
+        return self.llvm.name(self.llvm.GetOperand(value, 0)) if is_load else ""
 
     def _constant(self, value: int) -> bytes | None:
         """The string to which a constant points, up to its end."""
@@ -119,25 +132,22 @@ class Printing:
     def _print(self, part: Part, given: list[int]) -> None:
         if not part.kind:
             for code in part.text if self.as_text else b"":
-                self._call("ws_print", [self._number(code)])
+                self._call("ws_print", [self.edited.number(code)])
             return
-        width = self._number(part.width) if part.width is not None else self._wide(given.pop(0), 32, True)
-        precision = self._number(part.precision) if part.precision is not None else self._wide(given.pop(0), 32, True)
-        form = [self._number(part.flags), width, precision]
+        width = self.edited.number(part.width) if part.width is not None else self._wide(given.pop(0), 32, True)
+        precision = self.edited.number(part.precision) if part.precision is not None else self._wide(given.pop(0), 32, True)
+        form = [self.edited.number(part.flags), width, precision]
         value = given.pop(0)
         if part.kind == b"s":
-            value = self.llvm.BuildBitCast(self.builder, value, self.text_type, b"")
+            value = self.llvm.BuildBitCast(self.builder, value, self.edited.pointer, b"")
             self._call("wscc_put_string", [value, *form])
         elif part.kind == b"c":
             self._call("wscc_put_char", [self._wide(value, 8, False), *form])
         elif part.kind == b"d":
             self._call("wscc_put_signed", [self._wide(value, part.bits, True), *form])
         else:
-            base = self._number(BASES[part.kind])
+            base = self.edited.number(BASES[part.kind])
             self._call("wscc_put_unsigned", [self._wide(value, part.bits, False), base, *form])
-
-    def _number(self, value: int) -> int:
-        return int(self.llvm.ConstInt(self.long, value % (1 << 64), 0))
 
     def _wide(self, value: int, bits: int, signed: bool) -> int:
         """A number of so many bits as a word."""
@@ -146,17 +156,14 @@ class Printing:
         if llvm.GetTypeKind(own) != c.INTEGER:
             raise ValueError("an argument that is no number")
         if bits < llvm.GetIntTypeWidth(own):
-            value = llvm.BuildTrunc(self.builder, value, self.byte if bits == 8 else self._short(bits), b"")
+            value = llvm.BuildTrunc(self.builder, value, self.edited.byte if bits == 8 else self._short(bits), b"")
         extend = llvm.BuildSExt if signed else llvm.BuildZExt
-        return int(value if llvm.GetIntTypeWidth(llvm.TypeOf(value)) == 64 else extend(self.builder, value, self.long, b""))
+        return int(value if llvm.GetIntTypeWidth(llvm.TypeOf(value)) == 64 else extend(self.builder, value, self.edited.long, b""))
 
     def _short(self, bits: int) -> int:
-        return int(self.llvm.IntTypeInContext(self.llvm.GetModuleContext(self.module), bits))
+        return int(self.llvm.IntTypeInContext(self.edited.context, bits))
 
     def _call(self, name: str, given: list[int]) -> None:
-        llvm = self.llvm
-        kinds = (ctypes.c_void_p * len(given))(*(llvm.TypeOf(value) for value in given))
-        own = llvm.FunctionType(self.void, kinds, len(given), 0)
-        callee = llvm.GetNamedFunction(self.module, name.encode()) or llvm.AddFunction(self.module, name.encode(), own)
-        values = (ctypes.c_void_p * len(given))(*given)
-        llvm.BuildCall2(self.builder, own, callee, values, len(given), b"")
+        llvm, edited = self.llvm, self.edited
+        own = edited.function_type(llvm.VoidTypeInContext(edited.context), [llvm.TypeOf(value) for value in given])
+        edited.call(edited.function(name, own), own, given)

@@ -122,7 +122,9 @@ class _Reader:
             flags=frozenset(FLAGS.findall(text.split("%", 2)[1] if text.startswith("%") else text)),
             name=llvm.name(it),
         )
-        if op == "icmp":
+        if op == "bitcast" and made.type.kind == "int":
+            made.op = "freeze"  # of a float: numbers of floating point are their bits
+        elif op == "icmp":
             made.predicate = c.PREDICATES[llvm.GetICmpPredicate(it)]
         elif op == "call":
             made.callee = self._callee(it)
@@ -152,6 +154,8 @@ class _Reader:
         kind = llvm.GetTypeKind(handle)
         if kind == c.INTEGER:
             return Type("int", llvm.GetIntTypeWidth(handle))
+        if kind in c.FLOATS:
+            return Type("int", c.FLOATS[kind])
         if kind == c.POINTER_TYPE:
             return Type("ptr", 64)
         if kind == c.VOID:
@@ -169,6 +173,10 @@ class _Reader:
                 told = llvm.text(llvm.PrintValueToString(value)).split()
                 return Int(int(told[1]) % (1 << width), width)
             return Int(int(llvm.ConstIntGetZExtValue(value)), width)
+        if kind == c.CONSTANT_REAL and llvm.GetTypeKind(llvm.TypeOf(value)) in c.FLOATS:
+            width = c.FLOATS[llvm.GetTypeKind(llvm.TypeOf(value))]
+            bits = llvm.IntTypeInContext(llvm.GetTypeContext(llvm.TypeOf(value)), width)
+            return self._operand(llvm.ConstBitCast(value, bits))
         if kind == c.NULL:
             return Null()
         if kind in (c.UNDEF, c.POISON):

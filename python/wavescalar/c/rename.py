@@ -2,28 +2,39 @@
 
 from __future__ import annotations
 
-from collections.abc import Collection, Mapping
+from collections.abc import Collection, Iterable, Mapping
 
-from wavescalar.c.flow import Block, Graph, Phi, Var
+from wavescalar.c.flow import Block, Operand, Phi, Var
 
 
-def rename(graph: Graph, sources: Mapping[Block, list[Block]], var: Var, defined: Mapping[Block, Var],
+def users(blocks: Iterable[Block]) -> dict[Var, list[Block]]:
+    """The blocks whose operations, branches or phis take each variable."""
+    found: dict[Var, dict[Block, None]] = {}
+    for block in blocks:
+        parts: list[Operand] = [arg for op in block.ops for arg in op.args] + [block.selector]
+        for part in (*parts, *(arg for phi in block.phis for arg in phi.args.values())):
+            if isinstance(part, Var):
+                found.setdefault(part, {})[block] = None
+    return {var: list(own) for var, own in found.items()}
+
+
+def rename(sources: Mapping[Block, list[Block]], var: Var, defined: Mapping[Block, Var], used: Iterable[Block],
            apart: Collection[Block] = frozenset()) -> None:
     """Renames a variable in operations, branches and phis, and puts phis where definitions meet.
 
     sources: the blocks that lead to each. defined: what the variable is called at the ends of blocks that define it.
-    apart: blocks in which nothing is renamed.
+    used: the blocks that take it. apart: blocks in which nothing is renamed.
     """
-    _Renaming(graph, sources, var, defined, apart).rename()
+    _Renaming(sources, var, defined, apart).rename(used)
 
 
 class _Renaming:
-    def __init__(self, graph: Graph, sources: Mapping[Block, list[Block]], var: Var, defined: Mapping[Block, Var],
+    def __init__(self, sources: Mapping[Block, list[Block]], var: Var, defined: Mapping[Block, Var],
                  apart: Collection[Block]) -> None:
-        self.graph, self.sources, self.var, self.ends, self.apart = graph, sources, var, dict(defined), apart
+        self.sources, self.var, self.ends, self.apart = sources, var, dict(defined), apart
 
-    def rename(self) -> None:
-        for block in [block for block in self.graph.blocks if block not in self.apart]:
+    def rename(self, used: Iterable[Block]) -> None:
+        for block in [block for block in used if block not in self.apart]:
             old = list(block.phis)
             if any(self.var in op.args for op in block.ops) or block.selector is self.var:
                 own = self._end(block)

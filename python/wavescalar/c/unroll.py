@@ -8,7 +8,7 @@ from __future__ import annotations
 
 from wavescalar.c.flow import Block, Graph, Op, Operand, Phi, Var
 from wavescalar.c.order import natural_loops, reverse_postorder, sources_of
-from wavescalar.c.rename import rename
+from wavescalar.c.rename import rename, users
 
 COPIES = 4  # of a loop's blocks, at most
 LARGE = 96  # operations and phis that all copies together may have
@@ -18,12 +18,17 @@ def unroll(graph: Graph) -> None:
     """Copies the blocks of the loops that have no loop inside."""
     order = reverse_postorder(graph.blocks[0], lambda block: block.targets)
     loops = natural_loops(order, lambda block: block.targets)
-    found = [[block for block in order if block in inside] for inside in loops.values()]
-    for blocks in [blocks for blocks in found if _is_innermost(blocks)]:  # looked at before any is copied
+    place = {block: k for k, block in enumerate(order)}
+    closing = _Closing(graph)
+    counts: list[tuple[list[Block], int]] = []
+    for blocks in (sorted(inside, key=place.__getitem__) for inside in loops.values()):
         count = min(COPIES, LARGE // sum(1 + len(block.ops) + len(block.phis) for block in blocks))
-        if count > 1:
-            _close(graph, blocks)
-            _Copies(graph, blocks).make(count)
+        if count > 1 and _is_innermost(blocks):
+            counts.append((blocks, count))
+    for blocks, _ in counts:  # all are closed before any is copied
+        closing.close(blocks)
+    for blocks, count in counts:
+        _Copies(graph, blocks).make(count)
 
 
 def _is_innermost(blocks: list[Block]) -> bool:
@@ -34,50 +39,56 @@ def _is_innermost(blocks: list[Block]) -> bool:
                if target is not blocks[0])
 
 
-def _close(graph: Graph, blocks: list[Block]) -> None:
-    """Gives each block behind the loop one in front of it, in which phis take what the loop computed."""
-    inside = set(blocks)
-    behind = list(dict.fromkeys(target for block in blocks for target in block.targets if target not in inside))
-    landings = [_landing(graph, blocks, target) for target in behind]
-    made = [phi.result for block in blocks for phi in block.phis]
-    made += [op.result for block in blocks for op in block.ops if op.result]
-    homes = {phi.result: block for block in blocks for phi in block.phis}
-    homes.update({op.result: block for block in blocks for op in block.ops if op.result})
-    used = _used_outside(graph, inside | set(landings))
-    sources = sources_of(graph.blocks, lambda block: block.targets)
-    for var in made:
-        if var in used:
-            ends = {homes[var]: var}
+class _Closing:
+    """Puts blocks behind loops, in which phis take what the loops computed."""
+
+    def __init__(self, graph: Graph) -> None:
+        self.graph = graph
+        self.sources = sources_of(graph.blocks, lambda block: block.targets)
+        self.users = users(graph.blocks)
+
+    def close(self, blocks: list[Block]) -> None:
+        """Gives each block behind a loop one in front of it."""
+        inside = set(blocks)
+        behind = list(dict.fromkeys(target for block in blocks for target in block.targets if target not in inside))
+        landings = [self._landing(blocks, target) for target in behind]
+        apart = inside | set(landings)
+        homes = {phi.result: block for block in blocks for phi in block.phis}
+        homes.update({op.result: block for block in blocks for op in block.ops if op.result})
+        for var, home in homes.items():
+            used = [block for block in self.users.get(var, ()) if block not in apart and _takes(block, var)]
+            if not used:
+                continue
+            ends = {home: var}
             for landing in landings:
-                phi = Phi(Var(var.name), {source: var for source in sources[landing]})
+                phi = Phi(Var(var.name), {source: var for source in self.sources[landing]})
                 landing.phis.append(phi)
                 ends[landing] = phi.result
-            rename(graph, sources, var, ends, inside | set(landings))
+            rename(self.sources, var, ends, used, apart)
+
+    def _landing(self, blocks: list[Block], target: Block) -> Block:
+        """A block between the loop and one behind it."""
+        made = Block(f"behind_{blocks[0].name}", exit="go", targets=[target])
+        own = [block for block in blocks if target in block.targets]
+        for block in own:
+            block.retarget(target, made)
+        for phi in target.phis:
+            joined = Phi(Var(phi.result.name), {block: phi.args.pop(block) for block in own})
+            made.phis.append(joined)
+            phi.args[made] = joined.result
+            for arg in joined.args.values():
+                if isinstance(arg, Var):
+                    self.users.setdefault(arg, []).append(made)
+        self.graph.blocks.append(made)
+        self.sources[made] = own
+        self.sources[target] = [block for block in self.sources[target] if block not in own] + [made]
+        return made
 
 
-def _landing(graph: Graph, blocks: list[Block], target: Block) -> Block:
-    """A block between the loop and one behind it."""
-    made = Block(f"behind_{blocks[0].name}", exit="go", targets=[target])
-    own = [block for block in blocks if target in block.targets]
-    for block in own:
-        block.retarget(target, made)
-    for phi in target.phis:
-        joined = Phi(Var(phi.result.name), {block: phi.args.pop(block) for block in own})
-        made.phis.append(joined)
-        phi.args[made] = joined.result
-    graph.blocks.append(made)
-    return made
-
-
-def _used_outside(graph: Graph, inside: set[Block]) -> set[Var]:
-    """What blocks outside use, and phis of blocks outside take from blocks outside."""
-    found: set[Operand] = set()
-    for block in graph.blocks:
-        if block not in inside:
-            found.add(block.selector)
-            found.update(arg for op in block.ops for arg in op.args)
-            found.update(arg for phi in block.phis for source, arg in phi.args.items() if source not in inside)
-    return {operand for operand in found if isinstance(operand, Var)}
+def _takes(block: Block, var: Var) -> bool:
+    """Whether a block takes a value."""
+    return block.selector is var or any(var in op.args for op in block.ops) or any(
+        arg is var for phi in block.phis for arg in phi.args.values())
 
 
 class _Copies:

@@ -1,4 +1,5 @@
-"""Makes a program whole before it is inlined again: with what it calls of the library, and without calls by pointers.
+"""Makes a program whole before it is optimized, and again after: with what it calls of the library, without calls by
+pointers, and without what only clang's back ends have a form for.
 
 A call by a pointer becomes a call of a function that is made here: it compares the pointer with each function whose
 address is taken and that may be meant, and calls that one.
@@ -6,117 +7,106 @@ address is taken and that may be meant, and calls that one.
 
 from __future__ import annotations
 
-import ctypes
 import re
-from collections.abc import Callable, Iterator
+from collections.abc import Callable
 
-from wavescalar.c import llvm_c as c
-from wavescalar.c.printing import Printing
+from wavescalar.c import division, floats, labels, llvm_c as c, start, variadic
+from wavescalar.c.edit import INTERNAL, Edited
+from wavescalar.c.printing import expand
 
 POINTED = "by_pointer."  # how the names of functions begin that are made for calls by pointers
 BY_POINTER = re.compile(rb"^ .*\bcall\b.*%[\w.$-]+\(", re.MULTILINE)
-PRINTS = re.compile(rb"^ .*\bcall\b.*@printf\(", re.MULTILINE)
+PRINTS = re.compile(rb"^ .*\bcall\b.*@f?printf\(", re.MULTILINE)
+COMPUTED = re.compile(rb"^ *indirectbr ", re.MULTILINE)
 DECLARED = re.compile(rb"^declare .*?@([\w.$]+)\(", re.MULTILINE)
+DEFINED = re.compile(rb"^define .*?@([\w.$]+)\(", re.MULTILINE)
 OWN = (b"llvm.", b"ws_read", b"ws_print", b"exit")
-EQUAL, INTERNAL = 32, 8  # llvm-c/Core.h: LLVMIntEQ, LLVMInternalLinkage
+EQUAL = 32  # llvm-c/Core.h: LLVMIntEQ
 
 
-def completed(text: bytes, version: int, library: Callable[[], bytes], as_text: bool = False) -> bytes | None:
+def takes_arguments(text: bytes) -> bool:
+    """Whether the `main` of a program has parameters. text: its IR, as it is written."""
+    return start.WITH_PARAMETERS.search(text) is not None
+
+
+def prepared(text: bytes, version: int) -> bytes:
+    """The IR, as text, without parameters of `main`, computed `goto`s, and numbers of arguments that vary."""
+    computed, varies, begins = COMPUTED.search(text), variadic.VARIADIC.search(text), takes_arguments(text)
+    if not computed and not varies and not begins:
+        return text
+    edited = Edited(c.Llvm(version), text)
+    if computed:
+        labels.number(edited)
+    if varies:
+        variadic.expand(edited, text)
+    if begins:
+        start.begin(edited)
+    return edited.text()
+
+
+def completed(text: bytes, version: int, library: Callable[[str], bytes], as_text: bool = False) -> bytes | None:
     """The IR with what is missing; None where nothing is missing that can be added.
 
-    version: of LLVM, the major one. library: gives the IR of the library. as_text: whether `printf` prints characters.
+    version: of LLVM, the major one. library: gives the IR of a file of the library. as_text: whether `printf` prints characters.
     """
-    if PRINTS.search(text):
-        printing = _Whole(c.Llvm(version), text)
-        printing.print(as_text)
-        text = printing.text()
+    prints, divides, floating = PRINTS.search(text), division.WIDE.search(text), floats.FLOATING.search(text)
+    if prints or divides or floating:
+        edited = Edited(c.Llvm(version), text)
+        if prints:
+            expand(edited, as_text)
+        if divides:
+            division.call(edited)
+        if floating:
+            floats.call(edited)
+        text = edited.text()
     lacks = {name for name in DECLARED.findall(text) if not name.startswith(OWN)}
     pointed = BY_POINTER.search(text) is not None
     if not lacks and not pointed:
         return None
-    more = library() if lacks else b""
-    takes = lacks & set(re.findall(rb"^define .*?@([\w.$]+)\(", more, re.MULTILINE))
-    if not takes and not pointed:
+    more = [found for found in (library(file) for file in _files(lacks)) if lacks & set(DEFINED.findall(found))]
+    if not more and not pointed:
         return None
     whole = _Whole(c.Llvm(version), text)
-    if takes:
-        whole.link(more)
-    return whole.text() if whole.resolve() or takes else None
+    for found in more:
+        whole.link(found)
+    return whole.text() if whole.resolve() or more else None
 
 
-def _array(handles: list[int]) -> ctypes.Array[ctypes.c_void_p]:
-    return (ctypes.c_void_p * len(handles))(*handles)
+def _files(lacks: set[bytes]) -> list[str]:
+    """The files of the library in which these functions may be."""
+    of_floats = {name for name in lacks if floats.NAMES.fullmatch(name)}
+    return ["float.c"] * bool(of_floats) + ["library.c"] * bool(lacks - of_floats)
 
 
-class _Whole:
+class _Whole(Edited):
     def __init__(self, llvm: c.Llvm, text: bytes) -> None:
-        self.llvm = llvm
-        self.context = llvm.ContextCreate()
-        self.module = llvm.parse(text, self.context)
-        self.builder = llvm.CreateBuilderInContext(self.context)
+        super().__init__(llvm, text)
         self.made: dict[tuple[int, int], tuple[int, int] | None] = {}
-
-    def link(self, text: bytes) -> None:
-        """Takes in another module."""
-        self.llvm.LinkModules2(self.module, self.llvm.parse(text, self.context))
-
-    def text(self) -> bytes:
-        """The module."""
-        return self.llvm.text(self.llvm.PrintModuleToString(self.module)).encode(errors="surrogateescape")
-
-    def print(self, as_text: bool) -> None:
-        """Takes the calls of `printf` apart."""
-        llvm = self.llvm
-        printf = llvm.GetNamedFunction(self.module, b"printf")
-        if not llvm.IsDeclaration(printf):
-            return  # the program has its own
-        found = [it for it in self._calls() if llvm.GetCalledValue(it) == printf]
-        Printing(llvm, self.module, self.context, as_text).expand(found)
 
     def resolve(self) -> bool:
         """Replaces calls by pointers; whether there was one that could be replaced."""
         llvm, found = self.llvm, False
-        for it in list(self._calls()):
+        for it in self.instructions("call"):
             if llvm.GetValueKind(llvm.GetCalledValue(it)) in (c.INSTRUCTION, c.ARGUMENT):
                 found |= self._replace(it)
         return found
 
-    def _functions(self) -> Iterator[int]:
-        return self.llvm.chain(self.module, "GetFirstFunction", "GetNextFunction")
-
-    def _calls(self) -> Iterator[int]:
-        llvm = self.llvm
-        for function in list(self._functions()):
-            for block in llvm.chain(function, "GetFirstBasicBlock", "GetNextBasicBlock"):
-                for it in llvm.chain(block, "GetFirstInstruction", "GetNextInstruction"):
-                    if c.OPCODES.get(llvm.GetInstructionOpcode(it)) == "call":
-                        yield it
-
     def _replace(self, it: int) -> bool:
         llvm = self.llvm
         called, kind = llvm.GetCalledValue(it), llvm.GetCalledFunctionType(it)
+        if llvm.IsFunctionVarArg(kind):  # of a function without parameters in its declaration
+            kind = self.function_type(llvm.GetReturnType(kind), [llvm.TypeOf(value) for value in self.arguments(it)])
         key = kind, llvm.TypeOf(called)
         if key not in self.made:
             self.made[key] = self._dispatcher(*key)
         found = self.made[key]
         if found is None:
             return False
-        given = [called, *(llvm.GetOperand(it, k) for k in range(llvm.GetNumArgOperands(it)))]
-        llvm.PositionBuilderBefore(self.builder, it)
-        llvm.SetCurrentDebugLocation2(self.builder, llvm.InstructionGetDebugLoc(it))
-        made = llvm.BuildCall2(self.builder, found[1], found[0], _array(given), len(given), b"")
-        if llvm.GetTypeKind(llvm.TypeOf(it)) != c.VOID:
-            llvm.ReplaceAllUsesWith(it, made)
-        llvm.InstructionEraseFromParent(it)
+        self.before(it)
+        self.put(it, self.call(*found, [called, *self.arguments(it)]))
         return True
 
     # The functions that are made.
-
-    def _parameters(self, kind: int) -> list[int]:
-        count = self.llvm.CountParamTypes(kind)
-        room = (ctypes.c_void_p * count)()
-        self.llvm.GetParamTypes(kind, room)
-        return [int(handle or 0) for handle in room]
 
     def _alike(self, one: int, other: int) -> bool:
         """Whether a value of one type may stand for one of the other: all pointers may."""
@@ -126,25 +116,16 @@ class _Whole:
 
     def _is_taken(self, function: int) -> bool:
         """Whether its address is used, not only called."""
-        llvm = self.llvm
-        use = llvm.GetFirstUse(function)
-        while use:
-            user = llvm.GetUser(use)
-            is_call = (llvm.GetValueKind(user) == c.INSTRUCTION
-                       and c.OPCODES.get(llvm.GetInstructionOpcode(user)) == "call")
-            if not is_call or any(llvm.GetOperand(user, k) == function for k in range(llvm.GetNumArgOperands(user))):
-                return True
-            use = llvm.GetNextUse(use)
-        return False
+        return any(not self.is_call(user) or function in self.arguments(user) for user in self.users(function))
 
     def _targets(self, kind: int) -> list[int]:
         """The functions that a call of this type may mean."""
         llvm = self.llvm
-        wanted = [llvm.GetReturnType(kind), *self._parameters(kind)]
+        wanted = [llvm.GetReturnType(kind), *self.parameters(kind)]
         found: list[int] = []
-        for function in list(self._functions()):
+        for function in self.functions():
             own = llvm.GlobalGetValueType(function)
-            parts = [llvm.GetReturnType(own), *self._parameters(own)]
+            parts = [llvm.GetReturnType(own), *self.parameters(own)]
             if len(parts) == len(wanted) and all(map(self._alike, parts, wanted)) and not llvm.IsFunctionVarArg(own) \
                     and not llvm.name(function).startswith(("llvm.", POINTED)) and self._is_taken(function):
                 found.append(function)
@@ -154,10 +135,10 @@ class _Whole:
         """A function that calls what its first argument points to, and its type; None where nothing can be meant."""
         llvm = self.llvm
         targets = self._targets(kind)
-        if not targets or llvm.IsFunctionVarArg(kind):
+        if not targets:
             return None
-        given = [pointer, *self._parameters(kind)]
-        own = llvm.FunctionType(llvm.GetReturnType(kind), _array(given), len(given), 0)
+        given = [pointer, *self.parameters(kind)]
+        own = self.function_type(llvm.GetReturnType(kind), given)
         made = llvm.AddFunction(self.module, f"{POINTED}{len(self.made)}".encode(), own)
         llvm.SetLinkage(made, INTERNAL)
         here = llvm.AppendBasicBlockInContext(self.context, made, b"first")
@@ -177,16 +158,10 @@ class _Whole:
     def _call(self, target: int, made: int, kind: int) -> None:
         llvm = self.llvm
         own = llvm.GlobalGetValueType(target)
-        given = [self._cast(llvm.GetParam(made, k + 1), wanted) for k, wanted in enumerate(self._parameters(own))]
-        result = llvm.BuildCall2(self.builder, own, target, _array(given), len(given), b"")
+        result = self.call(target, own, [self.cast(llvm.GetParam(made, k + 1), wanted)
+                                         for k, wanted in enumerate(self.parameters(own))])
         wanted = llvm.GetReturnType(kind)
         if llvm.GetTypeKind(wanted) == c.VOID:
             llvm.BuildRetVoid(self.builder)
         else:
-            llvm.BuildRet(self.builder, self._cast(result, wanted))
-
-    def _cast(self, value: int, wanted: int) -> int:
-        llvm = self.llvm
-        if llvm.TypeOf(value) == wanted:
-            return value
-        return int(llvm.BuildBitCast(self.builder, value, wanted, b""))
+            llvm.BuildRet(self.builder, self.cast(result, wanted))

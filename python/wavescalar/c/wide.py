@@ -1,7 +1,7 @@
 """Takes integers of more than 64 bits apart: each becomes several of 64, the lowest first.
 
 Such integers are `__int128`, and what clang reads and writes for bit fields that lie close together. A part's bits above
-the integer's width are 0. Divisions aren't taken apart.
+the integer's width are 0. Divisions are calls before (division.py).
 """
 
 from __future__ import annotations
@@ -15,6 +15,7 @@ LONG = Type("int", 64)
 BIT = Type("int", 1)
 POINTER = Type("ptr", 64)
 BITWISE = ("and", "or", "xor")
+EXTREMES = {"smin": "sle", "smax": "sge", "umin": "ule", "umax": "uge"}  # whether the first one is taken
 Parts = list[Operand]
 
 
@@ -32,6 +33,13 @@ def _number(value: int) -> Int:
     return Int(value % (1 << 64), 64)
 
 
+def _drop_ways(phi: Instr, reached: set[int]) -> None:
+    """Takes away what would come from blocks to which no run comes."""
+    kept = [k for k, source in enumerate(phi.blocks) if source in reached]
+    phi.operands, phi.types = tuple(phi.operands[k] for k in kept), tuple(phi.types[k] for k in kept)
+    phi.blocks = tuple(phi.blocks[k] for k in kept)
+
+
 class _Narrow:
     def __init__(self, module: Module) -> None:
         self.module = module
@@ -45,10 +53,14 @@ class _Narrow:
         """Replaces what is wide, and numbers all instructions again."""
         blocks = self.module.blocks
         phis: list[tuple[Instr, list[Instr]]] = []
-        for number in reverse_postorder(0, lambda number: blocks[number].targets):
+        order = reverse_postorder(0, lambda number: blocks[number].targets)
+        reached = set(order)
+        for number in order:
             self.made = []
             for it in blocks[number].instrs:
                 self.it = it
+                if it.op == "phi" and not reached.issuperset(it.blocks):
+                    _drop_ways(it, reached)
                 if it.op == "phi" and _is_wide(it.type):
                     self.parts[it.number] = [self._make("phi", (), ()) for _ in range(-(-it.type.width // 64))]
                     phis.append((it, self.made[-len(self.parts[it.number]):]))
@@ -187,21 +199,39 @@ class _Narrow:
         """The highest parts that differ decide."""
         width, predicate = it.widths[0], it.predicate
         one, other = (list(self._of(operand, width)) for operand in it.operands)
-        if predicate[0] == "s":
-            one[-1], other[-1] = self._signed_top(one[-1], width), self._signed_top(other[-1], width)
         if predicate in ("eq", "ne"):
             differ = [self._two("xor", a, b) for a, b in zip(one, other)]
             for part in differ[1:]:
                 differ[0] = self._two("or", differ[0], part)
             self._make("icmp", (differ[0], _number(0)), (LONG, LONG), BIT, predicate, it.number)
             return
-        found = self._test(f"u{predicate[1:]}", one[0], other[0])
+        self.same[it.number] = self._compared(predicate, one, other, width)
+
+    def _compared(self, predicate: str, one: Parts, other: Parts, width: int) -> Operand:
+        """Whether one is less or greater than the other."""
+        if predicate[0] == "s":
+            one, other = ([*parts[:-1], self._signed_top(parts[-1], width)] for parts in (one, other))
+        found: Operand = self._test(f"u{predicate[1:]}", one[0], other[0])
         for k in range(1, len(one)):
             strict = predicate[0] if k == len(one) - 1 else "u"
             above = self._test(f"{strict}{predicate[1]}t", one[k], other[k])
             equal = self._test("eq", one[k], other[k])
             found = self._both("or", above, self._both("and", equal, found))
-        self.same[it.number] = found
+        return found
+
+    def do_call(self, it: Instr) -> Parts:
+        """The intrinsics that choose: an absolute value, the least, the greatest."""
+        op, width = (it.callee or "").split(".")[1:2] or [""], it.type.width
+        one = list(self._of(it.operands[0], width)) if it.operands and it.widths[0] == width else []
+        if op == ["abs"]:
+            other = self._difference([_number(0)] * len(one), one, width)
+            keeps = self._test("sge", self._signed_top(one[-1], width), _number(0))
+        elif op[0] in EXTREMES:
+            other = list(self._of(it.operands[1], width))
+            keeps = self._compared(EXTREMES[op[0]], one, other, width)
+        else:
+            raise self._refused()
+        return [self._choose(keeps, a, b) for a, b in zip(one, other)]
 
     def do_add(self, it: Instr) -> Parts:
         """With a carry."""
@@ -221,6 +251,9 @@ class _Narrow:
     def do_sub(self, it: Instr) -> Parts:
         """With a borrow."""
         one, other = (self._of(operand, it.type.width) for operand in it.operands)
+        return self._difference(one, other, it.type.width)
+
+    def _difference(self, one: Parts, other: Parts, width: int) -> Parts:
         found: Parts = []
         borrow: Operand | None = None
         for a, b in zip(one, other):
@@ -231,7 +264,7 @@ class _Narrow:
                 rest = self._make("sub", (rest, borrow), (LONG, LONG))
             found.append(rest)
             borrow = self._make("zext", (under,), (BIT,))
-        return self._masked(found, it.type.width)
+        return self._masked(found, width)
 
     def do_mul(self, it: Instr) -> Parts:
         """Two parts by two."""

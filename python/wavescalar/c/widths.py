@@ -219,6 +219,8 @@ def loop_depths(module: Module) -> dict[int, int]:
     def targets(number: int) -> tuple[int, ...]:
         return module.blocks[number].targets
 
-    loops = natural_loops(reverse_postorder(0, targets), targets)
-    return {it.number: sum(block.number in inside for inside in loops.values())
-            for block in module.blocks for it in block.instrs}
+    depths: dict[int, int] = {}
+    for inside in natural_loops(reverse_postorder(0, targets), targets).values():
+        for number in inside:
+            depths[number] = depths.get(number, 0) + 1
+    return {it.number: depths.get(block.number, 0) for block in module.blocks for it in block.instrs}

@@ -40,7 +40,8 @@ ARGUMENTS = {"word": "K", "pad": "K", "array": "A", "port": "P"}
 def form_of(op: str, kind: Kind) -> str:
     """How the line of an instruction reads."""
     lists = " | ".join(["I.P .."] * kind.lists)
-    parts = [f"N: {op}", ARGUMENTS[kind.argument] if kind.argument else "", NOTE if kind.memory else "", f"-> {lists}" if lists else ""]
+    parts = [f"N: {op}", ARGUMENTS[kind.argument] if kind.argument else "", NOTE if kind.memory else "",
+             f"-> {lists}" if lists else ""]
     return " ".join(filter(None, parts))
 
 

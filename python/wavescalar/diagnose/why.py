@@ -15,7 +15,6 @@ from __future__ import annotations
 
 import functools
 import pathlib
-import subprocess
 import sys
 
 from wavescalar.cli import Line, add_program, text_of, whole
@@ -23,7 +22,7 @@ from wavescalar.diagnose.refusals import in_brief, of_answer, of_end, of_refusal
 from wavescalar.diagnose.usage import RANGES, READS_NONE, of_usage
 from wavescalar.faults import Fault
 from wavescalar.numbered import answered
-from wavescalar.programs import call
+from wavescalar.programs import Stream, call, exchange
 
 
 def parted(words: list[str]) -> tuple[list[str], str | None]:
@@ -52,13 +51,13 @@ def run(program: str, words: list[str]) -> tuple[int, bytes, list[str]]:
     text = text_of(file)
     data = text.encode(errors="surrogateescape")
     if told := answered(text):
-        done = subprocess.run([program, *words], input=data, stdout=subprocess.PIPE, stderr=subprocess.DEVNULL, check=False)
-        return done.returncode, done.stdout, of_answer(told)
-    done = subprocess.run([program, *words], input=data, stdout=subprocess.PIPE, check=False)
-    told = done.stdout.decode(errors="replace")
-    if done.returncode == 2:
-        return 2, done.stdout, of_refusal(told, text, words[0], commands_of(program))
-    return done.returncode, done.stdout, of_end(done.returncode, told, words[0])
+        status, answer, _ = exchange([program, *words], [data], errors=Stream.DROPPED)
+        return status, answer, of_answer(told)
+    status, answer, _ = exchange([program, *words], [data], errors=Stream.PASSED_ON)
+    told = answer.decode(errors="replace")
+    if status == 2:
+        return 2, answer, of_refusal(told, text, words[0], commands_of(program))
+    return status, answer, of_end(status, told, words[0])
 
 
 def brief(program: str, words: list[str]) -> int:

@@ -11,23 +11,24 @@ import os
 import pathlib
 import queue
 import re
-import subprocess
 import sys
 import threading
 from typing import Any, BinaryIO, Callable, cast
 
 from wavescalar.lsp import glances, wire
 from wavescalar.lsp.documents import Document
+from wavescalar.lsp.large import LargeText
 from wavescalar.lsp.wire import BadMessage, Closed, Sender
+from wavescalar.programs import Stream, start
 
-PATIENCE = 0.06  # seconds for an answer about a place, before its line alone is looked at
+PATIENCE = 0.03  # seconds for an answer about a place, before its line alone is looked at
 OWN = "aside"  # the number of the request that begins such a process
 REACH = {**os.environ, "PYTHONPATH": str(pathlib.Path(__file__).resolve().parent.parent.parent)}
 ANSWER = re.compile(rb'\{"jsonrpc":"2\.0","id":(-?\d+|"(?:[^"\\]|\\.)*"),')
 MARKS = re.compile(rb'\{"jsonrpc":"2\.0","method":"textDocument/publishDiagnostics","params":\{"uri":"(?:[^"\\]|\\.)*",'
                    rb'"version":(-?\d+),')
 # What is told of a place by its line alone.
-Glance = Callable[[Document, Any], Any]
+Glance = Callable[[LargeText, Any], Any]
 
 
 # What is told of a large text before the other process is asked, and what where it has no answer in time. The first kind
@@ -37,12 +38,12 @@ IN_TIME: dict[str, Glance] = {"textDocument/hover": glances.hover, "textDocument
 
 
 class Aside:
-    """The process of a text. options: of its line; sender: to the editor; current: the text as the editor has it now."""
+    """The process of a text. options: of its line; sender: to the editor; text: as the editor has it now."""
 
-    def __init__(self, options: list[str], sender: Sender, current: Callable[[], Document | None]) -> None:
+    def __init__(self, options: list[str], sender: Sender, text: LargeText) -> None:
         line = [sys.executable, "-m", "wavescalar.lsp.command", "--large", "0", *options]
-        self._child = subprocess.Popen(line, stdin=subprocess.PIPE, stdout=subprocess.PIPE, env=REACH)
-        self._sender, self._current = sender, current
+        self._child = start(line, errors=Stream.PASSED_ON, environment=REACH)
+        self._sender, self.text, self._has_ended = sender, text, False
         self._bodies: queue.Queue[bytes | None] = queue.Queue()
         self._waiting: dict[int | str, threading.Timer | None] = {}
         self._lock = threading.Lock()
@@ -108,7 +109,8 @@ class Aside:
             self._say(method="$/cancelRequest", params={"id": number})
 
     def end(self) -> None:
-        """Ends the process; what it was asked is answered with an error."""
+        """Ends the process; what it was asked is answered with an error, and what it said of faults is told no more."""
+        self._has_ended = True
         self._bodies.put(None)
         self._child.kill()
         self._child.wait()
@@ -148,8 +150,7 @@ class Aside:
             if number != OWN and self._take(number):
                 self._sender.pass_on(body)
         elif marks := MARKS.match(body):
-            document = self._current()
-            if document and document.version == int(marks[1]):
+            if self.text.version == int(marks[1]) and not self._has_ended:
                 self._sender.pass_on(body)
         else:
             self._sender.pass_on(body)

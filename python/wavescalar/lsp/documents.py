@@ -51,6 +51,15 @@ def _starts(text: str) -> list[int]:
     return [0, *(found.end() for found in LINE_END.finditer(text))] if "\r" in text else _fed(text)
 
 
+def of_units(line: str, units: int) -> int:
+    """The characters of a line that stand before a column in units of UTF-16; all where it has fewer."""
+    for at, char in enumerate(line):
+        if units <= 0:
+            return at
+        units -= 2 if ord(char) > 0xFFFF else 1
+    return len(line)
+
+
 @dataclass(frozen=True)
 class Document:
     """A text in one version. uri: the editor's name of the file; version: the editor's count of changes."""
@@ -97,12 +106,7 @@ class Document:
         number = max(place["line"], 0)
         if number >= len(self.starts):
             return len(self.text)
-        line, units = self._line(self.starts, number), place["character"]
-        for at, char in enumerate(line):
-            if units <= 0:
-                return self.starts[number] + at
-            units -= 2 if ord(char) > 0xFFFF else 1
-        return self.starts[number] + len(line)
+        return self.starts[number] + of_units(self._line(self.starts, number), place["character"])
 
     def place(self, offset: int) -> Place:
         """An offset as a place of the protocol."""

@@ -24,6 +24,7 @@ from wavescalar.lsp.background import DELAY, Checker
 from wavescalar.lsp.documents import Document, changed, document_of
 from wavescalar.lsp.faults import WARNING, Programs, diagnostic, faults_of
 from wavescalar.lsp.jobs import JobText
+from wavescalar.lsp.large import LargeText
 from wavescalar.lsp.layout import NoLayout, formatted
 from wavescalar.lsp.renames import NoRename
 from wavescalar.lsp.wire import BadMessage, Closed, Message, Sender
@@ -206,11 +207,11 @@ class Server:
 
     def _ask_aside(self, aside: Aside, message: Message, body: bytes) -> None:
         """Has a request about a large text answered beside. What its line alone tells is told where that takes long."""
-        document, method, params = self._documents[uri_of(message)], message["method"], message.get("params")
+        method, params = message["method"], message.get("params")
 
         def told(glance: Glance) -> Any:
             try:
-                return glance(document, params)
+                return glance(aside.text, params)
             except Exception:  # these parameters can't be taken; the other process says so, if it comes to it
                 traceback.print_exc(file=sys.stderr)
                 return None
@@ -277,8 +278,8 @@ class Server:
         document = document_of(params["textDocument"])
         if old := self._asides.pop(document.uri, None):
             old.end()
-        self._documents[document.uri] = document
         if not self._set_aside(document, body):
+            self._documents[document.uri] = document
             self._checker.look(document, at_once=True)
 
     def _set_aside(self, document: Document, body: bytes | None = None) -> bool:
@@ -287,16 +288,20 @@ class Server:
             return False
         self._checker.leave(document.uri)
         options = ["--wsc", self._programs.wsc, "--wsl", self._programs.wsl, "--delay", str(self._settings.delay)]
-        aside = Aside(options, self._sender, lambda: self._documents.get(document.uri))
+        aside = Aside(options, self._sender, LargeText(document))
+        self._documents.pop(document.uri, None)
         self._asides[document.uri] = aside
         aside.open(document, body)
         return True
 
     def _changed(self, params: Any, body: bytes) -> None:
-        uri = params["textDocument"]["uri"]
-        document = changed(self._documents[uri], params["textDocument"]["version"], params["contentChanges"])
-        self._documents[uri] = document
-        if uri not in self._asides and not self._set_aside(document):
+        uri, version = params["textDocument"]["uri"], params["textDocument"]["version"]
+        if aside := self._asides.get(uri):
+            aside.text.change(version, params["contentChanges"])
+            return
+        document = changed(self._documents[uri], version, params["contentChanges"])
+        if not self._set_aside(document):
+            self._documents[uri] = document
             self._checker.look(document)
 
     def _saved(self, params: Any, body: bytes) -> None:
@@ -305,12 +310,12 @@ class Server:
             self._checker.look(self._documents[uri], at_once=True)
 
     def _closed(self, params: Any, body: bytes) -> None:
-        document = self._documents.pop(params["textDocument"]["uri"])
-        if aside := self._asides.pop(document.uri, None):
+        uri = params["textDocument"]["uri"]
+        if aside := self._asides.pop(uri, None):
             aside.end()
-            self._publish(document, [])
+            self._publish(aside.text, [])
         else:
-            self._checker.forget(document)
+            self._checker.forget(self._documents.pop(uri))
 
     def _faults(self, document: Document) -> list[dict[str, Any]]:
         """The diagnostics of a text; that none can be made is one too."""
@@ -320,7 +325,7 @@ class Server:
             traceback.print_exc(file=sys.stderr)
             return [diagnostic(document, (0, 0), "tools", f"the text can't be looked at: {fault}", WARNING)]
 
-    def _publish(self, document: Document, found: list[dict[str, Any]]) -> None:
+    def _publish(self, document: Document | LargeText, found: list[dict[str, Any]]) -> None:
         try:
             self._sender.notify("textDocument/publishDiagnostics",
                                 {"uri": document.uri, "version": document.version, "diagnostics": found})

@@ -8,28 +8,22 @@ With --verify the run is verified too.
 from __future__ import annotations
 
 import functools
-import os
-import subprocess
 import sys
 import tempfile
 
 from wavescalar.cli import Line, add_program, whole
 from wavescalar.faults import Fault
-from wavescalar.programs import ROOT
+from wavescalar.programs import ROOT, measured
 
 SIM, MAKE = ROOT / "python" / "wsc-sim", ROOT / "examples" / "kernels" / "make.py"
 
 
-def measured(words: list[str]) -> tuple[str, float, float]:
+def ran(words: list[str]) -> tuple[str, float, float]:
     """What a command prints, its seconds of processor, and the most kilobytes that it or a child had at a time."""
-    with tempfile.TemporaryFile() as sink:
-        child = subprocess.Popen(words, stdout=sink)
-        _, status, used = os.wait4(child.pid, 0)
-        child.returncode = os.waitstatus_to_exitcode(status)
-        sink.seek(0)
-        if child.returncode:
-            raise Fault(f"{' '.join(words)} ends with status {child.returncode}")
-        return sink.read().decode(), used.ru_utime + used.ru_stime, used.ru_maxrss
+    done = measured(words, b"")
+    if done.status:
+        raise Fault(f"{' '.join(words)} ends with status {done.status}")
+    return done.answer.decode(), done.user + done.system, done.kilobytes
 
 
 def main() -> int:
@@ -45,9 +39,9 @@ def main() -> int:
     with tempfile.TemporaryDirectory() as folder:
         for name in line.kernels or ["sort", "jacobi"]:
             for size in line.sizes:
-                subprocess.run([str(MAKE), size, name, "--out", folder], check=True)
+                ran([str(MAKE), size, name, "--out", folder])
                 words = [line.python, str(SIM), f"{folder}/{name}.job", "--wsc", line.wsc, "--machine", line.machine]
-                told, seconds, most = measured([*words, "--stats", *(["--verify"] if line.verify else [])])
+                told, seconds, most = ran([*words, "--stats", *(["--verify"] if line.verify else [])])
                 numbers = dict(row.split(" ") for row in told.splitlines() if row.startswith(("firings ", "cycles ")))
                 fired = int(numbers["firings"])
                 print(f"| `{name}` | `{line.machine}` | {fired:,} | {int(numbers['cycles']):,} | {seconds:.1f} |"

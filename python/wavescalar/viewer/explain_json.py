@@ -1,21 +1,20 @@
 """What the program says of a text, as JSON for the page of wsc-serve: `explain_json.py [--wsc PROGRAM] < TEXT`.
 
 A job is run statement by statement, and its image with one worker and with eight; an assembly is run with one and
-with eight. A refusal has its place in the text, in the units that a page counts by, and why/ says it in words.
+with eight. A refusal has its place in the text, in the units that a page counts by, and words of wavescalar.diagnose.
 """
 
 import functools
-import json
 import re
 import sys
 from typing import Any
 
-from wavescalar.cli import Line, add_program, given, whole
+from wavescalar.cli import Line, whole
 from wavescalar.diagnose.refusals import of_end, of_refusal
 from wavescalar.numbered import kind_of, sections
 from wavescalar.programs import assembly_of, call, refusal
 from wavescalar.reader import lines_of
-from wavescalar.viewer.bounds import add_bound, bound
+from wavescalar.viewer.bounds import as_json
 from wavescalar.viewer.view import units
 
 BUDGET, TURNS, WORKERS = 500000, 500000, (1, 8)
@@ -104,14 +103,7 @@ def said_of(program: str, text: str) -> dict[str, Any]:
 
 
 def main() -> int:
-    ask = Line(__doc__)
-    add_program(ask)
-    add_bound(ask)
-    line = ask.parse_args()
-    if line.bound:
-        bound()
-    json.dump(said_of(line.wsc, given(None)), sys.stdout, separators=(",", ":"))
-    return 0
+    return as_json(Line(__doc__), lambda line, text: said_of(line.wsc, text))
 
 
 tool = functools.partial(whole, main, images=True)

@@ -2,15 +2,14 @@
 its statements became. It is the same for all orders of the program's events, which runs_json.py makes."""
 
 import functools
-import json
 import sys
 from typing import Any
 
-from wavescalar.cli import Line, add_program, given, whole
+from wavescalar.cli import Line, whole
 from wavescalar.numbered import kind_of, read
 from wavescalar.programs import assembly_of
 from wavescalar.reader import lines_of
-from wavescalar.viewer.bounds import add_bound, bound
+from wavescalar.viewer.bounds import as_json
 from wavescalar.viewer.statements import statements_of
 from wavescalar.viewer.view import still_of
 from wavescalar.viewer.waves import drawing
@@ -25,14 +24,7 @@ def drawn(program: str, text: str) -> dict[str, Any]:
 
 
 def main() -> int:
-    ask = Line(__doc__)
-    add_program(ask)
-    add_bound(ask)
-    line = ask.parse_args()
-    if line.bound:
-        bound()
-    json.dump(drawn(line.wsc, given(None)), sys.stdout, separators=(",", ":"))
-    return 0
+    return as_json(Line(__doc__), lambda line, text: drawn(line.wsc, text))
 
 
 tool = functools.partial(whole, main, images=True)

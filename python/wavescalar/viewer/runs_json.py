@@ -4,14 +4,14 @@ LEFT and RIGHT are orders by the names that orders.py knows. Each order is given
 whether both are of the same events.
 """
 
+import argparse
 import functools
-import json
 import sys
 from typing import Any
 
-from wavescalar.cli import Line, add_program, given, whole
+from wavescalar.cli import Line, whole
 from wavescalar.programs import assembly_of
-from wavescalar.viewer.bounds import add_bound, bound
+from wavescalar.viewer.bounds import as_json
 from wavescalar.viewer.orders import Order, is_order, order_of, replayed, title_of
 from wavescalar.viewer.view import run_of
 
@@ -47,19 +47,18 @@ def shown(program: str, text: str, names: tuple[str, str], most: int = MOST) -> 
     return {"runs": runs, "compared": compared(left, right)}
 
 
+def order_named(name: str) -> str:
+    """The name of an order on a line."""
+    if not is_order(name):
+        raise argparse.ArgumentTypeError("an order is trace, rounds, grid-E-W or random-SEED")
+    return name
+
+
 def main() -> int:
     ask = Line(__doc__)
-    add_program(ask)
-    add_bound(ask)
-    ask.add_argument("left", metavar="LEFT")
-    ask.add_argument("right", metavar="RIGHT")
-    line = ask.parse_args()
-    if not is_order(line.left) or not is_order(line.right):
-        ask.error("an order is trace, rounds, grid-E-W or random-SEED")
-    if line.bound:
-        bound()
-    json.dump(shown(line.wsc, given(None), (line.left, line.right)), sys.stdout, separators=(",", ":"))
-    return 0
+    for side in ("left", "right"):
+        ask.add_argument(side, metavar=side.upper(), type=order_named)
+    return as_json(ask, lambda line, text: shown(line.wsc, text, (line.left, line.right)))
 
 
 tool = functools.partial(whole, main, images=True)

@@ -1,9 +1,9 @@
 """A page for a class, served to this machine alone: edit a job, see what the program says, and step through two orders
 of its events side by side.
 
-JOB is the text that the page begins with. Each text is given to `explain_json.py`, `layout_json.py` and `runs_json.py`, in processes that
-may run for some seconds and write no file. The address that is printed has a token, without which nothing is answered.
-Ctrl-C ends it.
+JOB is the text that the page begins with. Each text is given to `explain_json.py`, `layout_json.py` and `runs_json.py`, in
+processes that may run for some seconds and write no file. The address that is printed has a token, without which nothing is
+answered. Ctrl-C ends it.
 """
 
 import functools
@@ -15,7 +15,6 @@ import secrets
 import select
 import signal
 import socket
-import subprocess
 import sys
 import tempfile
 import threading
@@ -28,7 +27,7 @@ from typing import Any, Callable
 from wavescalar.cli import Line, add_program, given, whole
 from wavescalar.faults import Fault
 from wavescalar.isa import EXITS, HEADS, KINDS, RESERVED
-from wavescalar.programs import ROOT, ready
+from wavescalar.programs import ROOT, Child, heard, ready, start
 from wavescalar.viewer.orders import is_order
 from wavescalar.viewer.view import SCRIPTS, written
 
@@ -48,7 +47,18 @@ LOOK = 0.1
 CHANCE = 12
 FIRST = ROOT / "examples" / "sum.job"
 # What it begins with where no examples are, as where pip has installed the package.
-SMALL = "proc main() {\n  var i, s, n;\n  read n;\n  while (i < n) {\n    i = i + 1;\n    s = s + i;\n  }\n  print s;\n}\n%input\n10\n"
+SMALL = """proc main() {
+  var i, s, n;
+  read n;
+  while (i < n) {
+    i = i + 1;
+    s = s + i;
+  }
+  print s;
+}
+%input
+10
+"""
 EXAMPLES = [ROOT / "examples" / f"{name}.job" for name in
             ("sum", "fibonacci", "order", "calls", "matrix", "sorting", "past")]
 EXAMPLES += [ROOT / "examples" / "viewer" / f"{name}.job" for name in ("squares", "early", "arrays", "turns")]
@@ -110,7 +120,7 @@ class Workers:
     def __init__(self, program: str, folder: str, seconds: int):
         self.program, self.folder, self.seconds = program, folder, seconds
         self.room = threading.Semaphore(WORKING)
-        self.children: set[subprocess.Popen[bytes]] = set()
+        self.children: set[Child] = set()
         self.lock, self.ending = threading.Lock(), False
 
     def work(self, words: list[str], text: bytes, is_gone: Callable[[], bool]) -> bytes:
@@ -129,15 +139,14 @@ class Workers:
         said = errors.decode(errors="replace").strip().splitlines()
         raise Refused(422, said[-1] if said else f"{words[0]} ended with status {child.returncode}")
 
-    def told_by(self, child: subprocess.Popen[bytes], text: bytes, is_gone: Callable[[], bool]) -> tuple[bytes, bytes]:
+    def told_by(self, child: Child, text: bytes, is_gone: Callable[[], bool]) -> tuple[bytes, bytes]:
         """What a process writes to its two outputs."""
         last = time.monotonic() + self.seconds
         given_to_it: bytes | None = text
         while True:
-            try:
-                return child.communicate(given_to_it, timeout=LOOK)
-            except subprocess.TimeoutExpired:
-                given_to_it = None
+            if told := heard(child, given_to_it, LOOK):
+                return told
+            given_to_it = None
             late, gone = time.monotonic() > last, is_gone()
             if late or gone:
                 self.end(child)
@@ -147,18 +156,17 @@ class Workers:
             if late:
                 raise Refused(408, f"This takes longer than it may ({self.seconds} s), and was ended.")
 
-    def begun(self, words: list[str]) -> subprocess.Popen[bytes]:
+    def begun(self, words: list[str]) -> Child:
         """A process that begins to work, a group of its own."""
         line = [sys.executable, "-B", "-m", f"wavescalar.viewer.{words[0]}", "--bound", "--wsc", self.program, *words[1:]]
         with self.lock:
             if self.ending:
                 raise Refused(503, "The server ends.")
-            child = subprocess.Popen(line, stdin=subprocess.PIPE, stdout=subprocess.PIPE, stderr=subprocess.PIPE,
-                                     cwd=self.folder, env=REACH, start_new_session=True)
+            child = start(line, folder=self.folder, environment=REACH, is_group=True)
             self.children.add(child)
         return child
 
-    def end(self, child: subprocess.Popen[bytes]) -> None:
+    def end(self, child: Child) -> None:
         """Ends a process that wasn't waited for, with those that it has started: they are its group."""
         if child.returncode is None:
             os.killpg(child.pid, signal.SIGKILL)

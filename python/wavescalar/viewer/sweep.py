@@ -18,20 +18,16 @@ import argparse
 import functools
 import hashlib
 import itertools
-import os
 import pathlib
 import re
 import shlex
-import subprocess
 import sys
-import tempfile
-import threading
 import time
 
 from wavescalar.cli import Line, add_program, again, given, whole
 from wavescalar.faults import Fault
 from wavescalar.numbered import kind_of
-from wavescalar.programs import call, needs_program, with_input
+from wavescalar.programs import Measured, Stream, call, measured, needs_program, with_input
 from wavescalar.viewer.gather import collect, keep
 
 MODULE = "wavescalar.viewer.sweep"
@@ -67,24 +63,10 @@ def plan(line: argparse.Namespace) -> int:
     return 0
 
 
-def measured(call: list[str], given: bytes, limit: float) -> tuple[int, bytes, dict[str, float]]:
-    """Runs a command on these bytes; its status, what it wrote, and what it took."""
-    with tempfile.TemporaryFile() as source, tempfile.TemporaryFile() as sink:
-        source.write(given)
-        source.seek(0)
-        begun = time.perf_counter()
-        child = subprocess.Popen(call, stdin=source, stdout=sink, stderr=subprocess.DEVNULL)
-        timer = threading.Timer(limit, child.kill)
-        timer.start()
-        _, status, used = os.wait4(child.pid, 0)
-        took = time.perf_counter() - begun
-        timer.cancel()
-        child.returncode = os.waitstatus_to_exitcode(status)
-        sink.seek(0)
-        return child.returncode, sink.read(), {
-            "wall": round(took, 6), "user": round(used.ru_utime, 6), "system": round(used.ru_stime, 6),
-            "processor": round(used.ru_utime + used.ru_stime, 6), "kilobytes": used.ru_maxrss,
-        }
+def figures_of(it: Measured) -> dict[str, float]:
+    """What a measured call took, as a result keeps it."""
+    return {"wall": round(it.wall, 6), "user": round(it.user, 6), "system": round(it.system, 6),
+            "processor": round(it.user + it.system, 6), "kilobytes": it.kilobytes}
 
 
 def options_of(words: list[str]) -> dict[str, str]:
@@ -103,7 +85,8 @@ def one(line: argparse.Namespace) -> int:
     begun = time.strftime("%Y-%m-%dT%H:%M:%SZ", time.gmtime())
     answer, took = text.encode(errors="surrogateescape"), dict[str, float]()
     if not status:
-        status, answer, took = measured([line.wsc, *line.words], answer, line.limit)
+        ran = measured([line.wsc, *line.words], answer, Stream.DROPPED, line.limit)
+        status, answer, took = ran.status, ran.answer, figures_of(ran)
     told = answer.decode(errors="replace").splitlines()
     words = [text for text in told if text.isdigit()]
     ends = [text for text in told if re.match(r"(halt|budget|turns)$|(fault|port|refused) ", text)]
