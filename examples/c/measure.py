@@ -1,9 +1,9 @@
 #!/usr/bin/env python3
 """Measures the kernels of this folder: instructions of a native run, firings, cycles, sizes.
 
-    PYTHONPATH=python examples/c/measure.py [--level N] [--machines one-cluster,four-clusters] [KERNEL ..]
+    PYTHONPATH=python examples/c/measure.py [--level N] [--machines one-cluster,four-clusters] [--markdown] [KERNEL ..]
 
-Native instructions are those of the file's own functions, as valgrind's callgrind counts them of what `clang -O2`
+Without kernels it takes all. Native instructions are those of the file's own functions, as valgrind's callgrind counts them of what `clang -O2`
 without vectors makes; input and output are left out. Without valgrind that column stays empty. WSC and WSL name the
 programs. Machines are those of the timing model, whose events are given to `wsc replay`.
 """
@@ -49,6 +49,13 @@ class Row:
         """Firings for each native instruction."""
         return self.firings / self.native if self.native else None
 
+    def row(self) -> str:
+        """A row of a table of Markdown: with machines their cycles, else the sizes."""
+        ratio = f"{self.ratio:.2f}" if self.ratio else ""
+        counts: tuple[int | str | None, ...] = (self.native, self.firings, ratio, self.instructions, self.clocked)
+        cells = (self.firings, *self.cycles) if self.cycles else counts
+        return " | ".join([f"| `{self.name}`", *(f"{cell:,}" if isinstance(cell, int) else cell or "" for cell in cells)]) + " |"
+
     def __str__(self) -> str:
         ratio = f"{self.ratio:5.2f}" if self.ratio else ""
         cells = "".join(f"  {count:>14}" for count in self.cycles)
@@ -59,7 +66,7 @@ class Row:
 def native_instructions(source: Path, given: list[int], room: Path) -> int | None:
     """How many instructions the file's functions take; None without valgrind."""
     program, counts = room / "native", room / "counts"
-    subprocess.run(["clang", *FLAGS, str(source), "-o", str(program)], check=True)
+    subprocess.run(["clang", *FLAGS, str(source), "-lm", "-o", str(program)], check=True)
     try:
         subprocess.run(["valgrind", "--tool=callgrind", f"--callgrind-out-file={counts}", str(program)],
                        input="\n".join(map(str, given)), text=True, capture_output=True, check=True)
@@ -83,14 +90,15 @@ def cycles(image: Image, given: list[int], machine: str, room: Path) -> int:
 
 
 def measured(source: Path, level: int, machines: list[str], room: Path) -> Row:
-    """One kernel, at a level of optimization."""
+    """One kernel, at a level of optimization; with machines their cycles alone."""
     words = source.with_suffix(".in")
     given = [int(word) for word in words.read_text().split()] if words.exists() else []
     image = link(compile_c(source, level, ["-w"]))
     done = run(image, given)
     firings = done.firings or 0
-    clocked = grid(image, given).cycles if firings <= GRID else None
-    return Row(source.stem, native_instructions(source, given, room), firings, len(done.words), len(image.instructions),
+    clocked = grid(image, given).cycles if firings <= GRID and not machines else None
+    native = None if machines else native_instructions(source, given, room)
+    return Row(source.stem, native, firings, len(done.words), len(image.instructions),
                len(str(image)), clocked, tuple(cycles(image, given, machine, room) for machine in machines))
 
 
@@ -99,16 +107,18 @@ def main() -> None:
     parser = argparse.ArgumentParser(description=(__doc__ or "").splitlines()[0])
     parser.add_argument("kernels", nargs="*", metavar="KERNEL")
     parser.add_argument("--level", type=int, default=1)
+    parser.add_argument("--markdown", action="store_true", help="rows of a table")
     parser.add_argument("--machines", default="", help="names of the timing model's machines, with commas between")
     asked = parser.parse_args()
     machines = asked.machines.split(",") if asked.machines else []
-    print(HEAD + "".join(f"  {name:>14}" for name in machines))
+    if not asked.markdown:
+        print(HEAD + "".join(f"  {name:>14}" for name in machines))
     rows: list[Row] = []
     with tempfile.TemporaryDirectory() as place:
         for source in sorted(HERE.glob("*.c")):
             if not asked.kernels or source.stem in asked.kernels:
                 rows.append(measured(source, asked.level, machines, Path(place)))
-                print(rows[-1], flush=True)
+                print(rows[-1].row() if asked.markdown else rows[-1], flush=True)
     ratios = [row.ratio for row in rows if row.ratio]
     if ratios:
         print(f"median ratio {statistics.median(ratios):.2f}, greatest {max(ratios):.2f}")

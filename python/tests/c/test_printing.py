@@ -14,6 +14,12 @@ from wavescalar.c.printing import Part, parts
 
 HEAD = "#include <stdio.h>\n"
 SHOWN = {
+    "streams": ([4], r"""int main(void) {
+  int n = (int)ws_read();
+  fprintf(stdout, "%d\n", n), fprintf(stderr, "%d\n", n), fprintf(stdout, "text\n");
+  fputs("end", stdout), fputs("hidden", stderr), fputc('x', stdout), putc('\n', stdout), fflush(stdout);
+  if (n == 4) fwrite("abcdef", 2, 2, stdout);
+}"""),
     "numbers": ([3], r"""int main(void) {
   int n = (int)ws_read();
   printf("n = %d, %5d|%-5d|%05d|%+d|% d|%.3d|%8.3d|%-8.3i|\n", n, n, n, n, n, n, n, -n, n);
@@ -60,6 +66,7 @@ def test_words_have_no_text_between(source: Callable[..., Path]) -> None:
 
 
 REFUSED = {
+    "fprintf to another stream than stdout and stderr": 'fprintf(ws_read() ? stdout : stderr, "%d", (int)ws_read());',
     "the result of printf is used": 'return printf("%d", (int)ws_read());',
     "the format of printf isn't constant": 'char f[3] = "%d"; f[1] += (char)ws_read(); printf(f, 3);',
     "%f in a format of printf": 'printf("%d %f", (int)ws_read(), 1.5);',

@@ -89,7 +89,7 @@ def test_small(name: str, level: int, source: Callable[..., Path]) -> None:
     check(source(text), [int(word) for word in words], level)
 
 
-@pytest.mark.parametrize("file", some(KERNELS, range(0, len(KERNELS), 3)), ids=name_of)
+@pytest.mark.parametrize("file", some(KERNELS, range(0, len(KERNELS), 4)), ids=name_of)
 def test_kernels(file: Path) -> None:
     check(file, input_of(file), 1)
 

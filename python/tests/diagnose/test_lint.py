@@ -15,11 +15,16 @@ from tests.cases import each
 from tests.diagnose.drafts import Draft, broken
 from tests.places import EXAMPLES, ROOT
 from wavescalar.diagnose.findings import agrees, faults_of
+from wavescalar.diagnose.quick_check import surely
+from wavescalar.diagnose.rules import Rules
 from wavescalar.numbered import kind_of
 from wavescalar.programs import call
+from wavescalar.reader import Text, lines_of, sections_of
 
 # Longer texts take seconds to read.
 LONGEST = 2_000_000
+# Those that are read in two ways.
+SHORT = 20_000
 
 
 def texts() -> Iterator[tuple[str, str]]:
@@ -47,6 +52,28 @@ def compare(program: str, text: str) -> None:
     status, said, _ = call(program, ["check"], text)
     found = faults_of(text)
     assert agrees(found, said, status), f"{said.strip()} and not {[fault.check for fault in found]}"
+
+
+def both_say(text: str, draft: bool) -> tuple[bool, bool]:
+    """Whether the quick look takes a text for right, and whether the rules find nothing in it."""
+    lines = lines_of(text)
+    _, cut = next(sections_of(lines))
+    read = Text(lines[:cut], cut + (cut < len(lines)))
+    return surely(lines[:cut], draft), not read.faults + Rules(read, draft).found
+
+
+def test_quick_look() -> None:
+    """What the quick look takes for right, line by line, is right by the rules, which read the text whole; and the quick
+    look is of use: it takes nearly all that is right."""
+    quick = right = 0
+    several = [text for _, text in texts() if len(text) < SHORT] + [made(number) for number in range(60)]
+    for text in several:
+        if kind_of(text) == "assembly":
+            for draft in (False, True):
+                is_quick, is_right = both_say(text, draft)
+                assert is_right or not is_quick, text
+                quick, right = quick + is_quick, right + is_right
+    assert 50 < right < 2 * len(several) and quick > 0.9 * right, (quick, right)
 
 
 @each("text", texts())

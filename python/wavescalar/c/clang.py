@@ -127,8 +127,8 @@ class Clang:
     def _compiled(self, source: Path, words: Sequence[str]) -> bytes:
         """The IR of a file as it is written. clang would mark all loops as not to be unrolled at its level 1."""
         return _call([self.clang, "-O1", "-funroll-loops", "-Xclang", "-disable-llvm-passes", "-g",
-                      "-fno-discard-value-names", "-fno-builtin-printf", EXACT, *MACROS, f"-I{HEADERS}", *words,
-                      "-emit-llvm", "-S", str(source), "-o", "-"])
+                      "-fno-discard-value-names", "-fno-builtin-printf", "-fno-builtin-fprintf", EXACT, *MACROS,
+                      f"-I{HEADERS}", *words, "-emit-llvm", "-S", str(source), "-o", "-"])
 
     def _linked(self, texts: list[bytes]) -> bytes:
         """One module of several."""

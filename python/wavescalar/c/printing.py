@@ -57,21 +57,25 @@ def parts(form: bytes) -> Iterator[Part]:
 
 
 def expand(edited: Edited, as_text: bool) -> None:
-    """Replaces the calls of `printf` in a module, unless the program has its own. as_text: whether characters are printed.
+    """Replaces the calls of `printf` and `fprintf` in a module, unless the program has its own. as_text: whether characters
+    are printed.
 
     Raises Refusal for a call that can't be replaced.
     """
     llvm = edited.llvm
-    printf = llvm.GetNamedFunction(edited.module, b"printf")
-    if llvm.IsDeclaration(printf):
+    for before, name in enumerate((b"printf", b"fprintf")):
+        function = llvm.GetNamedFunction(edited.module, name)
+        if not function or not llvm.IsDeclaration(function):
+            continue
         for it in edited.instructions("call"):
-            if llvm.GetCalledValue(it) == printf:
-                _Printing(edited, as_text).expand(it)
+            if llvm.GetCalledValue(it) == function:
+                _Printing(edited, as_text, before).expand(it)
 
 
 class _Printing:
-    def __init__(self, edited: Edited, as_text: bool) -> None:
-        self.edited, self.llvm, self.as_text = edited, edited.llvm, as_text
+    def __init__(self, edited: Edited, as_text: bool, before: int) -> None:
+        """before: how many arguments stand before the format."""
+        self.edited, self.llvm, self.as_text, self.before = edited, edited.llvm, as_text, before
         self.builder = edited.builder
 
     def expand(self, it: int) -> None:
@@ -79,10 +83,15 @@ class _Printing:
         llvm = self.llvm
         if llvm.GetFirstUse(it):
             raise self.edited.refused(it, "the result of printf is used")
-        form = self._constant(llvm.GetOperand(it, 0))
+        if self.before and self._stream(llvm.GetOperand(it, 0)) != "stdout":
+            if self._stream(llvm.GetOperand(it, 0)) != "stderr":
+                raise self.edited.refused(it, "fprintf to another stream than stdout and stderr")
+            llvm.InstructionEraseFromParent(it)
+            return
+        form = self._constant(llvm.GetOperand(it, self.before))
         if form is None:
             raise self.edited.refused(it, "the format of printf isn't constant")
-        given = self.edited.arguments(it)[1:]
+        given = self.edited.arguments(it)[self.before + 1:]
         self.edited.before(it)
         try:
             for part in parts(form):
@@ -92,6 +101,11 @@ class _Printing:
         except IndexError as fault:
             raise self.edited.refused(it, "printf has fewer arguments than its format takes") from fault
         llvm.InstructionEraseFromParent(it)
+
+    def _stream(self, value: int) -> str:
+        """The name of the variable from which a stream is loaded; empty where there is none."""
+        is_load = self.llvm.GetValueKind(value) == c.INSTRUCTION and self.edited.op(value) == "load"
+        return self.llvm.name(self.llvm.GetOperand(value, 0)) if is_load else ""
 
     def _constant(self, value: int) -> bytes | None:
         """The string to which a constant points, up to its end."""
