@@ -159,7 +159,7 @@ const LATER: HeldCall = HeldCall {
 
 // How often it is tried: where phases begin is left to the threads, and there no phase begins if few tokens
 // are on the way.
-const TRIES: u32 = 4;
+const TRIES: u32 = 12;
 
 // Whether two workers are at work at once, behind the first phase of a run, in one of a few runs.
 fn are_later_at_work<R: Threads + Wait + Sync>(rt: &R, alloc: Global) -> Result<bool, NoMemory> {
@@ -208,14 +208,14 @@ const EIGHT: Hold = Hold {
     from: 0,
     every: 1_000_000,
     few: 8,
-    turns: 20_000,
+    turns: 200_000,
 };
 
 const FOUR: Hold = Hold {
     from: 0,
     every: 1_000_000,
     few: 4,
-    turns: 20_000,
+    turns: 200_000,
 };
 
 // As many tokens at once as there are workers or threads.
