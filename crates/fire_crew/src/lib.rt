@@ -1,27 +1,24 @@
 //! A crew of workers that fire the instances of a job, what it owes between two phases, and its run.
 //!
-//! `phase` returns tables and buffer: whatever the workers did, each table serves its own instances, kept
-//! its limit and lost nothing (`AllGrow`). That tokens were brought and the hook called is tested.
-//!
-//! After a phase, `unknown` gives requests that the buffer lacks and `missing` tokens that no table has
-//! had, enough to cover what is owed (`Paid`). The verdict is in terms of the walk: all of it has fired
-//! (`all_run`); it has more instances and the outside is a prefix's (`some_run`); its first index fault
-//! has stopped the chain (`fault_run`); its next operation is on a port whose count of faults rose
-//! (`port_run`). `limits` shares out all firings, at least a sixteenth of them to each table. `deal` puts
-//! each token into the queue of a worker, unless that is full (`Dealt`). n instances have at most 3 n
-//! tokens (`few_tokens`). If `share` reports no phase, no table has changed.
-//!
-//! `run_image`, with 1 to 8 workers (`Crew`), a hook (`Gate`) and a budget, runs an image and returns the
-//! ports. **Whatever the workers did** (`RunTells`): `Done` has the words, cells and ports of the whole walk,
-//! which has no index fault and fits the budget; `Budget` comes only if exactly the budget has fired and
-//! the walk has more instances, with a prefix within bounds; `Fault` and `Port` only as above; at
-//! `NoMemory` the ports are a prefix's, or as handed in. `run_job` and `crew_run` return the sixteen
-//! tables too (`LeavesAll`, `EndsSo`). Ends are stated in the walk's terms alone (`ends_are_told`).
-//!
-//! **Every phase makes progress**: it begins with a token that no table has had, and after `turn` a table
-//! has had it or no more may fire (`MovedOn`, `find_course`). `run_on` reports at most 3 n + 1 phases for n
-//! instances. No clause says that it returns, since workers may wait, or that a second phase follows the
-//! first. **One worker** (`run_solo`, and `go_alone` between phases) waits for nothing, so it returns.
+//! - `phase` returns tables and buffer: whatever the workers did, each table serves its own instances, within
+//!   its limit, and lost nothing (`AllGrow`).
+//! - `unknown` gives nothing only if the buffer knows the request of every instance that has fired. `missing`
+//!   gives tokens that no table has had; where it gives fewer than asked for, they cover what is owed
+//!   (`Paid`).
+//! - `limits` shares out all firings, at least a sixteenth, rounded down, to each table. `deal` puts each
+//!   token into a worker's queue, unless a queue is full (`Dealt`). n instances have at most 3 n tokens
+//!   (`few_tokens`). If `share` reports no phase, no table has changed.
+//! - `run_image`, with 1 to 8 workers (`Crew`), a hook (`Gate`) and a budget, returns the ports. **Whatever
+//!   the workers did** (`RunTells`): `Done` has the words, cells and ports of the whole walk, which has no
+//!   index fault and fits the budget; `Budget` comes only if exactly the budget has fired and the walk has
+//!   more, with a prefix within bounds; `Fault` only at its first index fault; `Port` only if its next
+//!   operation is on a port whose count of faults rose; at `NoMemory` the ports are a prefix's, or as handed
+//!   in. `run_job` and `crew_run` return the tables too (`LeavesAll`, `EndsSo`, `ends_are_told`).
+//! - **Every phase makes progress**: a token that no table has had begins it; after `turn` a table has had
+//!   it, or no more may fire (`MovedOn`, `find_course`). `run_on` reports at most 3 n + 1 phases.
+//! - **One worker** (`run_solo`, and `go_alone` between phases) waits for nothing, so it returns.
+//! - No clause says that `run_on` returns (workers may wait), that a second phase follows, or that tokens
+//!   were brought and the hook called (tested).
 #![tactic(auto)]
 
 mod crew;

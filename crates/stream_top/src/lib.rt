@@ -1,9 +1,10 @@
 //! The call of the program `wss`: an assembly is read, and its image run, however long the run is.
 //!
-//! `wss` ends as `CallEnds` says: an answer without a run went out, or what is told of the run of the
-//! image that was read (`WritesWhole`), or where a write failed a front of these (`WritesFront`,
-//! `WritesPart`). Which status a call has, and when, says `CallCaused`: where no fault comes the words,
-//! the text and the walk of its image alone decide, want of memory aside.
+//! - `wss` wrote an answer without a run, or the whole text of the run of the image that was read
+//!   (`WritesWhole`); if a write failed, a prefix of these (`WritesFront`, `WritesPart`); if memory ran out,
+//!   the lines of words printed so far, or nothing (`CallEnds`).
+//! - Without faults and with memory, the arguments, the text and the walk of its image decide the status
+//!   (`CallCaused`).
 #![tactic(auto)]
 
 mod call;

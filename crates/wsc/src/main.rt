@@ -1,9 +1,9 @@
-//! The program: the top call over the words of the command line, standard input and standard output.
+//! The program: the top call over the command-line arguments, standard input and standard output.
 //! Port 1 writes to standard error.
 //!
-//! `called` answers a code: that of a status with which the top call, on the words but the first and with a
-//! port in slot 1 alone, ends (`EndsWithCode`). So what `CallEnds` says holds of the code, the source and the
-//! sink. `main` gives it the words and the standard streams, of which no contract speaks.
+//! `called` answers a code: that of a status with which the top call, on the arguments but the first and with
+//! a port in slot 1 alone, ends (`EndsWithCode`). So what `CallEnds` says holds of the code, the source and
+//! the sink. `main` gives it the arguments and the standard streams, of which no contract speaks.
 #![tactic(auto)]
 
 ghost use Rattle.std.specs.Prelude.{◌≡◌, drop, map, string_bytes};

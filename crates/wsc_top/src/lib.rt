@@ -1,11 +1,11 @@
-//! The top call: from the words of the command line and the bytes of a job to the bytes of the
+//! The top call: from the command-line arguments and the bytes of a job to the bytes of the
 //! answer.
 //!
 //! `wsc` ends as `CallEnds` says, whose fields are its clauses. `prepare` is the part of it before ports and
 //! threads: it answers with what is to be done (`StepSo`), an answer that is ready or images that are due; it
 //! is given no `Threads` and no `Wait`, so all that is answered without a run returns. So does `decoupled`,
 //! which is given neither and runs the image of `decouple`. Where memory runs out in `prepare`,
-//! an image that it hands back is one that the words and the text ask to be written, or to be run
+//! an image that it hands back is one that the arguments and the text ask to be written, or to be run
 //! without ports (`RunsOut`).
 #![tactic(auto)]
 

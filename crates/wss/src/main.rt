@@ -1,4 +1,4 @@
-//! Runs of any length: the call of `stream_top` over the words of the command line, standard input and
+//! Runs of any length: the call of `stream_top` over the command-line arguments, standard input and
 //! standard output.
 #![tactic(auto)]
 
