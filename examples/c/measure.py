@@ -50,10 +50,13 @@ class Row:
         return self.firings / self.native if self.native else None
 
     def row(self) -> str:
-        """A row of a table of Markdown: with machines their cycles, else the sizes."""
+        """A row of a table of Markdown: with machines their cycles, and native instructions for each cycle of the first
+        one; else the sizes."""
         ratio = f"{self.ratio:.2f}" if self.ratio else ""
-        counts: tuple[int | str | None, ...] = (self.native, self.firings, ratio, self.instructions, self.clocked)
-        cells = (self.firings, *self.cycles) if self.cycles else counts
+        cells: tuple[int | str | None, ...] = (self.native, self.firings, ratio, self.instructions, self.clocked)
+        if self.cycles:
+            each = f"{self.native / self.cycles[0]:.2f}" if self.native else ""
+            cells = (self.firings, self.instructions, *self.cycles, each)
         return " | ".join([f"| `{self.name}`", *(f"{cell:,}" if isinstance(cell, int) else cell or "" for cell in cells)]) + " |"
 
     def __str__(self) -> str:
@@ -90,15 +93,14 @@ def cycles(image: Image, given: list[int], machine: str, room: Path) -> int:
 
 
 def measured(source: Path, level: int, machines: list[str], room: Path) -> Row:
-    """One kernel, at a level of optimization; with machines their cycles alone."""
+    """One kernel, at a level of optimization; with machines their cycles in place of the grid's."""
     words = source.with_suffix(".in")
     given = [int(word) for word in words.read_text().split()] if words.exists() else []
     image = link(compile_c(source, level, ["-w"]))
     done = run(image, given)
     firings = done.firings or 0
     clocked = grid(image, given).cycles if firings <= GRID and not machines else None
-    native = None if machines else native_instructions(source, given, room)
-    return Row(source.stem, native, firings, len(done.words), len(image.instructions),
+    return Row(source.stem, native_instructions(source, given, room), firings, len(done.words), len(image.instructions),
                len(str(image)), clocked, tuple(cycles(image, given, machine, room) for machine in machines))
 
 

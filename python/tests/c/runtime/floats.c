@@ -94,7 +94,7 @@ int main(int n, char **arguments) {
     int f = side ? LONG : SHORT;
     many = 0;
     for (unsigned k = 0; k < sizeof near / sizeof *near; k++) {
-      int e = near[k] + bias_of(f);
+      long e = near[k] + bias_of(f);
       if (e < 0 || e > most_of(f)) e = k & 1 ? most_of(f) : 0;
       edges[side][many++] = (bits)e << f, edges[side][many++] = ((bits)e << f) + 1;
       edges[side][many++] = ((bits)e << f) | (((bits)1 << f) - 1) >> (k % 3);

@@ -11,8 +11,8 @@ typedef uint64_t bits;
 enum { SHORT = 23, LONG = 52, FIRST = 62 };
 #define INLINE static inline __attribute__((always_inline))
 
-INLINE int most_of(int f) { return f == LONG ? 2047 : 255; } /* the exponent of infinity and of NaNs */
-INLINE int bias_of(int f) { return most_of(f) / 2; }
+INLINE long most_of(int f) { return f == LONG ? 2047 : 255; } /* the exponent of infinity and of NaNs */
+INLINE long bias_of(int f) { return most_of(f) / 2; }
 INLINE bits sign_of(int f) { return f == LONG ? (bits)1 << 63 : (bits)1 << 31; }
 INLINE bits size_of(bits x, int f) { return x & (sign_of(f) - 1); }
 INLINE bits infinity(int f) { return (bits)most_of(f) << f; }
@@ -20,31 +20,32 @@ INLINE int is_nan(bits x, int f) { return size_of(x, f) > infinity(f); }
 INLINE bits quiet(bits x, int f) { return x | (bits)1 << (f - 1); }
 INLINE bits undefined(int f) { return sign_of(f) | infinity(f) | (bits)1 << (f - 1); }
 INLINE bits nan_of(bits a, bits b, int f) { return quiet(is_nan(a, f) ? a : b, f); }
-INLINE int exponent_of(bits x, int f) { return (int)(size_of(x, f) >> f); }
+INLINE long exponent_of(bits x, int f) { return (long)(size_of(x, f) >> f); }
 INLINE bits fraction_of(bits x, int f) { return x & (((bits)1 << f) - 1); }
 
-/* Shifted to the right; a bit that is set stands for what went. */
-INLINE bits jammed(bits m, int by) {
-  if (by > 63) return m != 0;
+/* Shifted to the right; a bit that is set stands for what went. m is less than 2^63. */
+INLINE bits jammed(bits m, bits by) {
+  by = by > 63 ? 63 : by;
   bits moved = m >> by;
   return moved | (moved << by != m);
 }
 
-/* m 2^(e - bias - FIRST). Where e is 1, m may be less than 2^FIRST. */
-INLINE bits rounded(bits sign, int e, bits m, int f) {
-  int shift = FIRST - f;
-  bits half = (bits)1 << (shift - 1);
-  if (e >= most_of(f)) return sign | infinity(f);
-  if (e < 1) m = jammed(m, 1 - e), e = 1;
-  bits low = m & (2 * half - 1);
-  m >>= shift;
-  m += low > half || (low == half && (m & 1));
-  return sign | (((bits)(e - 1) << f) + m);
+/* m 2^(e - bias - FIRST), where e is 1 or more. Where it is 1, m may be less than 2^FIRST. */
+INLINE bits packed(bits sign, long e, bits m, int f) {
+  bits half = (bits)1 << (FIRST - f - 1), low = m & (2 * half - 1), found = m >> (FIRST - f);
+  found += low > half - (found & 1);
+  found += (bits)(e - 1) << f;
+  return sign | (found > infinity(f) ? infinity(f) : found);
+}
+/* The same for any e. */
+INLINE bits rounded(bits sign, long e, bits m, int f) {
+  if (e < 1) m = jammed(m, (bits)(1 - e)), e = 1;
+  return packed(sign, e, m, f);
 }
 
 /* The exponent of a number that is neither 0 nor infinite, and its significand with the first bit at f. */
-INLINE int parted(bits x, int f, bits *m) {
-  int e = exponent_of(x, f);
+INLINE long parted(bits x, int f, bits *m) {
+  long e = exponent_of(x, f);
   *m = fraction_of(x, f);
   if (e) {
     *m |= (bits)1 << f;
@@ -55,61 +56,63 @@ INLINE int parted(bits x, int f, bits *m) {
   return 1 - by;
 }
 
+/* Paths without branches take fewer firings: what isn't usual is one branch. */
 INLINE bits added(bits a, bits b, int f) {
-  if (size_of(a, f) < size_of(b, f)) {
-    if (is_nan(b, f)) return nan_of(a, b, f);
-    bits held = a;
-    a = b, b = held;
-  } else if (is_nan(a, f)) return quiet(a, f);
-  int e = exponent_of(a, f), other = exponent_of(b, f);
-  bits sign = a & sign_of(f), differ = (a ^ b) & sign_of(f);
-  if (e == most_of(f)) return differ && other == e ? undefined(f) : a;
-  int up = FIRST - 1 - f;
-  bits m = fraction_of(a, f) << up, n = fraction_of(b, f) << up, first = (bits)1 << (FIRST - 1);
-  if (e) m |= first;
-  else e = 1;
-  if (other) n |= first;
-  else other = 1;
-  n = jammed(n, e - other);
-  if (!differ) {
-    m += n;
-    if (m >> FIRST) return rounded(sign, e + 1, m, f);
-    return rounded(sign, e, m << 1, f);
+  int is_less = size_of(a, f) < size_of(b, f);
+  bits one = is_less ? b : a, other = is_less ? a : b, differ = (a ^ b) & sign_of(f), first = (bits)1 << (FIRST - 1);
+  long e = exponent_of(one, f), less = exponent_of(other, f), up = FIRST - 1 - f, by;
+  int is_none = e == most_of(f);
+  bits m = fraction_of(one, f) << up | (e ? first : 0), n = fraction_of(other, f) << up | (less ? first : 0);
+  e += !e, less += !less;
+  n = jammed(n, (bits)(e - less));
+  m = differ ? m - n : m + n;
+  by = 1 - (long)(m >> FIRST);
+  if (m < first) {
+    by = __builtin_clzl(m | 1) - (63 - FIRST);
+    if (by > e) by = e;
   }
-  m -= n;
-  if (!m) return 0;
-  int by = __builtin_clzl(m) - (63 - FIRST);
-  if (by > e) by = e;
-  return rounded(sign, e + 1 - by, m << by, f);
+  bits found = packed(m || !differ ? one & sign_of(f) : 0, m ? e + 1 - by : 1, m << by, f);
+  if (is_none) found = is_nan(one, f) ? nan_of(a, b, f) : differ && less == e ? undefined(f) : one;
+  return found;
 }
 
+/* Whether a number is 0, small, infinite or none. */
+INLINE int is_unusual(long e, int f) { return (bits)e - 1 >= (bits)most_of(f) - 1; }
+
 INLINE bits multiplied(bits a, bits b, int f) {
-  bits sign = (a ^ b) & sign_of(f), one = size_of(a, f), other = size_of(b, f), m, n;
-  if (is_nan(a, f) || is_nan(b, f)) return nan_of(a, b, f);
-  if (one == infinity(f) || other == infinity(f)) return one && other ? sign | infinity(f) : undefined(f);
-  if (!one || !other) return sign;
-  int e = parted(one, f, &m) - bias_of(f);
-  e += parted(other, f, &n);
+  bits sign = (a ^ b) & sign_of(f), m = fraction_of(a, f) | (bits)1 << f, n = fraction_of(b, f) | (bits)1 << f;
+  long e = exponent_of(a, f), other = exponent_of(b, f);
+  if (is_unusual(e, f) || is_unusual(other, f)) {
+    bits one = size_of(a, f), two = size_of(b, f);
+    if (is_nan(a, f) || is_nan(b, f)) return nan_of(a, b, f);
+    if (one == infinity(f) || two == infinity(f)) return one && two ? sign | infinity(f) : undefined(f);
+    if (!one || !two) return sign;
+    e = parted(one, f, &m), other = parted(two, f, &n);
+  }
+  e += other - bias_of(f);
   if (f == SHORT) m = m * n << (FIRST - 1 - 2 * SHORT);
   else {
     unsigned __int128 product = (unsigned __int128)(m << (FIRST - LONG)) * (n << (63 - LONG));
     m = (bits)(product >> 64) | ((bits)product != 0);
   }
-  if (m >> FIRST) e++;
-  else m <<= 1;
-  return rounded(sign, e, m, f);
+  bits is_long = m >> FIRST;
+  return rounded(sign, e + (long)is_long, m << (1 - is_long), f);
 }
 
 INLINE bits divided(bits a, bits b, int f) {
-  bits sign = (a ^ b) & sign_of(f), one = size_of(a, f), other = size_of(b, f), m, n;
-  if (is_nan(a, f) || is_nan(b, f)) return nan_of(a, b, f);
-  if (one == infinity(f)) return other == one ? undefined(f) : sign | one;
-  if (other == infinity(f)) return sign;
-  if (!other) return one ? sign | infinity(f) : undefined(f);
-  if (!one) return sign;
-  int e = parted(one, f, &m) + bias_of(f);
-  e -= parted(other, f, &n);
-  if (m < n) m <<= 1, e--;
+  bits sign = (a ^ b) & sign_of(f), m = fraction_of(a, f) | (bits)1 << f, n = fraction_of(b, f) | (bits)1 << f;
+  long e = exponent_of(a, f), other = exponent_of(b, f);
+  if (is_unusual(e, f) || is_unusual(other, f)) {
+    bits one = size_of(a, f), two = size_of(b, f);
+    if (is_nan(a, f) || is_nan(b, f)) return nan_of(a, b, f);
+    if (one == infinity(f)) return two == one ? undefined(f) : sign | one;
+    if (two == infinity(f)) return sign;
+    if (!two) return one ? sign | infinity(f) : undefined(f);
+    if (!one) return sign;
+    e = parted(one, f, &m), other = parted(two, f, &n);
+  }
+  bits is_less = m < n;
+  m <<= is_less, e += bias_of(f) - other - (long)is_less;
   bits quotient = 1, rest = m - n;
   for (int steps = f == LONG ? 5 : 1, by = f == LONG ? 11 : 39; steps; steps--) {
     bits digit = (rest << by) / n;
@@ -123,7 +126,7 @@ INLINE bits rooted(bits x, int f) {
   if (is_nan(x, f)) return quiet(x, f);
   if (!size_of(x, f) || x == infinity(f)) return x;
   if (x & sign_of(f)) return undefined(f);
-  int e = parted(x, f, &m) - bias_of(f);
+  long e = parted(x, f, &m) - bias_of(f);
   if (e & 1) m <<= 1;
   m <<= 1;
   for (bits bit = (bits)1 << (f + 1); bit; bit >>= 1, m <<= 1) {
@@ -139,10 +142,10 @@ INLINE bits remainder_of(bits a, bits b, int f) {
   if (is_nan(a, f) || is_nan(b, f)) return nan_of(a, b, f);
   if (one == infinity(f) || !other) return undefined(f);
   if (one < other) return a;
-  int left = parted(one, f, &m), e = parted(other, f, &n);
+  long left = parted(one, f, &m), e = parted(other, f, &n);
   m %= n;
   for (left -= e; left > 0 && m;) {
-    int by = left < 63 - f ? left : 63 - f;
+    long by = left < 63 - f ? left : 63 - f;
     m = (m << by) % n, left -= by;
   }
   if (!m) return sign;
@@ -157,11 +160,11 @@ INLINE int are_ordered(bits a, bits b, int f) { return !is_nan(a, f) && !is_nan(
 /* Integers. */
 INLINE bits from_number(bits size, bits sign, int f) {
   if (!size) return 0;
-  int zeros = __builtin_clzl(size), e = bias_of(f) + 63 - zeros;
+  long zeros = __builtin_clzl(size), e = bias_of(f) + 63 - zeros;
   return rounded(sign, e, zeros ? size << (zeros - 1) : size >> 1 | (size & 1), f);
 }
 INLINE bits to_number(bits x, int f) {
-  int e = exponent_of(x, f) - bias_of(f);
+  long e = exponent_of(x, f) - bias_of(f);
   if (e < 0) return 0;
   if (e > 63) return (bits)1 << 63;
   bits m = fraction_of(x, f) | (bits)1 << f, size = e < f ? m >> (f - e) : m << (e - f);
@@ -170,7 +173,8 @@ INLINE bits to_number(bits x, int f) {
 
 /* To a whole number. way: 0 towards 0, 1 down, 2 up, 3 to the nearest, ties to even, 4 to the nearest, ties away. */
 INLINE bits whole(bits x, int f, int way) {
-  int e = exponent_of(x, f) - bias_of(f), is_below = (x & sign_of(f)) != 0;
+  long e = exponent_of(x, f) - bias_of(f);
+  int is_below = (x & sign_of(f)) != 0;
   if (e >= f) return is_nan(x, f) ? quiet(x, f) : x;
   bits one = (bits)bias_of(f) << f, sign = x & sign_of(f), size = size_of(x, f);
   if (e < 0) {
@@ -192,7 +196,7 @@ INLINE bits widened(bits x) {
     return size == infinity(SHORT) ? found : quiet(found, LONG);
   }
   if (!size) return sign;
-  int e = parted(size, SHORT, &m) + bias_of(LONG) - bias_of(SHORT);
+  long e = parted(size, SHORT, &m) + bias_of(LONG) - bias_of(SHORT);
   return sign | ((bits)(e - 1) << LONG) + (m << (LONG - SHORT));
 }
 INLINE bits narrowed(bits x) {
