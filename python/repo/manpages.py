@@ -21,18 +21,18 @@ PLACE = ROOT / "docs" / "man"
 # The linker's wrapper, as ./install calls it.
 LINKER = "wsc-link"
 WHAT = {
-    "wsc-lint": "say all faults of a WaveScalar assembly at once",
+    "wsc-lint": "report all faults of a WaveScalar assembly at once",
     "wsc-lsp": "serve editors the diagnostics and names of WaveScalar programs",
-    LINKER: "give the memory operations of a WaveScalar draft their notes",
-    "wsc-names": "give a linked image the names of its draft",
+    LINKER: "annotate the memory operations of a WaveScalar draft",
+    "wsc-names": "restore the names of a draft in its linked image",
     "wsc-plan": "plan timed runs of many jobs on many machines, and gather them",
-    "wsc-profile": "tell the numbers of a run of a WaveScalar program",
+    "wsc-profile": "report the numbers of a run of a WaveScalar program",
     "wsc-replay-check": "ask wsc whether the events of a timing model are a run",
     "wsc-serve": "serve a page that edits, runs and steps through programs",
     "wsc-sim": "time a program on a model of a WaveScalar machine",
     "wsc-sweep": "plan runs of many jobs with many options, and gather them",
     "wsc-view": "draw a run of a WaveScalar program as a page",
-    "wsc-why": "say why wsc refused a text or a line",
+    "wsc-why": "explain why wsc refused a text or its arguments",
     "wscc": "compile C for a WaveScalar machine",
 }
 SHAPE = """.\\" Made of {name} --help by python/run repo.manpages.

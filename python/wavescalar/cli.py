@@ -42,7 +42,7 @@ class Line(argparse.ArgumentParser):
     def __init__(self, told: str | None = None, **more: Any):
         plain = argparse.RawDescriptionHelpFormatter
         super().__init__(description=told, formatter_class=plain, **more)
-        self.add_argument("--version", action=Version, nargs=0, help="says which this is, and ends")
+        self.add_argument("--version", action=Version, nargs=0, help="prints the version and exits")
 
     def error(self, message: str) -> NoReturn:
         """Says what is wrong with the words, and ends."""

@@ -1,12 +1,12 @@
-"""Says all faults of an assembly at once: line, column, instruction and rule, and how each is mended.
+"""Reports all faults of an assembly at once: line, column, instruction and rule, and a remedy for each.
 
-The text stands in FILE or comes from standard input. Faulty lines are told first, with the rules on shape for
-the blocks that have none; the rules on tokens and notes wait until every line can be read and every block has
-its shape. What is told is compared with the answer of `wsc check`, and a difference is said.
+The text is read from FILE or standard input. Faulty lines are reported first, with the rules on shape for the
+blocks that have none; tokens and annotations are checked once every line can be read and every block has its
+shape. The verdict is compared with that of `wsc check`, and a difference is reported.
 
     wsc-lint loop.asm
     wsc-lint --json < loop.asm | jq .message     one object a line for each fault
-    wsc-lint --draft loop.asm                    a draft for wsl, whose notes are read over
+    wsc-lint --draft loop.asm                    a draft for wsl, whose annotations are ignored
 
 The status is 0 where there is no fault, 2 where there is one.
 """

@@ -1,4 +1,4 @@
-"""Gives the image that `wsl` made of a draft the draft's names and its version back.
+"""Restores a draft's names and version in the image that `wsl` made of it.
 
     wsl < loop.asm | wsc-names loop.asm > named.asm
 

@@ -1,8 +1,8 @@
-"""Says in words why `wsc` refused a text or a line, and shows the place.
+"""Explains why `wsc` refused a text or its arguments, and shows the place.
 
-WORDS are those of a line of wsc, which is run with standard input and whose answer and status are passed
-on; what is said of it goes to standard error. `--of ANSWER` explains an answer that is there, of the text
-FILE or of standard input, and prints what it says. `--brief` prints no answer, and of a refusal a line
+WORDS are the arguments of wsc, which is run with standard input and whose answer and status are passed
+on; the explanation goes to standard error. `--of ANSWER` explains an answer that is there, of the text
+FILE or of standard input, and prints the explanation. `--brief` prints no answer, and of a refusal a line
 `FILE:LINE:COLUMN: ..` for each place, as editors read it; lines and columns, in bytes, count from 1.
 
     wsc-why run sum.job

@@ -1,9 +1,9 @@
 """What `wsc`, which is proved, says of a trace that any model wrote: `wsc-replay-check [FILE]`, or standard input.
 
 The text has the assembly, its input after %input, and after %trace the events, `match W I P` and `issue W I`, in the
-order in which they happened. `wsc replay` makes them one after the other; where they come to rest the words and the
-firings are compared with those of `wsc exec`. An event that isn't enabled is told with its instruction, an index
-fault with its array. A comment `# cycle N` before events is counted, and is the model's word alone.
+order in which they happened. `wsc replay` makes them one after the other; if they come to rest, the words and the
+firings are compared with those of `wsc exec`. An event that isn't enabled is reported with its instruction, an index
+fault with its array. Comments `# cycle N` before events are counted; they are the model's word alone.
 
     (wsc compile < sum.job; sed -n '/^%input/,$p' sum.job) | wsc trace | ./model | python/wsc-replay-check
 """
