@@ -31,6 +31,8 @@ SHARE = 5
 STARVED, NO_MEMORY, ENOUGH = 17 << 20, 7, 256 << 20
 # Its array and its words take what there is.
 HUNGRY = "proc main() { var i; while (i < 3000000) { print i; i = i + 1; } }"
+# wss lacks memory for these arrays, of which it writes what is in them.
+WIDE = " ".join(f"array a{count}[65536];" for count in range(15)) + " proc main() { a5[5] = 1; print a5[5]; }"
 # Texts that are no drafts, and what a note is.
 DRAFTS = [b"", b"wavescalar 1\n", b"proc main() { }"]
 NOTE = re.compile(rb"<[^<>]*>\.[0-9]+")
@@ -177,6 +179,14 @@ def of_starved(browser: Browser) -> None:
         asked.want(f"the status with {most} bytes", browser.value(ask.format(most=most, job=small)), 0)
 
 
+def of_starved_stream(browser: Browser) -> None:
+    """The same of wss."""
+    ask = "(() => {{ const job = new TextEncoder().encode({job}), made = hosts.wsc.call(['compile'], job).out; " \
+          "return new Host(hosts.wss.module, 'wss', {most}).call(['--memory'], made).status; }})()"
+    for most, status in ((STARVED, NO_MEMORY), (STARVED + (1 << 20), NO_MEMORY), (ENOUGH, 0), (2 << 30, 0)):
+        asked.want(f"the status of wss with {most} bytes", browser.value(ask.format(most=most, job=json.dumps(WIDE))), status)
+
+
 def of_stopped(browser: Browser) -> None:
     """A run that a page stops ends, and the next one is answered."""
     told = browser.value("""(async () => {
@@ -204,6 +214,7 @@ def test_chromium(site: pathlib.Path, wsc_lines: Asked, wsl_lines: Asked, wss_li
             asked.say(f"{len(wsc_lines.lines)} lines of wsc, {len(wsl_lines.lines)} of wsl and {len(wss_lines.lines)} of wss "
                       f"answered in Chromium as by the native programs, in {time.monotonic() - begun:.1f} s")
             of_starved(browser)
+            of_starved_stream(browser)
             of_stopped(browser)
 
     try:
