@@ -9,7 +9,7 @@ from _pytest.terminal import TerminalReporter
 
 from tests import asked
 from tests.browser import found
-from tests.places import WSC, WSL
+from tests.places import WSC, WSL, WSS
 
 
 def pytest_addoption(parser: pytest.Parser) -> None:
@@ -59,6 +59,14 @@ def wsl() -> str:
     if not WSL:
         pytest.skip("no linker: WSL names none")
     return WSL
+
+
+@pytest.fixture(scope="session")
+def wss() -> str:
+    """The program wss; what needs it is left out, and counted so, where it isn't there."""
+    if not WSS:
+        pytest.skip("no program wss: WSS names none")
+    return WSS
 
 
 @pytest.fixture(scope="session")

@@ -1,4 +1,4 @@
-"""Where the tests find programs and texts: WSC and WSL name the programs, else they are those that the gate has built;
+"""Where the tests find programs and texts: WSC, WSL and WSS name the programs, else they are those that the gate has built;
 WSC_TEXTS names more folders of .asm files.
 """
 
@@ -39,7 +39,7 @@ def _program(name: str) -> str:
     return str(pathlib.Path(path).resolve()) if path and os.access(path, os.X_OK) else ""
 
 
-WSC, WSL = _program("wsc"), _program("wsl")
+WSC, WSL, WSS = map(_program, ("wsc", "wsl", "wss"))
 needs_linker = unittest.skipUnless(WSL, "no linker: WSL names none")
 
 

@@ -43,6 +43,7 @@ const LINES = ["run", "plain", "multi", "format", "compile", "check", "list", "e
 const PLACEHOLDERS = {
   run: "--workers 8 --memory --stats", plain: "--turns 1000 --memory --stats", multi: "--stats", exec: "--workers 8 --stats",
   decouple: "--budget 1000 --stats", grid: "--elements 16 --waves 4 --stats", trace: "--budget 100", gen: "7", bench: "7",
+  wss: "--budget 1000 --memory --stats",
 };
 // Whether a line is one of a program beside wsc.
 const isProgram = word => PROGRAMS.includes(word);

@@ -68,6 +68,11 @@ def jobs_of(rows: list[answers.Case]) -> list[bytes]:
     return list(dict.fromkeys([*jobs, *(it.read_bytes() for it in files)]))
 
 
+def texts_of_examples(ending: str) -> list[bytes]:
+    """The examples of this kind."""
+    return [it.read_bytes() for folder in EXAMPLES for it in sorted((ROOT / folder).glob(f"*{ending}"))]
+
+
 def lines_of(native: Native) -> list[Line]:
     """All lines that are compared, each once."""
     rows = list(answers.cases(sorted((ROOT / "tests").glob("*.txt"))))

@@ -19,7 +19,7 @@ import pytest
 
 from tests import asked
 from tests.browser import Browser, found
-from tests.site.lines import Answer, Line, Native, lines_of, node
+from tests.site.lines import LONG, Answer, Line, Native, lines_of, node, texts_of_examples
 from tests.site.served import Served
 from tests.viewer.test_pages import again
 
@@ -31,15 +31,26 @@ SHARE = 5
 STARVED, NO_MEMORY, ENOUGH = 17 << 20, 7, 256 << 20
 # Its array and its words take what there is.
 HUNGRY = "proc main() { var i; while (i < 3000000) { print i; i = i + 1; } }"
+# wss lacks memory for these arrays, of which it writes what is in them.
+WIDE = " ".join(f"array a{count}[65536];" for count in range(15)) + " proc main() { a5[5] = 1; print a5[5]; }"
 # Texts that are no drafts, and what a note is.
 DRAFTS = [b"", b"wavescalar 1\n", b"proc main() { }"]
 NOTE = re.compile(rb"<[^<>]*>\.[0-9]+")
+# Lines of wss for each assembly, which may have no end of its own. It runs one in slices of 1,024 firings.
+OF_STREAM = [["--budget", "300000"], ["--memory", "--budget", "20000"], ["--budget", "300000", "--stats", "--memory"],
+             *(["--stats", "--budget", str(count)] for count in (0, 1, 1023, 1024, 1025, 5000))]
+# Lines for an example, which has an end.
+OF_END: list[list[str]] = [[], ["--memory"], ["--stats"], ["--stats", "--memory"]]
+# Lines that are refused whatever is read, or read otherwise than they might be.
+WORDS = [["--budget"], ["--budget", "x"], ["--budget", "-1"], ["--budget", ""], ["--budget", "007"], ["--budget", str(2**64)],
+         ["--budget", str(2**64 - 1)], ["--budget", "5", "--budget", "6"], ["--stats", "--stats"], ["--workers", "2"], ["--stat"],
+         ["--help"], ["run"], ["7"], ["", ""], ["--memory", "\u00e9"]]
 
 PAGE = """<!doctype html><meta charset="utf-8"><script type="module">
 import {load} from "./wsc.js";
 import {Host} from "./host.js";
 window.load = load; window.Host = Host; window.hosts = {};
-for (const name of ["wsc", "wsl"])
+for (const name of ["wsc", "wsl", "wss"])
   hosts[name] = new Host(await WebAssembly.compile(await (await fetch(`${name}.wasm`)).arrayBuffer()), name);
 const bytes = text => Uint8Array.from(atob(text), it => it.charCodeAt(0));
 const text = bytes => { let made = ""; for (let k = 0; k < bytes.length; k += 8192) made += String.fromCharCode(...bytes.subarray(k, k + 8192)); return btoa(made); };
@@ -93,6 +104,30 @@ def wsl_lines(wsl: str, wsc_lines: Asked) -> Asked:
     return Asked("wsl", lines, [Native(wsl)(line) for line in lines])
 
 
+def streams(wsc: Native, lines: list[Line]) -> list[Line]:
+    """Lines of wss, which runs assemblies: those that `exec` is given, what is refused as such, jobs among it, runs that are
+    long, and examples with no budget; then words that are refused.
+    """
+    texts = dict.fromkeys(text for words, text in lines if words[:1] == ["exec"])
+    more = dict.fromkeys(text for words, text in lines if words[:1] in (["check"], ["run"]))
+    long = [wsc((["compile"], job))[1] for words, job in LONG if words[0] == "run"]
+    ends = texts_of_examples(".asm")
+    made = [(words, text) for text in texts for words in OF_STREAM] + [(OF_STREAM[0], text) for text in more]
+    made += [(["--budget", str(count), "--stats", "--memory"], text) for text in long for count in (500000, 2000000)]
+    made += [(words, text) for text in ends for words in OF_END] + [(words, ends[0]) for words in WORDS]
+    return [(list(words), text) for words, text in dict.fromkeys((tuple(words), text) for words, text in made)]
+
+
+@pytest.fixture(scope="module")
+def wss_lines(wsc: str, wss: str, wsc_lines: Asked) -> Asked:
+    """Lines of wss."""
+    native = Native(wss)
+    lines = streams(Native(wsc), wsc_lines.lines)
+    with ThreadPoolExecutor(2) as pool:
+        right = list(pool.map(native, lines))
+    return Asked("wss", lines, right)
+
+
 def batches(lines: list[Line]) -> Iterator[list[Line]]:
     """Lines in parts that aren't too large."""
     part: list[Line] = []
@@ -144,6 +179,14 @@ def of_starved(browser: Browser) -> None:
         asked.want(f"the status with {most} bytes", browser.value(ask.format(most=most, job=small)), 0)
 
 
+def of_starved_stream(browser: Browser) -> None:
+    """The same of wss."""
+    ask = "(() => {{ const job = new TextEncoder().encode({job}), made = hosts.wsc.call(['compile'], job).out; " \
+          "return new Host(hosts.wss.module, 'wss', {most}).call(['--memory'], made).status; }})()"
+    for most, status in ((STARVED, NO_MEMORY), (STARVED + (1 << 20), NO_MEMORY), (ENOUGH, 0), (2 << 30, 0)):
+        asked.want(f"the status of wss with {most} bytes", browser.value(ask.format(most=most, job=json.dumps(WIDE))), status)
+
+
 def of_stopped(browser: Browser) -> None:
     """A run that a page stops ends, and the next one is answered."""
     told = browser.value("""(async () => {
@@ -157,7 +200,7 @@ def of_stopped(browser: Browser) -> None:
 
 
 @pytest.mark.usefixtures("chromium")
-def test_chromium(site: pathlib.Path, wsc_lines: Asked, wsl_lines: Asked) -> None:
+def test_chromium(site: pathlib.Path, wsc_lines: Asked, wsl_lines: Asked, wss_lines: Asked) -> None:
     """All lines in Chromium."""
     trial = site / "trial_of_answers.html"
     trial.write_text(PAGE)
@@ -166,11 +209,12 @@ def test_chromium(site: pathlib.Path, wsc_lines: Asked, wsl_lines: Asked) -> Non
         with Served(site) as address, Browser(800, 600) as browser:
             browser.visit(address + trial.name, "window.there")
             begun = time.monotonic()
-            for it in (wsc_lines, wsl_lines):
+            for it in (wsc_lines, wsl_lines, wss_lines):
                 it.compare("in Chromium", 0, 1, in_page(browser, it.program, it.lines))
-            asked.say(f"{len(wsc_lines.lines)} lines of wsc and {len(wsl_lines.lines)} of wsl answered in Chromium as by the "
-                      f"native program, in {time.monotonic() - begun:.1f} s")
+            asked.say(f"{len(wsc_lines.lines)} lines of wsc, {len(wsl_lines.lines)} of wsl and {len(wss_lines.lines)} of wss "
+                      f"answered in Chromium as by the native programs, in {time.monotonic() - begun:.1f} s")
             of_starved(browser)
+            of_starved_stream(browser)
             of_stopped(browser)
 
     try:
@@ -179,11 +223,11 @@ def test_chromium(site: pathlib.Path, wsc_lines: Asked, wsl_lines: Asked) -> Non
         trial.unlink()
 
 
-def test_node(site: pathlib.Path, wsc_lines: Asked, wsl_lines: Asked) -> None:
+def test_node(site: pathlib.Path, wsc_lines: Asked, wsl_lines: Asked, wss_lines: Asked) -> None:
     """Lines in Node: one of five where Chromium is here too, else all."""
     if not node():
         pytest.skip("no Node (Debian: nodejs)")
     step = SHARE if found() else 1
-    for it in (wsc_lines, wsl_lines):
+    for it in (wsc_lines, wsl_lines, wss_lines):
         it.compare("in Node", step // 2, step, in_node(site, it.program, it.lines[step // 2 :: step]))
     asked.say(f"one of {step} of these lines answered in Node as by the native program")

@@ -113,13 +113,14 @@ def of_stops(trial: Trial) -> None:
 
 
 def of_lines(trial: Trial) -> None:
-    """Lines of wsc and of wsl, with what a refusal says; the tab that is open stays open."""
+    """Lines of wsc, wsl and wss, with what a refusal says; the tab that is open stays open."""
     browser = trial.browser
     line = "document.querySelector('[data-tab=command]').click(), $('word').value = {0!r}, $('word').onchange(), " \
            "$('options').value = {1!r}, $('line').requestSubmit()"
     for word, options, part in (("run", "--stats", "55\nhalt\nfirings 143"), ("grid", "--elements 2 --stats", "cycles 79"),
                                 ("check", "", "sound"), ("replay", "", "rest"), ("run", "--wrkers 2", "usage: wsc"),
-                                ("wsl", "", "refused 1")):
+                                ("wsl", "", "refused 1"), ("wss", "--stats", "55\nhalt\nfirings 143"),
+                                ("wss", "--budget 5", "budget"), ("wss", "--workers 2", "usage: wss")):
         browser.value(line.format(word, options))
         browser.wait("$('line-told').textContent.includes('status')")
         trial.want(f"{word} {options}", f"$('line-out').textContent.includes({part!r})", True)
