@@ -55,7 +55,7 @@ pub record WaveDone (image : Image) (among : ℕ → Type 0) (f : ℕ) : Type 0 
   pub known : ℕ → Option OpenSlots
   pub table : WaveTable image among f known
 
--- the first blocks of waves that are come to, each with its wave's table
+-- the first blocks of waves that are reached, each with its wave's table
 pub record Closed (image : Image) (come : ℕ → Bool) : Type 0 where
   pub begun : Begun image
   pub one : come 1 ≡ true

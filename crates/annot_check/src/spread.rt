@@ -1,6 +1,6 @@
-//! Where the result of a block's exit comes to.
+//! Which instructions the result of a block's exit reaches.
 //!
-//! Steers and sends have to have it at a port, directly or by way of merges of the block.
+//! Steers and sends must have it at a port, directly or through merges of the block.
 
 ghost use Rattle.std.specs.Prelude.{◌≡◌, ◌⊎◌, ◌+◌, ◌<◌, ◌≤◌, ℕ, List, suc, length, true, false};
 ghost use Rattle.std.specs.Prelude.{slice_index_or};

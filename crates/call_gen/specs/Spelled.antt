@@ -40,8 +40,8 @@ count_of p (s ∷ ss) = (if p s then 1 else 0) + count_of p ss
 abbrev pub is_call : Spot → Bool
 is_call s = calls s.block.exit
 
--- Numbers of blocks. Each procedure gets a first block of its own, its door, and each call a block after
--- it, its return point.
+-- Numbers of blocks. Each procedure gets a first block of its own, its entry block, and each call a block
+-- after it, its return block.
 
 unfoldable pub moved : Graph → ℕ → ℕ
 moved g b = b + count_of is_call (take b (spots g)) + suc (spot_at g b).home
@@ -152,7 +152,7 @@ spelled_blocks g live home vars b [] = []
 spelled_blocks g live home vars b (x ∷ xs) = spelled_block g live home vars b x
     ∷ (after g live home vars x.exit ++ spelled_blocks g live home vars (suc b) xs)
 
--- a variable that a call doesn't give is 0 at the door
+-- a variable that a call doesn't give is 0 at the entry block
 abbrev pub is_unset : Graph → List (List ℕ) → ℕ → ℕ → ℕ → Bool
 is_unset g live f params x = has live (entry_of g f) x
     && (if is_called g f then not (nat_lt x params) else true)

@@ -46,7 +46,7 @@ impl<'a> CallPlan<'a> {
         }
     }
 
-    // A call: values and the return address to the callee's door.
+    // A call: values and the return address to the callee's entry block.
     fn sent(&self, alloc: Global, b: u32, callee: u32, values: &[Term]) -> Result<Leave, NoMemory>
         requires plan { PlanIs self.now }
         requires rules { IsGraph (view.graph (graph_in self.now.table)) }

@@ -59,7 +59,7 @@ pub record Made : Type 0 where
 abbrev pub led_by : Op → Made → Made
 led_by o m = record { front = ticked o m.front; blocks = m.blocks }
 
--- the block that begins with the front, and those after it
+-- the block that begins with the first part, and those after it
 abbrev pub whole : Made → List Block
 whole m = block m.front ∷ m.blocks
 

@@ -84,7 +84,7 @@ pub record Held (w : Walker) : Type 0 where
   pub left : ℕ
   pub shows : Shows state frames left w
 
--- the code's answer is that of a walk that has come to one
+-- the code's answer is that of a walk that has one
 abbrev pub FinalIs : Config → Bool → Walker → Type 0
 FinalIs (Over o k) true w = OutIs o w.memory × (k ≡ w.turns)
 FinalIs (Going o) false w = OutIs o w.memory

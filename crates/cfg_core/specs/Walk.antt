@@ -173,7 +173,7 @@ EndsWith g world n o left = (m : ℕ) × (walk g m (opening g world n) ≡ Over 
 abbrev pub Goes : Graph → World → ℕ → Outside → Type 0
 Goes g world n o = (m : ℕ) × (walk g m (opening g world n) ≡ Going o)
 
--- the walk has come to an answer
+-- the walk has an answer
 abbrev pub IsOver : Config → Type 0
 IsOver (At b s frames k) = ⊥
 IsOver (Over o k) = Unit {0}

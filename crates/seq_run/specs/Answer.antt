@@ -82,7 +82,7 @@ pub record RunGoes (start : Outside) (run : ℕ → CallEnd) (turns : ℕ) (plai
   pub within : AreWithin (lengths_of start.cells) now.acts
   pub says : SaysGoing now plain
 
--- how a run by turns from this went, which is the passing run
+-- how a run by turns from this went, which is the unchecked run
 abbrev pub RunSays : Outside → (ℕ → CallEnd) → ℕ → Plain → Type 0
 RunSays start run turns (Ended printed arrays took n) =
     RunEnded start run turns (Ended printed arrays took n)

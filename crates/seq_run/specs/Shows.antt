@@ -98,7 +98,7 @@ FollowsCall call before reply after =
     (start o : Outside) → ShowsMemory start o before.memory →
     ReplyIs start (call o) before.turns reply after.memory after.turns
 
--- what is left of a part, from a state that the code holds, is the whole part, which has spent
+-- what is left of a part, from a state that the code holds, is the whole part, which has used
 -- turns
 pub record Upto (start : Outside) (now : ProcState → ℕ → PartEnd) (whole : ℕ → PartEnd) (turns : ℕ)
     (memory : Memory) (vars : List ℕ) (left : ℕ) : Type 0 where

@@ -1,5 +1,4 @@
--- The sequential run: it ends at the first load or store past the end of its array. It is the passing run
--- up to there.
+-- The sequential run: it ends at the first out-of-bounds load or store. It is the unchecked run up to there.
 use Rattle.std.specs.Prelude.{◌≡◌, ℕ, ◌<◌, List}
 use Rattle.ws_words.specs.Outside.{Act, Outside, World, opening_out}
 use Rattle.ws_words.specs.Past.{AreWithin, FirstPast, after_acts}
@@ -12,7 +11,7 @@ abbrev pub outside_of : CallEnd → Outside
 outside_of (Returned v o left) = o
 outside_of (Stopped o) = o
 
--- what the passing run has done in at most n turns
+-- what the unchecked run has done in at most n turns
 abbrev pub acts_in : List Part → World → ℕ → List Act
 acts_in parts world n = (outside_of (run parts world n)).acts
 

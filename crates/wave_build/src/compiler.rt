@@ -92,7 +92,7 @@ pub fn compile(alloc: Global, accepted: &Accepted) -> Result<Checked, NoMemory>
     ensures cost { let parts = ast.parts accepted.now.program.items.items in
         IfOk result (λ made. KeepsBound parts made) }
 
-    // its notes, and what was added to its draft for them
+    // its annotations, and what was added to its draft for them
     ensures numbers { IfOk result (λ made. NumberedInOrder made) }
     ensures ripples { IfOk result (λ made. ExactRipples made) }
     ensures draft { IfOk result (λ made. HasDraft made) }

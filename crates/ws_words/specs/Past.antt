@@ -1,4 +1,4 @@
--- Loads and stores past the end of their array, and what a list of acts leaves.
+-- Out-of-bounds loads and stores, and what a list of acts leaves.
 use Rattle.std.specs.Prelude.{◌≡◌, ℕ, ◌-◌, ◌<◌, ◌≤◌, List, [], ◌∷◌, ◌++◌, slice_index}
 use Rattle.std.specs.List.{AllByRecursion}
 use Rattle.ws_words.specs.Outside.{Act, loads, stores, reads, prints, gives, takes}
