@@ -109,7 +109,7 @@ impl<'a> Trace<'a> {
         Ok(())
     }
 
-    // The start pulse comes into block 1.
+    // The start pulse enters block 1.
     fn begin(&mut self) -> Result<(), CheckFault>
         requires between { Between self.now }
         requires blank { look self.now.held ≡ none_open }

@@ -18,7 +18,7 @@ use crate::read::block;
 use crate::runs::now_dests;
 use ws_isa::{Dest, Exit, Image, Instr, Op};
 
-/// Instructions that hand the result of a block's exit on, and those that have it at a port.
+/// Instructions that pass on the result of a block's exit, and those that have it at a port.
 #[derive(Drop)]
 pub struct Spread {
     pub marks: Vec<bool>,
@@ -129,7 +129,7 @@ impl Spread {
         );
     }
 
-    // From the exit's instruction to all to which its result comes.
+    // From the exit's instruction to all that its result reaches.
     fn spread(
         &mut self,
         facts: &Facts,

@@ -157,7 +157,7 @@ impl<'a> CallPlan<'a> {
         }
     }
 
-    /// The return points of a procedure's calls, in order.
+    /// The return blocks of a procedure's calls, in order.
     pub(crate) fn landings(&self, alloc: Global, f: u32) -> Result<Vec<u32>, NoMemory>
         requires { PlanIs self.now }
         ensures { IfOk result (λ points. points.items ≡

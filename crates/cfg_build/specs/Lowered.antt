@@ -50,7 +50,7 @@ begun (Then (While t body) rest) = suc (suc (begun body + suc (begun rest)))
 abbrev pub block : BlockRest → Block
 block p = record { named = []; ops = p.ops; exit = p.exit }
 
--- the part with which steps begin in the block at hand, and the blocks after that one
+-- the part with which steps begin in the current block, and the blocks after that one
 pub record Made : Type 0 where
   pub front : BlockRest
   pub blocks : List Block

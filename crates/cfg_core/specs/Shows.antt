@@ -52,7 +52,7 @@ Paced run before pace after = (s : ProcState) (frames : List walks.Frame) (k : �
 abbrev pub value_on : List ℕ → List (List ℕ) → Term → ℕ
 value_on vars cells t = walks.value (view.term t) vars cells
 
--- whether operations want a turn that isn't left
+-- whether operations need a turn that isn't left
 abbrev pub out_flag : Pace → Bool
 out_flag pace.Done = false
 out_flag pace.Out = true

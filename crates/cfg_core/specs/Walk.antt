@@ -47,7 +47,7 @@ value_of t s = (value t s.vars s.out.cells, with_acts s (loads_of t s.vars s.out
 abbrev pub values_of : List Term → ProcState → List ℕ × ProcState
 values_of ts s = (values ts s.vars s.out.cells, with_acts s (all_loads ts s.vars s.out.cells))
 
--- operations are done, with turns left, or want a turn where none is left
+-- operations are done, with turns left, or need a turn where none is left
 pub data OpsOutcome : Type 0 where
   Done : (s : ProcState) (left : ℕ) → OpsOutcome
   Out : (o : Outside) → OpsOutcome

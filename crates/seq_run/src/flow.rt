@@ -25,7 +25,7 @@ impl Flow {
     }
 }
 
-/// A call gave a word, wanted a turn where none was left, or stopped as steps do.
+/// A call gave a word, needed a turn where none was left, or stopped as steps do.
 #[derive(Clone, Copy)]
 pub enum Reply {
     Value(u64),

@@ -12,7 +12,7 @@ use cfg_core::Term;
 use std::alloc::Global;
 use ws_words::{Alu, Memory, NoMemory, Words, apply};
 
-/// Notes the array of a load or store that is past, where none was noted before.
+/// Records the array of an out-of-bounds load or store, if none was recorded before.
 #[inline(always)]
 pub(crate) fn note(past: &mut Option<u32>, memory: &Memory<'_>, array: u32, index: u64)
     ensures { let lengths = lengths_of memory.now.cells in

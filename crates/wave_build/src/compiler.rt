@@ -81,8 +81,7 @@ fn image_of(alloc: Global, accepted: &Accepted) -> Result<Image, NoMemory>
 pub fn compile(alloc: Global, accepted: &Accepted) -> Result<Checked, NoMemory>
     requires written { IsWritten (ast.parts accepted.now.program.items.items) }
 
-    // it shows the program's arrays, and does what the run does that passes loads and stores past
-    // the end, in every world of words
+    // it shows the program's arrays, and does what the unchecked run does, in every world of words
     ensures arrays { let parts = ast.parts accepted.now.program.items.items in
         IfOk result (λ made. ShowsArrays parts made) }
     ensures walk { let parts = ast.parts accepted.now.program.items.items in

@@ -53,7 +53,7 @@ impl MemSource {
         }
     }
 
-    /// The bytes still to come.
+    /// The bytes not yet read.
     pub fn left(&self) -> &[u8]
         ensures { result.now ≡ self.now.left }
     {

@@ -188,8 +188,8 @@ impl<'a> Walker<'a> {
         }
     }
 
-    // What the block at this place sends along the edge to another comes there. No steer and no
-    // send stands in a block that ends by a `Goto`.
+    // Delivers what the block at this place sends along the edge to another. No steer and no send
+    // stands in a block that ends by a `Goto`.
     fn cross(&mut self, program: &BlockTable<'_>, place: usize, choice: u64, next: usize)
         requires walks { Walkable (image_of program.now) }
         requires place { place < length program.now.blocks.now }

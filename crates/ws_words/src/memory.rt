@@ -93,7 +93,7 @@ impl<'a> Memory<'a> {
         next_of(&mut self.left, (port as usize).saturating_sub(1))
     }
 
-    /// A port takes a word. No port has the number 0 or one past 7: there no words are kept.
+    /// A port takes a word. No port has the number 0 or one above 7: there no words are kept.
     pub fn take(&mut self, port: u64, word: u64) -> Result<(), NoMemory>
         ensures { OnOk result (Does (takes port word) self.old self.new) }
     {
