@@ -17,3 +17,6 @@ pub mod Paired
 pub mod Weighing
 pub mod Spots
 pub mod Outcomes
+pub mod Homes
+pub mod Quiet
+pub mod Every

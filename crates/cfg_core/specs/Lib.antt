@@ -11,3 +11,4 @@ pub mod Samples
 pub mod Shape
 pub mod Weights
 pub mod Tables
+pub mod Passing

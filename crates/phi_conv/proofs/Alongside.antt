@@ -1,7 +1,8 @@
 -- The walk of the joined graph goes along with that of the given graph, which takes a block more where an arm
 -- is one.
 use Rattle.std.proofs.Common.{ℕ, suc, ◌-◌, ◌≡◌, ◌<◌, ◌≤◌, ◌⊎◌, ◌==◌, Bool, true, false, if◌then◌else◌, List}
-use Rattle.std.proofs.Common.{[], length, Option, Some, None, refl, sym, ap, ◌∙◌, subst, inl, inr, arith}
+use Rattle.std.proofs.Common.{[]}
+use Rattle.std.proofs.Common.{length, Option, Some, None, refl, sym, ap, ◌∙◌, subst, inl, inr, arith}
 use Rattle.ws_words.specs.Outside.{Outside, ProcState, World, zeros, opening_out}
 use Rattle.cfg_core.specs.Graph.{Term, Op, Exit, Goto, Branch, Call, Return, Send, Stop, Block, Graph}
 use Rattle.cfg_core.specs.Graph.{spots, spot_at, block_at, proc_at, entry_of}
@@ -14,7 +15,7 @@ use Rattle.live_vars.specs.Live.{Live}
 use Rattle.live_vars.specs.Marks.{AreLive}
 use Rattle.phi_conv.specs.Short.{Short, short, short_to}
 use Rattle.phi_conv.specs.Joined.{more_vars, joining, joined_if, joined}
-use Rattle.phi_conv.specs.Keeps.{PassesNoMore}
+use Rattle.cfg_core.specs.Passing.{PassesNoMore}
 use Rattle.phi_conv.proofs.Light.{light_run}
 use Rattle.phi_conv.proofs.Choices.{by_zero}
 use Rattle.phi_conv.proofs.Agreeing.{States, Outcomes, ops_same, weaker}
@@ -22,9 +23,10 @@ use Rattle.phi_conv.proofs.Branching.{arm_run}
 use Rattle.phi_conv.specs.IsShort.{Way}
 use Rattle.phi_conv.proofs.Ways.{ways}
 use Rattle.phi_conv.proofs.Placing.{block_is, entry_is, proc_is}
-use Rattle.phi_conv.proofs.Standing.{vars_at, Stack, Along, goes_to}
+use Rattle.phi_conv.proofs.Standing.{Stack, Along, goes_to}
+use Rattle.cfg_core.proofs.Homes.{vars_at, entry_there}
 use Rattle.phi_conv.proofs.Leaves.{jumps, branches, gives_back, stops}
-use Rattle.phi_conv.proofs.Entering.{entry_there, calls, sends}
+use Rattle.phi_conv.proofs.Entering.{calls, sends}
 use Rattle.phi_conv.proofs.Beside.{beside}
 use Rattle.ws_words.proofs.Lists.{length_map as map_count}
 use Rattle.ws_words.proofs.Numbers.{zero_at, zeros_count}

@@ -15,7 +15,7 @@ use Rattle.phi_conv.proofs.Agreeing.{States, Outcomes}
 use Rattle.phi_conv.proofs.Branching.{arm_run, join_same}
 use Rattle.phi_conv.specs.IsShort.{Way, direct, through}
 use Rattle.phi_conv.proofs.Ways.{ways}
-use Rattle.phi_conv.proofs.Standing.{vars_at, same_vars}
+use Rattle.cfg_core.proofs.Homes.{vars_at, same_vars}
 use Rattle.cfg_core.proofs.Spots.{numbers_at}
 use Rattle.live_vars.proofs.Needed.{Needs, After, needed_is_live}
 

@@ -9,7 +9,8 @@ use Rattle.cfg_core.specs.Graph.{Term, Var, Op, Choose}
 use Rattle.cfg_core.specs.Walk.{value, Done, and_then, run_op, run_ops}
 use Rattle.phi_conv.specs.Short.{is_bare}
 use Rattle.phi_conv.specs.Joined.{is_among, copied}
-use Rattle.phi_conv.proofs.Light.{bare_state, no_acts}
+use Rattle.phi_conv.proofs.Light.{bare_state}
+use Rattle.cfg_core.proofs.Quiet.{no_acts}
 use Rattle.phi_conv.proofs.Copies.{if_apart}
 use Rattle.ws_words.specs.Items.{In}
 

@@ -1,5 +1,5 @@
 -- A path of the joined graph that may take no turn is one of the given graph.
-use Rattle.std.proofs.Common.{ℕ, zero, ◌≡◌, ◌⊎◌, ◌||◌, Bool, true, false, List, [], ◌∷◌, ◌++◌, Option}
+use Rattle.std.proofs.Common.{ℕ, zero, ◌≡◌, ◌⊎◌, true, false, List, [], ◌∷◌, ◌++◌, Option}
 use Rattle.std.proofs.Common.{Some, None, refl, sym, subst, inl, inr, arith}
 use Rattle.cfg_core.specs.Graph.{Term, Op, Assign, Tick, TickBy, Exit, Branch, Graph, spot_at, block_at}
 use Rattle.cfg_core.specs.Rules.{takes_turn, has_turn, Leads, Quiet, one, more}
@@ -9,14 +9,8 @@ use Rattle.phi_conv.specs.Joined.{test_of, choices, joining, joined_if, joined}
 use Rattle.phi_conv.specs.IsShort.{Way, direct, through}
 use Rattle.phi_conv.proofs.Ways.{ways}
 use Rattle.phi_conv.proofs.Placing.{block_is}
+use Rattle.cfg_core.proofs.Quiet.{quiet_left}
 use Rattle.ws_words.proofs.Bools.{either_right, and_right as right_true}
-
-either_left : (b c d : Bool) → (b || c) ≡ false → (c ≡ false → d ≡ false) → (b || d) ≡ false
-either_left b c d e f = grind arith
-
-quiet_left : (xs ys : List Op) → has_turn (xs ++ ys) ≡ false → has_turn xs ≡ false
-quiet_left [] ys e = refl
-quiet_left (x ∷ xs) ys e = grind (arith, either_left, quiet_left xs ys)
 
 quiet_right : (xs ys : List Op) → has_turn (xs ++ ys) ≡ false → has_turn ys ≡ false
 quiet_right [] ys e = e

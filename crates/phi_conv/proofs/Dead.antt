@@ -16,7 +16,7 @@ use Rattle.phi_conv.specs.Joined.{joining, joined_if, joined}
 use Rattle.phi_conv.specs.Keeps.{NoCopyLive}
 use Rattle.phi_conv.proofs.Picked.{added_other, written_low}
 use Rattle.phi_conv.proofs.Placing.{spots_count, spot_is, block_is}
-use Rattle.phi_conv.proofs.Standing.{same_vars}
+use Rattle.cfg_core.proofs.Homes.{same_vars}
 use Rattle.phi_conv.proofs.Numbered.{first_in, second_in, test_in}
 use Rattle.phi_conv.proofs.Ruled.{keeps_rules}
 use Rattle.cfg_core.proofs.Spots.{filter_in, numbers_at}

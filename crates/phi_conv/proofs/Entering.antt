@@ -1,67 +1,24 @@
 -- A Call and a Send lead both walks to configurations that go together.
-use Rattle.std.proofs.Common.{ℕ, zero, suc, ◌+◌, ◌-◌, ◌≡◌, ◌<◌, ◌≤◌, min, List, [], ◌∷◌, ◌++◌, length, get_or}
-use Rattle.std.proofs.Common.{slice_index, Option, Some, None, refl, sym, ap, ◌∙◌, subst, inl, inr, arith}
-use Rattle.std.proofs.Common.{append_assoc, length-append}
+use Rattle.std.proofs.Common.{ℕ, ◌-◌, ◌≡◌, ◌<◌, ◌≤◌, min, List, ◌∷◌, ◌++◌, length, get_or}
+use Rattle.std.proofs.Common.{Option, Some, None, refl, sym, ap, ◌∙◌, subst, inl, inr, arith}
 use Rattle.std.specs.List.{AllByRecursion}
 use Rattle.ws_words.specs.Outside.{Outside, ProcState, zeros}
-use Rattle.cfg_core.specs.Graph.{Term, Call, Send, Block, GraphProc, Graph, Spot, spots_in, spots_from, spots}
-use Rattle.cfg_core.specs.Graph.{no_spot, no_proc, spot_at, block_at, proc_at, entry_from, entry_of}
-use Rattle.cfg_core.specs.Rules.{ProcNumbers, TargetIn, ExitIn, Lands, IsGraph}
+use Rattle.cfg_core.specs.Graph.{Term, Call, Send, Block, Graph, Spot, spots}
+use Rattle.cfg_core.specs.Graph.{spot_at, block_at, proc_at, entry_of}
+use Rattle.cfg_core.specs.Rules.{TargetIn, ExitIn, Lands, IsGraph}
 use Rattle.cfg_core.specs.Walk.{value_of, values_of, Frame, Config, At, landing, landed, leave}
 use Rattle.live_vars.specs.Live.{ExitWrites, Live}
 use Rattle.phi_conv.specs.Short.{Short, short}
 use Rattle.phi_conv.specs.Joined.{more_vars, joined_if, joined}
 use Rattle.phi_conv.proofs.Agreeing.{States, term_value, term_states, terms_values, terms_states}
 use Rattle.phi_conv.proofs.Placing.{block_is, spot_is, entry_is, proc_is}
-use Rattle.phi_conv.proofs.Standing.{ResultIs, vars_at, same_vars, Waits, Stack, Along}
+use Rattle.phi_conv.proofs.Standing.{ResultIs, Waits, Stack, Along}
+use Rattle.cfg_core.proofs.Every.{all_at}
+use Rattle.cfg_core.proofs.Homes.{vars_at, same_vars, entry_there, params_at}
 use Rattle.phi_conv.proofs.Leaves.{landed_same}
 use Rattle.cfg_core.proofs.Spots.{landed_count as landed_length, values_count, numbers_at}
 use Rattle.ws_words.proofs.Numbers.{zero_at, zeros_count, entered_at, entered_count}
-use Rattle.cfg_core.proofs.Weighing.{count_in as spots_count}
-use Rattle.ws_words.specs.Items.{nth, or_else}
 use Rattle.live_vars.proofs.Needed.{After}
-
--- the first block of a procedure is there, and has the procedure's variables
-abbrev HasVars : ℕ → Option Spot → Type 0
-HasVars v None = ⊥
-HasVars v (Some s) = s.vars ≡ v
-
-nth_after : (xs ys : List Spot) (k : ℕ) → nth (xs ++ ys) (length xs + k) ≡ nth ys k
-nth_after [] ys k = ap (nth ys) (omega arith)
-nth_after (x ∷ xs) ys k = grind (arith, nth_after xs ys k)
-
-first_has : (home : ℕ) (p : GraphProc) (rest : List Spot) → 1 ≤ length p.blocks
-    → HasVars p.vars (nth (spots_in home p.vars p.blocks ++ rest) 0)
-first_has home p rest some = by_blocks p.blocks some
-  where
-    by_blocks : (bs : List Block) → 1 ≤ length bs → HasVars p.vars (nth (spots_in home p.vars bs ++ rest) 0)
-    by_blocks [] h = absurd (omega arith)
-    by_blocks (b ∷ bs) h = refl
-
-entry_has : (home first : ℕ) (ps : List GraphProc) (before : List Spot) (f : ℕ) → length before ≡ first
-    → AllByRecursion ProcNumbers ps → f < length ps → HasVars (or_else (nth ps f) no_proc).vars
-    (nth (before ++ spots_from home ps) (entry_from first ps f))
-entry_has home first [] before f e h lt = absurd (omega arith)
-entry_has home first (p ∷ ps) before zero e h lt =
-    let at : length before + 0 ≡ first = omega (arith, e) in grind (arith, p.vars, nth_after, first_has)
-entry_has home first (p ∷ ps) before (suc f) e h lt =
-    subst (λ (zs : List Spot). HasVars (or_else (nth ps f) no_proc).vars
-    (nth zs (entry_from (first + length p.blocks) ps f)))
-    (append_assoc before (spots_in home p.vars p.blocks) (spots_from (suc home) ps))
-    (entry_has (suc home) (first + length p.blocks) ps (before ++ spots_in home p.vars p.blocks) f
-    (length-append before (spots_in home p.vars p.blocks) ∙ ap (λ n. length before + n)
-    (spots_count home p.vars p.blocks) ∙ ap (λ n. n + length p.blocks) e) h.1 (omega arith))
-
-there_by : (v : ℕ) (xs : List Spot) (k : ℕ) → HasVars v (nth xs k) → (k < length xs)
-    × ((or_else (nth xs k) no_spot).vars ≡ v)
-there_by v (x ∷ xs) (suc k) h = let r = there_by v xs k h in (omega (arith, r.0), r.1)
-there_by v xs k h = grind arith
-
--- an item of a list of which all have P
-all_at : (P : ℕ → Type 0) (ls : List ℕ) (k : ℕ) → AllByRecursion P ls → k < length ls → P (slice_index ls k)
-all_at P [] k h lt = absurd (omega arith)
-all_at P (l ∷ ls) zero h lt = h.0
-all_at P (l ∷ ls) (suc k) h lt = all_at P ls k h.1 (omega arith)
 
 writes_result : (x : Option ℕ) (f : ℕ) (ts : List Term) (back y : ℕ) → (ResultIs x y → ⊥)
     → ExitWrites (Call x f ts back) y → ⊥
@@ -73,22 +30,6 @@ module _ (g : Graph) (rules : IsGraph g) (live : List (List ℕ)) where
 
   abbrev V : ℕ → ℕ
   V b = vars_at g rules b
-
-  -- the first block of a procedure is there, and has its variables
-  pub entry_there : (f : ℕ) → f < length g.procs → (entry_of g f < length (spots g))
-      × (V (entry_of g f) ≡ (proc_at g f).vars)
-  unfolding spot_at proc_at entry_of
-  entry_there f lt = there_by (or_else (nth g.procs f) no_proc).vars (spots g) (entry_from 0 g.procs f)
-      (entry_has 0 0 g.procs [] f refl rules.numbers.procs lt)
-
-  params_at : (f : ℕ) → (proc_at g f).params ≤ (proc_at g f).vars
-  unfolding proc_at no_proc
-  params_at f = by_list g.procs f rules.numbers.procs
-    where
-      by_list : (ps : List GraphProc) (k : ℕ) → AllByRecursion ProcNumbers ps
-          → (or_else (nth ps k) no_proc).params ≤ (or_else (nth ps k) no_proc).vars
-      by_list (p ∷ ps) (suc k) i = by_list ps k i.1
-      by_list ps k i = grind arith
 
   -- both enter a procedure on the same words
   pub enters : (f : ℕ) → f < length g.procs → (ws us : List ℕ) (o p : Outside) (fs es : List Frame) (k : ℕ)

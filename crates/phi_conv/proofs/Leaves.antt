@@ -10,7 +10,8 @@ use Rattle.cfg_core.specs.Rules.{ExitIn, StaysIn, IsGraph}
 use Rattle.cfg_core.specs.Walk.{Frame, leave, landed}
 use Rattle.live_vars.specs.Live.{Live}
 use Rattle.phi_conv.proofs.Agreeing.{States, term_value, term_states, weaker}
-use Rattle.phi_conv.proofs.Standing.{vars_at, Stack, Along, goes_to, if_along, returns}
+use Rattle.phi_conv.proofs.Standing.{Stack, Along, goes_to, if_along, returns}
+use Rattle.cfg_core.proofs.Homes.{vars_at}
 use Rattle.live_vars.proofs.Needed.{After}
 
 -- words in the variables that a block names, over lists of two lengths

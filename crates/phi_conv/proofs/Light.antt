@@ -1,5 +1,5 @@
 -- Operations that only assign and tick: what they do, and how many turns they take.
-use Rattle.std.proofs.Common.{ℕ, zero, suc, ◌+◌, ◌≡◌, true, List, [], ◌∷◌, ◌++◌, refl, ap, ◌∙◌, arith}
+use Rattle.std.proofs.Common.{ℕ, zero, suc, ◌+◌, ◌≡◌, true, List, [], ◌∷◌, refl, ap, ◌∙◌, arith}
 use Rattle.ws_words.specs.Outside.{Act, ProcState, write, with_acts}
 use Rattle.cfg_core.specs.Graph.{Term, Flip, Not, Neg, Binary, Op, Assign, Store, Print}
 use Rattle.cfg_core.specs.Graph.{Read, Give, Take, Choose, Tick, TickBy}
@@ -8,6 +8,7 @@ use Rattle.phi_conv.specs.Short.{is_bare, all_light}
 use Rattle.phi_conv.specs.Joined.{turns_of}
 use Rattle.ws_words.proofs.Bools.{and_left as left_true, and_right as right_true}
 use Rattle.cfg_core.proofs.Outcomes.{then_cong}
+use Rattle.cfg_core.proofs.Quiet.{no_acts}
 
 -- a bare term loads nothing
 pub loads_nothing : (t : Term) (vs : List ℕ) (cells : List (List ℕ)) → is_bare t ≡ true
@@ -24,26 +25,6 @@ loads_nothing (Binary op a b) vs cells e =
       loads_nothing b vs cells (right_true (is_bare a) (is_bare b) e),
     )
 loads_nothing t vs cells e = grind arith
-
-nothing_more : (l : List Act) → l ++ [] ≡ l
-nothing_more [] = refl
-nothing_more (a ∷ l) = ap (λ (m : List Act). a ∷ m) (nothing_more l)
-
-abbrev with_all : ProcState → List Act → ProcState
-with_all s l =
-    record {
-      vars = s.vars;
-      out = record {
-        cells = s.out.cells;
-        input = s.out.input;
-        left = s.out.left;
-        acts = l;
-      };
-    }
-
--- no acts change no state
-pub no_acts : (s : ProcState) → with_acts s [] ≡ s
-no_acts s = ap (with_all s) (nothing_more s.out.acts)
 
 -- a bare term leaves the state as it is
 pub bare_state : (t : Term) (s : ProcState) → is_bare t ≡ true → (value_of t s).1 ≡ s

@@ -14,7 +14,7 @@ use Rattle.phi_conv.proofs.Picked.{written_low}
 use Rattle.phi_conv.specs.IsShort.{Way, direct, through}
 use Rattle.phi_conv.proofs.Ways.{ways}
 use Rattle.phi_conv.proofs.Placing.{spots_count, spot_is, proc_is}
-use Rattle.phi_conv.proofs.Standing.{vars_at, same_vars}
+use Rattle.cfg_core.proofs.Homes.{vars_at, same_vars}
 use Rattle.ws_words.proofs.Lists.{all_append as all_both, all_mapped, all_with as all_so}
 use Rattle.ws_words.proofs.Lists.{length_map as map_count}
 use Rattle.cfg_core.proofs.Spots.{all_from, filter_in, numbers_at}

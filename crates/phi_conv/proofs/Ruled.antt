@@ -13,7 +13,7 @@ use Rattle.phi_conv.specs.Joined.{first_base, second_base, more_vars, added, arm
 use Rattle.phi_conv.specs.Joined.{keep_test, test_if, choice, choices, joining, joined_if, joined_proc}
 use Rattle.phi_conv.specs.Joined.{joined}
 use Rattle.phi_conv.proofs.Placing.{joined_spot, spots_are, block_is}
-use Rattle.phi_conv.proofs.Standing.{vars_at}
+use Rattle.cfg_core.proofs.Homes.{vars_at}
 use Rattle.phi_conv.proofs.Numbered.{op_more, exit_more, stays_too, joining_in, join_stays, first_in}
 use Rattle.phi_conv.proofs.Numbered.{second_in, test_in}
 use Rattle.phi_conv.proofs.Cycles.{quiet_before}

@@ -1,8 +1,6 @@
 -- What holds of the joined graph.
 use Rattle.std.specs.Prelude.{◌≡◌, ℕ, suc, ◌+◌, ◌*◌, ◌<◌, ◌≤◌, ◌⊎◌, List, ◌++◌, length}
-use Rattle.ws_words.specs.Outside.{World}
 use Rattle.cfg_core.specs.Graph.{Term, Exit, Goto, Branch, Graph, spots, spot_at, block_at}
-use Rattle.cfg_core.specs.Walk.{walk, opening, IsOver}
 use Rattle.cfg_core.specs.Weights.{acts_at, jumps_of, turns_at, block_nodes}
 use Rattle.phi_conv.specs.Short.{Short, most_nodes}
 use Rattle.live_vars.specs.Live.{Live}
@@ -36,13 +34,6 @@ pub record ShortJoined (g h : Graph) : Type 0 where
   pub every : (b : ℕ) (t : Term) (c d : ℕ) (s : Short) → (block_at g b).exit ≡ Branch t c d →
       IsShort g t c d s → JoinedAt g h b
   pub others : (b : ℕ) → (block_at h b ≡ block_at g b) ⊎ JoinedAt g h b
-
--- if the walk of the first graph has an answer after some blocks, that of the second has one after
--- no more
-abbrev pub PassesNoMore : Graph → Graph → Type 0
-PassesNoMore g h =
-    (world : World) (turns blocks : ℕ) → IsOver (walk g blocks (opening g world turns)) →
-    (n : ℕ) × (n ≤ blocks) × IsOver (walk h n (opening h world turns))
 
 -- What a joined branch adds at most. Operations: the test and the turns, the arms, and a choice for
 -- each variable that they write. Nodes: a choice has three, the turns have one.

@@ -4,12 +4,13 @@ ghost use Rattle.std.specs.Prelude.{◌≡◌, ◌<◌, ◌^◌, ℕ, map, IfOk}
 ghost use Rattle.cfg_core.specs.Tables.{graph_in};
 ghost use Rattle.cfg_core.specs.Rules.{IsGraph};
 ghost use Rattle.cfg_core.specs.Shape.{ArmsAlone};
+ghost use Rattle.cfg_core.specs.Passing.{PassesNoMore};
 ghost use Rattle.cfg_core.specs.Shown.{SameWalks, SameArrays};
 ghost use Rattle.cfg_core.specs.View as view;
 ghost use Rattle.cfg_core.specs.Weights.{TwoBlocksATurn, TurnsPayWork};
 ghost use Rattle.live_vars.specs.Marks.{AreLive};
 ghost use Rattle.phi_conv.specs.Joined as joined;
-ghost use Rattle.phi_conv.specs.Keeps.{ExitsKept, NoCopyLive, PassesNoMore, ShortJoined, SizesKept};
+ghost use Rattle.phi_conv.specs.Keeps.{ExitsKept, NoCopyLive, ShortJoined, SizesKept};
 ghost use Rattle.phi_conv.specs.Keeps.{TurnsPayMost};
 
 use crate::find::short;

@@ -15,7 +15,7 @@ use Rattle.cfg_core.specs.Weights.{first_block, WalksWeigh}
 use Rattle.live_vars.specs.Live.{Live}
 use Rattle.live_vars.specs.Marks.{has}
 use Rattle.wave_cut.specs.Cut.{Cut}
-use Rattle.phi_conv.proofs.Standing.{same_vars}
+use Rattle.cfg_core.proofs.Homes.{same_vars}
 use Rattle.call_gen.specs.Reached.{Enters, Reached, start, follow, enter}
 use Rattle.call_gen.specs.Charged.{Places, beside, charged, LiveBelow, live_count, most_saved, StandsForExit}
 use Rattle.call_gen.specs.Charged.{StandsFor, SameExit, DoesTheSame}

@@ -25,6 +25,7 @@ use Rattle.call_gen.proofs.Ruling.Cycles.{Sort, is_plain, is_none, every_spot, l
 use Rattle.cfg_core.proofs.Spots.{filter_in, in_filter, each_at, numbers_at}
 use Rattle.ws_words.specs.Items.{or_else, In}
 use Rattle.live_vars.proofs.Needed.{first_exit}
+use Rattle.live_vars.proofs.Written.{written_left}
 use Rattle.live_vars.proofs.Below.{low, all_low, op_low}
 
 -- read before it is written
@@ -42,11 +43,6 @@ first_in : (ops : List Op) (exit : Exit) (x : ℕ) → ReadsIn ops x → ReadsFi
 first_in [] exit x h = absurd h
 first_in (op ∷ ops) exit x (inl r) = inl r
 first_in (op ∷ ops) exit x (inr n) = inr (n.0, first_in ops exit x n.1)
-
-written_left : (xs ys : List Op) (x : ℕ) → WrittenIn xs x → WrittenIn (xs ++ ys) x
-written_left [] ys x h = absurd h
-written_left (op ∷ xs) ys x (inl w) = inl w
-written_left (op ∷ xs) ys x (inr w) = inr (written_left xs ys x w)
 
 ops_low : (g : Graph) (v : ℕ) (ops : List Op) (x : ℕ) → AllByRecursion (OpIn (length g.arrays) v) ops
     → ReadsIn ops x → x < v

@@ -10,7 +10,6 @@ use Rattle.cfg_core.specs.Rules as rules
 use Rattle.cfg_core.specs.Rules.{ExitIn}
 use Rattle.wave_cut.specs.Cut.{Cut, is_first}
 use Rattle.wave_gen.specs.Plans.{HowLeft, Either, Plan, plan_at, exit_of}
-use Rattle.std.specs.List.{AllByRecursion}
 use Rattle.wave_gen.specs.Gen.{gen_ops}
 use Rattle.wave_gen.specs.Drawn.{gen_source}
 use Rattle.wave_gen.proofs.Planning.Opening.{OnlyEdgeOf, ArmOf, PlansOpen}
@@ -22,6 +21,7 @@ use Rattle.wave_gen.proofs.OfGraphs.PlansGiving.{some_of}
 use Rattle.wave_gen.proofs.OfGraphs.PlanFacts.{planned, at, at_place, place_is, place_there, numbers, as_many}
 use Rattle.wave_gen.proofs.OfGraphs.PlanFacts.{block_there}
 use Rattle.ws_words.specs.Items.{nth, or_else, In}
+use Rattle.cfg_core.proofs.Every.{all_in}
 use Rattle.ws_words.proofs.Options.{some_same}
 use Rattle.ws_words.proofs.Places.{nth_there}
 
@@ -42,11 +42,6 @@ edge_to : (place : ℕ → ℕ) (exit : graph.Exit) (k i n : ℕ)
     → nth (edges_of (exit_of 0 (gen_exit place k exit).exit)) i ≡ Some n → (c : ℕ) × rules.Leads exit c
     × (place c ≡ n)
 edge_to place exit k i n e = grind (arith, some_same, in_map)
-
-all_in : (P : ℕ → Type 0) (xs : List ℕ) (c : ℕ) → AllByRecursion P xs → In c xs → P c
-all_in P [] c h i = absurd i
-all_in P (x ∷ xs) c h (inl e) = subst P (sym e) h.0
-all_in P (x ∷ xs) c h (inr i) = all_in P xs c h.1 i
 
 there : (g : Graph) (home vars : ℕ) (exit : graph.Exit) (c : ℕ) → ExitIn g home vars exit → rules.Leads exit c
     → c < length (spots g)

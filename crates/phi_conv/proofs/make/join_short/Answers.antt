@@ -6,7 +6,8 @@ use Rattle.cfg_core.specs.Shown.{SameWalks, SameArrays}
 use Rattle.cfg_core.specs.View as view
 use Rattle.cfg_core.specs.declared.blocks.Graph.{Graph}
 use Rattle.phi_conv.specs.Joined.{joined}
-use Rattle.phi_conv.specs.Keeps.{ExitsKept, NoCopyLive, PassesNoMore, ShortJoined, SizesKept, TurnsPayMost}
+use Rattle.cfg_core.specs.Passing.{PassesNoMore}
+use Rattle.phi_conv.specs.Keeps.{ExitsKept, NoCopyLive, ShortJoined, SizesKept, TurnsPayMost}
 use Rattle.cfg_core.specs.Weights.{TwoBlocksATurn}
 use Rattle.phi_conv.proofs.Paying.{two_blocks_still, turns_pay_most}
 use Rattle.phi_conv.proofs.Owning.{arms_alone}
