@@ -42,7 +42,7 @@ class Line(argparse.ArgumentParser):
     def __init__(self, told: str | None = None, **more: Any):
         plain = argparse.RawDescriptionHelpFormatter
         super().__init__(description=told, formatter_class=plain, **more)
-        self.add_argument("--version", action=Version, nargs=0, help="prints the version and exits")
+        self.add_argument("--version", action=Version, nargs=0, help="show the version and exit")
 
     def error(self, message: str) -> NoReturn:
         """Says what is wrong with the words, and ends."""
@@ -52,7 +52,7 @@ class Line(argparse.ArgumentParser):
 
 def add_program(ask: argparse.ArgumentParser) -> None:
     """The option that names the program."""
-    told = "the program wsc; else that of the environment's WSC, else wsc at the top of the repository, else on the path"
+    told = "the program wsc; by default $WSC, else wsc at the top of the repository, else wsc on the path"
     ask.add_argument("--wsc", metavar="PROGRAM", default=usual(), help=told)
 
 
