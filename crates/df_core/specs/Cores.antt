@@ -87,7 +87,7 @@ HasRoom core = RoomFor core 1 × ((done core).fired < 2 ^ 64 - 2)
 abbrev pub KeepsRoom : Core → Core → Type 0
 KeepsRoom old new = (n m : ℕ) → m + (done new).fired ≡ n + (done old).fired → RoomFor old n → RoomFor new m
 
--- where the budget is spent, the most operations of the walk that have all fired have been passed, and
+-- where the budget is exhausted, the most operations of the walk that have all fired have been passed, and
 -- memory is what they leave
 abbrev pub SpendsAll : Finish → Core → Core → Type 0
 SpendsAll finish old new = (image : Image) (world : World) (s : State) → IsAt image world old s →

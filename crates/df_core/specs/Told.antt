@@ -1,4 +1,4 @@
--- What the parts of a run tell at its end.
+-- What the parts of a run report at its end.
 use Rattle.df_core.specs.declared.answer.Done.{Done}
 use Rattle.df_core.specs.declared.answer.RunAnswer.{RunAnswer}
 use Rattle.df_core.specs.declared.answer.RunAnswer.TheVariants as run

@@ -53,7 +53,7 @@ pub fn run(program: &Program<'_>, flow: &mut Flow<'_>, budget: u64) -> Finish
     }
 }
 
-/// The same, and takes the memory that it needs on its way.
+/// The same, and takes the memory that it needs as it goes.
 pub fn run_on(program: &Program<'_>, flow: &mut Flow<'_>, budget: u64) -> Result<Finish, NoMemory>
     requires going { Going (image_of program.now) [] flow.old }
     requires fired { flow.old.fired ≤ budget }
@@ -79,7 +79,7 @@ fn is_budget(finish: Finish) -> bool
     }
 }
 
-// Whether no more instances may fire: nothing is on the way, or so many have.
+// Whether no more instances may fire: nothing is in flight, or so many have.
 fn is_still(flow: &Flow<'_>, budget: u64) -> bool
     ensures still { result ≡ true →
         (vec_len flow.now.way.now + vec_len flow.now.way.later ≡ 0) ⊎ (budget ≤ flow.now.fired) }
@@ -89,7 +89,7 @@ fn is_still(flow: &Flow<'_>, budget: u64) -> bool
     flow.way.is_empty() || flow.fired >= budget
 }
 
-// Rest where nothing is on the way.
+// Rest where nothing is in flight.
 fn stopped_at(flow: &Flow<'_>) -> Finish
     ensures { result ≡ stopped_at flow.now }
 {
@@ -100,7 +100,7 @@ fn stopped_at(flow: &Flow<'_>) -> Finish
     }
 }
 
-// Matches the next token on the way, and issues the operations that then are next.
+// Matches the next token in flight, and issues the operations that then are next.
 fn match_next(program: &Program<'_>, flow: &mut Flow<'_>)
     requires going { Going (image_of program.now) [] flow.old }
     requires fired { flow.old.fired + 1 < 2 ^ 64 }

@@ -26,7 +26,7 @@ use std::alloc::Global;
 use ws_isa::Checked;
 use ws_words::{Cells, NoMemory, World};
 
-/// A match of the token on its way to a port, or an issue of the request that waits.
+/// A match of the token in flight to a port, or an issue of the request that waits.
 #[derive(Clone, Copy, Debug, PartialEq, Eq)]
 pub enum Event {
     Match { wave: u64, instr: u32, port: u8 },
@@ -48,7 +48,7 @@ pub struct Core<'i> {
 }
 
 impl<'i> Core<'i> {
-    /// The opening state: the start pulse is on the way.
+    /// The opening state: the start pulse is in flight.
     pub fn begin(alloc: Global, image: &'i Checked, world: &'i World) -> Result<Core<'i>, NoMemory>
         ensures core { IfOk result IsRunning }
         ensures opening { IfOk result (λ core. IsAt image.now (world_of world.now) core
@@ -182,7 +182,7 @@ impl<'i> Core<'i> {
         self.flow.fired
     }
 
-    /// The array of the load or store past the end at which the chain is stopped, by its number from
+    /// The array of the out-of-bounds load or store at which the chain is stopped, by its number from
     /// 1, if it is.
     pub fn fault(&self) -> Option<u32>
         ensures { (image : Image) (world : Given) (state : State) →

@@ -94,7 +94,7 @@ impl<'a> Memory<'a> {
     }
 }
 
-// Puts a word behind the others of a row; past the last row nothing changes.
+// Puts a word behind the others of a row; out of bounds nothing changes.
 fn add_word(rows: &mut Vec<Vec<u64>>, place: usize, word: u64)
     requires { HasSpace rows.old.items 1 }
     ensures rows { let before = rows_of rows.old.items in

@@ -16,7 +16,7 @@ use crate::way::Way;
 use std::alloc::Global;
 use ws_words::{NoMemory, World};
 
-/// The start pulse is on the way, and nothing else has happened.
+/// The start pulse is in flight, and nothing else has happened.
 pub fn open<'w>(
     alloc: Global,
     program: &Program<'_>,

@@ -13,7 +13,7 @@ use std::test::*;
 use ws_isa::Checked;
 use ws_words::NoMemory;
 
-// How many instances have fired, and how many tokens were let go.
+// How many instances have fired, and how many tokens were released.
 type Count = (usize, usize);
 
 // What comes of a token. The tokens that are sent stand behind others.

@@ -28,7 +28,7 @@ impl Quotas for Brand {
 }
 
 /// What a table of a phase does with a token: what a table does, or nothing, since the token would fire
-/// its instance and the quota is spent.
+/// its instance and the quota is exhausted.
 #[derive(Clone, Copy, Debug, PartialEq, Eq)]
 pub enum Offer {
     Took(Took),
@@ -73,7 +73,7 @@ impl<J: Job, Q: Quotas, const NUMBER: u64> Limited<J, Q, NUMBER> {
         }
     }
 
-    /// Takes a token, unless it would fire its instance and the quota is spent. What the instance hands
+    /// Takes a token, unless it would fire its instance and the quota is exhausted. What the instance hands
     /// on stands in the place that is lent.
     #[inline(always)]
     pub fn offer<'i>(

@@ -10,7 +10,7 @@ use ready_pool::Seat;
 use std::alloc::Global;
 use std::sync::Wait;
 
-/// What a worker has of one thread: results in hand, tokens that it let go, and whether the thread's
+/// What a worker has of one thread: results in hand, tokens that it released, and whether the thread's
 /// buffer was found to take no more requests.
 #[derive(Drop)]
 pub struct Bench<'i, J: LaneJob> {
@@ -90,7 +90,7 @@ impl<'i, J: LaneJob> Bench<'i, J> {
         }
     }
 
-    /// What the worker let go of the thread, and what it had in hand.
+    /// The tokens of the thread that the worker released, and those that it had in hand.
     pub fn rest(self) -> TokenList<J> {
         let mut let_go = self.let_go;
         self.hand.pour(&mut let_go);

@@ -128,7 +128,7 @@ impl<'i, J: LaneJob, P: Port> Lane<'i, J, P> {
         }
     }
 
-    /// A thread after a phase, in which it came to this home and these tokens were let go; `starved` where
+    /// A thread after a phase, in which it came to this home and these tokens were released; `starved` where
     /// memory ran out.
     pub fn join(
         alloc: Global,
@@ -190,7 +190,7 @@ impl<'i, J: LaneJob, P: Port> Split<'i, J, P> {
     }
 }
 
-// Tables to which no token has come: sixteen, or none for want of memory.
+// Tables to which no token was brought: sixteen, or none if memory ran out.
 fn untouched<J: LaneJob>(alloc: Global) -> Tables<J>
     ensures { (most : List ℕ) → Fits result most }
 {

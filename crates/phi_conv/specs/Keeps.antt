@@ -37,8 +37,8 @@ pub record ShortJoined (g h : Graph) : Type 0 where
       IsShort g t c d s → JoinedAt g h b
   pub others : (b : ℕ) → (block_at h b ≡ block_at g b) ⊎ JoinedAt g h b
 
--- where the walk of the first graph has come to an answer after some blocks, that of the second has
--- after no more
+-- if the walk of the first graph has an answer after some blocks, that of the second has one after
+-- no more
 abbrev pub PassesNoMore : Graph → Graph → Type 0
 PassesNoMore g h =
     (world : World) (turns blocks : ℕ) → IsOver (walk g blocks (opening g world turns)) →

@@ -108,7 +108,7 @@ fn other_words_and_texts_are_refused(rt: HostRuntime) -> Result<(), Fail> {
     Ok(())
 }
 
-// Whether a call of which so many writes go well, a byte each, and then none, has written a front.
+// Whether a call of which so many writes succeed, a byte each, and then none, has written a prefix.
 fn cut(alloc: Global, fault: u64) -> Result<bool, NoMemory> {
     let asked = Asked {
         line: "",

@@ -26,7 +26,7 @@ const UNREAD: &[u8] = b"fault read\n";
 
 const LONG: &[u8] = b"refused long\n";
 
-/// One call of the program: from the words of the command line, without the program's own name, and
+/// One call of the program: from the command-line arguments, without the program's own name, and
 /// what the source gives, to what the sink takes.
 pub fn wss<S: Source, K: Sink>(
     alloc: Global,
@@ -82,7 +82,7 @@ fn refuse<K: Sink>(alloc: Global, why: Unread, sink: &mut K) -> Status
     }
 }
 
-// Runs an image on these words, and writes what is told of it.
+// Runs an image on these words, and writes what is reported of it.
 fn run<K: Sink>(
     alloc: Global,
     options: Options,

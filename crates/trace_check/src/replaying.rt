@@ -13,7 +13,7 @@ use std::alloc::Global;
 use ws_isa::{Checked, effects_are_one, walks_go_on};
 use ws_words::{NoMemory, Words, World};
 
-/// What is told of a trace that was replayed: the words that were printed, whether no event is
+/// What is reported of a trace that was replayed: the words that were printed, whether no event is
 /// enabled after its last one, and how many instances have fired.
 #[derive(Debug, Drop)]
 pub struct Replayed {

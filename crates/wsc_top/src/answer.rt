@@ -170,8 +170,8 @@ fn of_jobs<S: Source>(
     }
 }
 
-/// What is to be done for these words of the command line and what the source gives: an answer that is
-/// ready, or images to be run. It has no ports and starts no thread. An answer that is ready needs none.
+/// What is to be done for these command-line arguments and what the source gives: an answer that is ready,
+/// or images to be run. It has no ports and starts no thread. An answer that is ready needs none.
 pub fn prepare<S: Source>(
     alloc: Global,
     words: &[String],
