@@ -22,7 +22,7 @@ pub fn take_out<J: Job, Q: Quotas, const NUMBER: u64>(
     ensures { RestOf Q.began Q.most (NUMBER + 1) (contents tables.new) }
 {
     let table = mem::replace(&mut tables.all[NUMBER as usize], Table::new(alloc));
-    Limited::new(table, most)
+    Limited::<J, Q, NUMBER>::new(table, most)
 }
 
 /// Puts the table with this number back into its list.

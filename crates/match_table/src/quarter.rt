@@ -38,8 +38,7 @@ impl<
     const SECOND: u64,
     const THIRD: u64,
     const FOURTH: u64,
-> Quarter<J, Q, FIRST, SECOND, THIRD, FOURTH>
-{
+> Quarter<J, Q, FIRST, SECOND, THIRD, FOURTH> {
     /// Takes the tables with these numbers out of their list.
     pub fn take_out(alloc: Global, home: &mut Tables<J>, limits: &[usize]) -> Self
         requires row { InARow FIRST SECOND THIRD FOURTH }

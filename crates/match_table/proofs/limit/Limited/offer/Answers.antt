@@ -17,7 +17,7 @@ invariant_of-self g c =
       else-fired_count-self-via-else-fired_count-self,
     ) in
     let x = all_ok g.J.Job.image c.self.inside.table c.accept_into.new.self c.args.token.now
-    c.accept_into.new.results c.accept_into.result g.NUMBER c.self.inside.most c.self.invariant.0
+    c.accept_into.new.results c.accept_into.result g.row.NUMBER c.self.inside.most c.self.invariant.0
     c.self.invariant.2 c.requires less
     c.accept_into.ensures.answer c.accept_into.ensures.fires in
     let y = all_grows g.J.Job.image c.self.inside.table c.accept_into.new.self c.args.token.now
@@ -25,6 +25,6 @@ invariant_of-self g c =
       x.0,
       c.self.invariant.1,
       x.1,
-      grows_on (content_at g.Q.Quotas.began g.NUMBER) c.self.inside.table
+      grows_on (content_at g.Q.Quotas.began g.row.NUMBER) c.self.inside.table
           c.accept_into.new.self c.self.invariant.3 y,
     )
