@@ -83,7 +83,7 @@ fn counted<J: Job, Q: Quotas, R: Wait>(
         Err(_) => return (Err(NoMemory), 0),
     };
     let count = fire_all(rt, &row, code, way, alloc);
-    (count, most_of(&row.gather(rt)))
+    (count, most_of(&row.gather()))
 }
 
 // Fires what can be fired in one phase of a job with these quotas.

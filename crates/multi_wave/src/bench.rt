@@ -38,10 +38,10 @@ impl<'i, J: LaneJob> Bench<'i, J> {
     /// Brings a token to the table that serves it. Nothing is done with it where its thread takes part in the
     /// phase no more.
     #[inline(always)]
-    pub fn offer<Q: Quotas, P: Port>(
+    pub fn offer<Q: Quotas, P: Port, const NUMBER: u64>(
         &mut self,
         home: &Home<'i, J, P>,
-        table: &mut Limited<J, Q>,
+        table: &mut Limited<J, Q, NUMBER>,
         token: &Token<J>,
     ) -> Offer {
         let Some(taker) = home.taker() else {
@@ -50,7 +50,7 @@ impl<'i, J: LaneJob> Bench<'i, J> {
         if self.ended {
             return Offer::Took(Took::Old);
         }
-        if table.number() != table_of(token.wave(), token.instr()) {
+        if table_of(token.wave(), token.instr()) != NUMBER {
             self.hand.results.clear();
             return Offer::Took(Took::NoMemory);
         }
