@@ -174,8 +174,8 @@ impl MatchStore {
         self.spilled(wave, instr).get(port)
     }
 
-    /// A token arrives at an instance with so many ports, at one that has none. Where it is the last one, these
-    /// are the operands, and the instance is let go.
+    /// A token arrives at an instance with so many ports, at one that has none. Where it is the last
+    /// one, these are the operands, and the instance is let go.
     #[inline(always)]
     pub fn match_token(&mut self, token: Token, ports: u8) -> Option<Operands>
         requires port { token.port < ports }

@@ -56,7 +56,8 @@ returns-in-Some-clause-leads c = λ beside world s formed sound h.
     (subst (λ k. is_full f c.args.token.wave c.args.token.instr k ≡ true) n m.full)
     (λ a b q. ap (λ x. partial_of x.slots.items x.spill a b q) e.slots ∙ m.left a b q)
     c.op-op.result c.op-op.ensures c.in-Some.operands
-    (subst (λ k. listed k c.in-Some.operands ≡ gather f c.args.token.wave c.args.token.instr 0 k) n m.operands)
+    (subst (λ k. listed k c.in-Some.operands ≡ gather f c.args.token.wave c.args.token.instr 0 k) n
+    m.operands)
     e.early e.chain e.fault e.memory e.fired e.asked e.not_sent e.not_asked e.sent
 
 pub returns-in_default-clause-leads : goal.returns-in_default-clause-leads
