@@ -72,10 +72,7 @@ impl<'w> Flow<'w> {
             self.fire(program, op, token.wave, token.instr, operands);
             return;
         }
-        self.slots.put(token);
-        if self.slots.is_full(token.wave, token.instr, ports) {
-            let operands = self.slots.operands(token.wave, token.instr, ports);
-            self.slots.clear(token.wave, token.instr);
+        if let Some(operands) = self.slots.match_token(token, ports) {
             self.fire(program, op, token.wave, token.instr, operands);
         }
     }

@@ -34,7 +34,8 @@ impl<'i> Program<'i> {
 
     /// The image itself.
     pub fn image(&self) -> &'i Image
-        ensures { view.image result.now ≡ image_of self.now }
+        ensures itself { result.now ≡ self.now.image.now }
+        ensures content { view.image result.now ≡ image_of self.now }
     {
         self.image
     }
