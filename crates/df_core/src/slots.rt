@@ -70,7 +70,7 @@ impl Slot {
         self.wave == wave || self.is_empty()
     }
 
-    // A token arrives at an instance with two ports: its operands, where the other one is here.
+    // A token arrives at an instance with two ports: its operands, if the other one is here.
     #[inline(always)]
     fn pair(&mut self, token: Token) -> Option<Operands>
         requires { token.port < 2 }
@@ -174,8 +174,8 @@ impl MatchStore {
         self.spilled(wave, instr).get(port)
     }
 
-    /// A token arrives at an instance with so many ports, at one that has none. Where it is the last
-    /// one, these are the operands, and the instance is let go.
+    /// A token arrives at a free port of an instance with so many ports. If it is the last one, these are
+    /// the operands, and the instance's slot is free again.
     #[inline(always)]
     pub fn match_token(&mut self, token: Token, ports: u8) -> Option<Operands>
         requires port { token.port < ports }
