@@ -12,7 +12,7 @@ abbrev pub joined : Token → Ports → Ports
 joined t ports = with_at t.wave t.instr t.port (Some t.value) ports
 
 -- its instance, which has so many ports, lacks others: it is kept
-pub record Waits (t : Token) (count : ℕ) (old new : Ports) : Type 0 where
+pub record AwaitsOthers (t : Token) (count : ℕ) (old new : Ports) : Type 0 where
   pub lacks : is_full (joined t old) t.wave t.instr count ≡ false
   pub kept : (w i p : ℕ) → new w i p ≡ joined t old w i p
 

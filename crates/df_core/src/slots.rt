@@ -8,7 +8,7 @@ ghost use Rattle.df_core.specs.Core.{is_full, with_at};
 ghost use Rattle.df_core.specs.Stands.{cleared};
 ghost use Rattle.df_core.specs.Partial.{empty_slot, is_empty_slot, port_of, with_port, slotted, spilled};
 ghost use Rattle.df_core.specs.Partial.{spilled_at, partial_of, listed};
-ghost use Rattle.df_core.specs.Matches.{Waits, Completes};
+ghost use Rattle.df_core.specs.Matches.{AwaitsOthers, Completes};
 
 use crate::plain::{Operands, Token};
 use std::alloc::Global;
@@ -184,7 +184,7 @@ impl MatchStore {
             ≡ None }
         requires room { 0 < spare self.old.spill }
         ensures matched { MatchOption result
-            (Waits token ports (partial_of self.old.slots.items self.old.spill)
+            (AwaitsOthers token ports (partial_of self.old.slots.items self.old.spill)
             (partial_of self.new.slots.items self.new.spill))
             (Completes token ports (partial_of self.old.slots.items self.old.spill)
             (partial_of self.new.slots.items self.new.spill)) }
@@ -212,7 +212,7 @@ impl MatchStore {
             ≡ None }
         requires room { 0 < spare self.old.spill }
         ensures matched { MatchOption result
-            (Waits token ports (partial_of self.old.slots.items self.old.spill)
+            (AwaitsOthers token ports (partial_of self.old.slots.items self.old.spill)
             (partial_of self.new.slots.items self.new.spill))
             (Completes token ports (partial_of self.old.slots.items self.old.spill)
             (partial_of self.new.slots.items self.new.spill)) }
