@@ -44,8 +44,8 @@ pub fn table_of(wave: u64, instr: u32) -> u64
 }
 
 impl<J: Job, Q: Quotas> Row<J, Q> {
-    /// Tables with these limits. The phase names both. If memory ran out for them, so that there are none, they
-    /// come back.
+    /// Tables with these limits. The phase names both. If there are none, because memory ran out before,
+    /// they come back.
     pub fn new(alloc: Global, tables: Tables<J>, limits: &[usize]) -> Result<Row<J, Q>, Tables<J>>
         requires limits { (limits.now ≡ Q.most) × (length limits.now ≡ 16) }
         requires fits { Fits tables limits.now }
