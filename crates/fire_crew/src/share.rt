@@ -23,7 +23,7 @@ use store_buf::Buffer;
 use ws_words::NoMemory;
 
 // How many tokens there have to be for each worker where a phase begins, but for the first.
-const EACH: u64 = 8;
+const EACH: u64 = 2;
 
 /// Where a run has come, and whether there was a phase.
 #[derive(Drop)]
