@@ -57,6 +57,7 @@ impl<'w> Flow<'w> {
         ensures asked { AskedMore self.old self.new }
         ensures chain { self.new.chain ≡ self.old.chain }
         ensures fault { self.new.fault ≡ self.old.fault }
+        ensures memory { self.new.memory ≡ self.old.memory }
         ensures count { (self.old.fired ≤ self.new.fired) × (self.new.fired ≤ self.old.fired + 1) }
         ensures weight { weight self.new + 9 * self.old.fired
             ≤ weight self.old + 9 * self.new.fired }
@@ -198,6 +199,7 @@ impl<'w> Flow<'w> {
             [] self.old self.new }
         ensures room { (n : ℕ) → FlowRoom self.old 0 n → FlowRoom self.new 0 n }
         ensures count { self.new.fired ≡ self.old.fired }
+        ensures gone { self.new.memory.gone ≡ self.old.memory.gone }
         ensures weight { weight self.new < weight self.old }
     {
         let asked = self.asked[place];
