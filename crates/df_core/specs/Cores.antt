@@ -38,14 +38,14 @@ pub record IsRunning (core : Core) : Type 0 where
 abbrev pub done : Core → Done
 done core = done_of core.flow
 
--- so many of the first words printed were let go
+-- so many of the first words printed were taken and are kept no more
 abbrev pub gone : Core → ℕ
 gone core = core.flow.memory.gone
 
 abbrev pub with_words : List ℕ → Done → Done
 with_words words d = record { printed = words; arrays = d.arrays; took = d.took; fired = d.fired }
 
--- what they have done, with all words printed, where the core stands at this state
+-- what they have done, with all words printed, if the core stands at this state
 abbrev pub done_at : State → Core → Done
 done_at s core = with_words (printed_words s.memory.acts) (done core)
 

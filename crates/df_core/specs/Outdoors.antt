@@ -12,7 +12,7 @@ abbrev pub rows_of : List (Vec ℕ Global) → List (List ℕ)
 rows_of rows = map (λ (row : Vec ℕ Global). row.items) rows
 
 -- what is outside is what the code holds, but for the acts, of which it holds the words taken by ports, and
--- those printed but for the first so many, which were let go
+-- those printed but for the first so many, which were taken
 pub record MemoryIs (o : Outside) (m : Memory) : Type 0 where
   pub same_cells : o.cells ≡ m.cells
   pub same_input : o.input ≡ m.input

@@ -8,7 +8,7 @@ use Rattle.df_core.specs.declared.drive.Finish.TheVariants as finish
 use Rattle.df_core.specs.declared.flow.Flow.{Flow}
 use Rattle.df_core.specs.Outdoors.{rows_of}
 
--- where these are all words that were printed
+-- if these are all words that were printed
 abbrev pub done_with : List ℕ → Flow → Done
 done_with words flow = record {
   printed = words;

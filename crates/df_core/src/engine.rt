@@ -151,8 +151,8 @@ impl<'i> Core<'i> {
         &self.flow.memory.printed
     }
 
-    /// Takes the printed words that are kept. Where they are too many to be counted nothing changes.
-    /// What was prepared has to be prepared again.
+    /// Takes the printed words that are kept. If they are too many to be counted, nothing changes.
+    /// What was prepared must be prepared again.
     pub fn take_printed(&mut self, alloc: Global) -> Result<Vec<u64>, NoMemory>
         ensures words { IfOk result (λ words. words.items ≡ (done self.old).printed) }
         ensures left { OnOk result (done self.new ≡ with_words [] (done self.old)) }

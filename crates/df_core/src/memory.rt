@@ -15,7 +15,7 @@ use ws_isa::{ArrayDecl, Op};
 use ws_words::{Cells, NoMemory, PORTS, Tape, Words, World, next_of, place_of, tapes};
 
 /// What a run has outside. Of its acts it keeps the words that ports took, and those that were
-/// printed, but for the first ones, which are gone: so many were let go.
+/// printed, but for the first `gone`, which were taken.
 #[derive(Drop)]
 pub struct Memory<'a> {
     pub cells: Cells,
@@ -87,8 +87,8 @@ impl<'a> Memory<'a> {
         }
     }
 
-    /// Takes the printed words that are kept, and counts them as gone. Where they are too many to be
-    /// counted nothing changes.
+    /// Takes the printed words that are kept, and counts them as gone. If they are too many to be
+    /// counted, nothing changes.
     pub fn take_printed(&mut self, alloc: Global) -> Result<Vec<u64>, NoMemory>
         ensures taken { IfOk result (λ words. words.items ≡ self.old.printed.items) }
         ensures same { (o : Outside) → MemoryIs o self.old → MemoryIs o self.new }
