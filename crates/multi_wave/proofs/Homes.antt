@@ -1,5 +1,5 @@
 -- Threads whose tables are behind locks, and at home again.
-use Rattle.std.proofs.Common.{ℕ, ◌≡◌, ◌+◌, ◌<◌, List, length, refl, sym, ap, ◌∙◌, subst, arith}
+use Rattle.std.proofs.Common.{ℕ, ◌≡◌, ◌+◌, ◌<◌, ◌≤◌, List, length, refl, sym, ap, ◌∙◌, subst, arith}
 use Rattle.match_table.specs.Rows.{Fits, RestOf}
 use Rattle.match_table.proofs.Growth.{all_grow_same}
 use Rattle.match_table.proofs.Phased.{rest_all, rest_home}

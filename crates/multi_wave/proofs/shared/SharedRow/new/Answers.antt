@@ -1,6 +1,6 @@
-use Rattle.std.proofs.Common.{ℕ, List, length, ap, refl, subst, arith}
-use Rattle.multi_wave.specs.Fours.{EachIs, Fourfold}
-use Rattle.multi_wave.specs.Stands.{HasTables, Housed}
+use Rattle.std.proofs.Common.{refl, subst, arith}
+use Rattle.multi_wave.specs.Fours.{EachIs}
+use Rattle.multi_wave.specs.Stands.{HasTables}
 use Rattle.multi_wave.proofs.Homes.{all_out, enough}
 use Rattle.multi_wave.proofs.shared.SharedRow.new.Goals as goal
 
