@@ -58,11 +58,11 @@ module _ (words : List (List ℕ)) (options : Options) (line : AsksForRun words 
   abbrev numbers_here : AreNumbers keys line.given
   numbers_here = stream_numbers line.given line.number
 
-  memory_asked : options.memory ≡ is_among (codes "--memory") words
+  pub memory_asked : options.memory ≡ is_among (codes "--memory") words
   memory_asked = ap (λ (o : Options). o.memory) line.is ∙ given_some key.Memory line.given
       ∙ flag_given key.Memory no_memory not_memory keys line.given numbers_here [] words line.gives
 
-  stats_asked : options.stats ≡ is_among (codes "--stats") words
+  pub stats_asked : options.stats ≡ is_among (codes "--stats") words
   stats_asked = ap (λ (o : Options). o.stats) line.is ∙ given_some key.Stats line.given
       ∙ flag_given key.Stats no_stats not_stats keys line.given numbers_here [] words line.gives
 
@@ -88,7 +88,7 @@ module _ (memory stats : Bool) (image : Image) (world : World) where
       → ImageTold memory stats image world Fault (faulted_text m (called image.arrays a) names ws cs)
   stopped_as m a b ws vs cs ds e f g h t = rw (e, f, g, h) t
 
-  told_by_stream : (options : Options) → options.memory ≡ memory → options.stats ≡ stats → (how : Finish)
+  pub told_by_stream : (options : Options) → options.memory ≡ memory → options.stats ≡ stats → (how : Finish)
       (d : Left) → RunSo image world options.budget (run_from how d)
       → ImageTold memory stats image world (as_status (status_of how)) (run_text options image.arrays d how)
   told_by_stream options p q finish.Rest d r =
@@ -111,13 +111,13 @@ module _ (memory stats : Bool) (image : Image) (world : World) where
       (ap (shown_cells image.arrays) t.left.arrays) (stopped t.time t.fault)
 
 -- what went out where nothing was held before
-wrote_is : (held holds : Option (List ℕ)) (bytes out : List ℕ) → held ≡ Some [] → holds ≡ Some out
+pub wrote_is : (held holds : Option (List ℕ)) (bytes out : List ℕ) → held ≡ Some [] → holds ≡ Some out
     → Adds held bytes holds → bytes ≡ out
 wrote_is held holds bytes out before after adds =
     let whole : holds ≡ Some bytes = subst (λ (h : Option (List ℕ)). Adds h bytes holds) before adds in cc
 
 -- the text that is told was read
-read_is : (left : Option (List ℕ)) (after : Option (List ℕ)) (text whole : List ℕ) → left ≡ Some text
+pub read_is : (left : Option (List ℕ)) (after : Option (List ℕ)) (text whole : List ℕ) → left ≡ Some text
     → TakesAll left whole after → whole ≡ text
 read_is left after text whole given takes =
     let both : (text ≡ whole) × (after ≡ Some []) =

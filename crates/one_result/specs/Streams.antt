@@ -7,6 +7,7 @@
 use Rattle.std.specs.Prelude.{◌≡◌, ◌⊎◌, ℕ, suc, ◌*◌, ◌≤◌, Bool, true, false, List, [], ◌++◌, codes, length}
 use Rattle.std.specs.Prelude.{Some}
 use Rattle.ws_words.specs.Outside.{Outside}
+use Rattle.ws_io.specs.Streams.{Rose}
 use Rattle.src_ast.specs.Bound.{bound}
 use Rattle.src_ast.specs.Runs.{Runs}
 use Rattle.src_ast.specs.Syntax.{Part}
@@ -102,6 +103,20 @@ abbrev pub OneStreamFront : Type 0
 OneStreamFront = (memory flag : Bool) (text : List ℕ) (status : Status) (out whole : List ℕ)
     → StreamHasRun memory false text by_wsc.Budget out → AssemblyHasRun flag text status whole
     → IsResult status → IsFront out whole
+
+-- one text begins another
+abbrev pub Begins : List ℕ → List ℕ → Type 0
+Begins out whole = (rest : List ℕ) × (whole ≡ out ++ rest)
+
+-- If a write of it failed, and its read didn't, what went out begins the result, or what it would have
+-- written at an exhausted budget, which is a prefix of the result, and a line.
+abbrev pub OneStreamBrokenOff : Type 0
+OneStreamBrokenOff = (words : List (List ℕ)) (options : Options) (text : List ℕ) (status : Status)
+    (out whole : List ℕ)
+    → (call : StreamCalled words text by_wsc.WriteFault out) → ¬ Rose call.reads.faults call.reads.counted
+    → AsksForRun words options → options.stats ≡ false → AssemblyHasRun options.memory text status whole
+    → IsResult status
+    → (said : List ℕ) × ((said ≡ whole) ⊎ IsFront said whole) × Begins out said
 
 -- An assembly whose walk meets no index fault completes by `wss` where the budget is at least what
 -- the walk costs.
