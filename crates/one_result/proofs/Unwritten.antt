@@ -21,7 +21,7 @@ use Rattle.wsc_top.specs.Answers as answers
 use Rattle.wsc_top.specs.Answers.{Answers}
 use Rattle.wsc_top.specs.Threads as threads
 use Rattle.wsc_top.specs.Threads.{Replies}
-use Rattle.wsc_top.proofs.Reading.AssembliesOnce.{WalksOnce}
+use Rattle.wsc_top.proofs.Reading.AssembliesOnce.{ReadsFormed, WalksOnce}
 use Rattle.asm_text.specs.Reading.{read}
 use Rattle.asm_read.specs.Assembly.{IsAssembly, assembly_limit}
 use Rattle.asm_read.specs.Reads.{SourceCall, world_of}
@@ -38,7 +38,7 @@ use Rattle.stream_top.specs.Calls as calls
 use Rattle.stream_top.specs.Calls.{CallEnds, IsRefused, status_of}
 use Rattle.stream_top.proofs.Caused.{NeverBoth, only_unread}
 use Rattle.one_result.specs.OneResult.{HasFlags, AssemblyHasRun, IsResult, IsFront, assembly_commands}
-use Rattle.one_result.specs.Streams.{as_status, StreamCalled, Begins, OneStreamBrokenOff}
+use Rattle.one_result.specs.Streams.{as_status, StreamCalled, BeginsText, OneStreamBrokenOff}
 use Rattle.one_result.proofs.Words.{asked}
 use Rattle.one_result.proofs.Written.{RunsImage, is_told, told_reply, image_kind}
 use Rattle.one_result.proofs.Jobs.{told_result}
@@ -84,7 +84,7 @@ run_short memory text s out h e =
     )) text r.after r.faults r.counted h.ports s out h.image r.threads h.back e r.reply
 
 -- the first bytes of a text begin what it begins
-cut_begins : (n : ℕ) (text whole : List ℕ) → Begins text whole → Begins (take n text) whole
+cut_begins : (n : ℕ) (text whole : List ℕ) → BeginsText text whole → BeginsText (take n text) whole
 cut_begins n text whole b = (
   drop n text ++ b.0,
   b.1 ∙ ap (λ (l : List ℕ). l ++ b.0) (sym (take-append-drop n text))
@@ -93,7 +93,7 @@ cut_begins n text whole b = (
 
 -- what was written so far, where this is the result
 abbrev BrokenOff : List ℕ → List ℕ → Type 0
-BrokenOff whole out = (said : List ℕ) × ((said ≡ whole) ⊎ IsFront said whole) × Begins out said
+BrokenOff whole out = (said : List ℕ) × ((said ≡ whole) ⊎ IsFront said whole) × BeginsText out said
 
 module _ (known : WalksOnce) (grow : ActsGrow) (prints : PrintsFrontOfWalk) (memory : Bool) (image : Image)
     (world : World) (status : Status) (whole : List ℕ) (result : IsResult status)
@@ -120,7 +120,7 @@ module _ (known : WalksOnce) (grow : ActsGrow) (prints : PrintsFrontOfWalk) (mem
       front.2 in (
         whole,
         inl refl,
-        subst (λ (o : List ℕ). Begins o whole) is
+        subst (λ (o : List ℕ). BeginsText o whole) is
             (cut_begins front.0 (lines_of broken.words) whole first),
       )
   part_begins formed sound options p q writes out before after (inr some) =
@@ -130,7 +130,7 @@ module _ (known : WalksOnce) (grow : ActsGrow) (prints : PrintsFrontOfWalk) (mem
         text,
         said_is some.how text
             (told_by_stream memory false image world options p q some.how some.left some.leaves.so),
-        subst (λ (o : List ℕ). Begins o text) is
+        subst (λ (o : List ℕ). BeginsText o text) is
             (cut_begins some.front.count text text ([], sym (append-nil text))),
       )
 
@@ -145,10 +145,6 @@ refusal_written : (reads : SourceCall) (own : StreamStatus) (text : List ℕ) �
 refusal_written reads own text (calls.IsRefused.failed u) e = cc
 refusal_written reads own text (calls.IsRefused.long u) e = cc
 refusal_written reads own text (calls.IsRefused.faulty why u) e = cc
-
--- that images that are read are formed
-abbrev ReadsFormed : Type 0
-ReadsFormed = (text : List ℕ) (image : Image) → read text ≡ Ok image → Formed image
 
 module _ (known : WalksOnce) (grow : ActsGrow) (prints : PrintsFrontOfWalk) (formed : ReadsFormed)
     (never : NeverBoth) (words : List (List ℕ)) (options : Options) (line : AsksForRun words options)

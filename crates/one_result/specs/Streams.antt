@@ -105,8 +105,8 @@ OneStreamFront = (memory flag : Bool) (text : List ℕ) (status : Status) (out w
     → IsResult status → IsFront out whole
 
 -- one text begins another
-abbrev pub Begins : List ℕ → List ℕ → Type 0
-Begins out whole = (rest : List ℕ) × (whole ≡ out ++ rest)
+abbrev pub BeginsText : List ℕ → List ℕ → Type 0
+BeginsText out whole = (rest : List ℕ) × (whole ≡ out ++ rest)
 
 -- If a write of it failed, and its read didn't, what went out begins the result, or what it would have
 -- written at an exhausted budget, which is a prefix of the result, and a line.
@@ -116,7 +116,7 @@ OneStreamBrokenOff = (words : List (List ℕ)) (options : Options) (text : List 
     → (call : StreamCalled words text by_wsc.WriteFault out) → ¬ Rose call.reads.faults call.reads.counted
     → AsksForRun words options → options.stats ≡ false → AssemblyHasRun options.memory text status whole
     → IsResult status
-    → (said : List ℕ) × ((said ≡ whole) ⊎ IsFront said whole) × Begins out said
+    → (said : List ℕ) × ((said ≡ whole) ⊎ IsFront said whole) × BeginsText out said
 
 -- An assembly whose walk meets no index fault completes by `wss` where the budget is at least what
 -- the walk costs.
