@@ -6,11 +6,11 @@
 WSC and WSS are the two programs.  A FILE is an assembly (.asm), or a job, which is
 compiled; of a text that is refused the two answers are compared as well.  --gen N adds
 the generated jobs 0 to N - 1.  Each text is run with several budgets, with and without
---memory and --stats.  If `exec` completes, meets an index fault or refuses the text, the
-two must give the same bytes and the same exit status.  If its budget is exhausted, that of
-`wss` is too, or it has met the index fault of the whole run, and its words are a prefix of
-the words of the whole run.  Prints a line for each difference, then the counts; the exit
-status is 1 if there is a difference.
+--memory and --stats.  Where `exec` comes to an end, an index fault or a refusal, the two
+have to give the same bytes and the same status.  Where its budget is spent, so has `wss`
+or it has met the index fault that the whole run meets, and its words are a front of the
+words of the whole run.  Prints a line for each difference, then the counts; the status is
+1 where there is a difference.
 """
 
 import argparse
@@ -43,7 +43,7 @@ def assembly_of(wsc: str, job: bytes) -> bytes:
 
 
 def words_of(out: bytes) -> list[bytes]:
-    """The lines before the one that says how a run ended."""
+    """The lines in front of the one that tells how a run ended."""
     words = []
     for line in out.split(b'\n'):
         if not line.isdigit():
@@ -70,7 +70,7 @@ def agree(ours: Answer, theirs: Answer, whole: Answer) -> bool:
 
 
 def budgets_of(firings: int) -> list[int]:
-    """Budgets around the ends of a run of so many firings, and between them."""
+    """Budgets around the ends of a run of so many firings, and on its way."""
     some = {0, 1, 2, 7, firings // 3, firings // 2, firings - 1, firings, firings + 1, MOST}
     return sorted(n for n in some if 0 <= n <= MOST)
 
