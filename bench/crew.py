@@ -283,7 +283,7 @@ def within(call: Call, image: str) -> float:
 
 
 def to_end(call: Call, images: Sequence[str]) -> float:
-    """Instructions a firing between two runs that come to their ends."""
+    """Instructions a firing between two runs that complete."""
     few, many = ((call.run(it, MOST).firings, instructions(call, it, MOST)) for it in images)
     return (many[1] - few[1]) / (many[0] - few[0])
 

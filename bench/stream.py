@@ -66,7 +66,7 @@ def long_runs(program: str, stream: Call, most: int) -> None:
 
 def measured(stream: Call, image: str, budget: int) -> tuple[float, int]:
     """The seconds of processor time and the most kilobytes of a run, whose words aren't kept. What the system
-    tells of a process counts what it was before it became this program, so that is looked up while it runs."""
+    reports of a process counts what it was before it became this program, so that is looked up while it runs."""
     with tempfile.TemporaryFile("w+") as given:
         given.write(image)
         given.seek(0)
