@@ -1,8 +1,9 @@
 """Serve a page for a class, on this computer only: edit a job, see what the program answers, and step through two orders
 of its events side by side.
 
-JOB is the text that the page begins with. The server prints an address with a token, and answers no request without that
-token. Each text is processed by other processes, which have a time limit and write no file. Ctrl-C ends the server.
+JOB is the text that the page begins with. Each text is given to `explain_json.py`, `layout_json.py` and `runs_json.py`, in
+processes that may run for some seconds and write no file. The address that is printed has a token, without which nothing is
+answered. Ctrl-C ends it.
 """
 
 import functools
