@@ -30,11 +30,11 @@ use Rattle.cfg_inline.specs.Inlined.{inlined_if, inlined}
 use Rattle.cfg_inline.specs.Charged.{straight_row, callee_weight, if_inlined}
 use Rattle.ws_words.specs.Items.{flag_at}
 use Rattle.cfg_inline.proofs.Embedded.{wider, all_wider, ops_wider, Counts, ops_count}
-use Rattle.cfg_core.proofs.Homes.{entry_there, params_at}
+use Rattle.cfg_core.proofs.Homes.{result_count, entry_there, params_at}
 use Rattle.cfg_inline.proofs.Placing.{block_is, entry_is, proc_is}
 use Rattle.cfg_inline.proofs.Straightened.{straight_in, IsDone, straight_run}
 use Rattle.cfg_inline.proofs.Calling.{inside as at_entry, back, Finished, site_run}
-use Rattle.cfg_inline.proofs.Standing.{Stack, Along, goes_to, result_count, zeros_both}
+use Rattle.cfg_inline.proofs.Standing.{Stack, Along, goes_to, zeros_both}
 use Rattle.cfg_inline.proofs.Standing.{same_exit}
 
 -- what is known of a call that is inlined

@@ -1,7 +1,7 @@
 pub mod Samples
 pub mod Embedded
 pub mod Placing
-pub pub mod Straightened
+pub mod Straightened
 pub mod Calling
 pub mod Standing
 pub mod Alongside
