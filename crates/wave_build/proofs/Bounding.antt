@@ -15,7 +15,7 @@ use Rattle.live_vars.specs.Marks.{has}
 use Rattle.wave_cut.specs.Cut.{Cut}
 use Rattle.wave_gen.specs.Cost.{quarters, CostsAtMost}
 use Rattle.wave_link.specs.Passed.{WalksFor}
-use Rattle.wave_build.specs.Passed.{PassGraphs}
+use Rattle.wave_build.specs.Passed.{Costed, LastGraphs}
 use Rattle.wave_build.specs.Bounds.{StaysWithin}
 use Rattle.wave_build.proofs.Costing.{last_weighs}
 
@@ -35,14 +35,15 @@ in_all e v n h =
     grind arith in
     omega (arith, m, s)
 
-module _ (parts : List Part) (l j k s : Graph) (needed live : List (List ℕ)) (cut : Cut)
-    (narrow : widest parts ≤ most_statement_nodes) (P : PassGraphs parts l j k s needed live cut) where
+module _ (parts : List Part) (j k s : Graph) (needed live : List (List ℕ)) (cut : Cut)
+    (narrow : widest parts ≤ most_statement_nodes) (C : Costed parts j)
+    (P : LastGraphs j k s needed live cut) where
   pub stays_within : (draft image : Image) (world : World) (turns : ℕ) → CostsAtMost s (has live) draft world
       turns → WalksFor draft image world → StaysWithin parts s image world turns
   stays_within draft image world turns costs walks o ends =
       let c = costs ends.0 o 0 ends.1 in
       let way = path s ends.0 (opening s world turns) in
-      let w = last_weighs parts l j k s needed live cut P world turns ends.0 in
+      let w = last_weighs parts j k s needed live cut C P world turns ends.0 in
       let f = sum_more (quarters s (has live)) way in
       let b = in_all (widest parts) (most_variables parts) turns (omega (arith, narrow)) in
       walks.costs (bound parts * suc turns)

@@ -1,4 +1,5 @@
--- What stands in the last graph for a block of the joined one weighs no more than it is charged.
+-- What stands in the last graph for a block of the graph before unreached ones are dropped weighs no more
+-- than that is charged.
 use Rattle.std.proofs.Common.{ℕ, zero, suc, ◌+◌, ◌-◌, ◌*◌, ◌||◌, ◌≡◌, ◌<◌, ◌≤◌, Bool, true, false}
 use Rattle.std.proofs.Common.{if◌then◌else◌, List, [], ◌∷◌, ◌++◌, length, refl, sym, ap, ◌∙◌, subst, inl, inr}
 use Rattle.std.proofs.Common.{arith}
@@ -7,7 +8,7 @@ use Rattle.std.proofs.lemmas.Bool.{cases_lt}
 use Rattle.std.proofs.lemmas.List.{length_push}
 use Rattle.std.proofs.lemmas.List.Sums.{sum_by-cons, sum_by-append}
 use Rattle.src_ast.specs.Syntax.{Part}
-use Rattle.src_ast.specs.Bound.{most_variables}
+use Rattle.src_ast.specs.Bound.{widest, most_variables}
 use Rattle.cfg_core.specs.Graph.{Term, Number, Var, Op, Exit, Goto, Branch, Call, Return, Send, Stop, Graph}
 use Rattle.cfg_core.specs.Graph.{Spot, spots, spot_at, no_spot, block_at, proc_at, entry_of}
 use Rattle.cfg_core.specs.Rules.{ExitIn, Leads, calls}
@@ -23,10 +24,10 @@ use Rattle.call_gen.proofs.Spelled.Facts.{Placed}
 use Rattle.call_gen.proofs.Spelled.Places.{all_placed}
 use Rattle.call_gen.proofs.Parted.PartRules.{none_past}
 use Rattle.wave_gen.specs.Cost.{term_quarters, op_quarters, live_in, exit_quarters, quarters}
-use Rattle.wave_build.specs.Passed.{PassGraphs}
+use Rattle.wave_build.specs.Charges.{exit_charge, charge, base, pay}
+use Rattle.wave_build.specs.Passed.{CallsFew, Costed, LastGraphs}
 use Rattle.wave_build.proofs.Weights.{number_few, saves_weigh, loads_weigh, clears_weigh}
 use Rattle.wave_build.proofs.Counting.{few_in, some_and, some_count, in_some}
-use Rattle.wave_build.proofs.Paying.{exit_charge, charge, pay, vars_few, joined_calls_few, joined_weighs}
 use Rattle.ws_words.proofs.Bools.{or_comes as either_true}
 use Rattle.ws_words.specs.Items.{In}
 use Rattle.cfg_core.proofs.Spots.{numbers_at}
@@ -58,8 +59,12 @@ gone : (g : Graph) (c : ℕ) → length (spots g) ≤ c → (spot_at g c).vars �
 unfolding no_spot
 gone g c ge = ap (λ (s : Spot). s.vars) (none_past g c ge)
 
-module _ (parts : List Part) (l j k s : Graph) (needed live : List (List ℕ)) (cut : Cut)
-    (P : PassGraphs parts l j k s needed live cut) where
+-- a block of the last graph with one instruction more
+abbrev pub weight : Graph → List (List ℕ) → ℕ → ℕ
+weight s live c = quarters s (has live) c + 4
+
+module _ (parts : List Part) (j k s : Graph) (needed live : List (List ℕ)) (cut : Cut)
+    (C : Costed parts j) (P : LastGraphs j k s needed live cut) where
   abbrev V : ℕ
   V = most_variables parts
 
@@ -69,9 +74,8 @@ module _ (parts : List Part) (l j k s : Graph) (needed live : List (List ℕ)) (
   abbrev at : ℕ → ℕ
   at = P.keeping.places.place
 
-  -- a block of the last graph with one instruction more
-  abbrev pub weight : ℕ → ℕ
-  weight c = quarters s (has live) c + 4
+  abbrev weigh : ℕ → ℕ
+  weigh = weight s live
 
   live_few : (c : ℕ) (ys : List ℕ) → ((x : ℕ) → Live s c x → In x ys)
       → live_in (has live c) (spot_at s c).vars ≤ length ys
@@ -102,10 +106,7 @@ module _ (parts : List Part) (l j k s : Graph) (needed live : List (List ℕ)) (
 
   -- what is live at a reached block is a variable of the program
   kept_low : (b : ℕ) → b < length (spots j) → Reached j b → (x : ℕ) → Live k (at b) x → x < V
-  kept_low b lt r x h =
-      let i = P.joining.copies b x (subst (λ n. b < n) P.joining.sizes.count lt)
-      ((P.keeping.places.same b lt r).held x h) in
-      let v = vars_few parts l j k s needed live cut P b in omega (arith, i, v)
+  kept_low b lt r x h = C.low b x lt ((P.keeping.places.same b lt r).held x h)
 
   sets_low : (b : ℕ) → b < length (spots j) → Reached j b → (n : ℕ) → n ≤ (spot_at k (at b)).vars
       → LiveBelow needed (at b) n V
@@ -125,7 +126,7 @@ module _ (parts : List Part) (l j k s : Graph) (needed live : List (List ℕ)) (
   K = all_placed k [] P.keeping.rules
 
   J : Placed j []
-  J = all_placed j [] P.joining.rules
+  J = all_placed j [] C.rules
 
   -- an entry that is the place of a reached block
   entry_low : (f : ℕ) → f < length k.procs → (b : ℕ) → b < length (spots j) → Reached j b
@@ -141,7 +142,7 @@ module _ (parts : List Part) (l j k s : Graph) (needed live : List (List ℕ)) (
   -- a block that names, does operations of one weight and goes on
   pub goes_weigh : (c d n : ℕ) → (block_at s c).exit ≡ Goto d
       → ((x : ℕ) → Live s c x → In x (block_at s c).named) → sum_by op_quarters (block_at s c).ops ≤ n
-      → weight c ≤ n + 11 * length (block_at s c).named + 20
+      → weigh c ≤ n + 11 * length (block_at s c).named + 20
   goes_weigh c d n e held ops =
       let h = live_few c (block_at s c).named held in
       let x : exit_quarters (has live) (spot_at s c).vars (block_at s c).exit ≡ 0 =
@@ -165,7 +166,7 @@ module _ (parts : List Part) (l j k s : Graph) (needed live : List (List ℕ)) (
     own = sum_by op_quarters (block_at j b).ops
 
     whole : (m n : ℕ) → exit_quarters (has live) (spot_at s q).vars (block_at s q).exit ≤ m
-        → length st.saves ≤ n → weight q ≤ own + (11 * n + (m + (11 * V + 31)))
+        → length st.saves ≤ n → weigh q ≤ own + (11 * n + (m + (11 * V + 31)))
     whole m n exit few =
         let a = saves_weigh st.saves st.are_saves in
         let e : sum_by op_quarters (block_at s q).ops ≡ own + sum_by op_quarters st.saves =
@@ -177,7 +178,7 @@ module _ (parts : List Part) (l j k s : Graph) (needed live : List (List ℕ)) (
 
     exit_j : (y : Exit) → (block_at j b).exit ≡ y → ExitIn j (spot_at j b).home (spot_at j b).vars y
     exit_j y e = subst (λ (x : Exit). ExitIn j (spot_at j b).home (spot_at j b).vars x) e
-        (numbers_at j P.joining.rules b).exit
+        (numbers_at j C.rules b).exit
 
     exit_k : (z : Exit) → (block_at k c).exit ≡ z → ExitIn k (spot_at k c).home (spot_at k c).vars z
     exit_k z e = subst (λ (x : Exit). ExitIn k (spot_at k c).home (spot_at k c).vars x) e
@@ -197,18 +198,18 @@ module _ (parts : List Part) (l j k s : Graph) (needed live : List (List ℕ)) (
 
     -- an exit that saves nothing, and that goes on or stops
     simple : (z u : Exit) → (block_at k c).exit ≡ z → (block_at s q).exit ≡ u
-        → most_saved needed (spot_at k c).vars z ≤ 0 → beside weight pl c z ≤ 0 → (m : ℕ)
-        → exit_quarters (has live) (spot_at s q).vars u ≤ m → weight q + beside weight pl c
+        → most_saved needed (spot_at k c).vars z ≤ 0 → beside weigh pl c z ≤ 0 → (m : ℕ)
+        → exit_quarters (has live) (spot_at s q).vars u ≤ m → weigh q + beside weigh pl c
         (block_at k c).exit ≤ own + (m + (11 * V + 31))
     simple z u ez eu none alone m le =
         let n : length st.saves ≤ 0 = (let a = n_of z ez in omega (arith, a, none)) in
         let w = whole m 0 (subst (λ (x : Exit). exit_quarters (has live) (spot_at s q).vars x ≤ m) (sym eu)
         le) n in
-        let z : beside weight pl c (block_at k c).exit ≡ beside weight pl c z = ap (beside weight pl c) ez in
+        let z : beside weigh pl c (block_at k c).exit ≡ beside weigh pl c z = ap (beside weigh pl c) ez in
         omega (arith, w, z, alone)
 
     by_branch : (t : Term) (a d : ℕ) → (block_at j b).exit ≡ Branch t a d
-        → weight q + beside weight pl c (block_at k c).exit ≤ own + exit_charge V (Branch t a d)
+        → weigh q + beside weigh pl c (block_at k c).exit ≤ own + exit_charge V (Branch t a d)
     by_branch t a d e =
         let z = z_of (Branch t a d) e in
         let u = u_of (Branch t (at a) (at d)) z in
@@ -228,7 +229,7 @@ module _ (parts : List Part) (l j k s : Graph) (needed live : List (List ℕ)) (
         (omega arith) (omega arith) (term_quarters t + (7 * V + 21)) (omega (arith, f, n)) in
         omega (arith, w)
 
-    by_return : (t : Term) → (block_at j b).exit ≡ Return t → weight q + beside weight pl c
+    by_return : (t : Term) → (block_at j b).exit ≡ Return t → weigh q + beside weigh pl c
         (block_at k c).exit ≤ own + exit_charge V (Return t)
     by_return t e =
         let z = z_of (Return t) e in
@@ -242,7 +243,7 @@ module _ (parts : List Part) (l j k s : Graph) (needed live : List (List ℕ)) (
         ]
 
     by_call : (x : Rattle.std.proofs.Common.Option ℕ) (f : ℕ) (ts : List Term) (back : ℕ)
-        → (block_at j b).exit ≡ Call x f ts back → weight q + beside weight pl c (block_at k c).exit
+        → (block_at j b).exit ≡ Call x f ts back → weigh q + beside weigh pl c (block_at k c).exit
         ≤ own + exit_charge V (Call x f ts back)
     by_call x f ts back e =
         let zz = z_of (Call x f ts back) e in
@@ -253,7 +254,7 @@ module _ (parts : List Part) (l j k s : Graph) (needed live : List (List ℕ)) (
         let i = exit_j (Call x f ts back) e in
         let ki = exit_k call z in
         let values : length ts ≤ V =
-        (joined_calls_few parts l j k s needed live cut P b (Call x f ts back) e).0 in
+        (subst (CallsFew V) e (C.calls b)).0 in
         let rb : Reached j back = follows (Call x f ts back) e back refl in
         let vb : (spot_at k (at back)).vars ≡ (spot_at k c).vars = same_vars k P.keeping.rules c (at back)
         same.there ki.4.0 ki.4.1 in
@@ -287,13 +288,13 @@ module _ (parts : List Part) (l j k s : Graph) (needed live : List (List ℕ)) (
         let pw = loads_weigh (block_at s (pl.point c)).ops point.ops in
         let p = goes_weigh (pl.point c) point.goes.0 (length (block_at s (pl.point c)).ops * 15) point.goes.1
         point.held pw in
-        let besides : beside weight pl c (block_at k c).exit ≡ weight (pl.door g) + weight (pl.point c) =
-        ap (beside weight pl c) z in
+        let besides : beside weigh pl c (block_at k c).exit ≡ weigh (pl.door g) + weigh (pl.point c) =
+        ap (beside weigh pl c) z in
         let named = door.named in
         let one_name = point.named in
         omega (arith, w, d, p, besides, few, loads, cleared, named, one_name, ki.2, values)
 
-    by_exit : (y : Exit) → (block_at j b).exit ≡ y → weight q + beside weight pl c (block_at k c).exit
+    by_exit : (y : Exit) → (block_at j b).exit ≡ y → weigh q + beside weigh pl c (block_at k c).exit
         ≤ own + exit_charge V y
     by_exit (Goto d) e = let z = z_of (Goto d) e in let w = simple (Goto (at d)) (Goto (pl.block (at d))) z
         (u_of (Goto (at d)) z) (omega arith) (omega arith) 0 (omega arith) in omega (arith, w)
@@ -305,15 +306,15 @@ module _ (parts : List Part) (l j k s : Graph) (needed live : List (List ℕ)) (
     by_exit Stop e = let z = z_of Stop e in let w = simple Stop Stop z (u_of Stop z) (omega arith)
         (omega arith) 5 (omega arith) in omega (arith, w)
 
-    pub fits : charged k pl weight c ≤ charge parts l j k s needed live cut P b
+    pub fits : charged k pl weigh c ≤ charge V j b
     fits = by_exit (block_at j b).exit refl
 
   -- the first block
-  opening_weighs : weight (first_block s) ≤ 6 * V + 20
+  opening_weighs : weigh (first_block s) ≤ 6 * V + 20
   opening_weighs =
       let main = length k.procs - 1 in
       let lk : main < length k.procs = omega (arith, P.keeping.rules.numbers.some_proc) in
-      let lj : length j.procs - 1 < length j.procs = omega (arith, P.joining.rules.numbers.some_proc) in
+      let lj : length j.procs - 1 < length j.procs = omega (arith, C.rules.numbers.some_proc) in
       let low = entry_low main lk (first_block j) (J.first (length j.procs - 1) lj).0 start
       P.keeping.places.begins in
       let few = P.spelling.charged.opens V low in
@@ -321,7 +322,7 @@ module _ (parts : List Part) (l j k s : Graph) (needed live : List (List ℕ)) (
       let door = P.spelling.charged.doors main lk in
       let d = goes_weigh (pl.door main) door.goes.0 (length (block_at s (pl.door main)).ops * 6) door.goes.1
       door.held (clears_weigh (block_at s (pl.door main)).ops door.ops) in
-      let same : weight (first_block s) ≡ weight (pl.door main) = ap weight is in
+      let same : weigh (first_block s) ≡ weigh (pl.door main) = ap weigh is in
       let named : length (block_at s (pl.door main)).named ≡ 0 = ap (λ n. length (block_at s n).named)
       (sym is) ∙ ap length P.spelling.start in
       let ops : length (block_at s (pl.door main)).ops ≡ length (block_at s (first_block s)).ops =
@@ -329,12 +330,11 @@ module _ (parts : List Part) (l j k s : Graph) (needed live : List (List ℕ)) (
       omega (arith, d, few, same, named, ops)
 
   -- walks of the last graph weigh no more than turns pay for
-  pub last_weighs : WalksWeigh s weight (17 * most_variables parts + 80) (pay parts l j k s needed live cut P)
+  pub last_weighs : WalksWeigh s (weight s live) (17 * most_variables parts + 80)
+      (pay (most_variables parts) (widest parts))
   last_weighs world turns m =
-      let kept = P.keeping.places.walks (charged k pl weight) (charge parts l j k s needed live cut P)
-      (11 * most_variables parts + 60) (pay parts l j k s needed live cut P) fits
-      (joined_weighs parts l j k s needed live cut P) in
-      let h = P.spelling.charged.walks weight (11 * most_variables parts + 60)
-      (pay parts l j k s needed live cut P) kept world turns m in
+      let most = pay V (widest parts) in
+      let kept = P.keeping.places.walks (charged k pl weigh) (charge V j) (base V) most fits C.paid in
+      let h = P.spelling.charged.walks weigh (base V) most kept world turns m in
       let o = opening_weighs in
       omega (arith, h, o)

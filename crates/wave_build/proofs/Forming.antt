@@ -3,17 +3,15 @@ use Rattle.std.proofs.Common.{ℕ, suc, ◌+◌, ◌/◌, ◌≡◌, ◌<◌, �
 use Rattle.std.proofs.Common.{[], ◌∷◌, length, map, refl, sym, ap, subst, arith}
 use Rattle.std.specs.List.{AllByRecursion}
 use Rattle.src_ast.specs.Syntax.{Part}
-use Rattle.src_ast.specs.Bound.{widest, most_variables}
-use Rattle.src_ast.specs.LanguageLimits.{most_locals, most_parameters, most_array_cells, most_statements}
-use Rattle.src_ast.specs.LanguageLimits.{most_statement_nodes}
+use Rattle.src_ast.specs.LanguageLimits.{most_parameters, most_array_cells, most_statements}
 use Rattle.src_ast.specs.Written.{IsWritten}
 use Rattle.cfg_core.specs.Graph.{Exit, GraphArray, Graph, Spot, spots, no_spot, spot_at, block_at}
 use Rattle.cfg_core.specs.Shown.{shown_arrays}
-use Rattle.ws_isa.specs.Image.{Array, Image, Pad, Block}
+use Rattle.cfg_core.specs.Weights.{first_block}
+use Rattle.ws_isa.specs.Image.{Array, Image, Pad, Block, flat}
 use Rattle.ws_isa.specs.Formed as formed
-use Rattle.ws_isa.specs.Formed.{most_blocks, most_waves, most_length, most_dests, most_pads, most_landings}
-use Rattle.ws_isa.specs.Formed.{total_length, ArraysFormed}
-use Rattle.wave_cut.specs.Cut.{Cut}
+use Rattle.ws_isa.specs.Formed.{most_instrs, most_blocks, most_waves, most_length, most_dests, most_pads}
+use Rattle.ws_isa.specs.Formed.{most_landings, total_length, ArraysFormed}
 use Rattle.call_gen.specs.Keeps.{SendsAtMost}
 use Rattle.call_gen.specs.Sizes.{cell_count, Sizes, LandingsAtMost, BlockWithin, KeepsSizes, larger}
 use Rattle.call_gen.specs.Sizes.{most_hidden_arrays, hidden_cells, spelled_sizes}
@@ -23,11 +21,8 @@ use Rattle.wave_gen.specs.Limits.{BringsAtMost, LandsAtMost, KeepsLimits}
 use Rattle.wave_gen.specs.Lists.{ListsFit}
 use Rattle.wave_gen.specs.Words.{GraphOfWords, array_of, arrays_of}
 use Rattle.wave_link.specs.Room.{LeavesRoom}
-use Rattle.wave_build.specs.Passed.{PassGraphs}
-use Rattle.wave_build.specs.Small.{lowered_sizes, joined_sizes}
-use Rattle.wave_build.proofs.Sizing.{last_within}
+use Rattle.wave_build.specs.Small.{sizes_with, most_vars}
 use Rattle.wave_build.proofs.Named.{names_formed}
-use Rattle.wave_build.proofs.Together.{room}
 use Rattle.ws_words.proofs.Lists.{length_map as map_count}
 use Rattle.cfg_core.proofs.Spots.{each_at}
 
@@ -63,14 +58,12 @@ larger_few m n k h i = by_test (nat_lt m n)
     by_test true = i
     by_test false = h
 
-module _ (parts : List Part) (l j k s : Graph) (needed live : List (List ℕ)) (cut : Cut)
-    (P : PassGraphs parts l j k s needed live cut) (written : IsWritten parts)
-    (narrow : widest parts ≤ most_statement_nodes) (locals : most_variables parts ≤ most_locals) where
+module _ (parts : List Part) (s : Graph) (live : List (List ℕ)) (written : IsWritten parts)
+    (vars ops nodes : ℕ) (few : vars ≤ most_vars)
+    (W : KeepsSizes (spelled_sizes (sizes_with vars ops nodes)) s)
+    (start : (block_at s (first_block s)).named ≡ []) where
   abbrev z : Sizes
-  z = spelled_sizes (joined_sizes (lowered_sizes parts))
-
-  W : KeepsSizes z s
-  W = last_within parts l j k s needed live cut P
+  z = spelled_sizes (sizes_with vars ops nodes)
 
   within_at : (b : ℕ) → BlockWithin z (block_at s b)
   unfolding spot_at no_spot
@@ -80,7 +73,7 @@ module _ (parts : List Part) (l j k s : Graph) (needed live : List (List ℕ)) (
   brings : BringsAtMost (suc most_parameters) s
   brings = record {
     sends = λ b t ts ls e. subst (λ (x : Exit). SendsAtMost z.values x) e (within_at b).values;
-    start = let n = ap length P.spelling.start in omega (arith, n);
+    start = let n = ap length start in omega (arith, n);
   }
 
   lands : LandsAtMost most_statements s
@@ -98,15 +91,16 @@ module _ (parts : List Part) (l j k s : Graph) (needed live : List (List ℕ)) (
         names = names_formed parts s.arrays written shown;
         lengths = lengths_of 65536 s.arrays (all_most GraphArray (λ a. a.length) z.length 65536
             (larger_few most_array_cells
-            (suc (hidden_cells (joined_sizes (lowered_sizes parts)) / most_hidden_arrays)) 65536 (omega arith)
-            (omega (arith, locals))) s.arrays W.lengths);
-        cells = omega (arith, cells, total, locals);
+            (suc (hidden_cells (sizes_with vars ops nodes) / most_hidden_arrays)) 65536 (omega arith)
+            (omega (arith, few))) s.arrays W.lengths);
+        cells = omega (arith, cells, total, few);
       }
 
   pub leaves_room : shown_arrays s.arrays ≡ program.arrays_of parts → GraphOfWords s → (draft : Image)
-      → KeepsLimits s (has live) draft → ListsFit draft → draft.arrays ≡ arrays_of s → LeavesRoom draft
+      → KeepsLimits s (has live) draft → ListsFit draft → draft.arrays ≡ arrays_of s
+      → length (flat draft.blocks) + length draft.blocks ≤ most_instrs → LeavesRoom draft
   unfolding most_blocks most_waves most_dests most_pads most_landings
-  leaves_room shown words draft keeps lists same =
+  leaves_room shown words draft keeps lists same room =
       let blocks = W.count_blocks in
       let few_blocks = keeps.blocks in
       record {
@@ -123,7 +117,7 @@ module _ (parts : List Part) (l j k s : Graph) (needed live : List (List ℕ)) (
           rise = keeps.rise;
           landings = λ b i ls there e. keeps.landings most_statements lands b i ls there e;
         };
-        instrs = room parts l j k s needed live cut P narrow locals draft keeps;
+        instrs = room;
         dests = λ b i there inside. let h = lists.dests b i there inside in omega (arith, h);
         others = λ b i there inside. let h = lists.others b i there inside in omega (arith, h);
       }

@@ -12,5 +12,9 @@ pub mod Costing
 pub mod Bounding
 pub mod Sums
 pub mod Together
+pub mod Inlining
+pub mod Widening
+pub mod Opening
+pub mod Simplified
 pub mod Named
 pub mod Forming

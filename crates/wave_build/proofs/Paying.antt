@@ -1,5 +1,5 @@
 -- What turns pay for on the way to the last graph.
-use Rattle.std.proofs.Common.{ℕ, zero, suc, ◌+◌, ◌*◌, ◌≡◌, ◌≤◌, max, List, [], ◌∷◌, ◌++◌, length, refl, sym}
+use Rattle.std.proofs.Common.{ℕ, zero, suc, ◌+◌, ◌*◌, ◌≡◌, ◌<◌, ◌≤◌, max, List, [], ◌∷◌, ◌++◌, refl, sym}
 use Rattle.std.proofs.Common.{ap, ◌∙◌, subst, inl, inr, arith}
 use Rattle.std.specs.List.{AllByRecursion, sum_by}
 use Rattle.std.proofs.lemmas.Bool.{cases_lt}
@@ -18,20 +18,12 @@ use Rattle.cfg_core.proofs.Weighing.{walk_paid}
 use Rattle.phi_conv.specs.Joined.{joining}
 use Rattle.phi_conv.specs.Keeps.{JoinedAt}
 use Rattle.wave_gen.specs.Cost.{term_quarters, op_quarters}
-use Rattle.wave_build.specs.Passed.{PassGraphs}
-use Rattle.wave_cut.specs.Cut.{Cut}
+use Rattle.wave_build.specs.Charges.{exit_charge, charge, base, pay}
+use Rattle.wave_build.specs.Passed.{Lowered, Joined, CallsFew, Costed}
 use Rattle.wave_build.proofs.Weights.{term_paid, terms_paid, ops_paid, no_acts, joining_weight}
 use Rattle.ws_words.proofs.Lists.{all_append as all_both}
 use Rattle.ws_words.specs.Items.{nth, or_else}
 use Rattle.cfg_core.proofs.Spots.{each_at, numbers_at}
-
--- what is charged for an exit and the block that it ends, in procedures of so many variables
-abbrev pub exit_charge : ℕ → Exit → ℕ
-exit_charge v (Goto b) = 11 * v + 31
-exit_charge v (Branch t a b) = term_quarters t + (18 * v + 52)
-exit_charge v (Call x f ts back) = sum_by term_quarters ts + (17 * length ts + (43 * v + 149))
-exit_charge v (Return t) = term_quarters t + (11 * v + 55)
-exit_charge v _ = 11 * v + 36
 
 -- a bound on turns, scaled
 scaled : (k n p t : ℕ) → 1 + n ≤ p + 2 * t → k + k * n ≤ k * p + 2 * (k * t)
@@ -84,8 +76,7 @@ params_few V [] f n h = omega arith
 params_few V (p ∷ ps) zero n h = omega (arith, n.0.params, h.0)
 params_few V (p ∷ ps) (suc f) n h = params_few V ps f n.1 h.1
 
-module _ (parts : List Part) (l j k s : Graph) (needed live : List (List ℕ)) (cut : Cut)
-    (P : PassGraphs parts l j k s needed live cut) where
+module _ (parts : List Part) (l j : Graph) (L : Lowered parts l) (J : Joined l j) where
   abbrev V : ℕ
   V = most_variables parts
 
@@ -93,32 +84,29 @@ module _ (parts : List Part) (l j k s : Graph) (needed live : List (List ℕ)) (
   E = widest parts
 
   -- procedures of the lowered graph have few variables
-  pub vars_few : (b : ℕ) → (spot_at l b).vars ≤ V
+  vars_few : (b : ℕ) → (spot_at l b).vars ≤ V
   unfolding spot_at no_spot
   vars_few b = each_at (λ (s : Spot). s.vars ≤ V) (spots l) no_spot
-      (in_procs V 0 l.procs P.lowering.small.vars) (omega arith) b
+      (in_procs V 0 l.procs L.small.vars) (omega arith) b
 
   values_few : (f : ℕ) → (proc_at l f).params ≤ V
   unfolding proc_at
-  values_few f = params_few V l.procs f P.lowering.rules.numbers.procs P.lowering.small.vars
+  values_few f = params_few V l.procs f L.rules.numbers.procs L.small.vars
 
   few_params : (f : ℕ) → (proc_at l f).params ≤ most_parameters
   unfolding proc_at
-  few_params f = params_at_most most_parameters l.procs f P.lowering.small.params
+  few_params f = params_at_most most_parameters l.procs f L.small.params
 
   -- what a block is charged
-  abbrev pub charge : ℕ → ℕ
-  charge b = sum_by op_quarters (block_at j b).ops + exit_charge (most_variables parts) (block_at j b).exit
+  abbrev given : ℕ → ℕ
+  given = charge V j
 
   -- what a block costs, and what a turn pays
-  abbrev pub each : ℕ
+  abbrev each : ℕ
   each = 11 * most_variables parts + 31
 
-  abbrev pub pay : ℕ
-  pay = 2 * (11 * most_variables parts + 31) + (42 * most_variables parts + 180 + 9 * widest parts)
-
   two : TwoBlocksATurn j
-  two = P.joining.turns P.lowering.turns
+  two = J.turns L.turns
 
   abbrev p : ℕ → ℕ
   p = two.potential
@@ -126,7 +114,7 @@ module _ (parts : List Part) (l j k s : Graph) (needed live : List (List ℕ)) (
   abbrev potential : ℕ → ℕ
   potential b = each * p b + 29
 
-  abbrev pub beyond : ℕ
+  abbrev beyond : ℕ
   beyond = 42 * most_variables parts + 180 + 9 * widest parts
 
   of_branch : (a c : ℕ) → max (potential a) (potential c) ≤ each * max (p a) (p c) + 29
@@ -165,16 +153,12 @@ module _ (parts : List Part) (l j k s : Graph) (needed live : List (List ℕ)) (
   handed_few (Send t ts ls) = highest_few ls
   handed_few Stop = omega arith
 
-  abbrev pub CallsFew : Exit → Type 0
-  CallsFew (Call x f ts back) = (length ts ≤ most_variables parts) × (length ts ≤ most_parameters)
-  CallsFew _ = Unit {0}
-
   module _ (t : ℕ) (ops : List Op) where
     abbrev q : ℕ
     q = sum_by op_quarters ops
 
     -- what a block weighs beyond what its potential gives, by its turns
-    plain_few : (y : Exit) → CallsFew y → sum_by acts_of ops + jumps_of y ≤ t
+    plain_few : (y : Exit) → CallsFew V y → sum_by acts_of ops + jumps_of y ≤ t
         → sum_by op_nodes ops + exit_nodes y ≤ E * t + 1 → q + exit_charge V y + extra y ≤ each + 29 + beyond
         * t
     plain_few (Goto c) few acts nodes = let o = ops_paid ops in let e = spread V E t in elim (cases_lt 0 t) [
@@ -212,29 +196,29 @@ module _ (parts : List Part) (l j k s : Graph) (needed live : List (List ℕ)) (
         let m : E * n ≤ E * t = mul-le-mul_left E le in
         omega (arith, o, e, h, a, m, le, acts, nodes, weigh)
 
-  calls_few : (b : ℕ) (y : Exit) → (block_at l b).exit ≡ y → CallsFew y
+  calls_few : (b : ℕ) (y : Exit) → (block_at l b).exit ≡ y → CallsFew V y
   calls_few b (Goto c) e = tt
   calls_few b (Branch t a c) e = tt
   calls_few b (Call x f ts back) e =
       let i = subst (λ (x : Exit). ExitIn l (spot_at l b).home (spot_at l b).vars x) e
-      (numbers_at l P.lowering.rules b).exit in
+      (numbers_at l L.rules b).exit in
       let v = values_few f in let w = few_params f in (omega (arith, i.2, v), omega (arith, i.2, w))
   calls_few b (Return t) e = tt
   calls_few b (Send t ts ls) e = tt
   calls_few b Stop e = tt
 
   -- a call of the joined graph has no more values than a procedure has variables
-  pub joined_calls_few : (b : ℕ) (y : Exit) → (block_at j b).exit ≡ y → CallsFew y
-  joined_calls_few b y e = elim (P.joining.short.others b) [
+  joined_calls_few : (b : ℕ) (y : Exit) → (block_at j b).exit ≡ y → CallsFew V y
+  joined_calls_few b y e = elim (J.short.others b) [
     | inl same ↦ calls_few b y (ap (λ (x : Block). x.exit) (sym same) ∙ e)
-    | inr new ↦ subst CallsFew (sym new.goes ∙ e) tt
+    | inr new ↦ subst (CallsFew V) (sym new.goes ∙ e) tt
   ]
 
   -- turns pay for what a block is charged, also where they are but those of the lowered block
-  paid_by : (b t : ℕ) → turns_at l b ≤ t → charge b + extra (block_at j b).exit ≤ each + 29 + beyond * t
-  paid_by b t le = elim (P.joining.short.others b) [
+  paid_by : (b t : ℕ) → turns_at l b ≤ t → given b + extra (block_at j b).exit ≤ each + 29 + beyond * t
+  paid_by b t le = elim (J.short.others b) [
     | inl same ↦
-        let a = P.lowering.work.acts b in let n = P.lowering.work.nodes b in
+        let a = L.work.acts b in let n = L.work.nodes b in
         let m : E * turns_at l b ≤ E * t = mul-le-mul_left E le in
         subst (λ (x : Block). sum_by op_quarters x.ops + exit_charge V x.exit + extra x.exit ≤ each + 29
         + beyond * t) (sym same)
@@ -243,12 +227,12 @@ module _ (parts : List Part) (l j k s : Graph) (needed live : List (List ℕ)) (
     | inr new ↦ of_joined new
   ]
     where
-      of_joined : JoinedAt l j b → charge b + extra (block_at j b).exit ≤ each + 29 + beyond * t
+      of_joined : JoinedAt l j b → given b + extra (block_at j b).exit ≤ each + 29 + beyond * t
       of_joined new =
           let ops = (block_at l b).ops in
           let more = joining new.sets new.vars new.short in
-          let a = P.lowering.work.acts b in
-          let n = P.lowering.work.nodes b in
+          let a = L.work.acts b in
+          let n = L.work.nodes b in
           let acts : sum_by acts_of ops + 1 ≤ turns_at l b =
           subst (λ (x : Exit). sum_by acts_of ops + jumps_of x ≤ turns_at l b) new.branch a in
           let nodes : sum_by op_nodes ops + term_nodes new.test ≤ E * turns_at l b + 1 =
@@ -265,7 +249,7 @@ module _ (parts : List Part) (l j k s : Graph) (needed live : List (List ℕ)) (
 
   -- a joined block takes no fewer turns
   turns_more : (b : ℕ) → turns_at l b ≤ turns_at j b
-  turns_more b = elim (P.joining.short.others b) [
+  turns_more b = elim (J.short.others b) [
     | inl same ↦ (let e : turns_at j b ≡ turns_at l b = ap (λ (x : Block). sum_by turns_of x.ops) same in
         omega (arith, e))
     | inr new ↦
@@ -274,24 +258,35 @@ module _ (parts : List Part) (l j k s : Graph) (needed live : List (List ℕ)) (
         new.ops ∙ sum_by-append turns_of (block_at l b).ops more in omega (arith, e)
   ]
 
-  block_few : (b : ℕ) → charge b + extra (block_at j b).exit ≤ each + 29 + beyond * turns_at j b
+  block_few : (b : ℕ) → given b + extra (block_at j b).exit ≤ each + 29 + beyond * turns_at j b
   block_few b = paid_by b (turns_at j b) (turns_more b)
 
   -- whatever blocks walks pass, the turns of the program pay for what each block is charged
-  pub charge_few : (b : ℕ) → charge b ≤ (11 * most_variables parts + 60)
+  pub charge_few : (b : ℕ) → given b ≤ (11 * most_variables parts + 60)
       + (42 * most_variables parts + 180 + 9 * widest parts) * turns_at l b
   charge_few b = let p = paid_by b (turns_at l b) (omega arith) in omega (arith, p)
 
-  pays_all : IsPotential j charge pay potential
+  pays_all : IsPotential j given (pay V E) potential
   pays_all b lt = finish each (handed_on j p (block_at j b).exit) (p b) (turns_at j b) beyond
       (sum_by op_quarters (block_at j b).ops) (exit_charge V (block_at j b).exit) (extra (block_at j b).exit)
       (handed_on j potential (block_at j b).exit)
       (two.pays b lt) (handed_few (block_at j b).exit) (block_few b)
 
   -- in the joined graph walks are charged no more
-  pub joined_weighs : WalksWeigh j charge (11 * most_variables parts + 60) pay
+  joined_weighs : WalksWeigh j given (base V) (pay V E)
   joined_weighs world turns m =
-      let h = walk_paid j P.joining.rules charge pay potential pays_all world turns m in
+      let h = walk_paid j J.rules given (pay V E) potential pays_all world turns m in
       let e : each * p (first_block j) ≤ each * 1 = mul-le-mul_left each two.begins in
       let o : each * 1 ≡ each = grind arith in
       omega (arith, h, e, o)
+
+  -- what the cost of the image rests on
+  pub joined_costs : Costed parts j
+  joined_costs = record {
+    rules = J.rules;
+    low = λ b x lt h.
+        (let i = J.copies b x (subst (λ n. b < n) J.sizes.count lt) h in let v = vars_few b in
+        omega (arith, i, v));
+    calls = λ b. joined_calls_few b (block_at j b).exit refl;
+    paid = joined_weighs;
+  }

@@ -17,7 +17,7 @@ use Rattle.phi_conv.proofs.Placing.{joined_spot, spots_are}
 use Rattle.call_gen.specs.Keeps.{SendsAtMost}
 use Rattle.call_gen.specs.Sizes.{call_count, cell_count, Sizes, LandingsAtMost, BlockWithin, ProcWithin}
 use Rattle.call_gen.specs.Sizes.{KeepsSizes, spelled_sizes}
-use Rattle.wave_build.specs.Passed.{PassGraphs}
+use Rattle.wave_build.specs.Passed.{Lowered, Joined, LastGraphs}
 use Rattle.wave_build.specs.Small.{lowered_sizes, joined_sizes}
 use Rattle.ws_words.proofs.Lists.{length_map as map_count}
 use Rattle.ws_words.specs.Items.{nth, or_else}
@@ -33,6 +33,11 @@ both_within : (z : Sizes) (ps : List GraphProc) → AllByRecursion (λ p. p.para
 both_within z [] h i = tt
 both_within z (p ∷ ps) h i = (record { params = h.0; vars = i.0 }, both_within z ps h.1 i.1)
 
+pub vars_within : (z : Sizes) (n : ℕ) → z.vars ≤ n → (ps : List GraphProc) → AllByRecursion (ProcWithin z) ps
+    → AllByRecursion (λ p. p.vars ≤ n) ps
+vars_within z n le [] h = tt
+vars_within z n le (p ∷ ps) h = ((let v = h.0.vars in omega (arith, v, le)), vars_within z n le ps h.1)
+
 more_within : (g : Graph) (live : List (List ℕ)) (z : Sizes) (ps : List GraphProc)
     → AllByRecursion (ProcWithin z) ps → AllByRecursion (ProcWithin (joined_sizes z))
     (map (joined_proc g live) ps)
@@ -43,7 +48,7 @@ more_within g live z (p ∷ ps) h = (
 )
 
 -- an item is no more than the sum
-each_summed : {A : Type 0} (f : A → ℕ) (xs : List A) (n : ℕ) → sum_by f xs ≤ n
+pub each_summed : {A : Type 0} (f : A → ℕ) (xs : List A) (n : ℕ) → sum_by f xs ≤ n
     → AllByRecursion (λ x. f x ≤ n) xs
 each_summed f [] n h = tt
 each_summed f (x ∷ xs) n h = let c = sum_by-cons f x xs in
@@ -107,8 +112,7 @@ calls_paid (s ∷ ss) h =
     let i = calls_paid ss h.1 in let o = one_call s.block.exit in let a = h.0 in
     let c = sum_by-cons (λ (t : Spot). sum_by turns_of t.block.ops) s ss in omega (arith, i, o, a, c)
 
-module _ (parts : List Part) (l j k s : Graph) (needed live : List (List ℕ)) (cut : Cut)
-    (P : PassGraphs parts l j k s needed live cut) where
+module _ (parts : List Part) (l j : Graph) (L : Lowered parts l) (J : Joined l j) where
   abbrev z : Sizes
   z = lowered_sizes parts
 
@@ -117,11 +121,11 @@ module _ (parts : List Part) (l j k s : Graph) (needed live : List (List ℕ)) (
   few_calls =
       let c = calls_paid (spots l)
       (all_at (λ (x : Spot). sum_by acts_of x.block.ops + jumps_of x.block.exit ≤ sum_by turns_of
-      x.block.ops) (spots l) (λ b lt. P.lowering.work.acts b)) in
-      let t = P.lowering.small.turns in omega (arith, c, t)
+      x.block.ops) (spots l) (λ b lt. L.work.acts b)) in
+      let t = L.small.turns in omega (arith, c, t)
 
   lowered_within : KeepsSizes (lowered_sizes parts) l
-  lowered_within = let small = P.lowering.small in record {
+  lowered_within = let small = L.small in record {
     arrays = small.arrays;
     lengths = small.lengths;
     cells = (let e = cells_are l.arrays in let c = small.cells in omega (arith, e, c));
@@ -130,7 +134,7 @@ module _ (parts : List Part) (l j k s : Graph) (needed live : List (List ℕ)) (
     count_blocks = small.blocks;
     blocks = three (lowered_sizes parts) refl refl (spots l)
         (each_summed (λ (x : Spot). length x.block.ops) (spots l) z.ops small.ops)
-        (each_summed (λ (x : Spot). block_nodes x.block) (spots l) z.nodes small.nodes) P.lowering.form.exits;
+        (each_summed (λ (x : Spot). block_nodes x.block) (spots l) z.nodes small.nodes) L.form.exits;
     calls = few_calls;
   }
 
@@ -140,7 +144,7 @@ module _ (parts : List Part) (l j k s : Graph) (needed live : List (List ℕ)) (
       (record { ops = omega arith; nodes = omega arith; values = tt; landings = tt }) b
 
   sends_at : (b : ℕ) → SendsAtMost 0 (block_at j b).exit × LandingsAtMost 0 (block_at j b).exit
-  sends_at b = elim (P.joining.short.others b) [
+  sends_at b = elim (J.short.others b) [
     | inl same ↦ subst (λ (x : Block). SendsAtMost 0 x.exit × LandingsAtMost 0 x.exit) (sym same)
         ((block_within b).values, (block_within b).landings)
     | inr new ↦ subst (λ (x : Exit). SendsAtMost 0 x × LandingsAtMost 0 x) (sym new.goes) (tt, tt)
@@ -148,7 +152,7 @@ module _ (parts : List Part) (l j k s : Graph) (needed live : List (List ℕ)) (
 
   joined_block_within : (b : ℕ) → BlockWithin (joined_sizes z) (block_at j b)
   joined_block_within b =
-      let w = block_within b in let o = P.joining.sizes.ops b in let m = P.joining.sizes.nodes b in
+      let w = block_within b in let o = J.sizes.ops b in let m = J.sizes.nodes b in
       record {
         ops = (let h = w.ops in omega (arith, h, o));
         nodes = (let h = w.nodes in omega (arith, h, m));
@@ -156,20 +160,20 @@ module _ (parts : List Part) (l j k s : Graph) (needed live : List (List ℕ)) (
         landings = (sends_at b).1;
       }
 
-  joined_within : KeepsSizes (joined_sizes (lowered_sizes parts)) j
+  pub joined_within : KeepsSizes (joined_sizes (lowered_sizes parts)) j
   unfolding spot_at
   joined_within =
       let w = lowered_within in
-      let arrays : j.arrays ≡ l.arrays = ap (λ (g : Graph). g.arrays) P.joining.is in
-      let procs : j.procs ≡ map (joined_proc l P.joining.sets) l.procs =
-      ap (λ (g : Graph). g.procs) P.joining.is in
-      let count : length j.procs ≡ length l.procs = ap length procs ∙ map_count (joined_proc l P.joining.sets)
+      let arrays : j.arrays ≡ l.arrays = ap (λ (g : Graph). g.arrays) J.is in
+      let procs : j.procs ≡ map (joined_proc l J.sets) l.procs =
+      ap (λ (g : Graph). g.procs) J.is in
+      let count : length j.procs ≡ length l.procs = ap length procs ∙ map_count (joined_proc l J.sets)
       l.procs in
-      let blocks : length (spots j) ≡ length (spots l) = P.joining.sizes.count in
-      let calls : call_count (spots j) ≡ call_count (map (joined_spot l P.joining.sets) (spots l)) =
-      ap (λ (g : Graph). call_count (spots g)) P.joining.is ∙ ap call_count
-      (spots_are l P.joining.sets) in
-      let fewer = fewer_calls l P.joining.sets (spots l) in
+      let blocks : length (spots j) ≡ length (spots l) = J.sizes.count in
+      let calls : call_count (spots j) ≡ call_count (map (joined_spot l J.sets) (spots l)) =
+      ap (λ (g : Graph). call_count (spots g)) J.is ∙ ap call_count
+      (spots_are l J.sets) in
+      let fewer = fewer_calls l J.sets (spots l) in
       record {
         arrays = subst (λ (xs : List GraphArray). length xs ≤ z.arrays) (sym arrays) w.arrays;
         lengths = subst (λ (xs : List GraphArray). AllByRecursion (λ a. a.length ≤ z.length) xs) (sym arrays)
@@ -177,16 +181,18 @@ module _ (parts : List Part) (l j k s : Graph) (needed live : List (List ℕ)) (
         cells = subst (λ (xs : List GraphArray). cell_count xs ≤ z.cells) (sym arrays) w.cells;
         count_procs = (let c = w.count_procs in omega (arith, count, c));
         procs = subst (λ (ps : List GraphProc). AllByRecursion (ProcWithin (joined_sizes z)) ps) (sym procs)
-            (more_within l P.joining.sets z l.procs w.procs);
+            (more_within l J.sets z l.procs w.procs);
         count_blocks = (let c = w.count_blocks in omega (arith, blocks, c));
         blocks = all_at (λ (x : Spot). BlockWithin (joined_sizes z) x.block) (spots j)
             (λ b lt. joined_block_within b);
         calls = (let c = w.calls in omega (arith, calls, fewer, c));
       }
 
-  -- what is kept, and the last graph, keep their bounds
-  pub kept_within : KeepsSizes (joined_sizes (lowered_sizes parts)) k
-  kept_within = P.keeping.sizes (joined_sizes (lowered_sizes parts)) joined_within
+-- what is kept, and the last graph, keep their bounds
+module _ (j k s : Graph) (needed live : List (List ℕ)) (cut : Cut) (P : LastGraphs j k s needed live cut)
+    (z : Sizes) (within : KeepsSizes z j) where
+  pub kept_within : KeepsSizes z k
+  kept_within = P.keeping.sizes z within
 
-  pub last_within : KeepsSizes (spelled_sizes (joined_sizes (lowered_sizes parts))) s
-  last_within = P.spelling.sizes (joined_sizes (lowered_sizes parts)) kept_within
+  pub last_within : KeepsSizes (spelled_sizes z) s
+  last_within = P.spelling.sizes z kept_within

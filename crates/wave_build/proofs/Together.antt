@@ -18,13 +18,14 @@ use Rattle.call_gen.specs.Reached.{Reached}
 use Rattle.call_gen.specs.Charged.{beside, charged, CallsCharged, ReachedInPlace}
 use Rattle.call_gen.specs.Sizes.{Sizes, ProcWithin, KeepsSizes, spelled_sizes}
 use Rattle.wave_gen.specs.Limits.{most_quarters, KeepsLimits}
-use Rattle.wave_build.specs.Passed.{PassGraphs}
+use Rattle.wave_build.specs.Charges.{charge}
+use Rattle.wave_build.specs.Passed.{Costed, PassGraphs}
 use Rattle.wave_build.specs.Small.{lowered_sizes, joined_sizes}
 use Rattle.wave_build.proofs.Sums.{low, low_is, spots_low, low_both, low_less, low_few, low_more, low_turns}
 use Rattle.wave_build.proofs.Sums.{in_range, Pays, paid}
-use Rattle.wave_build.proofs.Sizing.{kept_within, last_within}
+use Rattle.wave_build.proofs.Sizing.{vars_within, joined_within, kept_within, last_within}
 use Rattle.wave_build.proofs.Weights.{clears_weigh}
-use Rattle.wave_build.proofs.Paying.{in_procs, charge, charge_few}
+use Rattle.wave_build.proofs.Paying.{in_procs, charge_few, joined_costs}
 use Rattle.wave_build.proofs.Costing.{weight, goes_weigh, fits}
 use Rattle.ws_words.specs.Items.{nth, or_else}
 use Rattle.cfg_core.proofs.Spots.{each_at}
@@ -120,26 +121,30 @@ proc_few z [] f h = (omega arith, omega arith)
 proc_few z (p ∷ ps) zero h = (h.0.params, h.0.vars)
 proc_few z (p ∷ ps) (suc f) h = proc_few z ps f h.1
 
-vars_within : (z : Sizes) (n : ℕ) → z.vars ≤ n → (ps : List GraphProc) → AllByRecursion (ProcWithin z) ps
-    → AllByRecursion (λ p. p.vars ≤ n) ps
-vars_within z n le [] h = tt
-vars_within z n le (p ∷ ps) h = ((let v = h.0.vars in omega (arith, v, le)), vars_within z n le ps h.1)
-
 module _ (parts : List Part) (l j k s : Graph) (needed live : List (List ℕ)) (cut : Cut)
     (P : PassGraphs parts l j k s needed live cut) (narrow : widest parts ≤ most_statement_nodes)
     (locals : most_variables parts ≤ most_locals) where
+  abbrev z : Sizes
+  z = joined_sizes (lowered_sizes parts)
+
+  J : KeepsSizes (joined_sizes (lowered_sizes parts)) j
+  J = joined_within parts l j P.lowering P.joining
+
+  C : Costed parts j
+  C = joined_costs parts l j P.lowering P.joining
+
   W : KeepsSizes (spelled_sizes (joined_sizes (lowered_sizes parts))) s
-  W = last_within parts l j k s needed live cut P
+  W = last_within j k s needed live cut P.last z J
 
   K : KeepsSizes (joined_sizes (lowered_sizes parts)) k
-  K = kept_within parts l j k s needed live cut P
+  K = kept_within j k s needed live cut P.last z J
 
   -- a block of the last graph with one instruction more, and what a block of the joined one is charged
   abbrev w : ℕ → ℕ
-  w = weight parts l j k s needed live cut P
+  w = weight s live
 
   abbrev paying : ℕ → ℕ
-  paying = charge parts l j k s needed live cut P
+  paying = charge (most_variables parts) j
 
   few_vars : (b : ℕ) → (spot_at s b).vars ≤ 98
   unfolding spot_at no_spot
@@ -153,16 +158,16 @@ module _ (parts : List Part) (l j k s : Graph) (needed live : List (List ℕ)) (
       (omega (arith, h.0), omega (arith, h.1, locals))
 
   -- a door names parameters and clears variables
-  door_few : (f : ℕ) → f < length k.procs → weight parts l j k s needed live cut P
-      (P.spelling.charged.places.door f) ≤ 653
+  door_few : (f : ℕ) → f < length k.procs → weight s live
+      (P.last.spelling.charged.places.door f) ≤ 653
   door_few f lt =
-      let at = P.spelling.charged.places.door f in
-      let door = P.spelling.charged.doors f lt in
+      let at = P.last.spelling.charged.places.door f in
+      let door = P.last.spelling.charged.doors f lt in
       let few = few_in_proc f in
-      let both = P.spelling.charged.clears f 97 lt (omega (arith, few.0))
+      let both = P.last.spelling.charged.clears f 97 lt (omega (arith, few.0))
       (λ x lx h. omega (arith, lx, few.1)) in
       let named = door.named in
-      let g = goes_weigh parts l j k s needed live cut P at door.goes.0 (length (block_at s at).ops * 6)
+      let g = goes_weigh parts j k s needed live cut C P.last at door.goes.0 (length (block_at s at).ops * 6)
       door.goes.1 door.held (clears_weigh (block_at s at).ops door.ops) in
       omega (arith, g, both, named, few.0)
 
@@ -173,9 +178,9 @@ module _ (parts : List Part) (l j k s : Graph) (needed live : List (List ℕ)) (
       let e = spots_low (turns_at l) (λ (x : Spot). sum_by turns_of x.block.ops) (spots l) (λ i lt. refl) in
       let t = P.lowering.small.turns in omega (arith, e, t)
 
-  each_few : (b : ℕ) → charge parts l j k s needed live cut P b ≤ 412 + 3819 * turns_at l b
+  each_few : (b : ℕ) → charge (most_variables parts) j b ≤ 412 + 3819 * turns_at l b
   each_few b =
-      let c = charge_few parts l j k s needed live cut P b in
+      let c = charge_few parts l j P.lowering P.joining b in
       let m : (42 * most_variables parts + 180 + 9 * widest parts) * turns_at l b ≤ 3819 * turns_at l b =
       mul-le-mul_right (turns_at l b) (omega (arith, narrow, locals)) in
       omega (arith, c, m, locals)
@@ -188,10 +193,10 @@ module _ (parts : List Part) (l j k s : Graph) (needed live : List (List ℕ)) (
 
   last_few : low w (length (spots s)) ≤ length (spots j) * 412 + 3819 * most_statements + length k.procs * 653
   last_few =
-      let a = all_paid k needed s P.spelling.charged w in
-      let b = kept_paid j k P.keeping.places (charged k P.spelling.charged.places w) paying
-      (λ b lt r. fits parts l j k s needed live cut P b lt r) in
-      let d = low_few (λ f. w (P.spelling.charged.places.door f)) 653 (length k.procs)
+      let a = all_paid k needed s P.last.spelling.charged w in
+      let b = kept_paid j k P.last.keeping.places (charged k P.last.spelling.charged.places w) paying
+      (λ b lt r. fits parts j k s needed live cut C P.last b lt r) in
+      let d = low_few (λ f. w (P.last.spelling.charged.places.door f)) 653 (length k.procs)
       (λ f lt. door_few f lt) in
       let f = joined_few in omega (arith, a, b, d, f)
 

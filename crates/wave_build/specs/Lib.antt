@@ -1,5 +1,7 @@
 pub mod Bounds
+pub mod Charges
 pub mod Compiled
 pub mod Passed
 pub mod Prepared
 pub mod Small
+pub mod Opened

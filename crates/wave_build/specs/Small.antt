@@ -1,5 +1,5 @@
 -- How large the graphs of a program are, up to its draft.
-use Rattle.std.specs.Prelude.{◌+◌, ◌*◌, List}
+use Rattle.std.specs.Prelude.{ℕ, ◌+◌, ◌*◌, List}
 use Rattle.src_ast.specs.Syntax.{Part}
 use Rattle.src_ast.specs.Bound.{widest, most_variables}
 use Rattle.src_ast.specs.LanguageLimits.{most_procedures, most_statements, most_parameters, most_arrays}
@@ -41,3 +41,25 @@ joined_sizes z = record {
   values = z.values;
   landings = z.landings;
 }
+
+-- of a graph with as many blocks, calls and values, whose procedures have so many variables and whose blocks
+-- so many operations and nodes
+abbrev pub sizes_with : ℕ → ℕ → ℕ → Sizes
+sizes_with vars ops nodes = record {
+  arrays = most_arrays;
+  length = most_array_cells;
+  cells = most_cells;
+  procs = most_procedures;
+  params = most_parameters;
+  vars = vars;
+  blocks = 3 * most_statements + most_procedures;
+  ops = ops;
+  nodes = nodes;
+  calls = most_statements;
+  values = 0;
+  landings = 0;
+}
+
+-- a procedure may have so many variables
+abbrev pub most_vars : ℕ
+most_vars = 1024

@@ -49,8 +49,8 @@ fn prepared_graph(alloc: Global, accepted: &Accepted) -> Result<Graph, NoMemory>
     Ok(spelled)
 }
 
-// The image, which is within the limits since the draft leaves room.
-fn image_of(alloc: Global, accepted: &Accepted) -> Result<Image, NoMemory>
+/// The image, which is within the limits since the draft leaves room.
+pub(crate) fn image_of(alloc: Global, accepted: &Accepted) -> Result<Image, NoMemory>
     requires { IsWritten (ast.parts accepted.now.program.items.items) }
     ensures formed { IfOk result (λ made. Formed (image.image made)) }
     ensures sound { IfOk result (λ made. Sound (image.image made)) }

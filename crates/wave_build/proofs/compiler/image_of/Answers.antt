@@ -1,7 +1,9 @@
-use Rattle.std.proofs.Common.{List, map, ap, ◌∙◌}
+use Rattle.std.proofs.Common.{List, map, ap, ◌∙◌, arith}
 use Rattle.ws_isa.specs.Shown.{shown_arrays}
 use Rattle.ws_isa.specs.View as image
+use Rattle.src_ast.specs.Bound.{most_variables}
 use Rattle.src_ast.specs.View as ast
+use Rattle.phi_conv.specs.Joined.{more_vars}
 use Rattle.cfg_core.specs.Graph.{GraphArray}
 use Rattle.cfg_core.specs.View as view
 use Rattle.wave_gen.specs.Words.{array_of}
@@ -11,6 +13,10 @@ use Rattle.wave_build.proofs.CompilingShown.{same_shown}
 use Rattle.wave_build.proofs.CompilingWalks.{walks_as_run}
 use Rattle.wave_build.proofs.CompilingWords.{code_words}
 use Rattle.wave_build.proofs.Forming.{leaves_room}
+use Rattle.wave_build.proofs.Paying.{joined_costs}
+use Rattle.wave_build.proofs.Sizing.{joined_within, last_within}
+use Rattle.wave_build.proofs.Together.{room}
+use Rattle.wave_build.specs.Small.{lowered_sizes, joined_sizes}
 use Rattle.wave_build.proofs.compiler.image_of.Goals as goal
 
 pub generate-requires-clause-arms : goal.generate-requires-clause-arms
@@ -30,11 +36,16 @@ returns-clause-formed c =
     let p = c.in_ok-graph.ensures in
     let few = c.accepted_has_few_variables.ensures parts c.args.accepted.now.program.finish
     c.args.accepted.now.accepted in
-    c.in_ok-made.ensures.formed (leaves_room parts p.begun.lowered p.joined p.kept g p.needed _ _
-    (all_passed parts g p _ _ c.in_ok-live.ensures c.in_ok-waves.ensures.rule c.in_ok-waves.ensures.waves)
-    c.requires (c.written_is_narrow.ensures parts c.requires) few p.shows.arrays
-    (code_words c.in_ok-graph.graph)
-    (image.draft c.in_ok-draft.draft) d.limits d.lists d.arrays)
+    let all = all_passed parts g p _ _ c.in_ok-live.ensures c.in_ok-waves.ensures.rule
+    c.in_ok-waves.ensures.waves in
+    c.in_ok-made.ensures.formed (leaves_room parts g _ c.requires (more_vars (most_variables parts))
+    (joined_sizes (lowered_sizes parts)).ops (joined_sizes (lowered_sizes parts)).nodes (omega (arith, few))
+    (last_within p.joined p.kept g p.needed _ _ all.last (joined_sizes (lowered_sizes parts))
+    (joined_within parts p.begun.lowered p.joined p.begun.lowering p.begun.joining)) p.spelling.start
+    p.shows.arrays (code_words c.in_ok-graph.graph)
+    (image.draft c.in_ok-draft.draft) d.limits d.lists d.arrays
+    (room parts p.begun.lowered p.joined p.kept g p.needed _ _ all
+    (c.written_is_narrow.ensures parts c.requires) few (image.draft c.in_ok-draft.draft) d.limits))
 
 pub returns-clause-arrays : goal.returns-clause-arrays
 returns-clause-arrays c =
@@ -72,8 +83,12 @@ returns-clause-draft c =
 pub returns-clause-cost : goal.returns-clause-cost
 returns-clause-cost c =
     let parts = ast.parts c.args.accepted.now.program.items.items in
-    keeps_bound parts (view.graph c.in_ok-graph.graph) c.in_ok-graph.ensures _ _ c.in_ok-live.ensures
-    c.in_ok-waves.ensures.rule c.in_ok-waves.ensures.waves
+    let g = view.graph c.in_ok-graph.graph in
+    let p = c.in_ok-graph.ensures in
+    let all = all_passed parts g p _ _ c.in_ok-live.ensures c.in_ok-waves.ensures.rule
+    c.in_ok-waves.ensures.waves in
+    keeps_bound parts p.joined p.kept g p.needed _ _
+    (joined_costs parts p.begun.lowered p.joined p.begun.lowering p.begun.joining) all.last p.shows
     (c.written_is_narrow.ensures parts c.requires) (image.draft c.in_ok-draft.draft)
     (image.image c.in_ok-made.made)
     (c.in_ok-draft.ensures.cost (code_words c.in_ok-graph.graph)) c.in_ok-made.ensures.walk
