@@ -1,5 +1,6 @@
 -- How large the inlined graph is: no larger but for operations, nodes and variables.
-use Rattle.std.proofs.Common.{ℕ, ◌+◌, ◌≡◌, ◌≤◌, max, if◌then◌else◌, List, [], ◌∷◌, length, map, Option, Some, None}
+use Rattle.std.proofs.Common.{ℕ, ◌+◌, ◌≡◌, ◌≤◌, max, if◌then◌else◌, List, [], ◌∷◌, length, map, Option, Some}
+use Rattle.std.proofs.Common.{None}
 use Rattle.std.proofs.Common.{sym, ap, subst, arith}
 use Rattle.std.specs.List.{AllByRecursion}
 use Rattle.cfg_core.specs.Graph.{Exit, GraphProc, Graph, Spot, spots}
