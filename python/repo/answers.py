@@ -1,14 +1,13 @@
-"""Gives the jobs of tests/ to the program that the gate built, and compares answers and statuses.
+"""Gives the jobs of tests/ to the program that `rt ci` built, and compares answers and exit statuses.
 
-In a file of tests/ a line `> wsc ..` is the line that is given; after it comes the job, without a line
-feed at its end, then `=` and the status, then the answer up to an empty line. Each line of
-tests/usage.txt is no command line. Jobs at the limits of the language are made here. What `compile`
-prints of each job that `plain` runs is to be sound, and to run as the job does; so is the job itself, with 1, 2 and 8
-workers; and its trace is to be replayed, to rest where it came to rest. So are those of the other assemblies that run.
-All of them are to run with decoupled stores as they do on the crew, and on grids of a few sizes, or to spend a
-grid's budget. Where `decouple` has printed words when its budget is spent, `exec` is to have printed fewer.
-What `run`, `exec`, `bench` and `multi` answer of a run that comes to its end they answer with 2 and 8 workers too.
-Each file of tests/ has at least as many cases as stand here for it.
+In a file of tests/ a line `> wsc ..` is the command line. After it comes the job, without a line feed at its end, then
+`=` and the exit status, then the answer up to an empty line. No line of tests/usage.txt is a command line. Jobs at the
+limits of the language are made here. What `compile` prints of each job that `plain` runs must be sound, and must run as
+the job does; so must the job itself, with 1, 2 and 8 workers. Its trace must replay, to rest if it came to rest. The same
+holds of the other assemblies that run. All of them must run with decoupled stores as they do with workers, and on grids
+of a few sizes, or exhaust a grid's budget. If `decouple` has printed words when its budget is exhausted, `exec` must have
+printed fewer. What `run`, `exec`, `bench` and `multi` answer of a run that completes, they must answer with 2 and 8
+workers too. Each file of tests/ has at least as many cases as stand here for it.
 Of a few jobs the image's instructions are counted. A job that gives words to port 1 writes them to standard
 error, and ends where that can't be written.
 """

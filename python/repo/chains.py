@@ -3,7 +3,7 @@
     python/run repo.chains            says how long the longest is, and which crates stand in it
     python/run repo.chains --table    says it of each crate too
 
-What a crate stands on is told by crates.txt; crates of the toolchain don't count.
+crates.txt says what a crate stands on; crates of the toolchain don't count.
 """
 
 import functools

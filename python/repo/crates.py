@@ -1,6 +1,6 @@
 """Five crates of the toolchain stand in their places.
 
-    python/run repo.crates           says where one is gone, or stands where it isn't told of
+    python/run repo.crates           says where one is gone, or is used in a place that isn't listed
     python/run repo.crates --list    says of each place what it is for, too
 
 A place is a crate of this repository. The line of crates.txt for it names the toolchain's crate, and the code of its

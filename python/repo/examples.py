@@ -2,12 +2,11 @@
 
     python/run repo.examples [PROGRAM]         else wsc at the top of the repository
 
-A text stands in a block of a page; after it a line says the command, and another block what is answered. In
-a row of a table a text may be told as an expression of Python between quotes; the command and the answer
-follow. Under a heading "Changed lines" a row tells what is otherwise than in the page's first text that is
-answered `sound`: "6 `a` `b`" puts these lines in place of line 6, "behind 6 `a`" behind it, "6 out" takes it
-out. In the manual page a line after `$ ` is run by the shell at the top of the repository, with `wsc`
-the program; what it writes stands below.
+A text stands in a block of a page; after it a line has the command, and another block the answer. In a row of a table a
+text can be an expression of Python between quotes; the command and the answer follow. Under a heading "Changed lines" a
+row gives the changes to the page's first text that is answered `sound`: "6 `a` `b`" puts these lines in place of line 6,
+"behind 6 `a`" after it, "6 out" removes it. In the manual page the shell runs a line after `$ ` at the top of the
+repository, with `wsc` the program; what it writes stands below.
 
 Where the comment of an example says "with input `W ..` it prints `W ..`", that is tried as well.
 NAME.job answers `plain`, and `run` with 1, 2 and 8 workers, as NAME.out says, and is printed by `format`

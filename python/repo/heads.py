@@ -3,10 +3,10 @@
     python/run repo.heads            compares them
     python/run repo.heads --write    writes the sections of the pages as the heads are
 
-A head is the `//!` lines of crates/NAME/src/lib.rt: a paragraph that says what the crate is, and behind it what
-is proved of it, or, where its name ends with _tests, what its tests show. A section of a page is what stands below
-`### NAME`, up to the next heading. Line breaks don't count; an item of a list begins with `- `. The top call and the
-programs have no section. Of two crates another page tells, which has to name each law that the crate gives.
+A head is the `//!` lines of crates/NAME/src/lib.rt: a paragraph that says what the crate is, and after it what is proved
+of it, or, if its name ends with _tests, what its tests show. A section of a page is what stands below `### NAME`, up to
+the next heading. Line breaks don't count; an item of a list begins with `- `. The top call and the programs have no
+section. Two crates are described on another page, which must name each law that the crate gives.
 """
 
 import pathlib

@@ -12,7 +12,7 @@ from none of these has no user. A law needs no caller where one of these pages n
 A function uses what its contract, its tactics and its body name, and what the answers to its goals do; a type
 what the impls of its traits do. An import is no use, nor is `pub use`. Of a call behind a dot nothing but the
 name is looked at: it is a call of each method of that name. An import of bench/rattle that names nothing is
-told.
+reported.
 
 A line of `users.allowed` gives a place and says why it stays: CRATE/FILE.NAME, without the folder src/,
 specs/ or proofs/; of a method CRATE/FILE.TYPE.NAME; of all that a file has CRATE/FILE.*.
