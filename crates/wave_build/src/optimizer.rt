@@ -72,7 +72,7 @@ fn most_room(graph: &Graph) -> u32
     (43 * most + 479) / 18
 }
 
-// The graph with the calls of short procedures inlined that want no more room.
+// The graph with calls of short procedures inlined, if they want no more room than this.
 fn inlined_once(alloc: Global, graph: &Graph, most: u32) -> Result<Graph, NoMemory>
     requires { IsGraph (view.graph graph.now) }
     ensures { IfOk result (λ made. InlinedOnce most (view.graph graph.now) (view.graph made)) }
@@ -130,7 +130,7 @@ fn has_room(draft: &Draft) -> bool
     after_blocks(&draft.blocks, MOST_INSTRS).is_some()
 }
 
-// The image. Where it might be too large, nothing is inlined.
+// The image. If it might be too large, nothing is inlined.
 fn optimized_image(alloc: Global, accepted: &Accepted) -> Result<Image, NoMemory>
     requires { IsWritten (ast.parts accepted.now.program.items.items) }
     ensures formed { IfOk result (λ made. Formed (image.image made)) }
@@ -166,8 +166,7 @@ fn optimized_image(alloc: Global, accepted: &Accepted) -> Result<Image, NoMemory
 pub fn compile_optimized(alloc: Global, accepted: &Accepted) -> Result<Checked, NoMemory>
     requires written { IsWritten (ast.parts accepted.now.program.items.items) }
 
-    // it shows the program's arrays, and does what the run does that passes loads and stores past
-    // the end, in every world of words
+    // it shows the program's arrays, and does what the unchecked run does, in every world of words
     ensures arrays { let parts = ast.parts accepted.now.program.items.items in
         IfOk result (λ made. ShowsArrays parts made) }
     ensures walk { let parts = ast.parts accepted.now.program.items.items in
@@ -177,7 +176,7 @@ pub fn compile_optimized(alloc: Global, accepted: &Accepted) -> Result<Checked, 
     ensures cost { let parts = ast.parts accepted.now.program.items.items in
         IfOk result (λ made. KeepsBound parts made) }
 
-    // its notes, and what was added to its draft for them
+    // its annotations, and what was added to its draft for them
     ensures numbers { IfOk result (λ made. NumberedInOrder made) }
     ensures ripples { IfOk result (λ made. ExactRipples made) }
     ensures draft { IfOk result (λ made. HasDraft made) }
