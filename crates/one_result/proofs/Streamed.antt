@@ -19,7 +19,7 @@ use Rattle.wsc_words.specs.Lines.{Given}
 use Rattle.wsc_words.proofs.Results.{given_some}
 use Rattle.wsc_top.specs.declared.status.Status.{Status}
 use Rattle.wsc_top.specs.declared.status.Status.TheVariants.{Done, Budget, Fault}
-use Rattle.wsc_top.specs.Job.{IsTextAnswer}
+use Rattle.job_read.specs.Job.{IsTextAnswer}
 use Rattle.wsc_top.proofs.Reading.AnswersOnce.{RunsOnce}
 use Rattle.wsc_top.proofs.Reading.AssembliesOnce.{WalksOnce}
 use Rattle.asm_read.specs.Assembly.{IsAssembly, assembly_limit}
