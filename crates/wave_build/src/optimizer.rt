@@ -53,8 +53,8 @@ fn begin_folded(alloc: Global, accepted: &Accepted) -> Result<Graph, NoMemory>
 
 // The most variables of a procedure, or what they may be at most.
 fn widest(graph: &Graph) -> u32
-    ensures { result ≤ 97 }
-    ensures { (n : ℕ) → AllByRecursion (λ p. p.vars ≤ n) (view.graph graph.now).procs → result ≤ n }
+    ensures few { result ≤ 97 }
+    ensures least { (n : ℕ) → AllByRecursion (λ p. p.vars ≤ n) (view.graph graph.now).procs → result ≤ n }
 {
     let mut most = 0;
     for proc in &graph.procs {
