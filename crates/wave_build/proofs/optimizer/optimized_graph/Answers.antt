@@ -3,6 +3,12 @@ use Rattle.cfg_core.specs.View as view
 use Rattle.wave_build.proofs.CompilingRuns.{next_shows}
 use Rattle.wave_build.proofs.optimizer.optimized_graph.Goals as goal
 
+pub reached-requires-clause-rules : goal.reached-requires-clause-rules
+reached-requires-clause-rules c = c.in_ok-inlined.ensures.opened.costs.rules
+
+pub reached-requires-clause-no_send : goal.reached-requires-clause-no_send
+reached-requires-clause-no_send c = c.in_ok-inlined.ensures.opened.no_send
+
 pub returns : goal.returns
 returns c =
     let o = c.in_ok-inlined.ensures in

@@ -39,7 +39,7 @@ returns-clause-formed c =
     (omega (arith, few, p.inlined.few))
     (last_within p.given p.kept g p.needed _ _ last (sizes_with p.inlined.vars o.ops o.nodes) o.sizes)
     p.spelling.start p.shows.arrays (code_words c.in_ok-graph.graph) (image.draft c.in_ok-draft.draft)
-    d.limits d.lists d.arrays (c.has_room.ensures (cc)))
+    d.limits d.lists d.arrays (c.has_room.ensures (grind (arith, c.if-not-has_room.false))))
 
 pub returns-clause-arrays : goal.returns-clause-arrays
 returns-clause-arrays c =
