@@ -1,5 +1,5 @@
 -- What a call of the program comes to.
-use Rattle.std.specs.Prelude.{◌≡◌, ◌≢◌, ◌⊎◌, ℕ, ◌+◌, ◌≤◌, true, List, ◌++◌, codes, length, take, Option}
+use Rattle.std.specs.Prelude.{◌≡◌, ◌≢◌, ◌⊎◌, ℕ, ◌+◌, ◌≤◌, true, List, [], ◌++◌, codes, length, take, Option}
 use Rattle.ws_io.specs.Streams.{Rose, Takes, TakesAll, Adds, Flushes}
 use Rattle.ws_isa.specs.Image.{Image}
 use Rattle.src_ast.specs.declared.fault.Refusal.{Refusal}
@@ -10,10 +10,12 @@ use Rattle.asm_read.specs.Texts.{unread_text, long_text, refusal_text}
 use Rattle.job_read.specs.Job.{job_limit, IsJob, Refuses}
 use Rattle.wave_build.specs.Compiled.{IsCompiled}
 use Rattle.opt_top.specs.declared.status.Status.{Status}
-use Rattle.opt_top.specs.declared.status.Status.TheVariants.{Done, Refused, ReadFault, WriteFault, NoMemory}
+use Rattle.opt_top.specs.declared.status.Status.TheVariants.{Done, Usage, Refused, ReadFault, WriteFault}
+use Rattle.opt_top.specs.declared.status.Status.TheVariants.{NoMemory}
 
 abbrev pub code_of : Status → ℕ
 code_of Done = 0
+code_of Usage = 1
 code_of Refused = 2
 code_of ReadFault = 4
 code_of WriteFault = 5
@@ -28,6 +30,7 @@ IsOptimized text parts out =
 abbrev pub Answers : List ℕ → Status → List ℕ → Type 0
 Answers text Done out = (parts : List Part) × (input : List ℕ) × IsJob text parts input
     × IsOptimized text parts out
+Answers text Usage out = ⊥
 Answers text Refused out = (why : Refusal) × Refuses text why × (out ≡ refusal_text why)
 Answers text ReadFault out = ⊥
 Answers text WriteFault out = ⊥
@@ -58,20 +61,30 @@ pub record NotRead (left after : Option (List ℕ)) (faults counted : ℕ) (out 
 -- what goes out at this status, where the source has this left before and after, and had so many faults
 abbrev pub Replies : Option (List ℕ) → Option (List ℕ) → ℕ → ℕ → Status → List ℕ → Type 0
 Replies left after faults counted Done out = ToText left after Done out
+Replies left after faults counted Usage out = ⊥
 Replies left after faults counted Refused out = ToText left after Refused out ⊎ Long left after out
 Replies left after faults counted ReadFault out = NotRead left after faults counted out
 Replies left after faults counted WriteFault out = ⊥
 Replies left after faults counted NoMemory out = ⊥
 
--- A call of which the source and the sink tell this ends with this status.
-pub record CallEnds (left after : Option (List ℕ)) (faults counted : ℕ) (held holds : Option (List ℕ))
-    (flushed covered : Option ℕ) (erred told : ℕ) (status : Status) : Type 0 where
+abbrev pub usage_text : List ℕ
+usage_text = codes "usage: wso\n"
+
+-- the same of a call on these words: where there are some, nothing is read
+abbrev pub Due : List (List ℕ) → Option (List ℕ) → Option (List ℕ) → ℕ → ℕ → Status → List ℕ → Type 0
+Due words left after faults counted Usage out = (words ≢ []) × (after ≡ left) × (out ≡ usage_text)
+Due words left after faults counted status out = (words ≡ []) × Replies left after faults counted status out
+
+-- A call on these words of which the source and the sink tell this ends with this status.
+pub record CallEnds (words : List (List ℕ)) (left after : Option (List ℕ)) (faults counted : ℕ)
+    (held holds : Option (List ℕ)) (flushed covered : Option ℕ) (erred told : ℕ) (status : Status)
+    : Type 0 where
   -- what went out is the whole answer, and it was flushed
   pub answered : status ≢ WriteFault → status ≢ NoMemory → (out : List ℕ)
-      × Replies left after faults counted status out × Adds held out holds × Flushes holds flushed covered
+      × Due words left after faults counted status out × Adds held out holds × Flushes holds flushed covered
   -- a fault came, a front of the answer is written, and nothing more is flushed
   pub unwritten : status ≡ WriteFault → Rose erred told × (covered ≡ flushed)
-      × ((out : List ℕ) × (due : Status) × (n : ℕ) × Replies left after faults counted due out
+      × ((out : List ℕ) × (due : Status) × (n : ℕ) × Due words left after faults counted due out
       × (n ≤ length out) × Adds held (take n out) holds)
   -- nothing is written
   pub starved : status ≡ NoMemory → (holds ≡ held) × (covered ≡ flushed)

@@ -1,13 +1,10 @@
 //! The call of the program.
 
-ghost use Rattle.std.specs.Prelude.{◌≡◌, ◌≤◌, ◌++◌, ℕ, List, length, codes, true, IfOk};
+ghost use Rattle.std.specs.Prelude.{◌≤◌, length, map, string_bytes, IfOk};
 ghost use Rattle.src_ast.specs.View as ast;
 ghost use Rattle.src_ast.specs.Written.{IsWritten};
-ghost use Rattle.asm_text.specs.Printed.{printed};
-ghost use Rattle.asm_read.specs.Sections.{rest_of};
-ghost use Rattle.wave_build.specs.Compiled.{IsCompiled};
 ghost use Rattle.job_read.specs.Job.{job_limit};
-ghost use Rattle.opt_top.specs.Calls.{CallEnds, Replies, Answers, IsOptimized};
+ghost use Rattle.opt_top.specs.Calls.{CallEnds, Due, Replies, Answers, IsOptimized};
 
 use crate::status::Status;
 use asm_read::{front_length, refused};
@@ -72,13 +69,35 @@ fn reply<S: Source>(alloc: Global, source: &mut S) -> Result<(Status, Bytes), No
     }
 }
 
-/// One call of the program: from what the source gives to what the sink takes.
-pub fn wso<S: Source, K: Sink>(alloc: Global, source: &mut S, sink: &mut K) -> Status
-    ensures ends { CallEnds (S.left source.old) (S.left source.new) (S.faults source.old)
-        (S.faults source.new) (K.held sink.old) (K.held sink.new) (K.flushed sink.old)
-        (K.flushed sink.new) (K.faults sink.old) (K.faults sink.new) result }
+// The answer of a call on these words.
+fn due<S: Source>(
+    alloc: Global,
+    words: &[String],
+    source: &mut S,
+) -> Result<(Status, Bytes), NoMemory>
+    ensures { IfOk result (λ x. Due (map string_bytes words.now) (S.left source.old)
+        (S.left source.new) (S.faults source.old) (S.faults source.new) x.0 x.1) }
 {
-    match reply(alloc, source) {
+    if words.is_empty() {
+        return reply(alloc, source);
+    }
+    let out = Bytes::from_slice(alloc, b"usage: wso\n")?;
+    Ok((Status::Usage, out))
+}
+
+/// One call of the program: from the words of the command line, without the program's own name, of
+/// which there are to be none, and what the source gives, to what the sink takes.
+pub fn wso<S: Source, K: Sink>(
+    alloc: Global,
+    words: &[String],
+    source: &mut S,
+    sink: &mut K,
+) -> Status
+    ensures ends { CallEnds (map string_bytes words.now) (S.left source.old) (S.left source.new)
+        (S.faults source.old) (S.faults source.new) (K.held sink.old) (K.held sink.new)
+        (K.flushed sink.old) (K.flushed sink.new) (K.faults sink.old) (K.faults sink.new) result }
+{
+    match due(alloc, words, source) {
         Ok((status, out)) => match write_all(sink, out.as_slice()) {
             Ok(()) => status,
             Err(_) => Status::WriteFault,

@@ -8,6 +8,8 @@ ghost use Rattle.opt_top.specs.Calls.{code_of};
 pub enum Status {
     /// The assembly went out and was flushed.
     Done,
+    /// There are arguments.
+    Usage,
     /// The text is refused.
     Refused,
     /// Reading failed.
@@ -25,6 +27,7 @@ impl Status {
     {
         match self {
             Status::Done => 0,
+            Status::Usage => 1,
             Status::Refused => 2,
             Status::ReadFault => 4,
             Status::WriteFault => 5,

@@ -11,7 +11,8 @@ returns g c text out given before after done =
     record {
       reads = reads;
       writes = writes;
-      ends = subst (λ s. optimized.CallEnds reads.left reads.after reads.faults reads.counted writes.held
+      words = _;
+      ends = subst (λ s. optimized.CallEnds _ reads.left reads.after reads.faults reads.counted writes.held
           writes.holds writes.flushed writes.covered writes.faults writes.counted s) done c.wso.ensures.ends;
       given = given;
       before = before;
