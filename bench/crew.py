@@ -11,11 +11,11 @@ With OLDER, another build of wsc, its `decouple` and `exec` stand in tables of t
 `decouple` of PROGRAM. All programs, commands and numbers of workers take turns, round after round over all
 jobs, and each counts by its fastest run less the fastest that fires nothing; so other work on the machine
 meets all of them alike. Short jobs run several times in a round. All answers have to be the same. Jobs named
-`endless` end where the budget is spent, the others whole.
+`endless` end when the budget is exhausted, the others complete.
 
 Where valgrind is there, a last table has the instructions that one worker takes for a firing: within a run,
-between two budgets; and to the end, between two whole runs, with the look for what is owed. Those are the
-same whenever they are counted.
+between two budgets; and to the end, between two whole runs, with the search for outstanding tokens. Each count
+gives the same.
 """
 
 import argparse
@@ -283,7 +283,7 @@ def within(call: Call, image: str) -> float:
 
 
 def to_end(call: Call, images: Sequence[str]) -> float:
-    """Instructions a firing between two runs that come to their ends."""
+    """Instructions a firing between two runs that complete."""
     few, many = ((call.run(it, MOST).firings, instructions(call, it, MOST)) for it in images)
     return (many[1] - few[1]) / (many[0] - few[0])
 

@@ -1,12 +1,12 @@
 #!/usr/bin/env python3
-"""Tries the edits of tests/mutants/: wrong bodies, each of which the contracts of its crate have to refuse.
+"""Tries the mutations of tests/mutants/: one-line changes, each of which the contracts of its crate must reject.
 
     bench/edits.py             those of the crates whose contracts have changed since they were last tried
     bench/edits.py --all       those of every crate
     bench/edits.py --fit       none: only whether each can be applied, and whether of some crate they are due
     bench/edits.py NAME..      those of these crates
 
-The edits of crates/*/must-fail are tried by every run of the gate. Those of tests/mutants/NAME are tried here by `rt must-fail`,
+The mutations of crates/*/must-fail are tried by every `rt ci`. Those of tests/mutants/NAME are tried here by `rt must-fail`,
 in a copy of the repository that is removed again, over what `rt check` has kept in any checkout on this machine. What
 the contracts of a crate are is a checksum over its specs/ and over the signatures and contracts of its functions;
 tests/mutants/tried.txt has, for each crate, the one over which all its edits were refused, or that of the same contracts under

@@ -1,10 +1,10 @@
 #!/usr/bin/env python3
-"""Runs the gate's proofs, tests and edits from nothing (rt ci --anew) and prints what each crate cost, in
+"""Runs all proofs, tests and mutations from nothing (rt ci --anew) and prints what each crate cost, in
 processor minutes.
 
-    bench/gate.py [LOG]      at the top of the repository; the gate's own output goes to LOG (gate.log)
+    bench/gate.py [LOG]      at the top of the repository; the output of rt ci goes to LOG (gate.log)
 
-Each check of the prover runs under a wrapper that notes its processor time; the table has a row for each crate,
+Each check of the prover runs under a wrapper that records its processor time; the table has a row for each crate,
 as docs/GATE.md shows it, and the last lines the sums and how long the whole took on how many processors.
 """
 

@@ -12,12 +12,12 @@ ROOT = pathlib.Path(__file__).resolve().parent.parent
 BUILT = str(ROOT / "crates" / "wsc" / "out" / "wsc")
 # The largest budget of a run.
 MOST = "4000000"
-# So many turns that any budget is spent before.
+# So many turns that any budget is exhausted before.
 ENDLESS = 1_000_000_000
 
 
 class Run(NamedTuple):
-    """What a run tells, its seconds by the clock and of processor, and the most bytes that it had."""
+    """What a run reports, its seconds by the clock and of processor, and the most bytes that it had."""
 
     told: str
     clock: float

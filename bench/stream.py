@@ -7,10 +7,10 @@
 The first table has for five programs of bench/crew.py, of up to four million firings, the millions of them
 that `wss` makes in a second of processor time, less a run that fires nothing; how many times the speed of
 `exec` and of `decouple` that is; and how many times as long as `plain` it takes, which runs the source.
-All take turns, and each counts by its fastest run. The second has runs whose budget is spent, from a
-million firings up to FIRINGS (100,000,000 unless it is told), with the most memory that they had: of a
-loop, of four arrays, and of a loop that prints a word in each turn. The third, where valgrind is there, has
-the instructions of a firing, which are the same whenever they are counted.
+All take turns, and each counts by its fastest run. The second has runs whose budget is exhausted, from a
+million firings up to FIRINGS (by default 100,000,000), with the most memory that they had: of a loop, of
+four arrays, and of a loop that prints a word in each turn. The third, if valgrind is installed, has the
+instructions of a firing, of which each count gives the same.
 """
 
 import argparse
@@ -66,7 +66,7 @@ def long_runs(program: str, stream: Call, most: int) -> None:
 
 def measured(stream: Call, image: str, budget: int) -> tuple[float, int]:
     """The seconds of processor time and the most kilobytes of a run, whose words aren't kept. What the system
-    tells of a process counts what it was before it became this program, so that is looked up while it runs."""
+    reports of a process counts what it was before it became this program, so that is looked up while it runs."""
     with tempfile.TemporaryFile("w+") as given:
         given.write(image)
         given.seek(0)

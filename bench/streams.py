@@ -1,12 +1,14 @@
 #!/usr/bin/env python3
 """Compares `wss` with `wsc exec` on assemblies with input sections.
 
-    python3 bench/streams.py WSC WSS [--gen N] [FILE..]
+    python3 bench/streams.py WSC WSS [--gen N] [--drafts N] [FILE..]
 
 WSC and WSS are the two programs.  A FILE is an assembly (.asm), or a job, which is
 compiled; of a text that is refused the two answers are compared as well.  --gen N adds
-the generated jobs 0 to N - 1.  Each text is run with several budgets, with and without
---memory and --stats.  Where `exec` comes to an end, an index fault or a refusal, the two
+the generated jobs 0 to N - 1, and --drafts N the random images 0 to N - 1 of
+tests/diagnose/drafts, with an input.  Each text is run with several budgets, with and
+without --memory and --stats; of those that are generated each budget has one choice of
+these, in turn, and is at most 100,000.  Where `exec` comes to an end, an index fault or a refusal, the two
 have to give the same bytes and the same status.  Where its budget is spent, so has `wss`
 or it has met the index fault that the whole run meets, and its words are a front of the
 words of the whole run.  Prints a line for each difference, then the counts; the status is
@@ -19,8 +21,12 @@ import subprocess
 import sys
 from pathlib import Path
 
+sys.path.insert(0, str(Path(__file__).resolve().parent.parent / 'python'))
+from tests.diagnose.drafts import Draft
+
 BUDGET, FAULT = 3, 8
 MOST = 4_000_000
+MOST_GENERATED = 100_000
 FLAGS: list[list[str]] = [[], ['--memory'], ['--stats'], ['--memory', '--stats']]
 Answer = tuple[int, bytes]
 
@@ -69,16 +75,19 @@ def agree(ours: Answer, theirs: Answer, whole: Answer) -> bool:
     return ours[0] == BUDGET and words == words_of(whole[1])[:len(words)]
 
 
-def budgets_of(firings: int) -> list[int]:
+def budgets_of(firings: int, most: int) -> list[int]:
     """Budgets around the ends of a run of so many firings, and on its way."""
-    some = {0, 1, 2, 7, firings // 3, firings // 2, firings - 1, firings, firings + 1, MOST}
-    return sorted(n for n in some if 0 <= n <= MOST)
+    some = {0, 1, 2, 7, firings // 3, firings // 2, firings - 1, firings, firings + 1, most}
+    return sorted(n for n in some if 0 <= n <= most)
 
 
-def compare(wsc: str, wss: str, name: str, text: bytes, counts: collections.Counter[str]) -> None:
-    whole = call(wsc, ['exec', '--stats', '--budget', str(MOST)], text)
-    for budget in budgets_of(firings_of(whole[1])):
-        for flags in FLAGS:
+def compare(wsc: str, wss: str, name: str, text: bytes, counts: collections.Counter[str], turn: int | None = None) -> None:
+    """Compares the answers to a text with all flags, or with those whose turn it is at each budget."""
+    most = MOST if turn is None else MOST_GENERATED
+    counts['texts'] += 1
+    whole = call(wsc, ['exec', '--stats', '--budget', str(most)], text)
+    for place, budget in enumerate(budgets_of(firings_of(whole[1]), most)):
+        for flags in FLAGS if turn is None else [FLAGS[(turn + place) % len(FLAGS)]]:
             theirs = call(wsc, ['exec', '--budget', str(budget), *flags], text)
             ours = call(wss, ['--budget', str(budget), *flags], text)
             counts['calls'] += 1
@@ -94,23 +103,30 @@ def compare(wsc: str, wss: str, name: str, text: bytes, counts: collections.Coun
             print(f'{name}: without a budget')
 
 
+def draft(number: int) -> bytes:
+    """A random image, with an input."""
+    lines = Draft(number, 1 + number % 6, linked=True).lines()
+    return '\n'.join([*lines, '%input', f'{number % 7} 0 3 1', '']).encode()
+
+
 def main() -> int:
     parser = argparse.ArgumentParser(description=__doc__, formatter_class=argparse.RawDescriptionHelpFormatter)
     parser.add_argument('wsc')
     parser.add_argument('wss')
     parser.add_argument('files', nargs='*', type=Path)
     parser.add_argument('--gen', type=int, default=0, metavar='N')
+    parser.add_argument('--drafts', type=int, default=0, metavar='N')
     options = parser.parse_intermixed_args()
     counts: collections.Counter[str] = collections.Counter()
     for file in options.files:
         text = file.read_bytes()
-        counts['texts'] += 1
         compare(options.wsc, options.wss, file.name, text if file.suffix == '.asm' else assembly_of(options.wsc, text),
                 counts)
     for number in range(options.gen):
-        counts['texts'] += 1
         compare(options.wsc, options.wss, f'gen {number}',
-                assembly_of(options.wsc, call(options.wsc, ['gen', str(number)], b'')[1]), counts)
+                assembly_of(options.wsc, call(options.wsc, ['gen', str(number)], b'')[1]), counts, number)
+    for number in range(options.drafts):
+        compare(options.wsc, options.wss, f'draft {number}', draft(number), counts, number)
     print(', '.join(f'{name} {count}' for name, count in sorted(counts.items())))
     return 1 if counts['differences'] else 0
 

@@ -1,12 +1,12 @@
 #!/usr/bin/env python3
-"""Refuses each allocation of the program in turn, on a few calls, and compares what it then answers.
+"""Refuses each allocation of wsc and wss in turn, on a few calls, and compares what they then answer.
 
-    tests/allocations.py [PROGRAM]     at the top of the repository, over the program that ./prove builds
+    tests/allocations.py [WSC [WSS]]     at the top of the repository, over the programs that ./prove builds
 
 Counted are the calls of malloc and of realloc together, from 1 on; each number is refused once, until 32 in a
 row change nothing. A call answers as it does with ample memory, or nothing, with status 7; what it has given to
-port 1 by then is a front of what it gives otherwise. A small library for that, made by cc, stands before malloc.
-The gate doesn't run this.
+port 1 by then is a front of what it gives otherwise. With that status wss has written the lines of the first words
+of its answer, some or all. A small library for that, made by cc, stands before malloc. The gate doesn't run this.
 """
 
 import os
@@ -17,7 +17,9 @@ import tempfile
 from concurrent.futures import ThreadPoolExecutor
 
 ROOT = pathlib.Path(__file__).resolve().parent.parent
-PROGRAM = pathlib.Path(sys.argv[1] if len(sys.argv) > 1 else ROOT / "crates" / "wsc" / "out" / "wsc")
+NAMES = ("wsc", "wss")
+WSC, WSS = (str(pathlib.Path(named or ROOT / "crates" / name / "out" / name))
+            for name, named in zip(NAMES, [*sys.argv[1:3], "", ""]))
 NO_MEMORY = 7
 IN_A_ROW = 32
 
@@ -48,6 +50,7 @@ SEVEN = "proc main() { print 7; }"
 DOUBLES = "proc dbl(x) { return x * 2; } proc main() { var a, b, k; k = 5; a = dbl(k); b = dbl(a); print a + b + k; }"
 PORTS = "proc main() { var x; take 1, 7; take 1, 8; give 2, x; print x; }"
 GIVES = "proc main() { var x; give 2, x; print x; give 2, x; print x; give 4, x; print x; take 2, 7; }"
+COUNTS = "proc main() { var i; while (i < 900) { print i; i = i + 1; } }"
 STORES = """wavescalar 1
 array a 2
 wave 1
@@ -82,32 +85,35 @@ end
 
 
 def told(words: list[str], text: str = "") -> str:
-    """What the program answers with ample memory."""
-    ran = subprocess.run([PROGRAM, *words], input=text.encode(), capture_output=True, check=False)
+    """What wsc answers with ample memory."""
+    ran = subprocess.run([WSC, *words], input=text.encode(), capture_output=True, check=False)
     return ran.stdout.decode()
 
 
 def calls() -> list[tuple[list[str], str]]:
-    """The words and the text of each call."""
+    """The words, of which the first is the program, and the text of each call."""
     matrix = told(["gen", "2"])
     return [
-        (["run", "--workers", "2"], SEVEN),
-        (["run", "--workers", "2"], DOUBLES),
-        (["run", "--workers", "2"], PORTS),
-        (["run", "--workers", "2"], GIVES),
-        (["run", "--workers", "2"], matrix),
-        (["bench", "2", "--workers", "4"], ""),
-        (["multi", "--workers", "2"], f"{PORTS}\n%job\n{SEVEN}"),
-        (["plain"], matrix),
-        (["format"], matrix),
-        (["compile"], matrix),
-        (["check"], STORES.partition("%input")[0]),
-        (["list"], STORES.partition("%input")[0]),
-        (["exec", "--stats", "--workers", "2"], STORES),
-        (["decouple", "--stats"], STORES),
-        (["grid", "--stats"], STORES),
-        (["trace"], STORES),
-        (["replay"], told(["trace"], STORES)),
+        ([WSC, "run", "--workers", "2"], SEVEN),
+        ([WSC, "run", "--workers", "2"], DOUBLES),
+        ([WSC, "run", "--workers", "2"], PORTS),
+        ([WSC, "run", "--workers", "2"], GIVES),
+        ([WSC, "run", "--workers", "2"], matrix),
+        ([WSC, "bench", "2", "--workers", "4"], ""),
+        ([WSC, "multi", "--workers", "2"], f"{PORTS}\n%job\n{SEVEN}"),
+        ([WSC, "plain"], matrix),
+        ([WSC, "format"], matrix),
+        ([WSC, "compile"], matrix),
+        ([WSC, "check"], STORES.partition("%input")[0]),
+        ([WSC, "list"], STORES.partition("%input")[0]),
+        ([WSC, "exec", "--stats", "--workers", "2"], STORES),
+        ([WSC, "decouple", "--stats"], STORES),
+        ([WSC, "grid", "--stats"], STORES),
+        ([WSC, "trace"], STORES),
+        ([WSC, "replay"], told(["trace"], STORES)),
+        ([WSS, "--memory", "--stats"], STORES),
+        ([WSS], told(["compile"], COUNTS)),
+        ([WSS, "--budget", "3000"], told(["compile"], COUNTS)),
     ]
 
 
@@ -117,8 +123,15 @@ Answer = tuple[int, bytes, bytes]
 def called(shim: pathlib.Path, words: list[str], text: str, refused: int) -> Answer:
     """The status, the answer, and what port 1 took, where the allocation with this number is refused; 0 is none."""
     given = {**os.environ, "LD_PRELOAD": str(shim), "REFUSED": str(refused)}
-    ran = subprocess.run([PROGRAM, *words], input=text.encode(), capture_output=True, env=given, check=False)
+    ran = subprocess.run(words, input=text.encode(), capture_output=True, env=given, check=False)
     return ran.returncode, ran.stdout, ran.stderr
+
+
+def is_starved(program: str, found: Answer, whole: Answer) -> bool:
+    """Whether this may be the answer where memory ran out."""
+    status, out, port = found
+    lines = out.endswith(b"\n") and whole[1].startswith(out) and program == WSS
+    return status == NO_MEMORY and (not out or lines) and whole[2].startswith(port)
 
 
 def tried(shim: pathlib.Path, words: list[str], text: str) -> tuple[int, int, int]:
@@ -129,7 +142,7 @@ def tried(shim: pathlib.Path, words: list[str], text: str) -> tuple[int, int, in
         while any(answer != whole for answer in found[-IN_A_ROW:]) or not found:
             numbers = range(len(found) + 1, len(found) + 1 + 4 * IN_A_ROW)
             found += pool.map(lambda number: called(shim, words, text, number), numbers)
-    starved = [it for it in found if it[:2] == (NO_MEMORY, b"") and whole[2].startswith(it[2])]
+    starved = [it for it in found if is_starved(words[0], it, whole)]
     wrong = [it for it in found if it != whole and it not in starved]
     return len(found), len(starved), len(wrong)
 
@@ -143,7 +156,8 @@ def main() -> int:
         for words, text in calls():
             count, none, wrong = tried(shim, words, text)
             bad += wrong
-            print(f"wsc {' '.join(words)}: {count} allocations refused, {none} times no memory, {wrong} wrong", flush=True)
+            name = " ".join([pathlib.Path(words[0]).name, *words[1:]])
+            print(f"{name}: {count} allocations refused, {none} times no memory, {wrong} wrong", flush=True)
     return 1 if bad else 0
 
 

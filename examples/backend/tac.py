@@ -1,11 +1,11 @@
 #!/usr/bin/env python3
-"""A small back end: from three-address code to a draft of WaveScalar assembly, which `wsl` gives its notes.
+"""A small back end: from three-address code to a draft of WaveScalar assembly, which `wsl` annotates.
 
     PYTHONPATH=../../python ./tac.py squares.tac | wsl --names > squares.asm
 
 Each basic block becomes a wave. Its advances take the pulse and what is live at its head; a branch steers
 what is live behind it; a call stores what it still needs in hidden cells, and sends values to the pads of its
-callee; a `return` sends to the return point at the return address. Nothing here knows of notes.
+callee; a `return` sends to the return block at the return address. Nothing here knows of annotations.
 """
 
 import sys

@@ -44,8 +44,8 @@ STATEMENTS = {
     "Sequential": ("OneMeaning", "JobMeaning"),
     "Ends": ("JobsEnd", "CodeEnds", "AssembliesEnd", "NeverEnds"),
     "Streams": (
-        *("OneStreamResult", "OneStreamAgain", "OneStreamCount", "OneStreamFront", "OneStreamJob", "StreamMeaning"),
-        *("StreamsEnd", "StreamCodeEnds"),
+        *("OneStreamResult", "OneStreamAgain", "OneStreamCount", "OneStreamFront", "OneStreamBrokenOff"),
+        *("OneStreamJob", "StreamMeaning", "StreamsEnd", "StreamCodeEnds"),
     ),
 }
 

@@ -1,8 +1,8 @@
-"""What the commands have in common: how a line is read, what they end with.
+"""What the commands have in common: how arguments are read, which exit status they have.
 
-The status is 0 where all is done, 1 where the words are no line of the program, 2 where a text or a file
-can't be read or the program wsc refuses it, 3 where a sweep has something to be looked at. Faults go to
-standard error, behind the program's name.
+The exit status is 0 if all is done, 1 if the arguments are wrong, 2 if a text or a file can't be read or wsc
+refuses it, 3 if `collect` of a sweep or plan reports something. Faults go to standard error, after the program's
+name.
 """
 
 from __future__ import annotations
@@ -37,12 +37,12 @@ class Version(argparse.Action):
 
 
 class Line(argparse.ArgumentParser):
-    """A line with --help, and status 1 where the words are none."""
+    """A command line with --help, and status 1 for wrong arguments."""
 
     def __init__(self, told: str | None = None, **more: Any):
         plain = argparse.RawDescriptionHelpFormatter
         super().__init__(description=told, formatter_class=plain, **more)
-        self.add_argument("--version", action=Version, nargs=0, help="prints the version and exits")
+        self.add_argument("--version", action=Version, nargs=0, help="show the version and exit")
 
     def error(self, message: str) -> NoReturn:
         """Says what is wrong with the words, and ends."""
@@ -52,7 +52,7 @@ class Line(argparse.ArgumentParser):
 
 def add_program(ask: argparse.ArgumentParser) -> None:
     """The option that names the program."""
-    told = "the program wsc; else that of the environment's WSC, else wsc at the top of the repository, else on the path"
+    told = "the program wsc; by default $WSC, else wsc at the top of the repository, else wsc on the path"
     ask.add_argument("--wsc", metavar="PROGRAM", default=usual(), help=told)
 
 

@@ -65,7 +65,7 @@ part() {
             files+=("${@:2}")
             return
             ;;
-        --memory | --stats | --*=*) words+=("$1") ;;
+        --memory | --stats | --progress | --*=*) words+=("$1") ;;
         --*)
             words+=("${@:1:2}")
             [ $# -eq 1 ] || shift
@@ -203,7 +203,7 @@ hand() {
     case $1 in
     gen | bench) ;;
     stream)
-        handed=("${words[@]:1}")
+        hand_to_stream
         make_assembly
         ;;
     optimize)
@@ -216,6 +216,21 @@ hand() {
         watch
     fi
     exec "$program" "${handed[@]}"
+}
+
+# The words of the program of stream: of these --progress is the first. It is there too where standard error is a terminal
+# and standard output none.
+hand_to_stream() {
+    local word progress=
+    [ ! -t 2 ] || [ -t 1 ] || progress=--progress
+    handed=()
+    for word in "${words[@]:1}"; do
+        case $word in
+        --progress) progress=$word ;;
+        *) handed+=("$word") ;;
+        esac
+    done
+    handed=(${progress:+"$progress"} "${handed[@]}")
 }
 
 # Makes an assembly standard input, where a job is: what compile prints of it, and its input section. A refusal of compile
@@ -261,7 +276,7 @@ find_fault() {
         word=${1%%=*}
         value=${1#"$word"}
         case $word in
-        --memory | --stats) fault_of_flag ;;
+        --memory | --stats | --progress) fault_of_flag ;;
         --?*)
             if [ -n "$value" ]; then
                 value=${value#=}

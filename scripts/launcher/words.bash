@@ -1,7 +1,7 @@
 # Made of docs/wsc.1 by python/run repo.manual.
 # shellcheck shell=bash disable=SC2034
 commands=(run plain format compile multi check exec list trace replay decouple grid stream optimize gen bench)
-options=(workers budget elements waves turns memory stats)
+options=(workers budget elements waves turns memory stats progress)
 declare -A options_of=(
     [run]="workers budget memory stats"
     [plain]="turns memory stats"
@@ -15,7 +15,7 @@ declare -A options_of=(
     [replay]=""
     [decouple]="budget memory stats"
     [grid]="elements waves budget memory stats"
-    [stream]="budget memory stats"
+    [stream]="budget memory stats progress"
     [optimize]=""
     [gen]=""
     [bench]="workers budget"

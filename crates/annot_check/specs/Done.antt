@@ -1,10 +1,10 @@
--- Tables of the slots with which the blocks of a wave are come into, closed under edges.
+-- Tables of the slots with which the blocks of a wave are entered, closed under edges.
 use Rattle.std.specs.Prelude.{ℕ, ◌≡◌, ◌⊎◌, Bool, true, false, Option, Some}
 use Rattle.ws_isa.specs.Image.{Image, block_at, first_number, stops, target, is_first, start_dests, IsBlock}
 use Rattle.ws_isa.specs.Sound.{OpenSlots, none_open, all_opened, Fresh, opens_at, Opens, AdvancesOpen}
 use Rattle.annot_check.specs.Runs.{run, GoodRun}
 
--- the table says with which slots a path comes into the edge's block
+-- the table says with which slots a path enters the edge's block
 pub record EdgeDone (image : Image) (known : ℕ → Option OpenSlots) (b r : ℕ) (o : OpenSlots) : Type 0 where
   pub fresh : Fresh (opens_at image b r) o
   pub slots : OpenSlots
@@ -23,12 +23,12 @@ pub record BlockDone (image : Image) (known : ℕ → Option OpenSlots) (b : ℕ
   pub good : GoodRun (block_at image b).instrs (first_number image b) o
   pub ended : Ended image known b (run (block_at image b).instrs (first_number image b) o)
 
--- the start pulse comes into block 1 with exactly the slots of its advances
+-- the start pulse enters block 1 with exactly the slots of its advances
 pub record Begun (image : Image) : Type 0 where
   pub fresh : Fresh (start_dests image) none_open
   pub begins : AdvancesOpen image 1 (all_opened (start_dests image) none_open)
 
--- a path comes into block b, the first of its wave, with exactly the slots of its advances
+-- a path enters block b, the first of its wave, with exactly the slots of its advances
 pub record CameTo (image : Image) (b : ℕ) : Type 0 where
   pub here : IsBlock image b
   pub first : is_first image b ≡ true
@@ -40,7 +40,7 @@ pub record CameTo (image : Image) (b : ℕ) : Type 0 where
 abbrev pub PassedWith : Image → ℕ → ℕ → Type 0
 PassedWith image f b = (b ≡ f) ⊎ (is_first image b ≡ false)
 
--- the slots with which the blocks of the wave of block f are come into: a table that is closed under
+-- the slots with which the blocks of the wave of block f are entered: a table that is closed under
 -- edges up to first blocks of waves, which are among these
 pub record WaveTable (image : Image) (among : ℕ → Type 0) (f : ℕ)
     (known : ℕ → Option OpenSlots) : Type 0 where
@@ -55,7 +55,7 @@ pub record WaveDone (image : Image) (among : ℕ → Type 0) (f : ℕ) : Type 0 
   pub known : ℕ → Option OpenSlots
   pub table : WaveTable image among f known
 
--- the first blocks of waves that are come to, each with its wave's table
+-- the first blocks of waves that are reached, each with its wave's table
 pub record Closed (image : Image) (come : ℕ → Bool) : Type 0 where
   pub begun : Begun image
   pub one : come 1 ≡ true

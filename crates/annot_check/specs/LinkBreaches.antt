@@ -6,7 +6,7 @@ use Rattle.ws_isa.specs.Image.{Image, first_number, is_memory, is_writing, note_
 use Rattle.ws_isa.specs.Sound.{InWave, ComesNext, PathEnds, seq, wave_at}
 use Rattle.ws_words.specs.Items.{In}
 
--- operation k follows operation j, and their notes don't allow it
+-- operation k follows operation j, and their annotations don't allow it
 pub data Disagree (image : Image) (j k : ℕ) : Type 0 where
   falls : seq image k ≤ seq image j → Disagree image j k
   apart : ((note_of image j).succ ≡ Is (seq image k) → ⊥) →

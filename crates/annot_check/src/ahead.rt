@@ -1,4 +1,4 @@
-//! Destinations: lists lead ahead, pads to advances, and advances stand in front.
+//! Destinations: lists lead ahead, pads to advances, and advances stand before all others.
 
 ghost use Rattle.std.specs.Prelude.{◌≡◌, ◌<◌, ◌≤◌, ℕ, suc, map, true, false, []};
 ghost use Rattle.ws_isa.specs.Image.{instr_at, first_number, block_at, IsBlock, IsIn, Pad as PlainPad};

@@ -1,4 +1,4 @@
-//! What is told of each instruction by its number: its operation, and the wave in which it stands.
+//! What is known of each instruction by its number: its operation, and the wave in which it stands.
 
 ghost use Rattle.std.specs.Prelude.{◌≡◌, ◌+◌, ◌∷◌, ◌++◌, map, IfOk, OnOk, false, slice_index_or};
 ghost use Rattle.ws_isa.specs.Image.{is_advance, is_advance_op};

@@ -1,7 +1,7 @@
 //! The paths of an image, and the slots that are open on them.
 //!
 //! Waves are passed one after the other, from that of block 1 on, each once, with the slots of its
-//! advances open. What is kept of a wave's blocks and slots is let go when the wave is passed.
+//! advances open. What is kept of a wave's blocks and slots is released when the wave is passed.
 
 ghost use Rattle.std.specs.Prelude.{◌≡◌, ◌+◌, ◌⊎◌, ℕ, [], length, IfOk, OnOk, IfErr, true, false};
 ghost use Rattle.std.specs.Prelude.{Some, None};
@@ -75,7 +75,7 @@ impl<'a> Trace<'a> {
         Ok(passed)
     }
 
-    // What was kept of these blocks is let go.
+    // Releases what was kept of these blocks.
     fn clear(&mut self, alloc: Global, passed: &[u32]) -> Result<(), NoMemory>
         requires ready { Ready self.now }
         requires shut { Shut self.now }
@@ -89,7 +89,7 @@ impl<'a> Trace<'a> {
         self.held.clear(alloc)
     }
 
-    // The wave of a block that was come to, and the waves to which its edges lead.
+    // The wave of a block that was reached, and the waves to which its edges lead.
     fn next_wave(&mut self, alloc: Global, waves: &mut Waves, first: u32) -> Result<(), CheckFault>
         requires between { Between self.now }
         requires came { CameTo (image_of self.now) first }
@@ -109,7 +109,7 @@ impl<'a> Trace<'a> {
         Ok(())
     }
 
-    // The start pulse comes into block 1.
+    // The start pulse enters block 1.
     fn begin(&mut self) -> Result<(), CheckFault>
         requires between { Between self.now }
         requires blank { look self.now.held ≡ none_open }

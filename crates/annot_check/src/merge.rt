@@ -1,4 +1,4 @@
-//! What is kept of two paths that come into one block.
+//! What is kept of two paths that enter one block.
 
 ghost use Rattle.std.specs.Prelude.{◌≡◌, ◌≤◌, ℕ, IfSome, IfNone, IfOk, IfErr, Some, None, cond, ltb};
 ghost use Rattle.annot_check.specs.Order.{link_eq, added, placed, joint as joint_lasts, LastsOk, Merged};

@@ -1,6 +1,6 @@
-//! Where the result of a block's exit comes to.
+//! Which instructions the result of a block's exit reaches.
 //!
-//! Steers and sends have to have it at a port, directly or by way of merges of the block.
+//! Steers and sends must have it at a port, directly or through merges of the block.
 
 ghost use Rattle.std.specs.Prelude.{◌≡◌, ◌⊎◌, ◌+◌, ◌<◌, ◌≤◌, ℕ, List, suc, length, true, false};
 ghost use Rattle.std.specs.Prelude.{slice_index_or};
@@ -18,7 +18,7 @@ use crate::read::block;
 use crate::runs::now_dests;
 use ws_isa::{Dest, Exit, Image, Instr, Op};
 
-/// Instructions that hand the result of a block's exit on, and those that have it at a port.
+/// Instructions that pass on the result of a block's exit, and those that have it at a port.
 #[derive(Drop)]
 pub struct Spread {
     pub marks: Vec<bool>,
@@ -129,7 +129,7 @@ impl Spread {
         );
     }
 
-    // From the exit's instruction to all to which its result comes.
+    // From the exit's instruction to all that its result reaches.
     fn spread(
         &mut self,
         facts: &Facts,

@@ -56,7 +56,7 @@ impl<'a> Trace<'a> {
         self.deliver(number, target_of(self.image, number, choice))
     }
 
-    // Every edge of a block that is left with the slots at hand.
+    // Every edge of a block that is left with the current slots.
     fn leave(&mut self, alloc: Global, number: u32) -> Result<(), CheckFault>
         requires ready { Ready self.now }
         requires shut { Shut self.now }

@@ -26,42 +26,42 @@ use Rattle.asm_link.specs.declared.fault.LinkFault.TheVariants.{Refused, NoMemor
 use Rattle.asm_link.specs.Bare.{bare}
 use Rattle.asm_link.specs.Unfit.{lacks}
 
--- This image is the draft with notes, and with what they need.
+-- This image is the draft with annotations, and with what they need.
 pub record HasNotes (draft made : Image) : Type 0 where
   pub sound : Sound made
   -- the arrays, the blocks with their waves and edges, and the operations but for no-ops that are added
   pub kept : KeepsBlocks draft made
   -- in every world it does what the draft does, ends where that ends, and costs little more
   pub walk : (world : World) → WalksFor draft made world
-  -- where the no-ops get their tokens from, and that none is in vain, whatever the notes
+  -- where the no-ops get their tokens from, and that none is in vain, whatever the annotations
   pub triggers : TriggeredNear draft made
   pub needed : NoneInVain draft made
   pub never_linked : NeverLinked draft made
 
--- numbers count up in each wave and ripples are as small as they can be; or it is the draft with notes and
--- nothing else, where the other would lack something
+-- numbers count up in each wave and ripples are as small as they can be; or it is the draft with annotations
+-- and nothing else, if something is missing in the other
 abbrev pub HowNoted : Image → Image → Type 0
 HowNoted draft made = ((lacks draft ≡ None) × NumberedInOrder made × ExactRipples made)
     ⊎ (made ≡ noted draft)
 
--- it is formed, and is the draft of this image with new notes
+-- it is formed, and is the draft of this image with new annotations
 pub record Linked (image made : Image) : Type 0 where
   pub formed : Formed made
   pub notes : HasNotes (bare image) made
   pub how : HowNoted (bare image) made
 
--- Its shape and slots are right, and it lacks nothing; or no no-op is needed.
+-- Its shape and slots are right, and nothing is missing; or no no-op is needed.
 pub record CanBeNoted (image : Image) : Type 0 where
   pub shape : ShapeRules image
   pub slots : SlotRules image
   pub fit : (lacks (bare image) ≡ None) ⊎ Sound (noted (bare image))
 
--- this tells what a draft lacks
+-- this says what is missing in a draft
 abbrev pub TellsLack : Option Unfits → Lack → Type 0
 TellsLack lack (Unfitting found) = lack ≡ Some found
 TellsLack lack OutOfMemory = Unit {0}
 
--- this tells it where the draft with notes and nothing else isn't sound
+-- this says it if the draft with annotations and nothing else isn't sound
 abbrev pub StillLacks : Image → Unfits → LinkFault → Type 0
 StillLacks draft lack (Refused (Unfit found)) = (found ≡ lack) × (Sound (noted draft) → ⊥)
 StillLacks draft lack (Refused _) = ⊥
@@ -74,7 +74,7 @@ pub record LinksText (text : List ℕ) (made : Image) : Type 0 where
   pub can : CanBeNoted image
   pub linked : Linked image made
 
--- numbers that break a rule on shape or slots; no rule on notes is asked
+-- numbers that break a rule on shape or slots; no rule on annotations is asked
 abbrev pub BreaksDraft : Image → Bad → Type 0
 BreaksDraft image (Port i p) = PortBreach image i p
 BreaksDraft image (Pending c d) = PendingBreach image c d

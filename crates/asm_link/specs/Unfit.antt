@@ -1,4 +1,4 @@
--- What a draft lacks whose shape and slots are right, so that it can't get notes.
+-- What is missing in a draft whose shape and slots are right, so that it can't be annotated.
 use Rattle.std.specs.Prelude.{ℕ, suc, ◌-◌, Bool, true, false, cond, not, ◌&&◌, ◌||◌, eqb, ltb, List, []}
 use Rattle.std.specs.Prelude.{◌∷◌, get_or, Option, Some, None}
 use Rattle.ws_isa.specs.Image.{Instr, Exit, Goto, Branch, Landings, Stop, Block, Image}
@@ -39,7 +39,7 @@ abbrev pub is_triggered : List Block → List ℕ → List Bool → ℕ → List
 is_triggered bs hits marks b is =
     any_giving is || (is_arm bs hits b && get_or marks b false)
 
--- what block n lacks, where the first is block 0; `added` says which get a no-op
+-- what is missing in block n, where the first is block 0; `added` says which get a no-op
 abbrev pub of_block : List Block → List ℕ → List Bool → List Bool → ℕ → Block → Option Unfit
 of_block bs hits marks added n x = cond (forks_or_ends bs hits x.exit)
     (cond (not (get_or added n false) || is_triggered bs hits marks (suc n) x.instrs) None
@@ -56,7 +56,7 @@ of_blocks bs hits marks added n [] = None
 of_blocks bs hits marks added n (x ∷ xs) =
     or_next (of_block bs hits marks added n x) (of_blocks bs hits marks added (suc n) xs)
 
--- the first block that lacks something
+-- the first block in which something is missing
 abbrev pub lack_in : List Block → Option Unfit
 lack_in bs = of_blocks bs (hits_of bs) (marks_of bs) (added_in bs) 0 bs
 
@@ -68,6 +68,6 @@ full_as (Some k) o = Some (Full k)
 abbrev pub room_in : List Block → List Block → Option Unfit
 room_in bs cs = full_as (full_in 1 0 bs cs) (cond (ltb 4194304 (count_in cs)) (Some Many) None)
 
--- what a draft lacks
+-- what is missing in a draft
 unfoldable pub lacks : Image → Option Unfit
 lacks draft = or_next (lack_in draft.blocks) (room_in draft.blocks (annotated draft).blocks)

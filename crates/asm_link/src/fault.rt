@@ -1,13 +1,13 @@
-//! Why a text has no image with notes.
+//! Why a text has no annotated image.
 
 use annot_check::Bad;
 use asm_text::AsmKind;
 
-/// What a draft whose shape and slots are right lacks. `Arm`: this block branches neither to two blocks that
-/// are no first ones and that no other edge enters, nor to two first ones. `Trigger`: nothing could trigger
-/// the no-op that this block needs, no instruction of it and no steer of the one block before it. `Full`: a
-/// list of this instruction has no room for a no-op that it would trigger. `Many`: there is no room for the
-/// no-ops.
+/// What is missing in a draft whose shape and slots are right. `Arm`: this block branches neither to two
+/// blocks that are no first ones and that no other edge enters, nor to two first ones. `Trigger`: nothing
+/// could trigger the no-op that this block needs, no instruction of it and no steer of the one block before
+/// it. `Full`: a list of this instruction has no room for a no-op that it would trigger. `Many`: there is no
+/// room for the no-ops.
 #[derive(Clone, Copy, Debug, PartialEq, Eq)]
 pub enum Unfit {
     Arm(u32),
@@ -16,7 +16,7 @@ pub enum Unfit {
     Many,
 }
 
-/// Why a draft has no image with what its notes need.
+/// Why a draft has no image with what its annotations need.
 #[derive(Clone, Copy, Debug, PartialEq, Eq)]
 pub enum Lack {
     Unfitting(Unfit),
@@ -35,7 +35,7 @@ impl From<ws_words::NoMemory> for Lack {
 }
 
 /// Why a text is refused: its first faulty line, counted from 1, numbers that break a rule on shape or
-/// slots, or what it lacks.
+/// slots, or what is missing.
 #[derive(Clone, Copy, Debug, PartialEq, Eq)]
 pub enum LinkRefusal {
     Text(AsmKind, u32),

@@ -16,8 +16,8 @@ ghost use Rattle.asm_link.specs.Linked.{BreaksImage, CanBeNoted, Linked};
 
 use asm_text::printed_reads_again;
 
-/// A law: an image that is refused can't be noted; a formed one can be exactly where its draft is fit for
-/// notes and what is made of that stays within the limits, or where the draft is sound with notes and nothing
+/// A law: an image that is refused can't be annotated. A formed one can be exactly if its draft is fit for
+/// annotations and the result stays within the limits, or if the draft is sound with annotations and nothing
 /// else.
 pub fn refusals_are_right()
     ensures refused { (image : Image) (why : LinkRefusal) → BreaksImage image why → CanBeNoted image → ⊥ }

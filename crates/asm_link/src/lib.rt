@@ -1,15 +1,19 @@
-//! From the text of an assembly to that of a sound image: its notes are left out of account, and made anew.
+//! From the text of an assembly to that of a sound image: its memory annotations are dropped and made anew.
 //!
-//! `link` reads a text as `read_asm` does, and leaves its notes away; where the rules on shape and slots
-//! are kept it gives that draft with new notes (`ok`, `Linked`): sound and formed, with the arrays, blocks
-//! and edges of the text, its operations with at most one no-op more in each block, each of which is
-//! needed, and a walk that does the same in every world. Else it names the first faulty line, numbers that
-//! break a rule on shape or slots, or what is lacking (`refused`): a branch that neither forks nor ends its
-//! wave, a no-op without a trigger, or room (`lacks`), where the draft with notes and nothing else isn't
-//! sound either. What is refused can't get notes so (`refusals_are_right`), and what is printed is read
-//! again, as a sound image (`prints_are_sound`). `wsl` is the call of the program: what went out is the
-//! printed form of such an image, or why the text is refused, and was flushed (`answered`); where a write
-//! failed it is a front of an answer (`unwritten`); where memory ran out it is nothing (`starved`).
+//! `link` reads a text as `read_asm` does, and drops its annotations. If the rules on shape and slots are
+//! kept, it gives that draft with new annotations (`ok`, `Linked`). The result is sound and formed, with the
+//! arrays, blocks and edges of the text. Each block has its operations and at most one no-op more, which is
+//! needed; the walk does the same in every world.
+//!
+//! Else `link` names the first faulty line, numbers that break a rule on shape or slots, or what is missing
+//! (`refused`): a branch that neither forks nor ends its wave, a no-op without a trigger, or room (`lacks`).
+//! It names what is missing only if the draft with annotations and nothing else isn't sound either. What is
+//! refused can't be annotated so (`refusals_are_right`). What is printed is read again, as a sound image
+//! (`prints_are_sound`).
+//!
+//! `wsl` is the call of the program. What went out is the printed form of such an image, or why the text is
+//! refused, and was flushed (`answered`). If a write failed, it is a prefix of an answer (`unwritten`). If
+//! memory ran out, it is nothing (`starved`).
 #![tactic(auto)]
 
 mod call;

@@ -51,7 +51,7 @@ fn slotted(alloc: Global, image: &Image) -> Result<(), LinkFault>
     }
 }
 
-// Whether a draft lacks nothing before anything is added.
+// Whether nothing is missing in a draft before anything is added.
 fn fit(alloc: Global, draft: &Draft) -> Result<(), Lack>
     ensures fit { OnOk result (lack_in (view.draft draft.now).blocks ≡ None) }
     ensures lacks { IfErr result (TellsLack (lack_in (view.draft draft.now).blocks)) }
@@ -75,7 +75,7 @@ fn within(draft: &Draft, made: &Image) -> Result<(), Lack>
     }
 }
 
-// The image of a draft with notes, and with what they need.
+// The image of a draft with memory annotations, and with what they need.
 #[tactic(auto, using(crate::proofs::Opens::fits, crate::proofs::Renoted::lack_front, crate::proofs::Renoted::lack_back, crate::proofs::Renoted::lacks_nothing))]
 fn with_needed(alloc: Global, draft: &Draft) -> Result<Image, Lack>
     requires bare { NoNotes (view.draft draft.now) }
@@ -96,7 +96,7 @@ fn with_needed(alloc: Global, draft: &Draft) -> Result<Image, Lack>
     }
 }
 
-// The draft with notes and nothing else, where it lacks this.
+// The draft with annotations and nothing else, if this is missing.
 fn plain(alloc: Global, draft: Draft, lack: Unfit) -> Result<Checked, LinkFault>
     requires formed { Formed (noted (view.draft draft)) }
     ensures made { IfOk result (λ made. made ≡ noted (view.draft draft)) }
@@ -111,7 +111,7 @@ fn plain(alloc: Global, draft: Draft, lack: Unfit) -> Result<Checked, LinkFault>
     }
 }
 
-// The image with new notes.
+// The image with new annotations.
 #[tactic(auto, using(crate::proofs::Renoted::draft_bare, crate::proofs::Renoted::draft_walkable, crate::proofs::Renoted::draft_within, crate::proofs::Renoted::draft_formed, crate::proofs::Renoted::can_with, crate::proofs::Renoted::linked_with, crate::proofs::Renoted::can_plain, crate::proofs::Renoted::linked_plain, crate::proofs::Renoted::refused_plain))]
 fn renoted(alloc: Global, image: Image) -> Result<Checked, LinkFault>
     requires formed { Formed (view.image image) }
@@ -133,7 +133,7 @@ fn renoted(alloc: Global, image: Image) -> Result<Checked, LinkFault>
     }
 }
 
-/// The sound image of a text whose notes are made anew, or why it is refused.
+/// The sound image of a text whose memory annotations are made anew, or why it is refused.
 pub fn link(alloc: Global, text: &[u8]) -> Result<Checked, LinkFault>
     requires { length text.now ≤ text_limit }
     ensures ok { IfOk result (LinksText text.now) }

@@ -1,4 +1,4 @@
-//! What a draft lacks whose shape and slots are right.
+//! What is missing in a draft whose shape and slots are right.
 
 ghost use Rattle.std.specs.Prelude.{◌≡◌, map, IfOk};
 ghost use Rattle.ws_isa.specs.Image.{is_giving_op};
@@ -102,7 +102,7 @@ pub struct BlockTables {
     added: Vec<bool>,
 }
 
-// What the block at this place lacks.
+// What is missing in the block at this place.
 fn of_block(
     blocks: &[Block],
     tables: &BlockTables,
@@ -125,7 +125,7 @@ fn of_block(
     Ok(None)
 }
 
-// What the first block lacks that lacks something.
+// What is missing in the first block in which something is.
 fn of_blocks(blocks: &[Block], tables: &BlockTables) -> Result<Option<Unfit>, NoMemory>
     ensures { IfOk result (λ unfit. unfit ≡ spec.of_blocks (map view.block blocks.now)
         tables.now.hits.items tables.now.marks.items tables.now.added.items 0
@@ -142,7 +142,7 @@ fn of_blocks(blocks: &[Block], tables: &BlockTables) -> Result<Option<Unfit>, No
     Ok(None)
 }
 
-/// What a draft lacks before anything is added to it.
+/// What is missing in a draft before anything is added to it.
 pub fn find_lack(alloc: Global, draft: &Draft) -> Result<Option<Unfit>, NoMemory>
     ensures { IfOk result (λ unfit. unfit ≡ spec.lack_in (view.draft draft.now).blocks) }
 {

@@ -35,7 +35,7 @@ pub data RefusesAssembly (text : List ℕ) : AsmRefusal → Type 0 where
   input : (image : Image) (place : Place) → read (program_of text) ≡ Ok image → Sound image
       → InputFault (input_place text) (input_of text) place → RefusesAssembly text (Input place)
 
--- what a text comes to: a sound image and its words, or why it is refused
+-- the result of a text: a sound image and its words, or why it is refused
 abbrev pub IsAssemblyAnswer : List ℕ → Result (Image × List ℕ) AsmRefusal → Type 0
 IsAssemblyAnswer text (Ok found) = IsAssembly text found.0 found.1
 IsAssemblyAnswer text (Err r) = RefusesAssembly text r

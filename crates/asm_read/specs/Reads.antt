@@ -7,14 +7,14 @@ use Rattle.asm_read.specs.declared.source.Unread.{Unread}
 use Rattle.asm_read.specs.declared.source.Unread.TheVariants.{Failed, TooLong, Refused, NoMemory}
 use Rattle.asm_read.specs.Assembly.{assembly_limit, IsAssembly, RefusesAssembly}
 
--- a source before and after a call: the bytes that it has left, where it tells them, and its faults
+-- a source before and after a call: the bytes that it has left, if it reports them, and its faults
 pub record SourceCall : Type 0 where
   pub left : Option (List ℕ)
   pub after : Option (List ℕ)
   pub faults : ℕ
   pub counted : ℕ
 
--- what a source tells of itself before and after a call
+-- what a source reports of itself before and after a call
 abbrev pub reading : {S : Type 0} → (S → Option (List ℕ)) → (S → ℕ) → S → S → SourceCall
 reading left faults old new = record {
   left = left old;

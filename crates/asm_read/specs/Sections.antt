@@ -11,8 +11,7 @@ use Rattle.src_ast.specs.declared.fault.TextFault.TheVariants.{Refused, NoMemory
 use Rattle.src_ast.specs.Lexemes.{start, after, is_blank}
 use Rattle.ws_words.specs.Letters.{starts_without}
 
--- a line ends here: at the text's end, at a line feed, or at a carriage return in front of one of
--- these
+-- a line ends here: at the text's end, at a line feed, or at a carriage return before one of these
 abbrev pub ends_line : List ℕ → Bool
 ends_line [] = true
 ends_line (b ∷ []) = (b == 10) || (b == 13)
@@ -29,8 +28,8 @@ abbrev pub after_line : List ℕ → List ℕ
 after_line [] = []
 after_line (b ∷ bytes) = if b == 10 then bytes else after_line bytes
 
--- The bytes in front of the first line that is exactly this one, or all; the flag says that a line
--- begins here.
+-- The bytes before the first line that is exactly this one, or all; the flag says that a line begins
+-- here.
 abbrev pub front_of : List ℕ → Bool → List ℕ → List ℕ
 front_of marker at_line [] = []
 front_of marker at_line (b ∷ bytes) =
@@ -54,7 +53,7 @@ input_of text = after_line (rest_of (codes "%input") true text)
 abbrev pub trace_section : List ℕ → List ℕ
 trace_section text = rest_of (codes "%trace") true (input_of text)
 
--- what stands in front of it
+-- what stands before it
 abbrev pub before_trace : List ℕ → List ℕ
 before_trace text = take (length text - length (trace_section text)) text
 
@@ -87,7 +86,7 @@ pub record IsItem (bytes rest : List ℕ) : Type 0 where
 abbrev pub IsWordText : List ℕ → ℕ → Type 0
 IsWordText bytes word = IsTrue (is_number bytes) × (value_of bytes ≡ word) × (word < 2 ^ 64)
 
--- From this place on the text begins with items that are these words, blanks in front of each;
+-- From this place on the text begins with items that are these words, blanks before each;
 -- after them and blanks stands this rest, at its place.
 pub data InputItems : Place → List ℕ → List ℕ → Place → List ℕ → Type 0 where
   stop : {at place : Place} {text rest : List ℕ} (blanks : List ℕ) → text ≡ blanks ++ rest
@@ -113,7 +112,7 @@ pub record InputFault (at : Place) (text : List ℕ) (place : Place) : Type 0 wh
   pub item : IsItem bytes further
   pub wrong : (word : ℕ) → IsWordText bytes word → ⊥
 
--- what an input section comes to: its words, or the place of its first item that is no word
+-- the result of an input section: its words, or the place of its first item that is no word
 abbrev pub IsInputAnswer : Place → List ℕ → Result (List ℕ) Place → Type 0
 IsInputAnswer at text (Ok words) = InputWords at text words
 IsInputAnswer at text (Err place) = InputFault at text place

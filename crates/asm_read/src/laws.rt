@@ -1,4 +1,4 @@
-//! What the text of an assembly comes to.
+//! What the text of an assembly is read as.
 
 ghost use Rattle.std.specs.Prelude.{◌≡◌, ◌⊎◌, List, ℕ, Result, Ok};
 ghost use Rattle.src_ast.specs.declared.lexeme.Place.{Place};
@@ -14,14 +14,14 @@ ghost use Rattle.asm_read.specs.Assembly.{IsAssembly, RefusesAssembly, IsAssembl
 
 use annot_check::breaches_break;
 
-/// Each input section comes to one thing alone: its words, or its first item that is no word.
+/// Each input section has exactly one result: its words, or its first item that is no word.
 pub fn each_input_is_read_once()
     ensures { (at : Place) (text : List ℕ) → ExactlyOne (IsInputAnswer at text) }
 {}
 
 /// The text of an assembly is one sound image with its words, or it is refused, and never both. It is
 /// refused for one reason, but that an image that breaks rules may be refused for any of them. That
-/// each text comes to one of the two rests on this: its image, where it has one, is sound or has
+/// each text has one of the two results rests on this: its image, if it has one, is sound or has
 /// numbers that break a rule.
 pub fn each_assembly_is_read_or_refused()
     ensures one { (text : List ℕ) (image again : Image) (words more : List ℕ)

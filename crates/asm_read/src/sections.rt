@@ -48,7 +48,7 @@ pub fn after_line(text: &[u8]) -> &[u8]
     rest
 }
 
-/// How many bytes stand in front of the first line that is exactly this one.
+/// How many bytes stand before the first line that is exactly this one.
 pub fn front_length(text: &[u8], marker: &[u8]) -> usize
     ensures front { take result text.now ≡ sections.front_of marker.now true text.now }
     ensures rest { drop result text.now ≡ sections.rest_of marker.now true text.now }

@@ -107,7 +107,7 @@ Spells names l (Instr n i) =
 Spells names l (Exit e) = SpellsExit names l e
 Spells names l End = l ≡ line.End
 
--- what a line of a text says in front of more lines: nothing, or a line without a wide number
+-- what a line of a text says before more lines: nothing, or a line without a wide number
 abbrev pub Says : Reading → List Line → List Line → Type 0
 Says Blank lines more = lines ≡ more
 Says (Found l wide) lines more = (wide ≡ false) × (lines ≡ l ∷ more)

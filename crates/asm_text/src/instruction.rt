@@ -1,4 +1,4 @@
-//! The line of an instruction: its operation, its note and its lists.
+//! The line of an instruction: its operation, its memory annotation and its lists.
 
 ghost use Rattle.std.specs.Prelude.{◌≡◌, Some};
 ghost use Rattle.ws_isa.specs.Image.{is_memory_op, is_giving_op, is_steer_op};

@@ -36,7 +36,7 @@ pub fn printed_texts_have_no_marker()
 {}
 
 /// The image of a text is formed: it is within the limits of version 2, its references are there,
-/// its lists and notes suit its instructions, and its pads and waves are in order.
+/// its lists and annotations suit its instructions, and its pads and waves are in order.
 pub fn read_images_are_formed()
     ensures { (text : List ℕ) (image : Image) → read text ≡ Ok image → Formed image }
 {}

@@ -1,4 +1,4 @@
-//! The parts of a line: marks, numbers, words, references, destinations and notes.
+//! The parts of a line: marks, numbers, words, references, destinations and memory annotations.
 
 ghost use Rattle.std.specs.Prelude.{◌≡◌, Some};
 ghost use Rattle.asm_text.specs.Gives.{Gives};
@@ -69,7 +69,7 @@ fn target(alloc: Global, lexemes: &[Lexeme]) -> Result<(Target, &[Lexeme]), Miss
     Ok((Target { instr, port }, rest))
 }
 
-// As many destinations as stand in front.
+// All destinations that stand first.
 #[tactic(auto, using(crate::proofs::Scanning::Lists::lists))]
 pub(crate) fn targets(alloc: Global, lexemes: &[Lexeme]) -> Result<(Targets, &[Lexeme]), Miss>
     ensures { Gives (λ x. (x.0, x.1.now)) result (Some (spec.targets_at lexemes.now)) }
@@ -88,7 +88,7 @@ pub(crate) fn targets(alloc: Global, lexemes: &[Lexeme]) -> Result<(Targets, &[L
     }
 }
 
-// As many references as stand in front.
+// All references that stand first.
 #[tactic(auto, using(crate::proofs::Scanning::Lists::lists))]
 pub(crate) fn labels(alloc: Global, lexemes: &[Lexeme]) -> Result<(Labels, &[Lexeme]), Miss>
     ensures { Gives (λ x. (x.0, x.1.now)) result (Some (spec.labels_at lexemes.now)) }

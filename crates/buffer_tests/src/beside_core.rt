@@ -125,7 +125,7 @@ fn keeps_once(past: &Past<TapePort>) -> bool {
     kept && (past.answers.len() == 1 || past.stop.is_some())
 }
 
-// Whether the core comes to the same as a run.
+// Whether the core has the same result as a run.
 fn core_is_so(
     alloc: Global,
     image: &Checked,
@@ -136,7 +136,7 @@ fn core_is_so(
     Ok(can_match(&mut core, &past.tokens) && ends_so(&core, past))
 }
 
-// Whether the buffer and the core come to the same in an order of tokens.
+// Whether the buffer and the core have the same result in an order of tokens.
 fn is_alike(alloc: Global, image: &Checked, world: &World, seed: u64) -> Result<bool, NoMemory> {
     let past = past_with(alloc, image, INPUT, (0, 0), seed)?;
     let keeps = keeps_once(&past);

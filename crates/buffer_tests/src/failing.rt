@@ -105,12 +105,12 @@ fn fails_so(past: &Past<TapePort>, fault: BufFault, stop: BufFault) -> bool {
     past.stop == stop && past.answers.len() >= 2 && answers.starts_with(&past.answers)
 }
 
-// Whether a buffer has told of a port that fails.
+// Whether a buffer has reported a port that fails.
 fn port_fails(past: &Past<TapePort>, port: u8) -> bool {
     fails_so(past, BufFault::Port { port }, BufFault::Stopped { port })
 }
 
-// Whether a buffer has told of an index fault.
+// Whether a buffer has reported an index fault.
 fn index_fails(past: &Past<TapePort>, array: u32) -> bool {
     fails_so(past, BufFault::Index { array }, BufFault::Ended { array })
 }
@@ -136,7 +136,7 @@ fn each_call_of_a_port_that_fails_stops_the_buffer(rt: HostRuntime) -> Result<()
     Ok(())
 }
 
-// Whether a store past the end of array 2 ends the buffer.
+// Whether an out-of-bounds store of array 2 ends the buffer.
 fn array_ends(alloc: Global, image: &Checked, seed: u64) -> Result<bool, NoMemory> {
     let past = past_with(alloc, image, &[], (0, 0), seed)?;
     let ends = index_fails(&past, 2) && past.end.printed.as_slice() == [5].as_slice();

@@ -229,5 +229,5 @@ pub fn past_of<P: Port>(
     run_as::<Brand, P>(alloc, image, input, ports, seed)
 }
 
-/// Lets a run go. Whoever calls this needn't say how each of its parts is let go.
+/// Releases a run. The caller needn't say how each of its parts is released.
 pub fn let_go<P: Port>(_past: Past<P>) {}

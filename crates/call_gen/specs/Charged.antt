@@ -11,14 +11,14 @@ use Rattle.live_vars.specs.Marks.{has}
 use Rattle.call_gen.specs.Reached.{Reached}
 use Rattle.ws_words.specs.Items.{In}
 
--- Where each block stands once calls are spelled out, the door of each procedure, by which its
--- calls enter it, and the point to which the call of a block returns.
+-- Where each block stands once calls are spelled out, the entry block of each procedure, by which its
+-- calls enter it, and the block to which the call of a block returns.
 pub record Places : Type 0 where
   pub block : ℕ → ℕ
   pub door : ℕ → ℕ
   pub point : ℕ → ℕ
 
--- what the call of block b weighs beside the block: the callee's door and the point of the return
+-- what the call of block b weighs beside the block: the callee's entry block and the return block
 abbrev pub beside : (ℕ → ℕ) → Places → ℕ → Exit → ℕ
 beside weight p b (Call x f ts back) = weight (p.door f) + weight (p.point b)
 beside weight p b _ = 0
@@ -27,7 +27,7 @@ beside weight p b _ = 0
 abbrev pub charged : Graph → Places → (ℕ → ℕ) → ℕ → ℕ
 charged g p weight b = weight (p.block b) + beside weight p b (block_at g b).exit
 
--- block c of the second graph stands for a block, or it is a procedure's door or a call's point
+-- block c of the second graph stands for a block, or it is a procedure's entry or a call's return block
 abbrev pub IsPlaced : Graph → Places → ℕ → Type 0
 IsPlaced g p c =
     ((b : ℕ) × (b < length (spots g)) × (c ≡ p.block b))
@@ -58,8 +58,8 @@ abbrev pub most_saved : List (List ℕ) → ℕ → Exit → ℕ
 most_saved live vars (Call x f ts back) = suc (live_count live back vars)
 most_saved live vars _ = 0
 
--- The exit that stands for another: a call sends its values and a number to the callee's door, and a
--- return from a call sends its value to where a variable says.
+-- The exit that stands for another: a call sends its values and a number to the callee's entry block,
+-- and a return from a call sends its value to where a variable says.
 abbrev pub StandsForExit : Places → Exit → Exit → Type 0
 StandsForExit p (Goto b) y = y ≡ Goto (p.block b)
 StandsForExit p (Branch t a b) y = y ≡ Branch t (p.block a) (p.block b)
@@ -95,7 +95,8 @@ LiveBelow live b vars n = (x : ℕ) → x < vars → has live b x ≡ true → x
 -- What stands in the second graph for the blocks of the first, by these sets of live variables, that
 -- it has no other block, and that the first pay for it: whatever the blocks of the second weigh, its
 -- walks weigh no more than those of the first where each block is charged with all that stands for
--- it, and the door by which the walk begins. A door clears what is live at the entry and isn't given.
+-- it, and the entry block by which the walk begins. An entry block clears what is live at the
+-- procedure's first block and isn't given.
 pub record CallsCharged (g : Graph) (live : List (List ℕ)) (h : Graph) : Type 0 where
   pub places : Places
   pub each : (c : ℕ) → c < length (spots h) → IsPlaced g places c

@@ -1,4 +1,4 @@
--- The blocks that a walk may come to.
+-- The blocks that a walk can reach.
 use Rattle.std.specs.Prelude.{◌≡◌, ℕ, ◌-◌, ◌<◌, length}
 use Rattle.cfg_core.specs.Graph.{Exit, Call, Graph, spots, block_at, entry_of}
 use Rattle.cfg_core.specs.Edges.{Edge}

@@ -69,9 +69,9 @@ most_hidden_arrays = 192
 abbrev pub hidden_cells : Sizes → ℕ
 hidden_cells z = z.procs * suc z.vars
 
--- The bounds of a graph whose calls are spelled out: a door for each procedure and a return point for each
--- call; two nodes for each variable that is saved or loaded, and two for addresses; as many landings as
--- there are calls.
+-- The bounds of a graph whose calls are spelled out: an entry block for each procedure and a return block
+-- for each call; two nodes for each variable that is saved or loaded, and two for addresses; as many
+-- landings as there are calls.
 abbrev pub spelled_sizes : Sizes → Sizes
 spelled_sizes z = record {
   arrays = z.arrays + most_hidden_arrays;

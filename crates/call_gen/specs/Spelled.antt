@@ -1,6 +1,6 @@
 -- Serves the code and its proof alone: no public contract cites it.
 -- The graph in which calls are spelled out: saves into hidden cells, a Send to the callee, a Send back to
--- the return point, and loads.
+-- the return block, and loads.
 use Rattle.std.specs.Prelude.{ℕ, zero, suc, ◌+◌, ◌%◌, ◌/◌, ◌==◌, ◌&&◌, ◌||◌, nat_lt, Bool, true, false, not}
 use Rattle.std.specs.Prelude.{min, List, [], ◌∷◌, ◌++◌, length, map, take, replicate, Option, Some, None}
 use Rattle.std.specs.Prelude.{if◌then◌else◌}
@@ -40,8 +40,8 @@ count_of p (s ∷ ss) = (if p s then 1 else 0) + count_of p ss
 abbrev pub is_call : Spot → Bool
 is_call s = calls s.block.exit
 
--- Numbers of blocks. Each procedure gets a first block of its own, its door, and each call a block after
--- it, its return point.
+-- Numbers of blocks. Each procedure gets a first block of its own, its entry block, and each call a block
+-- after it, its return block.
 
 unfoldable pub moved : Graph → ℕ → ℕ
 moved g b = b + count_of is_call (take b (spots g)) + suc (spot_at g b).home
@@ -49,7 +49,7 @@ moved g b = b + count_of is_call (take b (spots g)) + suc (spot_at g b).home
 unfoldable pub door : Graph → ℕ → ℕ
 door g f = entry_of g f + count_of is_call (take (entry_of g f) (spots g)) + f
 
--- The return points of the calls of a procedure, in order of blocks, where the first of the blocks has this
+-- The return blocks of the calls of a procedure, in order of blocks, where the first of the blocks has this
 -- number and so many blocks before it call.
 abbrev pub landings_from : ℕ → ℕ → ℕ → List Spot → List ℕ
 landings_from f b k [] = []
@@ -60,7 +60,7 @@ landings_from f b k (s ∷ ss) =
 unfoldable pub landings : Graph → ℕ → List ℕ
 landings g f = landings_from f 0 0 (spots g)
 
--- the place of a call's return point among those of its callee: the return address
+-- the place of a call's return block among those of its callee: the return address
 unfoldable pub address : Graph → ℕ → ℕ → ℕ
 address g f b = count_of (λ s. callee_is s.block.exit f) (take b (spots g))
 
@@ -132,7 +132,7 @@ abbrev pub spelled_block : Graph → List (List ℕ) → ℕ → ℕ → ℕ →
 spelled_block g live home vars b x =
     record { named = []; ops = x.ops ++ saves g live home vars x.exit; exit = left g home vars b x.exit }
 
--- the return point of a call with this result
+-- the return block of a call with this result
 abbrev pub return_block : Graph → List (List ℕ) → ℕ → ℕ → Option ℕ → ℕ → Block
 return_block g live home vars r back =
     record {
@@ -141,7 +141,7 @@ return_block g live home vars r back =
       exit = Goto (moved g back);
     }
 
--- what stands after a block: a call's return point
+-- what stands after a block: a call's return block
 abbrev pub after : Graph → List (List ℕ) → ℕ → ℕ → Exit → List Block
 after g live home vars (Call r f ts back) = return_block g live home vars r back ∷ []
 after g live home vars _ = []
@@ -152,7 +152,7 @@ spelled_blocks g live home vars b [] = []
 spelled_blocks g live home vars b (x ∷ xs) = spelled_block g live home vars b x
     ∷ (after g live home vars x.exit ++ spelled_blocks g live home vars (suc b) xs)
 
--- a variable that a call doesn't give is 0 at the door
+-- a variable that a call doesn't give is 0 at the entry block
 abbrev pub is_unset : Graph → List (List ℕ) → ℕ → ℕ → ℕ → Bool
 is_unset g live f params x = has live (entry_of g f) x
     && (if is_called g f then not (nat_lt x params) else true)

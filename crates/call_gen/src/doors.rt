@@ -1,4 +1,4 @@
-//! The doors of procedures.
+//! The entry blocks of procedures.
 
 ghost use Rattle.std.specs.Prelude.{◌≡◌, ◌+◌, ◌++◌, ◌∷◌, [], ◌<◌, if◌then◌else◌, map, length, IfOk, OnOk};
 ghost use Rattle.std.specs.List.{filter};
@@ -16,7 +16,7 @@ use std::alloc::Global;
 use ws_words::NoMemory;
 
 impl<'a> CallPlan<'a> {
-    /// The door of a procedure.
+    /// The entry block of a procedure.
     pub(crate) fn door_block(
         &self,
         alloc: Global,

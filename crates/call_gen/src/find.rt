@@ -1,4 +1,4 @@
-//! The blocks that a walk may come to, found from main's first block on.
+//! The blocks that a walk can reach, found from main's first block on.
 
 ghost use Rattle.std.specs.Prelude.{◌≡◌, IfOk, OnOk};
 ghost use Rattle.cfg_core.specs.Tables.{graph_in};

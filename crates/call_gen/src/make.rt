@@ -27,7 +27,7 @@ use live_vars::LiveSets;
 use std::alloc::Global;
 use ws_words::NoMemory;
 
-// Puts the new form of block b after others, and after that a call's return point.
+// Puts the new form of block b after others, and after that a call's return block.
 fn add_block(
     alloc: Global,
     plan: &CallPlan<'_>,

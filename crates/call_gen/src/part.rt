@@ -1,4 +1,4 @@
-//! The part of a graph that a walk may come to.
+//! The part of a graph that a walk can reach.
 
 ghost use Rattle.std.specs.Prelude.{◌≡◌, ◌+◌, ◌++◌, ◌∷◌, [], ◌<◌, ◌≤◌, map, length, if◌then◌else◌, IfOk};
 ghost use Rattle.std.specs.Prelude.{OnOk};
@@ -204,7 +204,7 @@ impl<'a> Part<'a> {
     }
 }
 
-/// The part of a graph that its walk may come to: the blocks to which edges and calls lead from
+/// The part of a graph that its walk can reach: the blocks to which edges and calls lead from
 /// main's first block, and the procedures that have such a block, in the same order.
 pub fn reached(alloc: Global, graph: &Graph) -> Result<Graph, NoMemory>
     requires rules { IsGraph (view.graph graph.now) }

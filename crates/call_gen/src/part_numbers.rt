@@ -17,7 +17,7 @@ pub(crate) fn flag(flags: &[bool], b: usize) -> bool
     flags.get(b).copied().unwrap_or(false)
 }
 
-// The number at a place, or 0 past the end.
+// The number at a place, or 0 out of bounds.
 pub(crate) fn number_at(numbers: &[usize], place: usize) -> usize
     ensures { result ≡ slice_index numbers.now place }
 {

@@ -57,8 +57,8 @@ fn is_few(table: &GraphTable<'_>) -> bool
 }
 
 impl<'a> CallPlan<'a> {
-    /// The plan of a graph. One of more than a billion blocks, procedures or arrays, or of more
-    /// hidden cells than 32 bits count, is answered as want of memory.
+    /// The plan of a graph. More than a billion blocks, procedures or arrays, or more hidden cells
+    /// than 32 bits count, give `NoMemory`.
     pub(crate) fn of(
         alloc: Global,
         graph: &'a Graph,
@@ -98,7 +98,7 @@ impl<'a> CallPlan<'a> {
         self.places.get(b as usize).copied().unwrap_or(0)
     }
 
-    /// The number of a procedure's door.
+    /// The number of a procedure's entry block.
     pub(crate) fn door(&self, f: u32) -> u32
         requires plan { PlanIs self.now }
         requires rules { IsGraph (view.graph (graph_in self.now.table)) }
@@ -157,7 +157,7 @@ impl<'a> CallPlan<'a> {
         }
     }
 
-    /// The return points of a procedure's calls, in order.
+    /// The return blocks of a procedure's calls, in order.
     pub(crate) fn landings(&self, alloc: Global, f: u32) -> Result<Vec<u32>, NoMemory>
         requires { PlanIs self.now }
         ensures { IfOk result (λ points. points.items ≡

@@ -46,7 +46,7 @@ impl<'a> CallPlan<'a> {
         }
     }
 
-    // A call: values and the return address to the callee's door.
+    // A call: values and the return address to the callee's entry block.
     fn sent(&self, alloc: Global, b: u32, callee: u32, values: &[Term]) -> Result<Leave, NoMemory>
         requires plan { PlanIs self.now }
         requires rules { IsGraph (view.graph (graph_in self.now.table)) }
@@ -69,7 +69,7 @@ impl<'a> CallPlan<'a> {
         })
     }
 
-    // A return: the result to the return point at the return address.
+    // A return: the result to the return block at the return address.
     fn given_back(&self, alloc: Global, home: u32, vars: u32, t: &Term) -> Result<Leave, NoMemory>
         requires plan { PlanIs self.now }
         requires there { home < length (view.graph (graph_in self.now.table)).procs }
@@ -122,7 +122,7 @@ impl<'a> CallPlan<'a> {
         })
     }
 
-    /// The return point of a call with this result.
+    /// The return block of a call with this result.
     pub(crate) fn point(
         &self,
         alloc: Global,

@@ -1,5 +1,5 @@
 -- The blocks of a procedure as they are made: the finished ones in order, and the operations of the
--- one at hand. Then what fits into the numbers that the code has.
+-- current one. Then what fits into the numbers that the code has.
 use Rattle.std.specs.Prelude.{ℕ, suc, ◌+◌, ◌^◌, ◌<◌, List, [], ◌∷◌, ◌++◌, length}
 use Rattle.seq_run.specs.Resolved.{Action, Give, Take, Step, Do, Call, If, While, Steps, Nothing, Then, Proc}
 use Rattle.cfg_core.specs.Graph as graph
@@ -12,17 +12,17 @@ pub record Builder : Type 0 where
   pub done : List Block
   pub ops : List Op
 
--- the number of the block at hand
+-- the number of the current block
 abbrev pub number : Builder → ℕ
 number d = d.first + length d.done
 
--- the block at hand is finished
+-- the current block is finished
 abbrev pub closed : Exit → Builder → Builder
 closed exit d =
     let block : Block = record { named = []; ops = d.ops; exit = exit } in
     record { first = d.first; done = d.done ++ block ∷ []; ops = [] }
 
--- an operation more in the block at hand
+-- an operation more in the current block
 abbrev pub with_op : Op → Builder → Builder
 with_op o d = record { first = d.first; done = d.done; ops = d.ops ++ o ∷ [] }
 
@@ -46,7 +46,7 @@ abbrev mutual
   emit Nothing d = d
   emit (Then s rest) d = emit rest (emit_one s d)
 
--- the blocks with the one at hand, where this part follows
+-- the blocks with the current one, where this part follows
 abbrev pub ended : Builder → BlockRest → List Block
 ended d rest = d.done ++ record { named = []; ops = d.ops ++ rest.ops; exit = rest.exit } ∷ []
 

@@ -9,9 +9,9 @@ use Rattle.cfg_core.specs.Walk as walks
 use Rattle.cfg_core.specs.Walk.{Ends}
 use Rattle.cfg_core.specs.Shown.{ShowsAll}
 
--- In each world and after each number of turns the walk has ended exactly where the run has that
--- passes loads and stores past the end (`Passes`), or is going exactly where that run is (`Flows`),
--- with the same cells, input words and words of ports left, and the same acts.
+-- In each world and after each number of turns the walk has ended exactly if the unchecked run has
+-- (`Passes`), or is going exactly if that run is (`Flows`), with the same cells, input words and
+-- words of ports left, and the same acts.
 pub record KeepsRun (parts : List Part) (g : Graph) : Type 0 where
   pub ends : (world : World) (turns : ℕ) (o : Outside) → Passes parts world turns o →
       Ends g world turns o

@@ -50,7 +50,7 @@ begun (Then (While t body) rest) = suc (suc (begun body + suc (begun rest)))
 abbrev pub block : BlockRest → Block
 block p = record { named = []; ops = p.ops; exit = p.exit }
 
--- the part with which steps begin in the block at hand, and the blocks after that one
+-- the part with which steps begin in the current block, and the blocks after that one
 pub record Made : Type 0 where
   pub front : BlockRest
   pub blocks : List Block
@@ -59,7 +59,7 @@ pub record Made : Type 0 where
 abbrev pub led_by : Op → Made → Made
 led_by o m = record { front = ticked o m.front; blocks = m.blocks }
 
--- the block that begins with the front, and those after it
+-- the block that begins with the first part, and those after it
 abbrev pub whole : Made → List Block
 whole m = block m.front ∷ m.blocks
 

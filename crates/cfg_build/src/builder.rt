@@ -13,7 +13,7 @@ use std::mem;
 use ws_words::NoMemory;
 
 /// The finished blocks, the first of which has the number `first` in the graph, and the operations
-/// of the block at hand.
+/// of the current block.
 #[derive(Drop)]
 pub struct Builder {
     pub first: u32,
@@ -35,7 +35,7 @@ impl Builder {
         }
     }
 
-    /// The number of the block at hand.
+    /// The number of the current block.
     pub(crate) fn number(&self) -> u32
         requires { number (builder self.now) < 2 ^ 32 }
         ensures { result ≡ number (builder self.now) }
@@ -43,7 +43,7 @@ impl Builder {
         self.first + self.done.len() as u32
     }
 
-    /// Adds an operation to the block at hand.
+    /// Adds an operation to the current block.
     pub(crate) fn push(&mut self, op: GraphOp) -> Result<(), NoMemory>
         ensures { OnOk result (builder self.new ≡ with_op (view.op op) (builder self.old)) }
     {
@@ -58,7 +58,7 @@ impl Builder {
         self.push(GraphOp::Tick(1))
     }
 
-    /// Finishes the block at hand.
+    /// Finishes the current block.
     pub(crate) fn close(&mut self, alloc: Global, exit: Leave) -> Result<(), NoMemory>
         ensures { OnOk result (builder self.new ≡ closed (view.exit exit) (builder self.old)) }
     {

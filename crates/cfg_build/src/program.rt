@@ -34,15 +34,15 @@ fn graph_of(alloc: Global, resolved: &Resolved) -> Result<Graph, NoMemory>
     Ok(Graph { arrays, procs })
 }
 
-/// The control graph of an accepted program. Its walk does turn by turn what the run does that
-/// passes loads and stores past the end, in every world.
+/// The control graph of an accepted program. Its walk does turn by turn what the unchecked run does
+/// (out-of-bounds loads give 0, stores are dropped), in every world.
 pub fn lower(alloc: Global, accepted: &Accepted) -> Result<Graph, NoMemory>
     // the walk is the run, and shows all of it
     ensures run { let parts = ast.parts accepted.now.program.items.items in
         IfOk result (λ graph. KeepsRun parts (view.graph graph)) }
     ensures shown { IfOk result (λ graph. ShowsRun (view.graph graph)) }
 
-    // the arrays are the program's and none is hidden, so nothing goes past the end of a hidden one
+    // the arrays are the program's and none is hidden, so no access to a hidden one is out of bounds
     ensures arrays { let parts = ast.parts accepted.now.program.items.items in
         IfOk result (λ graph. (view.graph graph).arrays ≡ arrays_of parts) }
     ensures inside { IfOk result (λ graph. (world : World) → StaysInside (view.graph graph) world) }

@@ -74,7 +74,7 @@ spots_from home (p ∷ procs) = spots_in home p.vars p.blocks ++ spots_from (suc
 abbrev pub spots : Graph → List Spot
 spots g = spots_from 0 g.procs
 
--- what stands past the last block and the last procedure
+-- the block and the procedure at an out-of-bounds number
 unfoldable pub no_spot : Spot
 no_spot = record { home = 0; vars = 0; block = record { named = []; ops = []; exit = Stop } }
 

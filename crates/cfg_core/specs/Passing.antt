@@ -4,8 +4,8 @@ use Rattle.ws_words.specs.Outside.{World}
 use Rattle.cfg_core.specs.Graph.{Graph}
 use Rattle.cfg_core.specs.Walk.{walk, opening, IsOver}
 
--- where the walk of the first graph has come to an answer after some blocks, that of the second has
--- after no more
+-- if the walk of the first graph has an answer after some blocks, that of the second has one after
+-- no more
 abbrev pub PassesNoMore : Graph → Graph → Type 0
 PassesNoMore g h =
     (world : World) (turns blocks : ℕ) → IsOver (walk g blocks (opening g world turns)) →

@@ -77,7 +77,7 @@ pub record SameWalks (g h : Graph) : Type 0 where
   pub goes_only : (world : World) (turns : ℕ) (p : Outside) → Goes h world turns p → (o : Outside) ×
       Goes g world turns o × SameShown g h o p
 
--- no load and no store of a hidden array past its end
+-- no out-of-bounds load or store of a hidden array
 abbrev pub IsInside : List GraphArray → Act → Type 0
 IsInside arrays (loads a i) = is_hidden arrays a ≡ true → i < length_of arrays a
 IsInside arrays (stores a i w) = is_hidden arrays a ≡ true → i < length_of arrays a
@@ -86,7 +86,7 @@ IsInside arrays act = Unit {0}
 abbrev pub AllInside : List GraphArray → List Act → Type 0
 AllInside arrays acts = AllByRecursion (IsInside arrays) acts
 
--- in this world, after no number of turns a hidden array was loaded or stored past its end
+-- in this world, after no number of turns an access to a hidden array was out of bounds
 pub record StaysInside (g : Graph) (world : World) : Type 0 where
   pub ends : (turns : ℕ) (o : Outside) → Ends g world turns o → AllInside g.arrays o.acts
   pub goes : (turns : ℕ) (o : Outside) → Goes g world turns o → AllInside g.arrays o.acts

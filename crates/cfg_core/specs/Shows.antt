@@ -52,7 +52,7 @@ Paced run before pace after = (s : ProcState) (frames : List walks.Frame) (k : �
 abbrev pub value_on : List ℕ → List (List ℕ) → Term → ℕ
 value_on vars cells t = walks.value (view.term t) vars cells
 
--- whether operations want a turn that isn't left
+-- whether operations need a turn that isn't left
 abbrev pub out_flag : Pace → Bool
 out_flag pace.Done = false
 out_flag pace.Out = true
@@ -84,7 +84,7 @@ pub record Held (w : Walker) : Type 0 where
   pub left : ℕ
   pub shows : Shows state frames left w
 
--- the code's answer is that of a walk that has come to one
+-- the code's answer is that of a walk that has one
 abbrev pub FinalIs : Config → Bool → Walker → Type 0
 FinalIs (Over o k) true w = OutIs o w.memory × (k ≡ w.turns)
 FinalIs (Going o) false w = OutIs o w.memory

@@ -47,7 +47,7 @@ value_of t s = (value t s.vars s.out.cells, with_acts s (loads_of t s.vars s.out
 abbrev pub values_of : List Term → ProcState → List ℕ × ProcState
 values_of ts s = (values ts s.vars s.out.cells, with_acts s (all_loads ts s.vars s.out.cells))
 
--- operations are done, with turns left, or want a turn where none is left
+-- operations are done, with turns left, or need a turn where none is left
 pub data OpsOutcome : Type 0 where
   Done : (s : ProcState) (left : ℕ) → OpsOutcome
   Out : (o : Outside) → OpsOutcome
@@ -173,7 +173,7 @@ EndsWith g world n o left = (m : ℕ) × (walk g m (opening g world n) ≡ Over 
 abbrev pub Goes : Graph → World → ℕ → Outside → Type 0
 Goes g world n o = (m : ℕ) × (walk g m (opening g world n) ≡ Going o)
 
--- the walk has come to an answer
+-- the walk has an answer
 abbrev pub IsOver : Config → Type 0
 IsOver (At b s frames k) = ⊥
 IsOver (Over o k) = Unit {0}

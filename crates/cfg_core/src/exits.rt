@@ -16,7 +16,7 @@ use std::alloc::Global;
 use std::mem;
 use ws_words::{NoMemory, Words};
 
-/// The walk is at the start of a block, has ended, or wants more turns than are left.
+/// The walk is at the start of a block, has ended, or needs more turns than are left.
 #[derive(Clone, Copy)]
 pub enum Next {
     At(usize),

@@ -8,7 +8,7 @@ ghost use Rattle.cfg_core.specs.Rules.{IsGraph};
 ghost use Rattle.cfg_core.specs.Weights.{IsPotential, WeighsAtMost, first_block, WalksWeigh};
 ghost use Rattle.cfg_core.specs.Shown.{NoneHidden, ShowsAll, StaysInside};
 
-/// A walk of any number of turns comes to an answer.
+/// A walk of any number of turns has an answer.
 pub fn walks_answer()
     ensures { (graph : Graph) → IsGraph graph →
         (b : ℕ) (s : ProcState) (frames : List Frame) (turns : ℕ) →
@@ -28,8 +28,8 @@ pub fn turns_are_exact()
         n ≤ turns → Ends graph world n o → Goes graph world turns p → ⊥ }
 {}
 
-/// A walk of a graph without hidden arrays shows all that it does and leaves, and loads and stores
-/// no hidden array past its end.
+/// A walk of a graph without hidden arrays shows all that it does and leaves, and has no
+/// out-of-bounds access to a hidden array.
 pub fn nothing_hidden()
     ensures ends { (graph : Graph) → IsGraph graph → NoneHidden graph.arrays →
         (world : World) (turns : ℕ) (o : Outside) → Ends graph world turns o → ShowsAll graph o }

@@ -99,7 +99,7 @@ impl<'a> GraphTable<'a> {
         }
     }
 
-    /// The procedure with this number; past the last one it has no blocks and no variables.
+    /// The procedure with this number; out of bounds, one without blocks and variables.
     pub fn room(&self, f: usize) -> Room
         ensures entry { result.entry ≡ entry_of (view.graph (graph_in self.now)) f }
         ensures params { result.params ≡ (proc_at (view.graph (graph_in self.now)) f).params }

@@ -18,7 +18,7 @@ pub struct Frame {
     pub vars: Words,
 }
 
-/// The state of a walk. The last frame is that of the call at hand.
+/// The state of a walk. The last frame is that of the current call.
 #[derive(Drop)]
 pub struct Walker<'a> {
     pub vars: Words,
@@ -27,7 +27,7 @@ pub struct Walker<'a> {
     pub turns: u64,
 }
 
-/// Operations are done, or want more turns than are left.
+/// Operations are done, or need more turns than are left.
 #[derive(Clone, Copy, PartialEq, Eq)]
 pub enum Pace {
     Done,

@@ -19,8 +19,8 @@ pub record Tells (o : Outside) (d : Done) : Type 0 where
   pub arrays : d.arrays ≡ o.cells
   pub took : d.took ≡ took_by_ports o.acts
 
--- no load or store of the walk is past the end; the cost has fired, and is within the budget; what
--- is told is what the walk leaves, wherever all its instances have fired
+-- no load or store of the walk is out of bounds; the cost has fired, and is within the budget; what
+-- is reported is what the walk leaves, wherever all its instances have fired
 pub record Rested (image : Image) (world : World) (budget : ℕ) (d : Done) : Type 0 where
   pub no_fault : NoFault image world
   pub steps : ℕ
@@ -42,7 +42,7 @@ FirstAmong image world steps p = (t : ℕ) (x : Inst) → fires image world t �
 
 -- The walk has more instances than the budget, and exactly so many have fired, in a state that the core's
 -- events keep: of the numbers p for which the walk's first p operations are among them `passed` is the
--- largest, and none of those is past the end. What is told is what the walk leaves with them.
+-- largest, and none of those is out of bounds. What is reported is what the walk leaves with them.
 pub record CutShort (image : Image) (world : World) (budget : ℕ) (d : Done) : Type 0 where
   pub dear : CostAtMost image world budget → ⊥
   pub fired : d.fired ≡ budget
@@ -58,8 +58,8 @@ pub record CutShort (image : Image) (world : World) (budget : ℕ) (d : Done) : 
   pub within : FirstWithin image world front
   pub left : Tells (mem image world front) d
 
--- the walk's first load or store past the end, on this array, is its operation p, counted from 0,
--- with p less than what has fired; what is told is what the walk leaves before it
+-- the walk's first out-of-bounds load or store, on this array, is its operation p, counted from 0,
+-- with p less than what has fired; what is reported is what the walk leaves before it
 pub record Faulted (image : Image) (world : World) (budget array : ℕ) (d : Done) : Type 0 where
   pub time : ℕ
   pub fault : FaultsAt image world time

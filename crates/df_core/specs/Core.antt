@@ -88,7 +88,7 @@ or_put (Some h) y v = y
 or_put None (Some y) v = Some y
 or_put None None v = Some v
 
--- the token is put on the way if its port is neither held nor on the way
+-- the token is put in flight if its port is neither held nor in flight
 abbrev pub put_one : Ports → Token → Ports → Ports
 put_one held t way w i p =
     cond (is_at t w i p) (or_put (held w i p) (way w i p) t.value) (way w i p)
@@ -122,7 +122,7 @@ asks image w i s =
           with_key w i (Some (operands_in image s.held w i)) s.waiting;
     }
 
--- the instance fires: its result tokens are on the way
+-- the instance fires: its result tokens are in flight
 abbrev pub tells : Image → ℕ → ℕ → State → State
 tells image w i s =
     record s {
@@ -198,7 +198,7 @@ pub record Ready (image : Image) (s : State) (w i : ℕ) (xs : List ℕ) : Type 
   pub waits : s.waiting w i ≡ Some xs
   pub issuable : Issuable image s.issued s.chain s.stopped w i xs
 
--- past the end the chain stops at it, and nothing else happens
+-- if it is out of bounds the chain stops at it, and nothing else happens
 pub record StopStep (image : Image) (s : State) (w i : ℕ) (new : State) : Type 0 where
   pub operands : List ℕ
   pub ready : Ready image s w i operands

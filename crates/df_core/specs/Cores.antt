@@ -1,6 +1,6 @@
 -- The states of a core, and how its calls lead from one to another.
-use Rattle.std.specs.Prelude.{ℕ, ◌≡◌, ◌+◌, ◌<◌, ◌≤◌, ◌-◌, ◌^◌, Bool, true, false, []}
-use Rattle.ws_words.specs.Outside.{World}
+use Rattle.std.specs.Prelude.{ℕ, ◌≡◌, ◌+◌, ◌<◌, ◌≤◌, ◌-◌, ◌^◌, Bool, true, false, List, []}
+use Rattle.ws_words.specs.Outside.{World, printed_words}
 use Rattle.ws_isa.specs.Image.{Image}
 use Rattle.ws_isa.specs.Formed.{Formed}
 use Rattle.ws_isa.specs.Sound.{Sound}
@@ -14,7 +14,8 @@ use Rattle.df_core.specs.declared.engine.StepFault.{StepFault}
 use Rattle.df_core.specs.declared.engine.StepFault.TheVariants as fault
 use Rattle.df_core.specs.Places.{image_of}
 use Rattle.df_core.specs.Flows.{Reaches, FlowIs, FlowRoom}
-use Rattle.df_core.specs.Told.{done_of}
+use Rattle.df_core.specs.Told.{done_of, run_from}
+use Rattle.df_core.specs.Answer.{RunSo}
 use Rattle.df_core.specs.Ends.{AfterFired}
 use Rattle.df_core.specs.declared.drive.Finish.{Finish}
 use Rattle.df_core.specs.Finishes.{is_budget}
@@ -33,9 +34,20 @@ pub record IsRunning (core : Core) : Type 0 where
   pub state : State
   pub at : IsAt image world core state
 
--- what the instances that have fired have done
+-- what the instances that have fired have done, with those of the printed words that are kept
 abbrev pub done : Core → Done
 done core = done_of core.flow
+
+-- so many of the first words printed were taken and are kept no more
+abbrev pub gone : Core → ℕ
+gone core = core.flow.memory.gone
+
+abbrev pub with_words : List ℕ → Done → Done
+with_words words d = record { printed = words; arrays = d.arrays; took = d.took; fired = d.fired }
+
+-- what they have done, with all words printed, if the core stands at this state
+abbrev pub done_at : State → Core → Done
+done_at s core = with_words (printed_words s.memory.acts) (done core)
 
 abbrev pub event_of : Event → law.Event
 event_of (code.Match wave instr port) = Match wave instr port
@@ -75,6 +87,14 @@ abbrev pub EventsLead : Core → Core → Type 0
 EventsLead old new = (image : Image) (world : World) (s : State) → IsAt image world old s →
     (t : State) × Reaches image s t × IsAt image world new t
 
+-- from a state at which a core stood a run has led on to its end within a budget
+pub record AnswersSo (image : Image) (world : World) (budget : ℕ) (finish : Finish) (core : Core) (s : State)
+    : Type 0 where
+  pub state : State
+  pub reached : Reaches image s state
+  pub at : IsAt image world core state
+  pub so : RunSo image world budget (run_from finish (done_at state core))
+
 -- there is room for so many more firings, and for all events around them
 abbrev pub RoomFor : Core → ℕ → Type 0
 RoomFor core n = FlowRoom core.flow 0 n
@@ -87,7 +107,7 @@ HasRoom core = RoomFor core 1 × ((done core).fired < 2 ^ 64 - 2)
 abbrev pub KeepsRoom : Core → Core → Type 0
 KeepsRoom old new = (n m : ℕ) → m + (done new).fired ≡ n + (done old).fired → RoomFor old n → RoomFor new m
 
--- where the budget is spent, the most operations of the walk that have all fired have been passed, and
+-- where the budget is exhausted, the most operations of the walk that have all fired have been passed, and
 -- memory is what they leave
 abbrev pub SpendsAll : Finish → Core → Core → Type 0
 SpendsAll finish old new = (image : Image) (world : World) (s : State) → IsAt image world old s →

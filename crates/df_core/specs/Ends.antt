@@ -7,7 +7,7 @@ use Rattle.ws_isa.specs.Operations.{ops, past, Effect, FaultsAt, NoFault}
 use Rattle.df_core.specs.Effect.{effect_at}
 use Rattle.df_core.specs.Core.{State, HasFired}
 
--- every instance of the walk has fired, every operation is issued and none is past the end,
+-- every instance of the walk has fired, every operation is issued and none is out of bounds,
 -- and from some step on memory is what the walk leaves
 pub record WholeRun (image : Image) (world : World) (s : State) : Type 0 where
   pub going : s.stopped ≡ false
@@ -18,7 +18,7 @@ pub record WholeRun (image : Image) (world : World) (s : State) : Type 0 where
   pub end : ℕ
   pub memory : (t : ℕ) → end ≤ t → effect_at image world t ≡ s.memory
 
--- the chain is stopped at the walk's first operation past the end, and memory is what those before
+-- the chain is stopped at the walk's first out-of-bounds operation, and memory is what those before
 -- it leave
 pub record AtFault (image : Image) (world : World) (s : State) : Type 0 where
   pub stopped : s.stopped ≡ true
@@ -26,7 +26,7 @@ pub record AtFault (image : Image) (world : World) (s : State) : Type 0 where
   pub fault : FaultsAt image world time
   pub memory : Effect image world (length (ops image world time)) s.memory
 
--- the walk's first load or store past the end is this instruction's in this wave
+-- the walk's first out-of-bounds load or store is this instruction's in this wave
 pub record Meets (image : Image) (world : World) (w i : ℕ) : Type 0 where
   pub time : ℕ
   pub fault : FaultsAt image world time
@@ -39,13 +39,13 @@ FirstFired image world s p = (t : ℕ) (x : Inst) → fires image world t ≡ So
     is_memory image x.instr ≡ true → length (ops image world t) < p →
     HasFired s.fired x.wave x.instr
 
--- no load or store of the first t steps of the walk is past the end
+-- no load or store of the first t steps of the walk is out of bounds
 abbrev pub FirstWithin : Image → World → ℕ → Type 0
 FirstWithin image world t = (u : ℕ) (x : Inst) → u < t → fires image world u ≡ Some x →
     past image x ≡ false
 
 -- p is the largest number for which the first p operations of the walk have fired, none of them is
--- past the end, and memory is what they leave
+-- out of bounds, and memory is what they leave
 pub record AfterFired (image : Image) (world : World) (s : State) (p : ℕ) : Type 0 where
   pub memory : Effect image world p s.memory
   pub within : (t : ℕ) → length (ops image world t) ≤ p → FirstWithin image world t
@@ -53,7 +53,7 @@ pub record AfterFired (image : Image) (world : World) (s : State) (p : ℕ) : Ty
   pub most : (t : ℕ) → FirstFired image world s (length (ops image world t)) →
       length (ops image world t) ≤ p
 
--- memory is what the first p operations of the walk leave, none of them is past the end, and they
+-- memory is what the first p operations of the walk leave, none of them is out of bounds, and they
 -- are at least as many as have fired without a gap
 pub record Passed (image : Image) (world : World) (s : State) (p : ℕ) : Type 0 where
   pub memory : Effect image world p s.memory

@@ -10,7 +10,7 @@ use Rattle.df_core.specs.Flows.{IsFault, Reaches, FlowIs}
 use Rattle.df_core.specs.declared.drive.Finish.{Finish}
 use Rattle.df_core.specs.declared.drive.Finish.TheVariants as finish
 
--- the chain isn't stopped, so many instances have fired, something is on the way, and nothing may
+-- the chain isn't stopped, so many instances have fired, something is in flight, and nothing may
 -- be issued
 pub record IsSpent (image : Image) (budget : ℕ) (s : State) : Type 0 where
   pub going : s.stopped ≡ false

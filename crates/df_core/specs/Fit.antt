@@ -65,7 +65,7 @@ pub record IssuedOp (image : Image) (world : World) (cut w i a : ℕ) : Type 0 w
   pub answer : a ≡ inst.result
   pub place : (time < cut) ⊎ ((cut ≤ time) × IsEarly image world cut time inst)
 
--- the passed operations are those of the first cut steps, and none of them is past the end
+-- the passed operations are those of the first cut steps, and none of them is out of bounds
 pub record Ordered (image : Image) (world : World) (cut : ℕ) (issued : ℕ → ℕ → Option ℕ) (c : Chain)
     (m : Outside) : Type 0 where
   pub passed : (t : ℕ) (x : Inst) → t < cut → fires image world t ≡ Some x →
@@ -76,7 +76,7 @@ pub record Ordered (image : Image) (world : World) (cut : ℕ) (issued : ℕ →
   pub memory : m ≡ effect_at image world cut
   pub others : (w i a : ℕ) → issued w i ≡ Some a → IssuedOp image world cut w i a
 
--- where the chain is stopped: the first operation past the end is next, and its request waits
+-- where the chain is stopped: the first out-of-bounds operation is next, and its request waits
 pub record StoppedAt (image : Image) (world : World) (cut : ℕ) (waiting : ℕ → ℕ → Option (List ℕ))
     (c : Chain) : Type 0 where
   pub time : ℕ
@@ -94,12 +94,12 @@ pub record Legal (image : Image) (world : World) (issued : ℕ → ℕ → Optio
   pub settled : NoneNext image issued c
   pub halted : stopped ≡ true → StoppedAt image world cut waiting c
 
--- a token with this value is held or on the way
+-- a token with this value is held or in flight
 abbrev pub IsThere : State → ℕ → ℕ → ℕ → ℕ → Type 0
 IsThere s w i p v = (s.held w i p ≡ Some v) ⊎ (s.way w i p ≡ Some v)
 
--- an instance without memory has fired, or a memory one was issued: its result tokens were put on
--- the way
+-- an instance without memory has fired, or a memory one was issued: its result tokens were put in
+-- flight
 pub record HasTold (image : Image) (s : State) (x : Inst) : Type 0 where
   pub fired : is_memory image x.instr ≡ false → HasFired s.fired x.wave x.instr
   pub issued : is_memory image x.instr ≡ true → (a : ℕ) × (s.issued x.wave x.instr ≡ Some a)

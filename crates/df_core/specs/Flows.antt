@@ -26,7 +26,7 @@ request_of image a =
 abbrev pub all_of : Operands → List ℕ
 all_of o = o.first ∷ o.second ∷ o.third ∷ []
 
--- the walk's first load or store past the end is on this array
+-- the walk's first out-of-bounds load or store is on this array
 pub record IsFault (image : Image) (world : World) (array : ℕ) : Type 0 where
   pub time : ℕ
   pub fault : FaultsAt image world time
@@ -36,7 +36,7 @@ abbrev pub FlowFaultIs : Image → World → Option ℕ → Type 0
 FlowFaultIs image world None = Unit {0}
 FlowFaultIs image world (Some array) = IsFault image world array
 
--- these parts, and tokens that were taken off the way, stand for the state
+-- these parts, and the tokens that were taken out of them, stand for the state
 pub record FlowIs (image : Image) (world : World) (taken : List plain.Token) (flow : Flow)
     (s : State) : Type 0 where
   pub stands : Stands image world (partial_of flow.slots.slots.items flow.slots.spill)
@@ -55,7 +55,7 @@ pub record Going (image : Image) (taken : List plain.Token) (flow : Flow) : Type
   pub sound : Sound image
   pub holds : FlowIs image world taken flow state
 
--- they stand for one where other tokens are on the way too, which lie elsewhere
+-- they stand for one where other tokens are in flight too, which lie elsewhere
 pub record GoingBeside (image : Image) (taken : List plain.Token) (flow : Flow) : Type 0 where
   pub beside : List plain.Token
   pub going : Going image (taken ++ beside) flow

@@ -22,3 +22,4 @@ pub mod Began
 pub mod Codes
 pub mod Rights
 pub mod Listed
+pub mod Matches

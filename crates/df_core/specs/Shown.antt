@@ -84,7 +84,7 @@ shown image t b = record {
   memory = b.memory;
 }
 
--- every token that is owed is held, and the buffer knows each memory instance that has fired
+-- no token is outstanding, and the buffer knows each memory instance that has fired
 pub record OwesNothing (image : Image) (t : Tables) (b : Buffer) : Type 0 where
   pub tokens : (w i p v : ℕ) → IsSent (owed image t b) w i p v → (u : ℕ) × (t.held w i p ≡ Some u)
   pub requests : (w i : ℕ) → HasFired t.fired w i → is_memory image i ≡ true →

@@ -38,7 +38,7 @@ HasEarly image world issued c early = (cut w i a t : ℕ) → c ≡ chain_at ima
     issued w i ≡ Some a → (x : Inst) → FiresAt image world w i t x → is_memory image i ≡ true →
     cut ≤ t → In i early
 
--- the tokens at the ports of unfired instances, the tokens on the way, the requests that wait,
+-- the tokens at the ports of unfired instances, the tokens in flight, the requests that wait,
 -- and the issued loads that the chain hasn't passed
 pub record Stands (image : Image) (world : World) (partial : Ports) (way : List Token)
     (asked : List Request) (early : List ℕ) (s : State) : Type 0 where
@@ -57,8 +57,8 @@ pub record Stands (image : Image) (world : World) (partial : Ports) (way : List 
   pub early_issued : (i : ℕ) → In i early → (a : ℕ) × (s.issued s.chain.wave i ≡ Some a)
   pub early_all : HasEarly image world s.issued s.chain early
 
--- the issued operations that are left where the chain passes one of this note: with the wave's last
--- one none
+-- the issued operations that are left when the chain passes one of this annotation: with the wave's
+-- last one none
 abbrev pub left_by : Link → List ℕ → List ℕ
 left_by Nothing early = []
 left_by _ early = early
@@ -67,7 +67,7 @@ abbrev pub left_after : Note → List ℕ → List ℕ
 left_after n early = left_by n.succ early
 
 -- The chain passes those among these operations that are next, until none is. Where the one with the smallest
--- number is ahead of the chain and isn't next, it rests. Those behind it are let go.
+-- number is ahead of the chain and isn't next, it rests. Those behind it are released.
 pub data Settles (image : Image) : Chain → List ℕ → Chain → List ℕ → Type 0 where
   done : {c : Chain} {early : List ℕ} → ((i : ℕ) → In i early → IsNext c (note_of image i) → ⊥) →
       Settles image c early c early

@@ -1,4 +1,5 @@
--- What the parts of a run tell at its end.
+-- What the parts of a run report at its end.
+use Rattle.std.specs.Prelude.{ℕ, List}
 use Rattle.df_core.specs.declared.answer.Done.{Done}
 use Rattle.df_core.specs.declared.answer.RunAnswer.{RunAnswer}
 use Rattle.df_core.specs.declared.answer.RunAnswer.TheVariants as run
@@ -7,13 +8,17 @@ use Rattle.df_core.specs.declared.drive.Finish.TheVariants as finish
 use Rattle.df_core.specs.declared.flow.Flow.{Flow}
 use Rattle.df_core.specs.Outdoors.{rows_of}
 
-abbrev pub done_of : Flow → Done
-done_of flow = record {
-  printed = flow.memory.printed.items;
+-- if these are all words that were printed
+abbrev pub done_with : List ℕ → Flow → Done
+done_with words flow = record {
+  printed = words;
   arrays = flow.memory.cells;
   took = rows_of flow.memory.took.items;
   fired = flow.fired;
 }
+
+abbrev pub done_of : Flow → Done
+done_of flow = done_with flow.memory.printed.items flow
 
 abbrev pub run_from : Finish → Done → RunAnswer
 run_from finish.Rest done = run.Rest done

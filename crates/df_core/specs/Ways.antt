@@ -1,4 +1,4 @@
--- Tokens on the way, as the code holds them.
+-- Tokens in flight, as the code holds them.
 use Rattle.std.specs.Prelude.{ℕ, slice_index_or, ◌≡◌, ◌⊎◌, List, [], ◌∷◌, ◌++◌, map}
 use Rattle.ws_isa.specs.Image as plain
 use Rattle.df_core.specs.Core.{IsSent}

@@ -21,7 +21,7 @@ pub struct Done {
 }
 
 /// How a run ended: the walk has been run whole, or as many instances have fired as may, or the
-/// first load or store past the end stopped it, with the number of its array from 1.
+/// first out-of-bounds load or store stopped it, with the number of its array from 1.
 #[derive(Debug, Drop)]
 pub enum RunAnswer {
     Rest(Done),

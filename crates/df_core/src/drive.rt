@@ -36,6 +36,7 @@ pub fn run(program: &Program<'_>, flow: &mut Flow<'_>, budget: u64) -> Finish
         FlowRoom flow.new 0 m }
     ensures spent { is_budget result ≡ true → flow.new.fired ≡ budget }
     ensures stopped { is_some flow.new.fault ≡ is_fault result }
+    ensures gone { flow.new.memory.gone ≡ flow.old.memory.gone }
     ensures finish { Ended (image_of program.now) budget flow.old flow.new result }
 {
     loop {
@@ -53,11 +54,12 @@ pub fn run(program: &Program<'_>, flow: &mut Flow<'_>, budget: u64) -> Finish
     }
 }
 
-/// The same, and takes the memory that it needs on its way.
+/// The same, and takes the memory that it needs as it goes.
 pub fn run_on(program: &Program<'_>, flow: &mut Flow<'_>, budget: u64) -> Result<Finish, NoMemory>
     requires going { Going (image_of program.now) [] flow.old }
     requires fired { flow.old.fired ≤ budget }
     ensures within { OnOk result (flow.new.fired ≤ budget) }
+    ensures gone { flow.new.memory.gone ≡ flow.old.memory.gone }
     ensures finish { IfOk result (Ended (image_of program.now) budget flow.old flow.new) }
 {
     loop {
@@ -79,7 +81,7 @@ fn is_budget(finish: Finish) -> bool
     }
 }
 
-// Whether no more instances may fire: nothing is on the way, or so many have.
+// Whether no more instances may fire: nothing is in flight, or so many have.
 fn is_still(flow: &Flow<'_>, budget: u64) -> bool
     ensures still { result ≡ true →
         (vec_len flow.now.way.now + vec_len flow.now.way.later ≡ 0) ⊎ (budget ≤ flow.now.fired) }
@@ -89,7 +91,7 @@ fn is_still(flow: &Flow<'_>, budget: u64) -> bool
     flow.way.is_empty() || flow.fired >= budget
 }
 
-// Rest where nothing is on the way.
+// Rest where nothing is in flight.
 fn stopped_at(flow: &Flow<'_>) -> Finish
     ensures { result ≡ stopped_at flow.now }
 {
@@ -100,7 +102,7 @@ fn stopped_at(flow: &Flow<'_>) -> Finish
     }
 }
 
-// Matches the next token on the way, and issues the operations that then are next.
+// Matches the next token in flight, and issues the operations that then are next.
 fn match_next(program: &Program<'_>, flow: &mut Flow<'_>)
     requires going { Going (image_of program.now) [] flow.old }
     requires fired { flow.old.fired + 1 < 2 ^ 64 }
@@ -112,6 +114,7 @@ fn match_next(program: &Program<'_>, flow: &mut Flow<'_>)
         FlowRoom flow.new 0 m }
     ensures weight { weight flow.new + 9 * flow.old.fired < weight flow.old + 9 * flow.new.fired }
     ensures count { (flow.old.fired ≤ flow.new.fired) × (flow.new.fired ≤ flow.old.fired + 1) }
+    ensures gone { flow.new.memory.gone ≡ flow.old.memory.gone }
 {
     let waiting = flow.asked.len();
     match flow.way.take() {
@@ -135,6 +138,7 @@ fn issue_last(program: &Program<'_>, flow: &mut Flow<'_>)
     ensures room { (n : ℕ) → FlowRoom flow.old 0 n → FlowRoom flow.new 0 n }
     ensures weight { weight flow.new ≤ weight flow.old }
     ensures count { flow.new.fired ≡ flow.old.fired }
+    ensures gone { flow.new.memory.gone ≡ flow.old.memory.gone }
 {
     let place = flow.asked.len() - 1;
     if flow.early.len() < MOST_EARLY && flow.may_issue(program, flow.asked[place]) {
@@ -151,6 +155,7 @@ fn issue_next(program: &Program<'_>, flow: &mut Flow<'_>)
     ensures room { (n : ℕ) → FlowRoom flow.old 0 n → FlowRoom flow.new 0 n }
     ensures weight { weight flow.new ≤ weight flow.old }
     ensures count { flow.new.fired ≡ flow.old.fired }
+    ensures gone { flow.new.memory.gone ≡ flow.old.memory.gone }
 {
     while let Some(place) = flow.next_up(program) {
         flow.issue(program, place);

@@ -1,20 +1,18 @@
 //! The core, event by event.
 
-ghost use Rattle.std.specs.Prelude.{◌≡◌, true, ◌≤◌, ◌-◌, ◌+◌, ℕ, suc, length, ◌⊎◌, is_some};
+ghost use Rattle.std.specs.Prelude.{◌≡◌, true, ◌≤◌, ◌-◌, ◌+◌, ℕ, suc, [], drop, length, ◌⊎◌, is_some};
 ghost use Rattle.std.specs.Prelude.{IfOk, OnOk, OnErr, IfErr, MatchOption};
 ghost use Rattle.ws_words.specs.Outside.{World as Given, printed_words, row};
 ghost use Rattle.ws_words.specs.Plain.{took_by_ports, world_of};
 ghost use Rattle.ws_isa.specs.Image.{Image};
 ghost use Rattle.df_core.specs.Core.{State, Match, Issue, core_opening};
-ghost use Rattle.df_core.specs.Answer.{RunSo};
-ghost use Rattle.df_core.specs.Told.{run_from};
 ghost use Rattle.df_core.specs.Finishes.{is_fault};
 ghost use Rattle.df_core.specs.Places.{image_of};
 ghost use Rattle.df_core.specs.Flows.{NoneAskedMay, FlowFaultIs};
 ghost use Rattle.df_core.specs.Quiet.{IsQuietly, OnlyFires};
 ghost use Rattle.df_core.specs.Cores.{IsAt, Prepared, Makes, NotEnabled, IsEnabled, IsAtRest, SpendsAll};
 ghost use Rattle.df_core.specs.Cores.{HasRoom, done, event_of, is_not_ready, EventsLead, IsRunning};
-ghost use Rattle.df_core.specs.Cores.{SameStates, RoomFor, KeepsRoom};
+ghost use Rattle.df_core.specs.Cores.{SameStates, RoomFor, KeepsRoom, AnswersSo, gone, with_words};
 
 use crate::drive::{Finish, run};
 use crate::flow::Flow;
@@ -26,7 +24,7 @@ use std::alloc::Global;
 use ws_isa::Checked;
 use ws_words::{Cells, NoMemory, World};
 
-/// A match of the token on its way to a port, or an issue of the request that waits.
+/// A match of the token in flight to a port, or an issue of the request that waits.
 #[derive(Clone, Copy, Debug, PartialEq, Eq)]
 pub enum Event {
     Match { wave: u64, instr: u32, port: u8 },
@@ -48,11 +46,12 @@ pub struct Core<'i> {
 }
 
 impl<'i> Core<'i> {
-    /// The opening state: the start pulse is on the way.
+    /// The opening state: the start pulse is in flight.
     pub fn begin(alloc: Global, image: &'i Checked, world: &'i World) -> Result<Core<'i>, NoMemory>
         ensures core { IfOk result IsRunning }
         ensures opening { IfOk result (λ core. IsAt image.now (world_of world.now) core
             (core_opening image.now (world_of world.now))) }
+        ensures gone { IfOk result (λ core. gone core ≡ 0) }
     {
         let program = Program::of(alloc, image.image())?;
         let flow = open(alloc, &program, world)?;
@@ -68,6 +67,7 @@ impl<'i> Core<'i> {
         ensures refused { IfErr result (λ fault. is_not_ready fault ≡ true →
             NotEnabled (event_of event) self.old) }
         ensures kept { OnErr result (SameStates self.old self.new) }
+        ensures gone { gone self.new ≡ gone self.old }
         ensures memory { HasRoom self.old → IfErr result (λ fault. is_not_ready fault ≡ true) }
         ensures room { (n : ℕ) → RoomFor self.old (suc n) → RoomFor self.new n }
         ensures prepared { (budget : ℕ) → Prepared self.old budget → (done self.new).fired ≤ budget →
@@ -116,6 +116,7 @@ impl<'i> Core<'i> {
         ensures prepared { OnOk result (Prepared self.new budget) }
         ensures room { (n : ℕ) → RoomFor self.old n → RoomFor self.new n }
         ensures kept { SameStates self.old self.new }
+        ensures gone { gone self.new ≡ gone self.old }
     {
         let fired = self.flow.fired;
         self.flow.prepare(budget - fired)
@@ -130,7 +131,8 @@ impl<'i> Core<'i> {
         ensures leads { EventsLead self.old self.new }
         ensures answer { (image : Image) (world : Given) (state : State) →
             IsAt image world self.old state →
-            RunSo image world budget (run_from result (done self.new)) }
+            AnswersSo image world budget result self.new state }
+        ensures gone { gone self.new ≡ gone self.old }
         ensures stopped { (image : Image) (world : Given) (state : State) →
             IsAt image world self.new state → state.stopped ≡ is_fault result }
         ensures spent { SpendsAll result self.old self.new }
@@ -139,13 +141,25 @@ impl<'i> Core<'i> {
         run(&self.program, &mut self.flow, budget)
     }
 
-    /// The words printed so far.
+    /// The words printed so far, but for those that were taken.
     pub fn printed(&self) -> &[u64]
         ensures words { result.now ≡ (done self.now).printed }
         ensures state { (image : Image) (world : Given) (state : State) →
-            IsAt image world self.now state → printed_words state.memory.acts ≡ result.now }
+            IsAt image world self.now state →
+            result.now ≡ drop (gone self.now) (printed_words state.memory.acts) }
     {
         &self.flow.memory.printed
+    }
+
+    /// Takes the printed words that are kept. If they are too many to be counted, nothing changes.
+    /// What was prepared must be prepared again.
+    pub fn take_printed(&mut self, alloc: Global) -> Result<Vec<u64>, NoMemory>
+        ensures words { IfOk result (λ words. words.items ≡ (done self.old).printed) }
+        ensures left { OnOk result (done self.new ≡ with_words [] (done self.old)) }
+        ensures kept { OnErr result (self.new ≡ self.old) }
+        ensures same { SameStates self.old self.new }
+    {
+        self.flow.memory.take_printed(alloc)
     }
 
     /// The cells of all arrays, in order, hidden ones too.
@@ -182,7 +196,7 @@ impl<'i> Core<'i> {
         self.flow.fired
     }
 
-    /// The array of the load or store past the end at which the chain is stopped, by its number from
+    /// The array of the out-of-bounds load or store at which the chain is stopped, by its number from
     /// 1, if it is.
     pub fn fault(&self) -> Option<u32>
         ensures { (image : Image) (world : Given) (state : State) →
@@ -217,6 +231,7 @@ impl<'i> Core<'i> {
         ensures refused { IfErr result (λ fault. is_not_ready fault ≡ true →
             NotEnabled (Match wave instr port) self.old) }
         ensures kept { OnErr result (SameStates self.old self.new) }
+        ensures gone { gone self.new ≡ gone self.old }
         ensures memory { HasRoom self.old → IfErr result (λ fault. is_not_ready fault ≡ true) }
         ensures room { KeepsRoom self.old self.new }
         ensures count { (done self.new).fired ≤ (done self.old).fired + 1 }
@@ -243,6 +258,7 @@ impl<'i> Core<'i> {
         ensures refused { IfErr result (λ fault. is_not_ready fault ≡ true →
             NotEnabled (Issue wave instr) self.old) }
         ensures kept { OnErr result (SameStates self.old self.new) }
+        ensures gone { gone self.new ≡ gone self.old }
         ensures memory { HasRoom self.old → IfErr result (λ fault. is_not_ready fault ≡ true) }
         ensures room { KeepsRoom self.old self.new }
         ensures count { (done self.new).fired ≤ (done self.old).fired + 1 }

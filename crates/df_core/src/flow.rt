@@ -27,7 +27,7 @@ use ws_words::NoMemory;
 // So many firings that there is room for are counted without overflow.
 const MOST: u64 = 1 << 56;
 
-/// The state of a run: tokens that have arrived at unfired instances, tokens on the way, requests
+/// The state of a run: tokens that have arrived at unfired instances, tokens in flight, requests
 /// that wait, issued loads that the chain hasn't passed, the chain, the array of the index fault at
 /// which it is stopped, if it is, memory, and how many instances have fired.
 #[derive(Drop)]
@@ -44,7 +44,7 @@ pub struct Flow<'w> {
 }
 
 impl<'w> Flow<'w> {
-    /// A token that was taken off the way arrives at its port. If it is the last one of its
+    /// A token that was in flight arrives at its port. If it is the last one of its
     /// instance, that fires.
     pub fn arrive(&mut self, program: &Program<'_>, token: Token)
         requires going { GoingBeside (image_of program.now) (token_of token ∷ []) self.old }
@@ -57,6 +57,7 @@ impl<'w> Flow<'w> {
         ensures asked { AskedMore self.old self.new }
         ensures chain { self.new.chain ≡ self.old.chain }
         ensures fault { self.new.fault ≡ self.old.fault }
+        ensures memory { self.new.memory ≡ self.old.memory }
         ensures count { (self.old.fired ≤ self.new.fired) × (self.new.fired ≤ self.old.fired + 1) }
         ensures weight { weight self.new + 9 * self.old.fired
             ≤ weight self.old + 9 * self.new.fired }
@@ -72,10 +73,7 @@ impl<'w> Flow<'w> {
             self.fire(program, op, token.wave, token.instr, operands);
             return;
         }
-        self.slots.put(token);
-        if self.slots.is_full(token.wave, token.instr, ports) {
-            let operands = self.slots.operands(token.wave, token.instr, ports);
-            self.slots.clear(token.wave, token.instr);
+        if let Some(operands) = self.slots.match_token(token, ports) {
             self.fire(program, op, token.wave, token.instr, operands);
         }
     }
@@ -188,7 +186,7 @@ impl<'w> Flow<'w> {
         None
     }
 
-    /// Issues a request that may be issued; one past the end stops the chain.
+    /// Issues a request that may be issued; one out of bounds stops the chain.
     pub fn issue(&mut self, program: &Program<'_>, place: usize)
         requires going { GoingBeside (image_of program.now) [] self.old }
         requires place { place < length self.old.asked.items }
@@ -201,6 +199,7 @@ impl<'w> Flow<'w> {
             [] self.old self.new }
         ensures room { (n : ℕ) → FlowRoom self.old 0 n → FlowRoom self.new 0 n }
         ensures count { self.new.fired ≡ self.old.fired }
+        ensures gone { self.new.memory.gone ≡ self.old.memory.gone }
         ensures weight { weight self.new < weight self.old }
     {
         let asked = self.asked[place];
@@ -220,7 +219,7 @@ impl<'w> Flow<'w> {
         self.way.send(dests, asked.wave, word);
     }
 
-    // An instance fires: its request waits, or its result is on the way.
+    // An instance fires: its request waits, or its result is in flight.
     fn fire(&mut self, program: &Program<'_>, op: Op, wave: u64, instr: u32, operands: Operands)
         requires formed { Formed (image_of program.now) }
         requires asked { vec_len self.old.asked < vec_capacity self.old.asked }
@@ -264,7 +263,7 @@ impl<'w> Flow<'w> {
     }
 }
 
-// A request may have come to this place.
+// A request may have arrived at this place.
 fn look_again(program: &Program<'_>, asked: &[Asked], hints: &mut Hints, place: usize) {
     if place < asked.len() {
         hints.set(asked[place].wave, program.note(asked[place].instr), place);

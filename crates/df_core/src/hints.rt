@@ -6,7 +6,7 @@ use std::collections::HashMap;
 use ws_isa::{Link, Note};
 
 /// Where requests stand, by their wave and the number of their operation, or that of the one before
-/// it. One is lacking where there was no room for it, so whoever asks has another way to find it.
+/// it. One is missing if there was no room for it, so the caller needs another method to find it.
 #[derive(Drop)]
 pub struct Hints {
     own: HashMap<(u64, u32), u32>,
@@ -28,7 +28,7 @@ impl Hints {
         let _ = self.before.reserve(more);
     }
 
-    /// The request of a wave's operation with this note stands at a place. Takes no memory.
+    /// The request of a wave's operation with this annotation stands at a place. Takes no memory.
     pub fn set(&mut self, wave: u64, note: Note, place: usize) {
         if let Ok(place) = u32::try_from(place) {
             put(&mut self.own, wave, note.seq, place);
@@ -38,7 +38,7 @@ impl Hints {
         }
     }
 
-    /// The request of a wave's operation with this note waits no more.
+    /// The request of a wave's operation with this annotation waits no more.
     pub fn forget(&mut self, wave: u64, note: Note) {
         self.own.remove(&(wave, note.seq));
         if let Some(number) = number_before(note) {
@@ -58,7 +58,7 @@ impl Hints {
     }
 }
 
-// The number of the operation before this one, where its note has it: 0 at the first of a wave.
+// The number of the operation before this one, if its annotation has it: 0 at the first of a wave.
 fn number_before(note: Note) -> Option<u32> {
     match note.pred {
         Link::Is(number) => Some(number),

@@ -3,7 +3,7 @@
 use std::marker::Brand;
 
 /// One run: its image and its world, and of each port slot, when the run began, whether it held a
-/// port, what that had taken, where it told that, and how often it had failed. A job has no content
+/// port, what that had taken, if it reported that, and how often it had failed. A job has no content
 /// when it runs.
 pub trait Job {
     ghost use Rattle.std.specs.Prelude.{List, Option};

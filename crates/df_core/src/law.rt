@@ -1,13 +1,13 @@
 //! The laws of the core, over definitions.
 //!
-//! The law of a core that makes events in any order: a match of a token on its way, or an issue of a request
+//! The law of a core that makes events in any order: a match of a token in flight, or an issue of a request
 //! that waits. From the opening state of a formed and sound image every list of events leads to a state that
 //! is fit and grounded, in which each instance has fired once at most (`reach`); each enabled event can be
 //! made, in one way (`makes`, `alone`), and keeps states fit (`kept`); a fit state at rest has fired every
-//! instance of the walk and issued every operation, or its chain is stopped at the walk's first load or store
-//! past the end (`rest`, `stopped`); **whatever the order, memory is the same at rest** (`determined`). How
+//! instance of the walk and issued every operation, or its chain is stopped at the walk's first index fault
+//! (`rest`, `stopped`); **whatever the order, memory is the same at rest** (`determined`). How
 //! many have fired is counted beside the walk (`counts`); what tables and a buffer stand for between locks is
-//! fit (`shown_is_fit`), and at rest where they owe nothing (`owing_nothing_is_rest`).
+//! fit (`shown_is_fit`), and at rest if no token is outstanding (`owing_nothing_is_rest`).
 ghost use Rattle.std.specs.Prelude.{◌≡◌, ◌≤◌, ◌<◌, ◌⊎◌, ℕ, List, length, Some, true, false};
 ghost use Rattle.ws_words.specs.Outside.{Outside, World};
 ghost use Rattle.ws_isa.specs.Image.{Image, is_past};
@@ -22,7 +22,7 @@ ghost use Rattle.df_core.specs.Ends.{WholeRun, AtFault, Meets, Passed, AfterFire
 
 /// From the opening state of a formed, sound image every list of events leads to a state that is
 /// fit and grounded. A fit state at rest has fired every instance of the walk and issued every
-/// operation, or its chain is stopped at the walk's first operation past the end. Whatever the
+/// operation, or its chain is stopped at the walk's first out-of-bounds operation. Whatever the
 /// order, memory is the same at the end.
 pub fn every_list_of_events()
     ensures reach { (image : Image) (world : World) → Formed image → Sound image → (state : State) →
@@ -57,7 +57,7 @@ pub fn every_list_of_events()
 /// At rest as many instances have fired as the walk has; before, no more, and fewer where one of
 /// the walk hasn't fired. Where nothing can be issued and the chain isn't stopped, the passed
 /// operations are the most that have fired without a gap. Where it is stopped, the place of the
-/// operation past the end is at most the number of instances that have fired.
+/// out-of-bounds operation is at most the number of instances that have fired.
 pub fn counts()
     ensures rest { (image : Image) (world : World) → Formed image → Sound image → (state : State) →
         Fit image world state → WholeRun image world state → (t : ℕ) →
@@ -105,8 +105,8 @@ pub fn shown_is_fit()
         BufferOk image world buffer → Fit image world (shown image tables buffer) }
 {}
 
-/// Where tables and a buffer owe nothing, and nothing that waits in the buffer is issuable, the
-/// state for which they stand is at rest.
+/// If tables and a buffer have no outstanding tokens, and nothing that waits in the buffer is
+/// issuable, the state for which they stand is at rest.
 pub fn owing_nothing_is_rest()
     ensures { (image : Image) (tables : Tables) (buffer : Buffer) →
         OwesNothing image tables buffer →

@@ -71,7 +71,7 @@ impl<J: Job> TokenList<J> {
     }
 
     /// Puts the tokens of one word to destinations under a wave number at the end. The first eight of
-    /// all take no memory; where memory runs out, a front of them stands at the end.
+    /// all take no memory; where memory runs out, a prefix of them stands at the end.
     pub fn send(&mut self, wave: u64, dests: &[Dest], word: u64) -> Result<(), NoMemory>
         requires { (w i p v : ℕ) → IsSent (tokens_to wave word dests.now) w i p v →
             RightToken J.image J.world w i p v }

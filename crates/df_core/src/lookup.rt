@@ -34,7 +34,8 @@ impl<'i> Program<'i> {
 
     /// The image itself.
     pub fn image(&self) -> &'i Image
-        ensures { view.image result.now ≡ image_of self.now }
+        ensures itself { result.now ≡ self.now.image.now }
+        ensures content { view.image result.now ≡ image_of self.now }
     {
         self.image
     }
@@ -72,7 +73,7 @@ impl<'i> Program<'i> {
         }
     }
 
-    /// Its note.
+    /// Its memory annotation.
     pub fn note(&self, number: u32) -> Note
         ensures { result ≡ note_of (image_of self.now) number }
     {
@@ -103,7 +104,7 @@ impl<'i> Program<'i> {
         }
     }
 
-    /// Whether a load or store goes past the end at this index.
+    /// Whether a load or store is out of bounds at this index.
     pub fn is_past(&self, op: Op, index: u64) -> bool
         ensures { result ≡ is_past_op (image_of self.now).arrays op (index ∷ []) }
     {
@@ -168,7 +169,7 @@ impl<'i> Program<'i> {
     }
 }
 
-// The note of what has none.
+// The annotation of what has none.
 fn no_note() -> Note
     ensures { result ≡ no_note }
 {

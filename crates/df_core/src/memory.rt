@@ -1,7 +1,7 @@
 //! What a run has outside: cells, input, ports.
 
 ghost use Rattle.std.specs.Prelude.{◌≡◌, ◌+◌, ℕ, suc, [], ◌∷◌, ◌++◌, map};
-ghost use Rattle.std.specs.Prelude.{IfOk, OnOk, IsOk};
+ghost use Rattle.std.specs.Prelude.{IfOk, OnOk, OnErr, IsOk};
 ghost use Rattle.ws_words.specs.Outside.{Outside, opening_out, with_act, takes, row};
 ghost use Rattle.ws_words.specs.Outside.{with_row};
 ghost use Rattle.ws_words.specs.Plain.{took_by_ports, world_of};
@@ -10,16 +10,19 @@ ghost use Rattle.ws_isa.specs.View as view;
 ghost use Rattle.df_core.specs.Outdoors.{CarriesOut, Space, HasSpace, rows_of, SameOut, MemoryIs};
 
 use std::alloc::Global;
+use std::mem::replace;
 use ws_isa::{ArrayDecl, Op};
 use ws_words::{Cells, NoMemory, PORTS, Tape, Words, World, next_of, place_of, tapes};
 
-/// What a run has outside. Of its acts it keeps the words that were printed and taken.
+/// What a run has outside. Of its acts it keeps the words that ports took, and those that were
+/// printed, but for the first `gone`, which were taken.
 #[derive(Drop)]
 pub struct Memory<'a> {
     pub cells: Cells,
     pub input: Tape<'a>,
     pub left: Vec<Tape<'a>>,
     pub printed: Vec<u64>,
+    pub gone: usize,
     pub took: Vec<Vec<u64>>,
 }
 
@@ -30,14 +33,16 @@ impl<'a> Memory<'a> {
         arrays: &[ArrayDecl],
         world: &'a World,
     ) -> Result<Memory<'a>, NoMemory>
-        ensures { IfOk result (MemoryIs
+        ensures memory { IfOk result (MemoryIs
             (opening_out (cells_of (map view.array arrays.now)) (world_of world.now))) }
+        ensures gone { IfOk result (λ memory. memory.gone ≡ 0) }
     {
         Ok(Memory {
             cells: empty_cells(alloc, arrays)?,
             input: Tape::new(world.input.as_slice()),
             left: tapes(alloc, &world.left)?,
             printed: Vec::new(alloc),
+            gone: 0,
             took: no_words(alloc)?,
         })
     }
@@ -59,6 +64,7 @@ impl<'a> Memory<'a> {
         requires { Space self.old 1 }
         ensures answer { (o : Outside) (third : ℕ) → MemoryIs o self.old →
             CarriesOut op (first ∷ second ∷ third ∷ []) o result self.new }
+        ensures gone { self.new.gone ≡ self.old.gone }
         ensures space { (n : ℕ) → Space self.old (suc n) → Space self.new n }
     {
         match op {
@@ -81,11 +87,31 @@ impl<'a> Memory<'a> {
         }
     }
 
+    /// Takes the printed words that are kept, and counts them as gone. If they are too many to be
+    /// counted, nothing changes.
+    pub fn take_printed(&mut self, alloc: Global) -> Result<Vec<u64>, NoMemory>
+        ensures taken { IfOk result (λ words. words.items ≡ self.old.printed.items) }
+        ensures same { (o : Outside) → MemoryIs o self.old → MemoryIs o self.new }
+        ensures none { OnOk result (self.new.printed.items ≡ []) }
+        ensures cells { self.new.cells ≡ self.old.cells }
+        ensures took { self.new.took ≡ self.old.took }
+        ensures kept { OnErr result (self.new ≡ self.old) }
+    {
+        match self.gone.checked_add(self.printed.len()) {
+            Some(gone) => {
+                self.gone = gone;
+                Ok(replace(&mut self.printed, Vec::new(alloc)))
+            }
+            None => Err(NoMemory),
+        }
+    }
+
     // A port takes a word.
     fn take(&mut self, port: u8, word: u64)
         requires { Space self.old 1 }
         ensures taken { (o : Outside) → MemoryIs o self.old →
             MemoryIs (with_act o (takes port word)) self.new }
+        ensures gone { self.new.gone ≡ self.old.gone }
         ensures space { (n : ℕ) → Space self.old (suc n) → Space self.new n }
     {
         if port > 0 {
@@ -94,7 +120,7 @@ impl<'a> Memory<'a> {
     }
 }
 
-// Puts a word behind the others of a row; past the last row nothing changes.
+// Puts a word behind the others of a row; out of bounds nothing changes.
 fn add_word(rows: &mut Vec<Vec<u64>>, place: usize, word: u64)
     requires { HasSpace rows.old.items 1 }
     ensures rows { let before = rows_of rows.old.items in

@@ -1,6 +1,6 @@
 //! The state of a run before its first event.
 
-ghost use Rattle.std.specs.Prelude.{IfOk};
+ghost use Rattle.std.specs.Prelude.{◌≡◌, IfOk};
 ghost use Rattle.ws_words.specs.Plain.{world_of};
 ghost use Rattle.ws_isa.specs.Formed.{Formed};
 ghost use Rattle.df_core.specs.Places.{image_of};
@@ -16,14 +16,15 @@ use crate::way::Way;
 use std::alloc::Global;
 use ws_words::{NoMemory, World};
 
-/// The start pulse is on the way, and nothing else has happened.
+/// The start pulse is in flight, and nothing else has happened.
 pub fn open<'w>(
     alloc: Global,
     program: &Program<'_>,
     world: &'w World,
 ) -> Result<Flow<'w>, NoMemory>
     requires formed { Formed (image_of program.now) }
-    ensures { IfOk result (StandsForOpening (image_of program.now) (world_of world.now)) }
+    ensures opening { IfOk result (StandsForOpening (image_of program.now) (world_of world.now)) }
+    ensures gone { IfOk result (λ flow. flow.memory.gone ≡ 0) }
 {
     let mut way = Way {
         front: 0,

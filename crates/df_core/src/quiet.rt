@@ -12,7 +12,7 @@ use crate::plain::Token;
 use crate::program::Program;
 use crate::slots::MatchStore;
 
-/// A token on the way that doesn't fill its instance, if there is one.
+/// A token in flight that doesn't fill its instance, if there is one.
 pub fn quiet_token(program: &Program<'_>, flow: &Flow<'_>) -> Option<Token>
     ensures { MatchOption result
         (spec.AllFill (image_of program.now) flow.now.slots (way_of flow.now.way))

@@ -1,13 +1,14 @@
 //! Where tokens wait for their partners.
 
 ghost use Rattle.std.specs.Prelude.{◌≡◌, ◌<◌, ◌≤◌, ℕ, ◌+◌, Option, Some, None, length, is_some};
-ghost use Rattle.std.specs.Prelude.{replicate, IfOk, IsOk, OnOk, false};
+ghost use Rattle.std.specs.Prelude.{replicate, IfOk, IsOk, OnOk, MatchOption, ◌||◌, ◌⊎◌, eqb, cond, false};
 ghost use Rattle.std.specs.HashMap.{IsEmpty, spare};
 ghost use Rattle.ws_isa.specs.Walk.{gather};
 ghost use Rattle.df_core.specs.Core.{is_full, with_at};
 ghost use Rattle.df_core.specs.Stands.{cleared};
 ghost use Rattle.df_core.specs.Partial.{empty_slot, is_empty_slot, port_of, with_port, slotted, spilled};
 ghost use Rattle.df_core.specs.Partial.{spilled_at, partial_of, listed};
+ghost use Rattle.df_core.specs.Matches.{AwaitsOthers, Completes};
 
 use crate::plain::{Operands, Token};
 use std::alloc::Global;
@@ -58,6 +59,54 @@ impl Slot {
             1 => self.second,
             2 => self.third,
             _ => None,
+        }
+    }
+
+    // Whether the tokens of an instance under this wave number may be put here.
+    #[inline(always)]
+    fn has_room(&self, wave: u64) -> bool
+        ensures { result ≡ eqb self.now.wave wave || is_empty_slot self.now }
+    {
+        self.wave == wave || self.is_empty()
+    }
+
+    // A token arrives at an instance with two ports: its operands, if the other one is here.
+    #[inline(always)]
+    fn pair(&mut self, token: Token) -> Option<Operands>
+        requires { token.port < 2 }
+        ensures { let full = with_port self.old token.wave token.port token.value in
+            MatchOption result
+            ((self.new ≡ full) × ((is_some full.first ≡ false) ⊎ (is_some full.second ≡ false)))
+            (λ o. (self.new ≡ empty_slot) × (full.first ≡ Some o.first) × (full.second ≡ Some o.second)) }
+    {
+        let other = if token.port == 0 {
+            self.second
+        } else {
+            self.first
+        };
+        match other {
+            Some(other) => {
+                *self = Slot::empty();
+                Some(operands_of(token, other))
+            }
+            None => {
+                self.put(token);
+                None
+            }
+        }
+    }
+
+    // Puts a token at one of the first two ports.
+    #[inline(always)]
+    fn put(&mut self, token: Token)
+        requires { token.port < 2 }
+        ensures { self.new ≡ with_port self.old token.wave token.port token.value }
+    {
+        self.wave = token.wave;
+        if token.port == 0 {
+            self.first = Some(token.value);
+        } else {
+            self.second = Some(token.value);
         }
     }
 
@@ -123,6 +172,60 @@ impl MatchStore {
             return held;
         }
         self.spilled(wave, instr).get(port)
+    }
+
+    /// A token arrives at a free port of an instance with so many ports. If it is the last one, these are
+    /// the operands, and the instance's slot is free again.
+    #[inline(always)]
+    pub fn match_token(&mut self, token: Token, ports: u8) -> Option<Operands>
+        requires port { token.port < ports }
+        requires ports { ports < 4 }
+        requires free { partial_of self.old.slots.items self.old.spill token.wave token.instr token.port
+            ≡ None }
+        requires room { 0 < spare self.old.spill }
+        ensures matched { MatchOption result
+            (AwaitsOthers token ports (partial_of self.old.slots.items self.old.spill)
+            (partial_of self.new.slots.items self.new.spill))
+            (Completes token ports (partial_of self.old.slots.items self.old.spill)
+            (partial_of self.new.slots.items self.new.spill)) }
+        ensures slots { length self.new.slots.items ≡ length self.old.slots.items }
+        ensures room { spare self.old.spill ≤ spare self.new.spill + 1 }
+    {
+        let place = token.instr as usize;
+        if ports == 2
+            && self.spill.is_empty()
+            && place < self.slots.len()
+            && self.slots[place].has_room(token.wave)
+        {
+            self.slots[place].pair(token)
+        } else {
+            self.match_anywhere(token, ports)
+        }
+    }
+
+    // The same, wherever the tokens of its instance are.
+    #[inline(never)]
+    fn match_anywhere(&mut self, token: Token, ports: u8) -> Option<Operands>
+        requires port { token.port < 3 }
+        requires ports { ports < 4 }
+        requires free { partial_of self.old.slots.items self.old.spill token.wave token.instr token.port
+            ≡ None }
+        requires room { 0 < spare self.old.spill }
+        ensures matched { MatchOption result
+            (AwaitsOthers token ports (partial_of self.old.slots.items self.old.spill)
+            (partial_of self.new.slots.items self.new.spill))
+            (Completes token ports (partial_of self.old.slots.items self.old.spill)
+            (partial_of self.new.slots.items self.new.spill)) }
+        ensures slots { length self.new.slots.items ≡ length self.old.slots.items }
+        ensures room { spare self.old.spill ≤ spare self.new.spill + 1 }
+    {
+        self.put(token);
+        if !self.is_full(token.wave, token.instr, ports) {
+            return None;
+        }
+        let operands = self.operands(token.wave, token.instr, ports);
+        self.clear(token.wave, token.instr);
+        Some(operands)
     }
 
     /// Puts a token at a port that has none.
@@ -252,6 +355,27 @@ impl MatchStore {
         match self.slots.get(instr as usize) {
             Some(slot) if slot.wave == wave => slot.get(port),
             _ => None,
+        }
+    }
+}
+
+// A token's value and that of the other of two ports, by port.
+#[inline(always)]
+fn operands_of(token: Token, other: u64) -> Operands
+    ensures first { result.first ≡ cond (eqb token.port 0) token.value other }
+    ensures second { result.second ≡ cond (eqb token.port 0) other token.value }
+{
+    if token.port == 0 {
+        Operands {
+            first: token.value,
+            second: other,
+            third: 0,
+        }
+    } else {
+        Operands {
+            first: other,
+            second: token.value,
+            third: 0,
         }
     }
 }

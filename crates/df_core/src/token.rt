@@ -7,7 +7,7 @@ ghost use Rattle.df_core.specs.Rights.{IsRight};
 use crate::job::Job;
 use std::marker::{Model, PhantomData};
 
-/// A value on its way to a port of an instance: an instruction under a wave number of the job. The
+/// A value in flight to a port of an instance: an instruction under a wave number of the job. The
 /// walk of the job's image has the instance, and this operand at its port.
 #[derive(Drop)]
 pub struct Token<J: Job> {

@@ -1,4 +1,4 @@
-//! Tokens on the way.
+//! Tokens in flight.
 
 ghost use Rattle.std.specs.Prelude.{◌≡◌, ◌<◌, ◌≤◌, ◌+◌, ◌==◌, ℕ, false, [], ◌++◌, length, map};
 ghost use Rattle.std.specs.Prelude.{vec_len, vec_capacity, MatchOption};
@@ -10,7 +10,7 @@ use crate::plain::Token;
 use std::mem::swap;
 use ws_isa::Dest;
 
-/// Tokens on the way: those under the number `front`, and others. The first are taken first, the
+/// Tokens in flight: those under the number `front`, and others. The first are taken first, the
 /// newest of them before others.
 #[derive(Drop)]
 pub struct Way {

@@ -12,7 +12,7 @@ use std::alloc::Global;
 use ws_isa::Checked;
 use ws_words::{NoMemory, World};
 
-/// Runs an image until nothing more can happen, a load or store past the end stops it, or so many
+/// Runs an image until nothing more can happen, an out-of-bounds load or store stops it, or so many
 /// instances have fired.
 pub fn run_checked(
     alloc: Global,

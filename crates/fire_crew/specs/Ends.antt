@@ -16,7 +16,7 @@ use Rattle.ws_words.specs.Items.{In}
 abbrev pub IsGoing : Content → Type 0
 IsGoing c = (c.fault ≡ None) × (c.failed ≡ None) × (c.starved ≡ false)
 
--- the walk has no load or store past the end; each of its instances is listed, and as many are as it has;
+-- the walk has no out-of-bounds load or store; each of its instances is listed, and as many are as it has;
 -- what is outside is what it leaves
 pub record AllRun (image : Image) (world : World) (began : List (Option Began)) (listed : List Key)
     (h : Holding) : Type 0 where
@@ -28,7 +28,7 @@ pub record AllRun (image : Image) (world : World) (began : List (Option Began)) 
   pub left : (t : ℕ) → length listed ≤ length (walk image world t) → HoldsOut began (mem image world t) h
 
 -- The walk has more instances than are listed, and the listed ones fire at these steps of it. What is
--- outside is what the walk leaves with its first operations, none of them past the end, and these are at
+-- outside is what the walk leaves with its first operations, none of them out of bounds, and these are at
 -- least as many as fire at those steps without a gap.
 pub record SomeRun (image : Image) (world : World) (began : List (Option Began)) (listed : List Key)
     (h : Holding) : Type 0 where
@@ -44,7 +44,7 @@ pub record SomeRun (image : Image) (world : World) (began : List (Option Began))
   pub within : FirstWithin image world front
   pub left : HoldsOut began (mem image world front) h
 
--- the walk's first load or store past the end is on this array, and what is outside is what the walk leaves
+-- the walk's first out-of-bounds load or store is on this array, and what is outside is what the walk leaves
 -- before it
 pub record FaultRun (image : Image) (world : World) (began : List (Option Began)) (array : ℕ) (h : Holding)
     : Type 0 where
@@ -54,7 +54,7 @@ pub record FaultRun (image : Image) (world : World) (began : List (Option Began)
   pub left : HoldsOut began (mem image world time) h
 
 -- the operation that is next in the walk is on this port, which has failed since the run began; none before
--- it is past the end, and what is outside is what the walk leaves before it
+-- it is out of bounds, and what is outside is what the walk leaves before it
 pub record PortRun (image : Image) (world : World) (began : List (Option Began)) (port : ℕ) (h : Holding)
     : Type 0 where
   pub time : ℕ
@@ -65,7 +65,7 @@ pub record PortRun (image : Image) (world : World) (began : List (Option Began))
   pub left : HoldsOut began (mem image world time) h
   pub rose : RoseSince began port h.ports
 
--- what is outside is what the walk leaves with its first operations, none of them past the end
+-- what is outside is what the walk leaves with its first operations, none of them out of bounds
 pub record FrontRun (image : Image) (world : World) (began : List (Option Began)) (h : Holding) : Type 0 where
   pub front : ℕ
   pub within : FirstWithin image world front

@@ -32,13 +32,13 @@ FinishSo image world began budget listed ports NoMemory =
     (arrays : List (List ℕ)) × (input : List ℕ) × (printed : List ℕ)
     × FrontRun image world began (holding arrays input printed ports)
 
--- for want of memory nothing was run and the ports are given back as they were handed in, or a run has ended
+-- out of memory nothing was run and the ports are given back as they were handed in, or a run has ended
 -- so
 abbrev pub EndsSo : Image → World → List (Option Began) → ℕ → List Key → List (Option Told) →
     List (Option Told) → RunFinish → Type 0
 EndsSo image world began budget listed handed back finish =
     ((finish ≡ NoMemory) × (back ≡ handed)) ⊎ FinishSo image world began budget listed back finish
 
--- a run that doesn't end for want of memory leaves sixteen tables
+-- a run that doesn't end out of memory leaves sixteen tables
 abbrev pub LeavesAll : RunFinish → List TableContent → Type 0
 LeavesAll finish tables = (finish ≡ NoMemory → ⊥) → length tables ≡ 16

@@ -1,4 +1,4 @@
--- What tables and a buffer owe.
+-- The outstanding tokens of tables and a buffer.
 use Rattle.std.specs.Prelude.{ℕ, ◌≡◌, ◌<◌, ◌≤◌, true, false, List, length, slice_index_or, Some, None}
 use Rattle.std.specs.Prelude.{is_some}
 use Rattle.ws_isa.specs.Image.{Image, Token, ports, is_memory, result_of, sends}
@@ -16,7 +16,7 @@ use Rattle.store_buf.specs.Runs.{AllReach}
 abbrev pub IsMissing : Ports → Token → Type 0
 IsMissing held t = held t.wave t.instr t.port ≡ None
 
--- each of these has come to its table
+-- each of these has arrived at its table
 abbrev pub HaveCome : Ports → List Token → Type 0
 HaveCome held ts = (w i p v : ℕ) → IsSent ts w i p v → (u : ℕ) × (held w i p ≡ Some u)
 
@@ -24,7 +24,8 @@ HaveCome held ts = (w i p v : ℕ) → IsSent ts w i p v → (u : ℕ) × (held 
 abbrev pub IsKnown : List Kept → Key → Type 0
 IsKnown kept k = is_some (entry_of kept k.wave k.instr) ≡ true
 
--- if it isn't one of memory, the result tokens of these operands have come to their tables or are on the way
+-- if it isn't one of memory, the result tokens of these operands have arrived at their tables or are in
+-- flight
 abbrev pub ResultsReach : Image → Ports → List Token → List ℕ → Key → Type 0
 ResultsReach image all way operands k = is_memory image k.instr ≡ false →
     AllReach all way (sends image k.wave k.instr operands (result_of image k.instr operands))
@@ -47,11 +48,11 @@ abbrev pub ToldUpTo : Image → Ports → List Token → List ℕ → List Table
 ToldUpTo image all way places cs = (k : ℕ) → k < length cs →
     ToldIn image all way 0 (slice_index_or places k 0) (content_at cs k)
 
--- these places are past all that the tables list
+-- these places are behind all that the tables list
 abbrev pub AllPast : List ℕ → List TableContent → Type 0
 AllPast places cs = (k : ℕ) → k < length cs → length (content_at cs k).fired ≤ slice_index_or places k 0
 
--- if it is issued, its result tokens have come to their tables or are on the way
+-- if it is issued, its result tokens have arrived at their tables or are in flight
 abbrev pub AnswersReach : Image → Ports → List Token → Kept → Type 0
 AnswersReach image held way k = (a : ℕ) → k.answer ≡ Some a →
     AllReach held way (sends image k.wave k.instr (operands_of (ports image k.instr) k.first k.second) a)

@@ -1,4 +1,4 @@
--- What a crew of one has done and still owes.
+-- What a crew of one has done, and what is outstanding.
 use Rattle.std.specs.Prelude.{ℕ, ◌≡◌, true, List, Option, Some, None, is_some}
 use Rattle.ws_words.specs.Outside.{World}
 use Rattle.ws_isa.specs.Image.{Image, Token, sends}
@@ -25,25 +25,25 @@ abbrev pub Owes : Image → Content → List Token → Type 0
 Owes image c ts = (w : ℕ) × (i : ℕ) × (a : ℕ) × (xs : List ℕ) × (kept_in image c.kept w i ≡ Some xs)
     × (issued_in c.kept w i ≡ Some a) × (ts ≡ sends image w i xs a)
 
--- the start pulse has been told, and each instance that has fired has told its result tokens, or its request
--- has come to the buffer; and so has each operation that is issued there
+-- the start pulse has been sent, and each instance that has fired has sent its result tokens, or its request
+-- has arrived at the buffer; and so has each operation that is issued there
 abbrev pub Paid : Image → Part → Content → List Token → Type 0
 Paid image t c way = PaidOf image t (Knows c) (Owes image c) way
 
--- a run goes on with these tokens on the way, or has ended with so many firings left
+-- a run goes on with these tokens in flight, or has ended with so many firings left
 abbrev pub GoesOn : Image → World → List (Option Began) → Part → ℕ → Content → List Token → Option Ending →
     Type 0
 GoesOn image world began t left c way None = IsGoing c × Paid image t c way
 GoesOn image world began t left c way (Some e) = EndingSo image world began t.fired left c e
 
--- the end of a run whose buffer doesn't take a request; one that it has had is let go
+-- the end of a run whose buffer doesn't take a request; one that it has had is released
 abbrev pub ending_of : BufFault → Option Ending
 ending_of Old = None
 ending_of NoMemory = Some Starved
 ending_of _ = Some Stopped
 
--- What came of a request: the buffer has it, and what was owed and told stays so with any tables; or the run
--- has ended, whatever has fired.
+-- What came of a request: the buffer has it, and what was outstanding and sent stays so with any tables; or
+-- the run has ended, whatever has fired.
 abbrev pub AsksSo : Image → World → List (Option Began) → Content → Asked → List Token → Content →
     List Token → Option Ending → Type 0
 AsksSo image world began old r way new more None = IsGoing new × Knows new r.wave r.instr

@@ -219,7 +219,7 @@ fn counted(phases: u64, is_phase: bool) -> u64
     if is_phase { phases + 1 } else { phases }
 }
 
-/// For want of memory nothing was run.
+/// Memory ran out, and nothing was run.
 pub fn starved_crew<J: Job, P: Port>(alloc: Global, ports: Slots<P>) -> CrewEnd<J, P>
     ensures serve { AllServe result.tables }
     ensures none { length (part_of result.tables).fired ≡ 0 }
@@ -244,7 +244,7 @@ fn fresh_tables<J: Job>(alloc: Global) -> Result<Tables<J>, NoMemory>
     Ok(tables)
 }
 
-/// Tables that have had no token: sixteen, or none for want of memory.
+/// Tables that have had no token: sixteen, or none if memory ran out.
 pub fn no_tables<J: Job>(alloc: Global) -> Tables<J>
     ensures serve { AllServe result }
     ensures none { length (part_of result).fired ≡ 0 }

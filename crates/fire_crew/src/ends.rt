@@ -17,7 +17,7 @@ use match_table::{Tables, facts};
 use port_set::Port;
 use store_buf::{Buffer, MemoryOrder};
 
-/// Where tables and a buffer owe nothing the whole walk has been run.
+/// If tables and a buffer have no outstanding tokens, the whole walk has been run.
 pub fn all_run<J: Job, P: Port>(code: &Code<'_, J>, tables: &Tables<J>, buffer: &Buffer<J, P>)
     requires serve { AllServe tables.now }
     requires going { IsGoing buffer.now }
@@ -56,7 +56,7 @@ pub fn some_run<J: Job, P: Port>(
     counts();
 }
 
-/// Where the chain is stopped it is so at the walk's first load or store past the end.
+/// Where the chain is stopped it is so at the walk's first out-of-bounds load or store.
 pub fn fault_run<J: Job, P: Port>(
     code: &Code<'_, J>,
     tables: &Tables<J>,

@@ -18,7 +18,7 @@ pub enum Next {
 }
 
 /// What follows from the answer of a token's table: results are put by, but for one that the worker goes on
-/// with; a request goes to the buffer; and a token for which the quota is spent is let go.
+/// with; a request goes to the buffer; and a token for which the quota is exhausted is released.
 #[inline(always)]
 pub fn carry_on<L: Wrap<Token<J>, T>, J: Job, T: Drop, P: Port, R: Wait>(
     rt: &R,

@@ -76,7 +76,7 @@ impl<'i, J: Job> InHand<'i, J> {
         }
     }
 
-    /// Puts all results by. Those that the seat refuses are let go.
+    /// Puts all results by. Those that the seat refuses are released.
     #[inline(always)]
     pub fn put_results<L: Wrap<Token<J>, T>, T: Drop>(
         &mut self,
@@ -92,7 +92,7 @@ impl<'i, J: Job> InHand<'i, J> {
         if self.streak < STREAK { 1 } else { 0 }
     }
 
-    /// Puts results by, but for one that the worker may go on with. Those that its seat refuses are let go.
+    /// Puts results by, but for one that the worker may go on with. Those that its seat refuses are released.
     #[inline(always)]
     pub fn hand_on<L: Wrap<Token<J>, T>, T: Drop>(
         &mut self,
@@ -103,7 +103,7 @@ impl<'i, J: Job> InHand<'i, J> {
         put_sent::<L, J, T>(seat, let_go, &mut self.results.sent, kept);
     }
 
-    /// Puts the buffer's answers by. Those that its seat refuses are let go.
+    /// Puts the buffer's answers by. Those that its seat refuses are released.
     pub fn put_answers<L: Wrap<Token<J>, T>, T: Drop>(
         &mut self,
         seat: &mut Seat<T>,
@@ -120,7 +120,7 @@ impl<'i, J: Job> InHand<'i, J> {
     }
 }
 
-// Puts by what a firing sent, until so many tokens are left. Those that the seat refuses are let go.
+// Puts by what a firing sent, until so many tokens are left. Those that the seat refuses are released.
 #[inline(always)]
 fn put_sent<L: Wrap<Token<J>, T>, J: Job, T: Drop>(
     seat: &mut Seat<T>,
@@ -136,7 +136,7 @@ fn put_sent<L: Wrap<Token<J>, T>, J: Job, T: Drop>(
     }
 }
 
-// Puts a token into a seat. One that it refuses is let go.
+// Puts a token into a seat. One that it refuses is released.
 #[inline(always)]
 pub(crate) fn put<L: Wrap<Token<J>, T>, J: Job, T: Drop>(
     seat: &mut Seat<T>,

@@ -17,7 +17,7 @@ use port_set::Port;
 use std::alloc::Global;
 use store_buf::{Buffer, MemoryOrder};
 
-/// Why a run has ended: the whole walk has been run; the budget is spent and something is owed; the
+/// Why a run has ended: the whole walk has been run; the budget is exhausted and a token is outstanding; the
 /// buffer is stopped, or a port found no memory; or memory ran out.
 #[derive(Clone, Copy, Debug, PartialEq, Eq)]
 pub enum Ending {
@@ -37,7 +37,7 @@ pub enum Verdict<J: Job> {
     Ends(Ending),
 }
 
-/// Whether a run goes on where these tokens were let go in the last phase and so many may still fire.
+/// Whether a run goes on where these tokens were released in the last phase and so many may still fire.
 pub fn find_course<J: Job, P: Port>(
     alloc: Global,
     code: &Code<'_, J>,
@@ -68,7 +68,7 @@ pub fn find_course<J: Job, P: Port>(
     }
 }
 
-/// The tokens that are owed where a phase has ended, or why the run has.
+/// The outstanding tokens when a phase has ended, or why the run has.
 pub fn find_owed<J: Job, P: Port>(
     alloc: Global,
     code: &Code<'_, J>,
@@ -91,7 +91,7 @@ pub fn find_owed<J: Job, P: Port>(
     }
 }
 
-// The last of these tokens that no table has had. Those behind it are let go.
+// The last of these tokens that no table has had. Those behind it are released.
 fn wanted<J: Job>(tables: &Tables<J>, tokens: &mut TokenList<J>) -> Option<Token<J>>
     ensures { IfSome result (IsMissing (part_of tables.now).held) }
 {
@@ -142,7 +142,7 @@ fn submit_unknown<J: Job, P: Port>(
     }
 }
 
-// What is to be done where these tokens are owed.
+// What is to be done if these tokens are outstanding.
 fn settle<J: Job, P: Port>(
     code: &Code<'_, J>,
     tables: &Tables<J>,
@@ -173,7 +173,7 @@ fn settle<J: Job, P: Port>(
     }
 }
 
-// Submits requests. What comes of it the buffer tells.
+// Submits requests. The buffer reports what comes of it.
 fn submit_all<J: Job, P: Port>(
     code: &Code<'_, J>,
     buffer: &mut Buffer<J, P>,

@@ -1,4 +1,4 @@
-//! A crew of workers that fire the instances of a job, what it owes between two phases, and its run.
+//! A crew of workers that fire the instances of a job, the outstanding tokens between phases, and the run.
 //!
 //! - `phase` returns tables and buffer: whatever the workers did, each table serves its own instances, within
 //!   its limit, and lost nothing (`AllGrow`).

@@ -1,4 +1,4 @@
-//! Tokens that are owed.
+//! Outstanding tokens.
 
 ghost use Rattle.std.specs.Prelude.{◌≡◌, ◌<◌, ◌≤◌, All, IfOk, List, OnOk, length, false};
 ghost use Rattle.ws_isa.specs.Image.{Token as Plain};
@@ -16,7 +16,7 @@ use std::alloc::Global;
 use store_buf::{Buffer, MemoryOrder};
 use ws_words::NoMemory;
 
-/// The tokens that tables and a buffer owe and that no table has had: the start pulse's, and the
+/// The outstanding tokens of tables and a buffer, which no table has had: the start pulse's, and the
 /// results of instances that have fired and of operations that are issued. Tables are looked at side by
 /// side, wave by wave, and once so many are found no more are looked for. Where not all are wanted, those
 /// that fired last are looked at before.
@@ -128,7 +128,7 @@ fn latest<J: Job>(tables: &Tables<J>) -> u64 {
     latest
 }
 
-// Those that each table owes for the instances that it lists from its place on, up to the first that is of a
+// Those of each table for the instances that it lists from its place on, up to the first that is of a
 // later wave than this one.
 fn look_across<J: Job>(
     code: &Code<'_, J>,
@@ -154,7 +154,7 @@ fn look_across<J: Job>(
     Ok(())
 }
 
-// Those that one table owes for the instances that it lists from a place on, up to the first that is of a
+// Those of one table for the instances that it lists from a place on, up to the first that is of a
 // later wave than this one. Answers where that is, or would be.
 fn look_through<J: Job>(
     code: &Code<'_, J>,
@@ -190,7 +190,7 @@ fn is_later<J: Job>(table: &Table<J>, place: usize, wave: u64) -> bool
     wave != ALL && table.key_at(place).0 > wave
 }
 
-// Those that the buffer owes.
+// Those of the buffer.
 fn look_back<J: Job, P: Port>(
     code: &Code<'_, J>,
     tables: &Tables<J>,

@@ -1,4 +1,4 @@
-//! The tokens that an instance or an operation owes.
+//! The outstanding tokens of an instance or an operation.
 
 ghost use Rattle.std.specs.Prelude.{◌≡◌, ◌<◌, ℕ, All, List, OnOk, length, true, false};
 ghost use Rattle.ws_isa.specs.Image.{Token as Plain, is_memory, sends, result_of, tokens_to, ports};
@@ -43,7 +43,7 @@ pub(crate) fn see_at<J: Job>(
     Ok(())
 }
 
-// Those of an instance that has fired; it owes none where it is one of memory.
+// Those of an instance that has fired; an instance of memory has none.
 #[inline(never)]
 fn look_at<J: Job>(
     code: &Code<'_, J>,
@@ -76,7 +76,7 @@ fn look_at<J: Job>(
     Ok(())
 }
 
-// Those of a request that the buffer keeps; it owes none until it is issued.
+// Those of a request that the buffer keeps; it has none until it is issued.
 pub(crate) fn look_up<J: Job>(
     code: &Code<'_, J>,
     tables: &Tables<J>,

@@ -77,7 +77,7 @@ impl<'a, G: Gate, R: Threads + Wait + Sync> Crew<'a, G, R> {
             Err(_) => true,
         };
         PhaseEnd {
-            tables: row.gather(rt),
+            tables: row.gather(),
             buffer: lock.into_inner(),
             starved,
         }

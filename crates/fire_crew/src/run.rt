@@ -58,7 +58,7 @@ pub fn crew_run<J: Job + Send + Sync, P: Port + Send, G: Gate, R: Threads + Wait
 
 impl<'a, G: Gate, R: Threads + Wait + Sync> Crew<'a, G, R> {
     /// Runs an image, until the whole walk has been run, so many instances have fired, the walk's first
-    /// load or store past the end is next, a port fails, or memory runs out. Each port tells the words
+    /// out-of-bounds load or store is next, a port fails, or memory runs out. Each port reports the words
     /// that it has left, and none is closed.
     pub fn run_image<P: Port + Send>(
         &self,

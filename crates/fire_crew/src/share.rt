@@ -1,4 +1,4 @@
-//! A phase of several workers, and what is owed behind it.
+//! A phase of several workers, and the tokens that are outstanding after it.
 
 ghost use Rattle.std.specs.Prelude.{◌≡◌, ◌<◌, ◌≤◌, ◌-◌, IfOk, IfSome, None, OnOk, false, length};
 ghost use Rattle.std.specs.Prelude.{true};
@@ -23,7 +23,7 @@ use store_buf::Buffer;
 use ws_words::NoMemory;
 
 // How many tokens there have to be for each worker where a phase begins, but for the first.
-const EACH: u64 = 8;
+const EACH: u64 = 2;
 
 /// Where a run has come, and whether there was a phase.
 #[derive(Drop)]
@@ -34,7 +34,7 @@ pub struct Shared<J: Job, P: Port> {
 
 impl<'a, G: Gate, R: Threads + Wait + Sync> Crew<'a, G, R> {
     /// A phase of workers with these tokens, if it is the first or there are enough for all, more may
-    /// fire and the last of them is wanted; and then what is owed.
+    /// fire and the last of them is wanted; and then the outstanding tokens.
     pub fn share<J: Job + Send + Sync, P: Port + Send>(
         &self,
         code: &Code<'_, J>,
@@ -107,7 +107,7 @@ impl<'a, G: Gate, R: Threads + Wait + Sync> Crew<'a, G, R> {
         last_missing(tables, tokens)
     }
 
-    // A phase with these tokens, of which no table has had the one that is named, and what is owed then.
+    // A phase with these tokens, of which no table has had the one that is named, and those outstanding then.
     fn phase_with<J: Job + Send + Sync, P: Port + Send>(
         &self,
         code: &Code<'_, J>,

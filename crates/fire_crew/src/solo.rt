@@ -22,8 +22,8 @@ use std::alloc::Global;
 use store_buf::{BufFault, Buffer, BufferAnswers, MemoryOrder, Rounds};
 use ws_words::NoMemory;
 
-// What the one worker has: tables, the buffer, the tokens on the way, what was handed on last, the buffer's
-// answers until they are on the way too, and how many instances may still fire.
+// What the one worker has: tables, the buffer, the tokens in flight, what was handed on last, the buffer's
+// answers until they are in flight too, and how many instances may still fire.
 #[derive(Drop)]
 struct Solo<'i, J: Job, P: Port> {
     tables: Tables<J>,
@@ -34,7 +34,7 @@ struct Solo<'i, J: Job, P: Port> {
     left: u64,
 }
 
-/// Where one worker has come: what it has, the tokens on the way, and how the run has ended, if it has.
+/// Where one worker has come: what it has, the tokens in flight, and how the run has ended, if it has.
 #[derive(Drop)]
 pub struct SoloLeft<J: Job, P: Port> {
     pub tables: Tables<J>,
@@ -44,7 +44,7 @@ pub struct SoloLeft<J: Job, P: Port> {
 }
 
 impl<'a, G: Gate, R> Crew<'a, G, R> {
-    /// Brings tokens to tables, from the start pulse on, until none is on the way, so many instances have
+    /// Brings tokens to tables, from the start pulse on, until none is in flight, so many instances have
     /// fired, or the buffer takes no more requests.
     pub fn run_solo<J: Job, P: Port>(
         &self,
@@ -87,8 +87,8 @@ impl<'a, G: Gate, R> Crew<'a, G, R> {
         }
     }
 
-    /// Brings these tokens, which are on the way, and what comes of them, so many at most, until none is on
-    /// the way, so many instances have fired, or the buffer takes no more requests. Tokens go in rounds by
+    /// Brings these tokens, which are in flight, and what comes of them, so many at most, until none is in
+    /// flight, so many instances have fired, or the buffer takes no more requests. Tokens go in rounds by
     /// wave, and the first result of a firing is brought at once if it is of the round.
     pub fn go_alone<J: Job, P: Port>(
         &self,
@@ -169,7 +169,7 @@ fn leave<J: Job, P: Port>(
     }
 }
 
-// Puts what is on the way behind other tokens.
+// Puts what is in flight behind other tokens.
 fn pour_way<J: Job>(way: Rounds<J>, tokens: &mut TokenList<J>) -> Result<(), NoMemory>
     ensures { OnOk result (Covers (tokens.old ++ way) tokens.new) }
 {
@@ -241,7 +241,7 @@ fn step<'i, J: Job, P: Port, G: Gate>(
     bring_on(code, run, token)
 }
 
-/// Nothing is on the way: the whole walk has been run.
+/// Nothing is in flight: the whole walk has been run.
 pub(crate) fn see_whole<J: Job, P: Port>(
     code: &Code<'_, J>,
     tables: &Tables<J>,
@@ -325,7 +325,7 @@ fn bring_on<'i, J: Job, P: Port>(
     }
 }
 
-// Brings a request to the buffer, and puts its answers on the way.
+// Brings a request to the buffer, and puts its answers in flight.
 fn ask<J: Job, P: Port>(
     code: &Code<'_, J>,
     buffer: &mut Buffer<J, P>,

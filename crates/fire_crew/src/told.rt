@@ -1,4 +1,4 @@
-//! Whether an instance has told.
+//! Whether all that an instance sent has arrived.
 
 ghost use Rattle.std.specs.Prelude.{◌≡◌, ◌<◌, ℕ, List, length, slice_index_or, true};
 ghost use Rattle.ws_isa.specs.Image.{Token as Plain, selector_of, tokens_to};

@@ -109,7 +109,7 @@ fn dealt<J: Job>(
     Ok(seats)
 }
 
-/// Puts tokens into seats, one after another from this one on. What a seat's deque refuses is let go, which
+/// Puts tokens into seats, one after another from this one on. What a seat's deque refuses is released, which
 /// it does only where it is full. Answers which seat comes next.
 pub fn deal<L: Wrap<Token<J>, T>, J: Job, T: Drop>(
     seats: &mut SeatList<T>,

@@ -14,7 +14,7 @@ use store_buf::Buffer;
 // How often a worker takes a token from a seat in one phase, at most.
 const TAKES: u32 = 256;
 
-/// A worker of a phase: its seat, what it has in hand and what it let go; and what all workers share.
+/// A worker of a phase: its seat, what it has in hand and what it released; and what all workers share.
 #[derive(Drop)]
 pub struct Worker<'a, 'i, J: Job, Q: Quotas, P: Port, G, R> {
     pub rt: &'a R,
@@ -30,8 +30,8 @@ pub struct Worker<'a, 'i, J: Job, Q: Quotas, P: Port, G, R> {
 impl<'a, 'i, J: Job, Q: Quotas, P: Port, G: Gate, R: Wait> Worker<'a, 'i, J, Q, P, G, R> {
     /// Brings tokens to their tables until none is found, it is the last at work, it has had its turn, the
     /// buffer takes no more requests, or memory runs out. A worker goes on with one result token of a firing,
-    /// and the others go into its seat. All workers count together who is at work. What it lets go or leaves
-    /// in its seat is found among what is owed. Answers whether memory ran out.
+    /// and the others go into its seat. All workers count together who is at work. What it releases or leaves
+    /// in its seat is found among the outstanding tokens. Answers whether memory ran out.
     pub fn work(self, at_work: &AtomicU64) -> bool {
         let rt = self.rt;
         let mut worker = self;

@@ -52,7 +52,7 @@ pub data Refuses (text : List ℕ) : Refusal → Type 0 where
       → InputFault (input_place text) (input_of text) place
       → Refuses text (record { kind = Input; place = place })
 
--- what a text comes to: the program and the words of a job, or why it is refused
+-- the reading of a text: the program and the words of a job, or why it is refused
 abbrev pub IsTextAnswer : List ℕ → Result (List Part × List ℕ) Refusal → Type 0
 IsTextAnswer text (Ok job) = IsJob text job.0 job.1
 IsTextAnswer text (Err refusal) = Refuses text refusal

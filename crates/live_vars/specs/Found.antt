@@ -1,5 +1,5 @@
 -- Serves the code and its proof alone: no public contract cites it.
--- What is found on the way to the live variables, of the 64 from `low` on.
+-- What is found before the live variables are, of the 64 from `low` on.
 use Rattle.std.specs.Prelude.{◌≡◌, ℕ, ◌+◌, ◌-◌, ◌^◌, ◌<◌, ◌≤◌, ◌⊎◌, ◌↔◌, List, [], ◌∷◌, length, slice_index}
 use Rattle.cfg_core.specs.Graph.{Op, Exit, Graph, spots, block_at}
 use Rattle.live_vars.specs.Live.{WrittenIn, ReadsFirst, ExitWrites, Carries, Live}

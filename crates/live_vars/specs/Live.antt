@@ -44,7 +44,7 @@ ExitReads (Return t) x = Mentions t x
 ExitReads (Send t ts ls) x = Mentions t x ⊎ OneMentions ts x
 ExitReads Stop x = ⊥
 
--- a call writes the variable that takes its result, on the way to its return block
+-- a call writes the variable that takes its result, on the path to its return block
 abbrev pub ExitWrites : Exit → ℕ → Type 0
 ExitWrites (Call (Some y) f ts back) x = x ≡ y
 ExitWrites _ x = ⊥

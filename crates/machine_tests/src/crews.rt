@@ -13,7 +13,7 @@ use std::test::*;
 use ws_isa::Checked;
 use ws_words::NoMemory;
 
-// How many instances have fired, and how many tokens were let go.
+// How many instances have fired, and how many tokens were released.
 type Count = (usize, usize);
 
 // What comes of a token. The tokens that are sent stand behind others.
@@ -83,7 +83,7 @@ fn counted<J: Job, Q: Quotas, R: Wait>(
         Err(_) => return (Err(NoMemory), 0),
     };
     let count = fire_all(rt, &row, code, way, alloc);
-    (count, most_of(&row.gather(rt)))
+    (count, most_of(&row.gather()))
 }
 
 // Fires what can be fired in one phase of a job with these quotas.

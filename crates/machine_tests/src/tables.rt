@@ -1,4 +1,4 @@
-//! A table beside a plain list of the tokens that came to it.
+//! A table beside a plain list of the tokens that were brought to it.
 
 ghost use Rattle.std.specs.Prelude.{◌≡◌};
 
@@ -180,7 +180,7 @@ pub(crate) fn take_all<J: Job>(
     Ok(())
 }
 
-// Takes one of the tokens that are on their way, or one that came before, once more.
+// Takes one of the tokens that are in flight, or one that came before, once more.
 fn drawn<J: Job>(way: &mut Vec<Token<J>>, past: &[Token<J>], number: u64) -> Option<Token<J>> {
     let place = (number >> 33) as usize;
     if number >> 63 == 0 && past.len() > 0 {

@@ -1,6 +1,6 @@
 -- How many instances tables list together, and what limits allow together.
 use Rattle.std.proofs.Common.{◌≡◌, ◌+◌, ◌<◌, ◌≤◌, ℕ, zero, suc, List, [], ◌∷◌, ◌++◌, length, length-append}
-use Rattle.std.proofs.Common.{◌-◌, ◌*◌, ◌/◌, ◌⊎◌, inl, inr, take, slice_index, add-one, refl, ap, subst}
+use Rattle.std.proofs.Common.{◌-◌, ◌*◌, ◌/◌, inl, inr, take, slice_index, add-one, refl, ap, subst}
 use Rattle.std.proofs.Common.{arith}
 use Rattle.std.specs.Prelude.{sum}
 use Rattle.std.proofs.Math.Nat.{div-mul-le_self, le-div_iff_mul-le, mul-suc}

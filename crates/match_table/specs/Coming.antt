@@ -1,4 +1,4 @@
--- Tokens that come to tables between two phases and in them.
+-- Tokens that are brought to tables between two phases and in them.
 use Rattle.std.specs.Prelude.{ℕ, ◌≡◌, ◌+◌, ◌%◌, List, Some, None, length, slice_set}
 use Rattle.ws_isa.specs.Image.{Image, Token}
 use Rattle.ws_isa.specs.Walk.{Ports}

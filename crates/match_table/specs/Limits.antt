@@ -7,11 +7,6 @@ use Rattle.match_table.specs.Tables.{held, TableContent}
 use Rattle.match_table.specs.declared.limit.Offer.{Offer}
 use Rattle.match_table.specs.declared.limit.Offer.TheVariants.{Took, Spent}
 
--- a table with its number
-pub record Numbered : Type 0 where
-  pub number : ℕ
-  pub content : TableContent
-
 -- the table holds tokens of those instances alone whose wave number plus instruction is k modulo 16
 abbrev pub Serves : ℕ → TableContent → Type 0
 Serves k c = (w i p v : ℕ) → held c w i p ≡ Some v → (w + i) % 16 ≡ k

@@ -96,7 +96,7 @@ module _ {J : Type 0} where
   has_fired (Fires tokens) = true
   has_fired (Asks request) = true
 
-  -- this holds where the answer is want of memory
+  -- this holds where the answer is `NoMemory`
   abbrev pub IfNoMemory : AcceptFault J → Type 0 → Type 0
   IfNoMemory (fault.Old back) holds = Unit {0}
   IfNoMemory (fault.NoMemory back) holds = holds

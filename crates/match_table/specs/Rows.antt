@@ -1,5 +1,5 @@
 -- Tables between two phases.
-use Rattle.std.specs.Prelude.{ℕ, suc, ◌≡◌, ◌<◌, ◌≤◌, List, [], ◌∷◌, length, slice_index}
+use Rattle.std.specs.Prelude.{ℕ, suc, ◌≡◌, ◌+◌, ◌<◌, ◌≤◌, List, [], ◌∷◌, length, slice_index}
 use Rattle.match_table.specs.Growth.{Grows, content_at}
 use Rattle.match_table.specs.Limits.{Serves}
 use Rattle.match_table.specs.Tables.{TableContent}
@@ -27,3 +27,7 @@ InPhase most k old c = Serves k c × (length c.fired ≤ slice_index most k) × 
 pub record RestOf (began : List TableContent) (most : List ℕ) (n : ℕ) (cs : List TableContent) : Type 0 where
   pub count : length cs ≡ length began
   pub each : (k : ℕ) → n ≤ k → k < length cs → InPhase most k (content_at began k) (content_at cs k)
+
+-- four numbers, each the next after the one before
+abbrev pub InARow : ℕ → ℕ → ℕ → ℕ → Type 0
+InARow a b c d = (b ≡ a + 1) × (c ≡ b + 1) × (d ≡ c + 1)

@@ -93,7 +93,7 @@ impl<J: Job> Table<J> {
             (Refused self.old token self.new) }
         ensures fires { IfOk result (λ answer. has_fired answer ≡ will_fire J.image self.old token) }
 
-        // Where there is room it isn't want of memory, and a token takes room for one.
+        // If there is room it isn't out of memory, and a token takes room for one.
         ensures memory { IfErr result (λ fault.
             IfNoMemory fault (0 < self.old.spare → token.wave + 1 < 2 ^ 64 → ⊥)) }
         ensures spare { self.old.spare ≤ self.new.spare + 1 }
@@ -137,7 +137,7 @@ impl<J: Job> Table<J> {
         self.take(program, placed, token, key, arrived, results)
     }
 
-    // The same for a token that comes to no instruction of the code.
+    // The same for a token whose instruction the code does not have.
     #[inline(never)]
     pub(crate) fn accept_unplaced<'i>(
         &mut self,

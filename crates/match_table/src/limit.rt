@@ -2,7 +2,7 @@
 
 ghost use Rattle.std.specs.Prelude.{◌≡◌, ◌+◌, ◌≤◌, ◌%◌, ℕ, List, length, slice_index};
 ghost use Rattle.match_table.specs.Growth.{Grows, content_at};
-ghost use Rattle.match_table.specs.Limits.{Numbered, Serves, Offered};
+ghost use Rattle.match_table.specs.Limits.{Serves, Offered};
 ghost use Rattle.match_table.specs.Tables.{TableContent};
 
 use crate::{Results, Table, Took};
@@ -28,62 +28,52 @@ impl Quotas for Brand {
 }
 
 /// What a table of a phase does with a token: what a table does, or nothing, since the token would fire
-/// its instance and the quota is spent.
+/// its instance and the quota is exhausted.
 #[derive(Clone, Copy, Debug, PartialEq, Eq)]
 pub enum Offer {
     Took(Took),
     Spent,
 }
 
-/// A table of one phase. It serves the instances whose wave number plus instruction is its number modulo
-/// 16, and lists no more that fired than its quota allows. It has grown from what it was when the phase
-/// began.
+/// A table of one phase. It serves the instances whose wave number plus instruction is `NUMBER` modulo 16,
+/// and lists no more that fired than its quota allows. It has grown from what it was when the phase began.
 #[derive(Drop)]
-pub struct Limited<J: Job, Q: Quotas> {
+pub struct Limited<J: Job, Q: Quotas, const NUMBER: u64> {
     table: Table<J>,
-    number: u64,
     most: usize,
     of: PhantomData<Q>,
 }
 
-impl<J: Job, Q: Quotas> Model for Limited<J, Q> {
+impl<J: Job, Q: Quotas, const NUMBER: u64> Model for Limited<J, Q, NUMBER> {
     ghost use Rattle.std.specs.Prelude.{◌≡◌, ◌≤◌, length, slice_index};
     ghost use Rattle.match_table.specs.Tables.{TableContent};
     ghost use Rattle.match_table.specs.Growth.{Grows, content_at};
-    ghost use Rattle.match_table.specs.Limits.{Numbered, Serves};
+    ghost use Rattle.match_table.specs.Limits.{Serves};
 
-    ghost Value = { Numbered };
+    ghost Value = { TableContent };
 
-    ghost view = { λ l. record { number = l.number; content = l.table } };
+    ghost view = { λ l. l.table };
 
-    ghost invariant = { λ l. Serves l.number l.table × (l.most ≡ slice_index Q.most l.number)
-        × (length l.table.fired ≤ l.most) × Grows (content_at Q.began l.number) l.table };
+    ghost invariant = { λ l. Serves NUMBER l.table × (l.most ≡ slice_index Q.most NUMBER)
+        × (length l.table.fired ≤ l.most) × Grows (content_at Q.began NUMBER) l.table };
 }
 
-impl<J: Job, Q: Quotas> Limited<J, Q> {
+impl<J: Job, Q: Quotas, const NUMBER: u64> Limited<J, Q, NUMBER> {
     /// A table for one phase.
-    pub fn new(table: Table<J>, number: u64, most: usize) -> Limited<J, Q>
-        requires serves { Serves number table }
-        requires most { (most ≡ slice_index Q.most number) × (length table.fired ≤ most) }
-        requires grows { Grows (content_at Q.began number) table }
-        ensures { result ≡ record { number = number; content = table } }
+    pub fn new(table: Table<J>, most: usize) -> Limited<J, Q, NUMBER>
+        requires serves { Serves NUMBER table }
+        requires most { (most ≡ slice_index Q.most NUMBER) × (length table.fired ≤ most) }
+        requires grows { Grows (content_at Q.began NUMBER) table }
+        ensures { result ≡ table }
     {
         Limited {
             table,
-            number,
             most,
             of: PhantomData,
         }
     }
 
-    /// Its number.
-    pub fn number(&self) -> u64
-        ensures { result ≡ self.now.number }
-    {
-        self.number
-    }
-
-    /// Takes a token, unless it would fire its instance and the quota is spent. What the instance hands
+    /// Takes a token, unless it would fire its instance and the quota is exhausted. What the instance hands
     /// on stands in the place that is lent.
     #[inline(always)]
     pub fn offer<'i>(
@@ -92,10 +82,9 @@ impl<J: Job, Q: Quotas> Limited<J, Q> {
         token: &Token<J>,
         results: &mut Results<'i, J>,
     ) -> Offer
-        requires { (token.now.wave + token.now.instr) % 16 ≡ self.old.number }
-        ensures answer { Offered J.image (slice_index Q.most self.old.number) self.old.content token.now
-            self.new.content results.new result }
-        ensures number { self.new.number ≡ self.old.number }
+        requires { (token.now.wave + token.now.instr) % 16 ≡ NUMBER }
+        ensures { Offered J.image (slice_index Q.most NUMBER) self.old token.now self.new results.new
+            result }
     {
         if self.table.fired_count() >= self.most && self.table.would_fire(code, token) {
             results.clear();
@@ -106,10 +95,10 @@ impl<J: Job, Q: Quotas> Limited<J, Q> {
 
     /// The table, at the end of the phase.
     pub fn into_table(self) -> Table<J>
-        ensures same { result ≡ self.content }
-        ensures serves { Serves self.number result }
-        ensures within { length result.fired ≤ slice_index Q.most self.number }
-        ensures grows { Grows (content_at Q.began self.number) result }
+        ensures same { result ≡ self }
+        ensures serves { Serves NUMBER result }
+        ensures within { length result.fired ≤ slice_index Q.most NUMBER }
+        ensures grows { Grows (content_at Q.began NUMBER) result }
     {
         self.table
     }

@@ -1,4 +1,4 @@
-//! What a table tells.
+//! Reading a table.
 
 ghost use Rattle.std.specs.Prelude.{◌<◌, ◌≡◌, ◌≤◌, None, true, false, length, slice_index_or};
 ghost use Rattle.ws_isa.specs.Formed.{Formed};
@@ -158,7 +158,7 @@ impl<J: Job> Table<J> {
         }
     }
 
-    // What a token finds here, where this has come to its instance.
+    // What a token finds here, where this has arrived at its instance.
     #[inline(always)]
     pub(crate) fn meet(&self, token: &Token<J>, count: u8, arrived: Option<Arrived>) -> Seen
         requires formed { Formed J.image }

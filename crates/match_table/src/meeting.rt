@@ -1,4 +1,4 @@
-//! A value comes to a port of an instance.
+//! A value arrives at a port of an instance.
 
 ghost use Rattle.std.specs.Prelude.{◌≡◌, ◌<◌, ◌≤◌, ℕ, Some, None, true, false, MatchOption};
 ghost use Rattle.ws_isa.specs.Walk.{gather};
@@ -185,7 +185,7 @@ fn operands_with(arrived: Option<Arrived>, port: u8, value: u64, ports: u8) -> O
     }
 }
 
-// A value comes to a port of an instance with so many.
+// A value arrives at a port of an instance with so many.
 #[inline(always)]
 pub(crate) fn meet(arrived: Option<Arrived>, port: u8, value: u64, ports: u8) -> Seen
     requires { (port < ports) × (ports ≤ 3) }

@@ -12,7 +12,7 @@ use std::marker::Model;
 use ws_words::NoMemory;
 
 /// The tables between two phases, by number. Where there are none, a token that is brought to one is answered
-/// want of memory.
+/// `NoMemory`.
 #[derive(Drop)]
 pub struct Tables<J: Job> {
     pub(crate) all: Vec<Table<J>>,
@@ -30,7 +30,7 @@ impl<J: Job> Model for Tables<J> {
 }
 
 impl<J: Job> Tables<J> {
-    /// Sixteen tables that no token has come to.
+    /// Sixteen tables that no token has arrived at.
     pub fn new(alloc: Global) -> Result<Tables<J>, NoMemory>
         ensures all { IfOk result (λ tables. length (contents tables) ≡ 16) }
         ensures fits { IfOk result (λ tables. (most : List ℕ) → Fits tables most) }
@@ -44,7 +44,7 @@ impl<J: Job> Tables<J> {
         Ok(Tables { all })
     }
 
-    /// No tables, for want of memory. Takes none.
+    /// No tables, for when memory has run out. Takes none.
     pub fn none(alloc: Global) -> Tables<J>
         ensures { contents result ≡ [] }
     {

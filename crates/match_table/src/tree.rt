@@ -47,7 +47,7 @@ fn root_of(roots: &[usize], name: PageName) -> usize
 }
 
 // The number whose bits lead to the page with a name. In the pages of one of sixteen tables a half's number
-// tells more by its bits from the fifth on.
+// says more by its bits from the fifth on.
 #[inline(always)]
 fn path_of(name: PageName) -> u64
     ensures { result ≡ path_of name }

@@ -65,7 +65,7 @@ fn finish_of(finish: &RunFinish) -> End {
     }
 }
 
-// The same of an end, which is let go here, so that whoever has four needn't say how each is let go.
+// The same of an end, which is released here, so that whoever has four needn't say how each is released.
 fn end_of<P: Port>(end: Option<RunEnd<P>>) -> End {
     match end {
         Some(end) => finish_of(&end.finish),

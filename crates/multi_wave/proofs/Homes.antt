@@ -1,10 +1,10 @@
 -- Threads whose tables are behind locks, and at home again.
-use Rattle.std.proofs.Common.{ℕ, ◌≡◌, ◌+◌, ◌<◌, List, length, refl, sym, ap, ◌∙◌, subst, arith}
+use Rattle.std.proofs.Common.{ℕ, ◌≡◌, ◌+◌, ◌<◌, ◌≤◌, List, length, refl, sym, ap, ◌∙◌, subst, arith}
 use Rattle.match_table.specs.Rows.{Fits, RestOf}
 use Rattle.match_table.proofs.Growth.{all_grow_same}
 use Rattle.match_table.proofs.Phased.{rest_all, rest_home}
 use Rattle.multi_wave.specs.Fours.{EachIs, EachTo, Fourfold}
-use Rattle.multi_wave.specs.Stands.{CameHome, Housed, IsFit, IsOut}
+use Rattle.multi_wave.specs.Stands.{CameHome, HasTables, Housed, IsFit, IsOut}
 
 out_start : (was now : Housed) → now ≡ was → IsFit now → IsOut 0 was now
 out_start was now e fits = record {
@@ -35,15 +35,29 @@ out_next n was old now out lt rest limits taker = record {
 }
 
 -- the last comes back
-pub out_back : (n number : ℕ) (was old now : Housed) → number ≡ n → IsOut (n + 1) was old
-    → RestOf was.tables was.limits number now.tables → now.limits ≡ old.limits → now.taker ≡ old.taker
+pub out_back : (n : ℕ) (was old now : Housed) → IsOut (n + 1) was old
+    → RestOf was.tables was.limits n now.tables → now.limits ≡ old.limits → now.taker ≡ old.taker
     → IsOut n was now
-out_back n number was old now e out rest limits taker = record {
-  rest = subst (λ (m : ℕ). RestOf was.tables was.limits m now.tables) e rest;
+out_back n was old now out rest limits taker = record {
+  rest = rest;
   limits = limits ∙ out.limits;
   taker = taker ∙ out.taker;
   there = (let lt = out.there in omega (arith, lt));
 }
+
+-- the same by another name of the number
+pub out_at : (n m : ℕ) (was now : Fourfold Housed) → m ≡ n → EachTo (IsOut n) was now
+    → EachTo (IsOut m) was now
+out_at n m was now e out = subst (λ (k : ℕ). EachTo (IsOut k) was now) (sym e) out
+
+-- who has so many tables has fewer
+pub enough : (n m : ℕ) (was : Fourfold Housed) → m ≤ n → EachIs (HasTables n) was → EachIs (HasTables m) was
+enough n m was le h =
+    let first = h.0 in
+    let second = h.1 in
+    let third = h.2 in
+    let fourth = h.3 in
+    (omega (arith, le, first), omega (arith, le, second), omega (arith, le, third), omega (arith, le, fourth))
 
 came_home : (n : ℕ) (was now : Housed) → n ≡ 0 → IsOut n was now → CameHome was now
 came_home n was now none out =

@@ -36,7 +36,7 @@ pub record Housed : Type 0 where
 abbrev pub no_home : Housed
 no_home = record { tables = []; limits = []; taker = None }
 
--- how a thread ended, and what its ports tell
+-- how a thread ended, and what its ports report
 abbrev pub EndTold : Type 0
 EndTold = RunFinish × List (Option Told)
 
@@ -85,8 +85,8 @@ abbrev pub HasCome : Option Token → List TableContent → Type 0
 HasCome None tables = Unit {0}
 HasCome (Some t) tables = has ((part_of tables).held t.wave t.instr t.port) ≡ true
 
--- A thread with these tables, this token and this budget has come to what it is after a phase: the tables
--- have lost nothing, and where more may fire a table has had the token.
+-- A thread with these tables, this token and this budget has become what it is after a phase: the tables
+-- have lost nothing, and if more may fire a table has had the token.
 pub record HasMoved (tables : List TableContent) (token : Option Token) (budget : ℕ) (new : Goer) : Type 0
   where
     pub grow : AllGrow tables new.tables

@@ -10,7 +10,7 @@ use ready_pool::Seat;
 use std::alloc::Global;
 use std::sync::Wait;
 
-/// What a worker has of one thread: results in hand, tokens that it let go, and whether the thread's
+/// What a worker has of one thread: results in hand, tokens that it released, and whether the thread's
 /// buffer was found to take no more requests.
 #[derive(Drop)]
 pub struct Bench<'i, J: LaneJob> {
@@ -38,10 +38,10 @@ impl<'i, J: LaneJob> Bench<'i, J> {
     /// Brings a token to the table that serves it. Nothing is done with it where its thread takes part in the
     /// phase no more.
     #[inline(always)]
-    pub fn offer<Q: Quotas, P: Port>(
+    pub fn offer<Q: Quotas, P: Port, const NUMBER: u64>(
         &mut self,
         home: &Home<'i, J, P>,
-        table: &mut Limited<J, Q>,
+        table: &mut Limited<J, Q, NUMBER>,
         token: &Token<J>,
     ) -> Offer {
         let Some(taker) = home.taker() else {
@@ -50,7 +50,7 @@ impl<'i, J: LaneJob> Bench<'i, J> {
         if self.ended {
             return Offer::Took(Took::Old);
         }
-        if table.number() != table_of(token.wave(), token.instr()) {
+        if table_of(token.wave(), token.instr()) != NUMBER {
             self.hand.results.clear();
             return Offer::Took(Took::NoMemory);
         }
@@ -90,7 +90,7 @@ impl<'i, J: LaneJob> Bench<'i, J> {
         }
     }
 
-    /// What the worker let go of the thread, and what it had in hand.
+    /// The tokens of the thread that the worker released, and those that it had in hand.
     pub fn rest(self) -> TokenList<J> {
         let mut let_go = self.let_go;
         self.hand.pour(&mut let_go);

@@ -94,7 +94,7 @@ impl<'i, J: LaneJob, P: Port> GoingLane<'i, J, P> {
         }
     }
 
-    /// A thread that goes on no more, for want of memory.
+    /// A thread that goes on no more, since memory ran out.
     pub fn give_up(self) -> Lane<'i, J, P>
         ensures { IsOver result }
     {
@@ -111,8 +111,8 @@ impl<'i, J: LaneJob, P: Port> GoingLane<'i, J, P> {
         over(&code, tables, buffer, Ending::Starved, budget)
     }
 
-    /// A thread after a phase: once a table has had the token that is named it goes on, or it has ended for
-    /// want of memory.
+    /// A thread after a phase: once a table has had the token that is named it goes on, or it has ended, out
+    /// of memory.
     pub fn go_on(self, alloc: Global) -> Lane<'i, J, P>
         ensures { Went self.entry.tables self.entry.token self.entry.budget result }
     {

@@ -128,7 +128,7 @@ impl<'i, J: LaneJob, P: Port> Lane<'i, J, P> {
         }
     }
 
-    /// A thread after a phase, in which it came to this home and these tokens were let go; `starved` where
+    /// A thread after a phase, in which it came to this home and these tokens were released; `starved` where
     /// memory ran out.
     pub fn join(
         alloc: Global,
@@ -190,7 +190,7 @@ impl<'i, J: LaneJob, P: Port> Split<'i, J, P> {
     }
 }
 
-// Tables to which no token has come: sixteen, or none for want of memory.
+// Tables to which no token was brought: sixteen, or none if memory ran out.
 fn untouched<J: LaneJob>(alloc: Global) -> Tables<J>
     ensures { (most : List ℕ) → Fits result most }
 {
@@ -224,29 +224,29 @@ impl<'i, J: LaneJob, P: Port> Home<'i, J, P> {
     }
 
     /// Takes the table with this number out of the list.
-    pub fn take_out<Q: Quotas>(&mut self, alloc: Global, number: u64) -> Limited<J, Q>
-        requires rest { RestOf Q.began Q.most number self.old.tables }
-        requires there { number < length Q.began }
+    pub fn take_out<Q: Quotas, const NUMBER: u64>(&mut self, alloc: Global) -> Limited<J, Q, NUMBER>
+        requires rest { RestOf Q.began Q.most NUMBER self.old.tables }
+        requires there { NUMBER < length Q.began }
         requires limits { self.old.limits ≡ Q.most }
-        ensures rest { RestOf Q.began Q.most (number + 1) self.new.tables }
+        ensures rest { RestOf Q.began Q.most (NUMBER + 1) self.new.tables }
         ensures limits { self.new.limits ≡ self.old.limits }
         ensures taker { self.new.taker ≡ self.old.taker }
     {
-        let most = match self.limits.get(number as usize) {
+        let most = match self.limits.get(NUMBER as usize) {
             Some(most) => *most,
             None => 0,
         };
-        take_out(alloc, &mut self.tables, number, most)
+        take_out(alloc, &mut self.tables, most)
     }
 
     /// Puts the table with this number back into the list.
-    pub fn put_back<Q: Quotas, R: Wait>(&mut self, rt: &R, number: u64, table: Limited<J, Q>)
-        requires rest { RestOf Q.began Q.most (number + 1) self.old.tables }
-        requires there { number < length Q.began }
-        ensures rest { RestOf Q.began Q.most number self.new.tables }
+    pub fn put_back<Q: Quotas, const NUMBER: u64>(&mut self, table: Limited<J, Q, NUMBER>)
+        requires rest { RestOf Q.began Q.most (NUMBER + 1) self.old.tables }
+        requires there { NUMBER < length Q.began }
+        ensures rest { RestOf Q.began Q.most NUMBER self.new.tables }
         ensures limits { self.new.limits ≡ self.old.limits }
         ensures taker { self.new.taker ≡ self.old.taker }
     {
-        put_back(rt, &mut self.tables, number, table);
+        put_back(&mut self.tables, table);
     }
 }

@@ -84,7 +84,7 @@ fn any_going<M: FourParts, P: Port>(lanes: &AllLanes<'_, M, P>) -> bool
         || lanes.fourth.is_going()
 }
 
-/// No thread goes on, for want of memory.
+/// No thread goes on, since memory ran out.
 pub fn give_up_all<'i, M: FourParts, P: Port>(lanes: AllLanes<'i, M, P>) -> AllLanes<'i, M, P>
     ensures over { EachIs IsOver result }
     ensures same { EachTo StaysAs lanes.entry result }

@@ -58,11 +58,11 @@ module _ (words : List (List ℕ)) (options : Options) (line : AsksForRun words 
   abbrev numbers_here : AreNumbers keys line.given
   numbers_here = stream_numbers line.given line.number
 
-  memory_asked : options.memory ≡ is_among (codes "--memory") words
+  pub memory_asked : options.memory ≡ is_among (codes "--memory") words
   memory_asked = ap (λ (o : Options). o.memory) line.is ∙ given_some key.Memory line.given
       ∙ flag_given key.Memory no_memory not_memory keys line.given numbers_here [] words line.gives
 
-  stats_asked : options.stats ≡ is_among (codes "--stats") words
+  pub stats_asked : options.stats ≡ is_among (codes "--stats") words
   stats_asked = ap (λ (o : Options). o.stats) line.is ∙ given_some key.Stats line.given
       ∙ flag_given key.Stats no_stats not_stats keys line.given numbers_here [] words line.gives
 
@@ -88,7 +88,7 @@ module _ (memory stats : Bool) (image : Image) (world : World) where
       → ImageTold memory stats image world Fault (faulted_text m (called image.arrays a) names ws cs)
   stopped_as m a b ws vs cs ds e f g h t = rw (e, f, g, h) t
 
-  told_by_stream : (options : Options) → options.memory ≡ memory → options.stats ≡ stats → (how : Finish)
+  pub told_by_stream : (options : Options) → options.memory ≡ memory → options.stats ≡ stats → (how : Finish)
       (d : Left) → RunSo image world options.budget (run_from how d)
       → ImageTold memory stats image world (as_status (status_of how)) (run_text options image.arrays d how)
   told_by_stream options p q finish.Rest d r =

@@ -1,5 +1,4 @@
--- What a call on a job comes to that has ended: its result, where the sequential run ends and the budget
--- suffices.
+-- How a call on a job ends: with its result, if the sequential run ends and the budget suffices.
 use Rattle.std.specs.Prelude.{◌≡◌, ◌⊎◌, ℕ, suc, ◌*◌, ◌≤◌, Bool, List, ◌++◌, length}
 use Rattle.ws_words.specs.Outside.{Outside}
 use Rattle.src_ast.specs.Bound.{bound}
@@ -38,9 +37,9 @@ abbrev pub HasFailed : Status → Type 0
 HasFailed status = (status ≡ NoMemory) ⊎ ((status ≡ ReadFault) ⊎ ((status ≡ WriteFault)
     ⊎ ((port : ℕ) × (status ≡ PortFault port))))
 
--- A job whose sequential run ends after some turns comes to its end by `run`, where its budget is the bound
--- of the program for each turn and once more, and by `plain`, where it may take so many turns, want of memory
--- and failures aside.
+-- A job whose sequential run ends after some turns completes by `run`, if its budget is the bound of the
+-- program for each turn and once more, and by `plain`, if it may take so many turns, unless memory runs out
+-- or something fails.
 abbrev pub JobsEnd : Type 0
 JobsEnd = (text : List ℕ) (parts : List Part) (input : List ℕ) (turns : ℕ) (end : Outside)
     (status : Status) (out : List ℕ)
@@ -58,7 +57,7 @@ CodeEnds = (text code : List ℕ) (parts : List Part) (input : List ℕ) (turns 
     status out
     → (status ≡ Done) ⊎ HasFailed status
 
--- An assembly whose walk meets no index fault comes to its end where its budget is at least what the walk
+-- An assembly whose walk meets no index fault completes if its budget is at least what the walk
 -- costs.
 abbrev pub AssembliesEnd : Type 0
 AssembliesEnd = (text : List ℕ) (image : Image) (input : List ℕ) (firings : ℕ) (status : Status)
@@ -68,7 +67,7 @@ AssembliesEnd = (text : List ℕ) (image : Image) (input : List ℕ) (firings : 
     → HasWritten assembly_commands (AskToSpend firings 0) text status out
     → (status ≡ Done) ⊎ HasFailed status
 
--- A job whose sequential run never ends never comes to a result, whatever it may spend.
+-- A job whose sequential run never ends never reaches a result, whatever its budget.
 abbrev pub NeverEnds : Type 0
 NeverEnds = (text : List ℕ) (parts : List Part) (input : List ℕ) (memory : Bool) (status : Status)
     (out : List ℕ)

@@ -1,10 +1,10 @@
 -- One text, one result, beside what OneResult.antt says: with `--memory` and without it, with `--stats`, with
 -- ports that have words left, by `multi`, by `trace` and `replay`, and by `bench`.
 --
--- With `--stats` a line follows what is written without it. That two runs tell the same in it is said of
+-- With `--stats` a line follows what is written without it. That two runs report the same in it is said of
 -- `exec` and `decouple` on one assembly, and of calls of `run` that hand back the same image: the number of
 -- firings is that of the image, and nothing says that two calls compile a program to one image. `plain`
--- counts turns, `grid` cycles as well, which its size decides. `plain` and `grid` let ports alone, and so
+-- counts turns, `grid` cycles as well, which its size decides. `plain` and `grid` use no ports, and so
 -- the laws of ports leave them out.
 use Rattle.std.specs.Prelude.{◌≡◌, ◌⊎◌, ℕ, suc, ◌≤◌, Bool, true, false, IsTrue, List, [], ◌∷◌, ◌++◌, codes}
 use Rattle.std.specs.Prelude.{map, Option, Some, None}
@@ -69,7 +69,7 @@ OneImageStats = (memory : Bool) (text : List ℕ) (status other : Status) (out a
     → AssemblyHasRun memory text other again → IsResult status → IsResult other
     → (status ≡ other) × ((line : List ℕ) × (out ≡ again ++ line))
 
--- two slots are empty, or their ports tell that they have the same left, and have taken the same
+-- two slots are empty, or their ports report that they have the same left, and have taken the same
 abbrev pub IsLeftAlike : Option Told → Option Told → Type 0
 IsLeftAlike None None = Unit {0}
 IsLeftAlike (Some port) None = ⊥
@@ -93,8 +93,8 @@ pub data JobHasRunWith (memory : Bool) (text : List ℕ) (ports : List (Option T
       back
       → JobHasRunWith memory text ports status out back
 
--- With ports that tell the same when they are handed in, whatever words they have left, a job has one result,
--- and leaves the ports alike.
+-- With ports that report the same when they are handed in, whatever words they have left, a job has one
+-- result, and leaves the ports alike.
 abbrev pub OneResultWith : Type 0
 OneResultWith = (memory : Bool) (text : List ℕ) (ports back after : List (Option Told))
     (status other : Status) (out again : List ℕ)
@@ -112,8 +112,8 @@ OneImageResultWith = (memory : Bool) (text : List ℕ) (ports back after : List 
 abbrev pub multi_commands : List (List ℕ)
 multi_commands = codes "multi" ∷ []
 
--- These are the status and the text of a run of this job: those of each run of it by itself, where both come
--- to their result, and a front of that at the budget.
+-- These are the status and the text of a run of this job: those of each run of it by itself, if both reach
+-- their result, and a prefix of that at the budget.
 pub record IsOfJob (memory : Bool) (job : List ℕ) (status : Status) (out : List ℕ) : Type 0 where
   pub kind : IsResult status ⊎ (status ≡ Budget)
   pub same : (other : Status) (again : List ℕ) → JobHasRun memory job other again
@@ -148,7 +148,7 @@ trace_commands = codes "trace" ∷ []
 abbrev pub replay_commands : List (List ℕ)
 replay_commands = codes "replay" ∷ []
 
--- A trace that has come to rest prints the words of the result, as `replay` tells them.
+-- A trace that has come to rest prints the words of the result, as `replay` reports them.
 abbrev pub OneTrace : Type 0
 OneTrace = (text events told out : List ℕ) (status : Status)
     → HasWritten trace_commands (HasFlags false false) text Done events
@@ -169,8 +169,8 @@ GivesNumber number [] = ⊥
 GivesNumber number (command ∷ []) = ⊥
 GivesNumber number (command ∷ word ∷ options) = (word ≡ number) × IsTrue (is_number number)
 
--- What `bench` tells of the job of a number, which `gen` writes, is how many words its result has, and their
--- sum.
+-- What `bench` reports of the job of a number, which `gen` writes, is how many words its result has, and
+-- their sum.
 abbrev pub OneBench : Type 0
 OneBench = (number text job again told out : List ℕ) (status : Status)
     → HasWritten generate_commands (GivesNumber number) text Done job

@@ -2,11 +2,12 @@
 --
 -- `wsc` keeps what has fired, and so its runs are at most so long as its budgets allow; `wss` keeps what is
 -- live, and its budget may be any word. `CallEnds` is here what the function `wss` ensures of each of its
--- calls: src/calls.rt proves that each call whose source and sink tell their bytes is one of those that
+-- calls: src/calls.rt proves that each call whose source and sink report their bytes is one of those that
 -- `StreamCalled` speaks of. It has no ports.
 use Rattle.std.specs.Prelude.{◌≡◌, ◌⊎◌, ℕ, suc, ◌*◌, ◌≤◌, Bool, true, false, List, [], ◌++◌, codes, length}
 use Rattle.std.specs.Prelude.{Some}
 use Rattle.ws_words.specs.Outside.{Outside}
+use Rattle.ws_io.specs.Streams.{Rose}
 use Rattle.src_ast.specs.Bound.{bound}
 use Rattle.src_ast.specs.Runs.{Runs}
 use Rattle.src_ast.specs.Syntax.{Part}
@@ -62,8 +63,8 @@ pub record StreamHasRun (memory stats : Bool) (text : List ℕ) (status : Status
   pub counts : is_among (codes "--stats") words ≡ stats
   pub called : StreamCalled words text status out
 
--- However an assembly has been run, by `wss` or by `exec`, `decouple` or `grid`, where it came to its result
--- it had the same status and has written the same.
+-- All runs of an assembly that reached a result, by `wss` or by `exec`, `decouple` or `grid`, had the same
+-- status and have written the same.
 abbrev pub OneStreamResult : Type 0
 OneStreamResult = (memory : Bool) (text : List ℕ) (status other : Status) (out again : List ℕ)
     → StreamHasRun memory false text status out → AssemblyHasRun memory text other again
@@ -75,7 +76,7 @@ OneStreamAgain = (memory stats : Bool) (text : List ℕ) (status other : Status)
     → StreamHasRun memory stats text status out → StreamHasRun memory stats text other again
     → IsResult status → IsResult other → (status ≡ other) × (out ≡ again)
 
--- With `--stats` it tells the firings that `exec` and `decouple` tell.
+-- With `--stats` it reports the firings that `exec` and `decouple` report.
 abbrev pub OneStreamCount : Type 0
 OneStreamCount = (memory : Bool) (text : List ℕ) (status other : Status) (out again : List ℕ)
     → StreamHasRun memory true text status out
@@ -89,7 +90,7 @@ OneStreamJob = (memory : Bool) (text code : List ℕ) (status other : Status) (o
     → JobHasRun memory text other again → IsResult status → IsResult other
     → (status ≡ other) × (out ≡ again)
 
--- And that is what its sequential run tells, however long it is.
+-- And that is what its sequential run reports, however long it is.
 abbrev pub StreamMeaning : Type 0
 StreamMeaning = (memory : Bool) (text code : List ℕ) (status : Status) (out : List ℕ)
     → IsCodeOf code text → StreamHasRun memory false (code ++ input_section text) status out
@@ -97,13 +98,27 @@ StreamMeaning = (memory : Bool) (text code : List ℕ) (status : Status) (out : 
     → (parts : List Part) × (input : List ℕ) × IsJob text parts input
     × TellsSequential memory parts input status out
 
--- Where its budget was spent, it has written a front of the result, and a line.
+-- If its budget was exhausted, it has written a prefix of the result, and a line.
 abbrev pub OneStreamFront : Type 0
 OneStreamFront = (memory flag : Bool) (text : List ℕ) (status : Status) (out whole : List ℕ)
     → StreamHasRun memory false text by_wsc.Budget out → AssemblyHasRun flag text status whole
     → IsResult status → IsFront out whole
 
--- An assembly whose walk meets no index fault comes to its end by `wss` where the budget is at least what
+-- one text begins another
+abbrev pub BeginsText : List ℕ → List ℕ → Type 0
+BeginsText out whole = (rest : List ℕ) × (whole ≡ out ++ rest)
+
+-- If a write of it failed, and its read didn't, what went out begins the result, or what it would have
+-- written at an exhausted budget, which is a prefix of the result, and a line.
+abbrev pub OneStreamBrokenOff : Type 0
+OneStreamBrokenOff = (words : List (List ℕ)) (options : Options) (text : List ℕ) (status : Status)
+    (out whole : List ℕ)
+    → (call : StreamCalled words text by_wsc.WriteFault out) → ¬ Rose call.reads.faults call.reads.counted
+    → AsksForRun words options → options.stats ≡ false → AssemblyHasRun options.memory text status whole
+    → IsResult status
+    → (said : List ℕ) × ((said ≡ whole) ⊎ IsFront said whole) × BeginsText out said
+
+-- An assembly whose walk meets no index fault completes by `wss` where the budget is at least what
 -- the walk costs.
 abbrev pub StreamsEnd : Type 0
 StreamsEnd = (text : List ℕ) (image : Image) (input : List ℕ) (firings : ℕ) (words : List (List ℕ))

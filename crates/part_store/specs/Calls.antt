@@ -99,8 +99,8 @@ PartSubmitSo image old k tokens (Err (Stopped port)) new = (old.fault ≡ None) 
     × (new ≡ old)
 PartSubmitSo image old k tokens (Err (Ended array)) new = (old.fault ≡ Some array) × (new ≡ old)
 
--- what came of an address or a request whose answer is a list of tokens; where it is a fault some tokens are
--- let go
+-- what came of an address or a request whose answer is a list of tokens; if it is a fault some tokens are
+-- released
 abbrev pub AddressedSo : Image → PartContent → Kept → Result (List Token) BufFault → PartContent → Type 0
 AddressedSo image old k (Ok tokens) new = AddressSo image old k tokens (Ok tt) new
 AddressedSo image old k (Err fault) new = (tokens : List Token) × AddressSo image old k tokens (Err fault) new

@@ -21,7 +21,7 @@ use Rattle.part_store.specs.Queues.{holds, is_queued}
 -- Requests, and addresses without their data, in the order in which they came. One that has an answer counts
 -- as issued: it is done, with this answer, or its operation is queued, and the answer isn't given yet. Bare
 -- are the instances of which the address alone has come. Then what waits on cells, where the chain stands,
--- the array of the operation past the end at which that is stopped, the port that failed, whether a port
+-- the array of the out-of-bounds operation at which that is stopped, the port that failed, whether a port
 -- found no memory, and what is outside.
 pub record PartContent : Type 0 where
   pub kept : List Kept
@@ -33,7 +33,7 @@ pub record PartContent : Type 0 where
   pub starved : Bool
   pub outside : Holding
 
--- of an instance the address alone has come
+-- of an instance only the address has arrived
 abbrev pub is_bare : PartContent → ℕ → ℕ → Bool
 is_bare c w i = list_any (pair_eq (w, i)) c.bare
 

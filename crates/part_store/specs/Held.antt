@@ -13,7 +13,7 @@ use Rattle.ws_words.specs.Items.{In}
 abbrev pub line_of : List Queued → ℕ → ℕ → Option Line
 line_of es r j = option_map (λ e. record { first = e; count = count_on es r j }) (front es r j)
 
--- the walk comes to none of them later than to one behind it
+-- none of them is later in the walk than one behind it
 abbrev pub Sorted : List Queued → Type 0
 Sorted [] = Unit {0}
 Sorted (e ∷ es) = ((f : Queued) → In f es → is_later e f ≡ false) × Sorted es

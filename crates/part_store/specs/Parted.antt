@@ -28,11 +28,11 @@ pub record OnCell (image : Image) (world : World) (w i r j t : ℕ) : Type 0 whe
   pub row : is_on_row (instr_at image i).op r ≡ true
   pub index : slice_index inst.operands 0 ≡ j
 
--- it has the sequence number of its instruction's note
+-- it has the sequence number of its instruction's annotation
 abbrev pub IsNumbered : Image → Queued → Type 0
 IsNumbered image e = e.seq ≡ (note_of image e.instr).seq
 
--- the walk comes to the one before it comes to the other
+-- the one is before the other in the walk
 pub record Earlier (image : Image) (world : World) (e f : Queued) : Type 0 where
   pub time : ℕ
   pub one : OnCell image world e.wave e.instr e.row e.index time
@@ -105,9 +105,9 @@ pub record Partly (image : Image) (world : World) (began : List (Option Began))
 abbrev pub Fronts : PartContent → Type 0
 Fronts c = (e : Queued) (r j : ℕ) → front c.queued r j ≡ Some e → is_bare c e.wave e.instr ≡ true
 
--- The passed operations are the first ones of the walk, none of them past the end; the others that count as
+-- The passed operations are the first ones of the walk, none of them out of bounds; the others that count as
 -- issued are loads before their turn; none is next; and where the chain is stopped, the walk's first
--- operation past the end is next and its request waits. Then no queue is open.
+-- out-of-bounds operation is next and its request waits. Then no queue is open.
 pub record Parting (image : Image) (world : World) (began : List (Option Began))
     (c : PartContent) : Type 0 where
   pub counts : ℕ → ℕ → Option ℕ

@@ -83,7 +83,7 @@ module _ {P : Type 0} where
   abbrev pub Calm : Image → World → List (Option Began) → Parts P → Type 0
   Calm image world began s = PartsStand image world began s × Fronts (content_of s)
 
-  -- whether the rules let one go that the chain lets go
+  -- whether the rules let one proceed that the chain does
   abbrev pub rule_flag : Image → Parts P → Kept → Bool
   rule_flag image s k = cond (is_in s.bare k.wave k.instr)
       (not (is_past_at image k) && (ltb (open_queues s.queues.entries.items) 16
@@ -107,7 +107,7 @@ module _ {P : Type 0} where
     pub first : (p : ℕ) → WaitsHere s.order p → (q : ℕ) × IsForemost image s.order q
         × (go_flag image s (kept_at s.order q) ≡ false)
 
-  -- of each buffer of a run that they are none may go
+  -- of each buffer of a run that they are, none may proceed
   abbrev pub NoneGoSo : Image → Parts P → Type 0
   NoneGoSo image s = (world : World) (began : List (Option Began)) → Formed image → Sound image →
       PartsStand image world began s → NoneGo image s
@@ -119,7 +119,7 @@ module _ {P : Type 0} where
       Calm image world began old →
       Moves image (content_of old) tokens (content_of new) × Calm image world began new)
 
-  -- a calm buffer stays calm, and nothing changes but what ports tell of their faults
+  -- a calm buffer stays calm, and nothing changes but what ports report of their faults
   abbrev pub StaysCalm : Image → Parts P → Parts P → Type 0
   StaysCalm image old new = (world : World) (began : List (Option Began)) → Calm image world began old →
       Calm image world began new × Alike (content_of old) (content_of new)
@@ -132,7 +132,7 @@ module _ {P : Type 0} where
   PartsSilentSo image old new (NoMemory port) =
       PortWaits image (requests_of new.order) (chain_of (chain_in new.order)) port
 
-  -- what is left to let go
+  -- what is left to proceed
   abbrev pub left_over : Parts P → ℕ
   left_over s = waiting_of s.order + cond (has s.fault) 0 1
 

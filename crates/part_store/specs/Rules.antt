@@ -35,7 +35,7 @@ pub record OpensQueue (image : Image) (c : PartContent) (k : Kept) : Type 0 wher
   pub going : c.fault ≡ None
   pub room : (holds_op c.queued (instr_at image k.instr).op k.first ≡ true) ⊎ (open_queues c.queued < 16)
 
--- rules 2 and 5: the chain lets a whole request issue that isn't past the end
+-- rules 2 and 5: the chain lets a whole request issue that isn't out of bounds
 pub record GoesByChain (image : Image) (c : PartContent) (k : Kept) : Type 0 where
   pub waits : Waits c k false
   pub may : Issuable image (issued_in c.kept) c.chain false k.wave k.instr (operands_at image k)
@@ -47,7 +47,7 @@ pub record FrontGoes (c : PartContent) (e : Queued) : Type 0 where
   pub first : front c.queued e.row e.index ≡ Some e
   pub whole : is_bare c e.wave e.instr ≡ false
 
--- rule 4: a whole request past the end is next, and no queue is open
+-- rule 4: a whole request out of bounds is next, and no queue is open
 pub record Faults (image : Image) (c : PartContent) (k : Kept) : Type 0 where
   pub waits : Waits c k false
   pub current : k.wave ≡ c.chain.wave
@@ -161,7 +161,7 @@ pub record MovesTo (image : Image) (c : PartContent) (tokens : List Token) (d : 
   pub moves : Moves image c tokens mid
   pub alike : Alike mid d
 
--- a request, or an address without its data, that had not come has come
+-- a request, or an address without its data, that had not arrived has arrived
 pub record ComesIn (c : PartContent) (k : Kept) (bare : Bool) (d : PartContent) : Type 0 where
   pub fresh : entry_of c.kept k.wave k.instr ≡ None
   pub kept : d.kept ≡ c.kept ++ answered k None ∷ []

@@ -1,4 +1,4 @@
--- What a run over a table and a buffer with queues has done, and what it still owes.
+-- What a run over a table and a buffer with queues has done, and what is outstanding.
 use Rattle.std.specs.Prelude.{ℕ, ◌≡◌, false, List, [], Some, None, length}
 use Rattle.ws_words.specs.Outside.{World}
 use Rattle.ws_isa.specs.Image.{Image, Token, ports, sends}
@@ -28,8 +28,8 @@ Owes image c ts = (w : ℕ) × (i : ℕ) × (a : ℕ) × (k : Kept) × (entry_of
     × (k.answer ≡ Some a) × (is_queued c.queued w i ≡ false)
     × (ts ≡ sends image w i (operands_of (ports image i) k.first k.second) a)
 
--- the start pulse has been told, and each instance that has fired has told its result tokens, or its request
--- has come to the buffer; and so has what is done there
+-- the start pulse has been sent, and each instance that has fired has sent its result tokens, or its request
+-- has arrived at the buffer; and so has what is done there
 abbrev pub Paid : Image → Tables → PartContent → List Token → Type 0
 Paid image t c way = PaidOf image t (IsWhole c) (Owes image c) way
 
@@ -37,7 +37,7 @@ Paid image t c way = PaidOf image t (IsWhole c) (Owes image c) way
 abbrev pub PaidWhile : Image → Tables → PartContent → List Token → Type 0
 PaidWhile image t c way = GoesOn c → Paid image t c way
 
--- Why a run goes no further: nothing is on the way; as many instances have fired as may, and a token hasn't
+-- Why a run goes no further: nothing is in flight; as many instances have fired as may, and a token hasn't
 -- come; or the buffer takes no more, or memory ran out.
 abbrev pub PartEndingSo : Image → World → ℕ → table.TableContent → PartContent → Ending → Type 0
 PartEndingSo image world budget t c ending.Whole = GoesOn c × Paid image (part t) c []

@@ -15,7 +15,7 @@ use match_table::Table;
 use port_set::Port;
 use store_buf::told_ports_begin;
 
-/// Where a table and a buffer owe nothing the whole walk has been run.
+/// If a table and a buffer have no outstanding tokens, the whole walk has been run.
 pub fn whole_run<J: Job, P: Port>(code: &Code<'_, J>, table: &Table<J>, buffer: &PartBuffer<J, P>)
     requires going { GoesOn buffer.now }
     requires paid { Paid J.image (part table.now) buffer.now [] }
@@ -41,7 +41,7 @@ pub fn spent_run<J: Job, P: Port>(code: &Code<'_, J>, table: &Table<J>, buffer: 
     code.facts();
 }
 
-/// Where the chain is stopped it is so at the walk's first load or store past the end.
+/// Where the chain is stopped it is so at the walk's first out-of-bounds load or store.
 pub fn fault_run<J: Job, P: Port>(code: &Code<'_, J>, buffer: &PartBuffer<J, P>, array: u32)
     requires fault { buffer.now.fault ≡ Some array }
     ensures { (handed : List (Option Told)) → J.began ≡ began_of handed →

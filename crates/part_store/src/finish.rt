@@ -17,8 +17,8 @@ use match_table::Table;
 use port_set::Port;
 use store_buf::{BufFault, RunEnd, RunFinish};
 
-/// Why a run goes no further. `Whole`: nothing is on the way. `Spent`: as many instances have fired as
-/// may, and a token is on the way. `Stopped`: the buffer takes no more, or memory ran out.
+/// Why a run goes no further. `Whole`: nothing is in flight. `Spent`: as many instances have fired as
+/// may, and a token is in flight. `Stopped`: the buffer takes no more, or memory ran out.
 #[derive(Clone, Copy, Debug, PartialEq, Eq)]
 pub enum Ending {
     Whole,

@@ -17,8 +17,8 @@ ghost use Rattle.part_store.specs.Calls.{SubmittedSo, request_of};
 ghost use Rattle.df_core.specs.Rights.{Asked, IsAsked};
 ghost use Rattle.store_buf.specs.Stores.{asked_of};
 
-/// Moves by the rules keep what is true of a buffer with partial store queues, and what they tell is
-/// right.
+/// Moves by the rules keep what is true of a buffer with partial store queues, and what they report
+/// is right.
 pub fn moves_keep()
     ensures { (image : Image) (world : World) (began : List (Option Began)) → Formed image →
         Sound image → (old new : PartContent) (tokens : List Token) → Moves image old tokens new →

@@ -1,4 +1,4 @@
-//! What the chain and the rules let go.
+//! What the chain and the rules let proceed.
 
 ghost use Rattle.std.specs.Prelude.{◌≡◌, ◌<◌, ◌*◌, ◌⊎◌, true, false, Some, None, length};
 ghost use Rattle.std.specs.Prelude.{slice_set, IfErr, OnOk, OnErr, MatchOption};
@@ -66,7 +66,7 @@ impl<P: Port> Parts<P> {
         }
     }
 
-    /// Lets requests and addresses go, first this one if it may, until none may, or the chain is
+    /// Lets requests and addresses proceed, first this one if it may, until none may, or the chain is
     /// stopped, or a port doesn't answer.
     pub fn go_on(
         &mut self,
@@ -145,7 +145,7 @@ impl<P: Port> Parts<P> {
         }
     }
 
-    // Whether the rules let one go that the chain lets go: an address within its array where a queue
+    // Whether the rules let one proceed that the chain does: an address within its array where a queue
     // holds its cell or one is free, and a request within its array or where no queue is open.
     fn may_by_rules(&self, program: &Program<'_>, kept: Kept) -> bool
         requires ok { PartsOk self.now }
@@ -183,8 +183,8 @@ impl<P: Port> Parts<P> {
         }
     }
 
-    /// Lets the request or address at a place go. At one past the end the chain stops. Where a port
-    /// doesn't answer, the request still waits.
+    /// Lets the request or address at a place proceed. If it is out of bounds the chain stops. If a
+    /// port doesn't answer, the request still waits.
     pub fn go(
         &mut self,
         program: &Program<'_>,

@@ -47,8 +47,8 @@ impl<J: Job, P: Port> Model for PartBuffer<J, P> {
 }
 
 impl<J: Job, P: Port> PartBuffer<J, P> {
-    /// The opening buffer of a job, of which these are the input and the ports. For want of memory
-    /// the ports are handed back.
+    /// The opening buffer of a job, of which these are the input and the ports. If memory runs
+    /// out, it hands the ports back.
     pub fn begin(
         alloc: Global,
         code: &Code<'_, J>,
@@ -157,7 +157,7 @@ impl<J: Job, P: Port> PartBuffer<J, P> {
         self.take_whole(code.program(), kept, &mut answers.told)
     }
 
-    /// The same of a right request that is told as plain data. The result tokens come into the empty
+    /// The same of a right request that is reported as plain data. The result tokens come into the empty
     /// list.
     #[inline(always)]
     pub(crate) fn take_whole(

@@ -21,7 +21,7 @@ use store_buf::{BufFault, Kept, Order, Outer, PlainTokens};
 use ws_words::NoMemory;
 
 /// Requests, addresses and queues, and what they work on. An operation that is queued counts as issued
-/// in the order. `fault` is the array of the operation past the end at which the chain is stopped,
+/// in the order. `fault` is the array of the out-of-bounds operation at which the chain is stopped,
 /// `failed` a port that failed; `starved` is set where a port found no memory.
 #[derive(Drop)]
 pub struct Parts<P: Port> {
@@ -48,7 +48,7 @@ impl<P: Port> Parts<P> {
         None
     }
 
-    /// Keeps a store's address, and does what the rules let then; the tokens of that are told.
+    /// Keeps a store's address, and does what the rules let then; the tokens of that are reported.
     pub fn address(
         &mut self,
         program: &Program<'_>,
@@ -82,7 +82,7 @@ impl<P: Port> Parts<P> {
         }
     }
 
-    // Keeps an address that the chain doesn't let go, so that no rule is applicable then.
+    // Keeps an address that the chain doesn't let proceed, so that no rule is applicable then.
     fn put_by_address(&mut self, program: &Program<'_>, kept: Kept) -> Result<(), BufFault>
         requires ok { PartsOk self.old }
         requires filed { PartsFiled (image_of program.now) self.old }
@@ -136,7 +136,7 @@ impl<P: Port> Parts<P> {
         }
     }
 
-    /// Keeps a whole request, and does what the rules let then; the tokens of that are told.
+    /// Keeps a whole request, and does what the rules let then; the tokens of that are reported.
     pub fn submit(
         &mut self,
         program: &Program<'_>,
@@ -175,7 +175,7 @@ impl<P: Port> Parts<P> {
         }
     }
 
-    // Keeps a request that the chain doesn't let go, so that no rule is applicable then.
+    // Keeps a request that the chain doesn't let proceed, so that no rule is applicable then.
     fn put_by(&mut self, program: &Program<'_>, kept: Kept) -> Result<(), BufFault>
         requires ok { PartsOk self.old }
         requires filed { PartsFiled (image_of program.now) self.old }

@@ -1,7 +1,7 @@
 //! A run of an image on one thread, over one table and one buffer with partial store queues. Tokens are
 //! brought in rounds by wave, and of each round the one that came last first: what comes of a token is of
 //! its round if it is of that token's wave or an earlier one, and of the next round else. So a wave is
-//! brought as far as it goes before a later one begins, and all that is on the way comes in turn.
+//! brought as far as it goes before a later one begins, and all that is in flight comes in turn.
 
 ghost use Rattle.std.specs.Prelude.{◌≡◌, ◌+◌, ◌≤◌, ◌∷◌, List, [], Option, true, length, MatchOption};
 ghost use Rattle.std.specs.Prelude.{OnOk};
@@ -29,8 +29,8 @@ use store_buf::{BufferAnswers, Rounds, RunEnd, RunFinish, told_ports_begin};
 use ws_isa::{Checked, Op};
 use ws_words::{NoMemory, Words};
 
-// A table, a buffer, and the tokens on the way. The buffer's answers have a place of their own until they
-// are on the way too.
+// A table, a buffer, and the tokens in flight. The buffer's answers have a place of their own until they
+// are in flight too.
 #[derive(Drop)]
 struct PartRun<J: Job, P: Port> {
     table: Table<J>,
@@ -40,8 +40,8 @@ struct PartRun<J: Job, P: Port> {
 }
 
 /// Runs an image on one thread, until the whole walk has been run, so many instances have fired, the
-/// walk's first load or store past the end is next, a port fails, or memory runs out. Each port tells
-/// the words that it has left, and none is closed.
+/// walk's first out-of-bounds load or store is next, a port fails, or memory runs out. Each port
+/// reports the words that it has left, and none is closed.
 pub fn part_image<P: Port>(
     alloc: Global,
     image: &Checked,
@@ -130,14 +130,14 @@ fn run_from<J: Job, P: Port>(
     finish(code, run.table, run.buffer, ending, budget)
 }
 
-// Puts the start pulse on the way.
+// Puts the start pulse in flight.
 fn begin<J: Job>(alloc: Global, code: &Code<'_, J>, way: &mut Rounds<J>) -> Result<(), NoMemory>
     ensures { OnOk result (Covers (start_tokens J.image) way.new) }
 {
     way.pour(start(alloc, code)?)
 }
 
-// For want of memory nothing was run.
+// Memory ran out, and nothing was run.
 fn stays<P: Port>(ports: Slots<P>) -> RunEnd<P>
     ensures finish { result.finish ≡ finish.NoMemory }
     ensures ports { result.ports ≡ ports }
@@ -148,7 +148,7 @@ fn stays<P: Port>(ports: Slots<P>) -> RunEnd<P>
     }
 }
 
-// Brings tokens to the table until none is on the way, the budget is spent, or the buffer is stopped.
+// Brings tokens to the table until none is in flight, the budget is exhausted, or the buffer is stopped.
 fn run_on<J: Job, P: Port>(code: &Code<'_, J>, run: &mut PartRun<J, P>, budget: u64) -> Ending
     requires within { length run.old.table.fired ≤ budget }
     requires paid { PaidWhile J.image (part run.old.table) run.old.buffer run.old.way }
@@ -190,7 +190,7 @@ fn step<J: Job, P: Port>(code: &Code<'_, J>, run: &mut PartRun<J, P>, budget: u6
     }
 }
 
-// Brings a token to the table, and what comes of it to the buffer. One that has come before is let go.
+// Brings a token to the table, and what comes of it to the buffer. One that has come before is released.
 fn bring<J: Job, P: Port>(
     code: &Code<'_, J>,
     run: &mut PartRun<J, P>,

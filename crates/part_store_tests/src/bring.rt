@@ -22,7 +22,7 @@ pub struct BroughtRun<J: Job, P: Port> {
     pub said: Vec<Said>,
 }
 
-// Puts all tokens of a list behind others, and tells the last one.
+// Puts all tokens of a list behind others, and reports the last one.
 pub fn take_all<J: Job>(
     tokens: TokenList<J>,
     bag: &mut Vec<Token<J>>,

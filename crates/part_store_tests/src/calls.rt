@@ -9,7 +9,7 @@ use std::test::Fail;
 use store_buf::BufFault;
 use ws_words::NoMemory;
 
-// A call that was taken, as it is once more old: its instruction, the token that it told, how many queues
+// A call that was taken, as it is once more old: its instruction, the token that it reported, how many queues
 // are open then, and the answer of the watched instruction.
 fn took(instr: u32, token: Option<(u32, u8, u64)>, open: u32, answer: Option<u64>) -> Said {
     Said {
@@ -34,7 +34,7 @@ fn failed(instr: u32, fault: BufFault, array: u32, answer: Option<u64>) -> Said 
     }
 }
 
-// Tokens that come to these ports, with addresses apart, and the instruction of which the answer is asked.
+// Tokens that arrive at these ports, with addresses apart, and the instruction of which the answer is asked.
 fn script(script: &'static [(u32, u8)], watched: u32) -> BufferOrder {
     BufferOrder {
         script,
@@ -91,7 +91,7 @@ fn a_load_waits_for_the_data_of_its_cell(rt: HostRuntime) -> Result<(), Fail> {
     Ok(())
 }
 
-// A load past the end is a fault once no queue is open.
+// An out-of-bounds load is a fault once no queue is open.
 #[test]
 fn a_fault_waits_for_open_queues(rt: HostRuntime) -> Result<(), Fail> {
     let order = script(
@@ -150,7 +150,7 @@ fn stores_of_one_cell_are_written_in_turn(rt: HostRuntime) -> Result<(), Fail> {
     Ok(())
 }
 
-// A store whose address is past the end isn't opened, and is a fault when its data comes.
+// A store whose address is out of bounds isn't opened, and is a fault when its data comes.
 #[test]
 fn a_store_past_the_end_is_not_opened(rt: HostRuntime) -> Result<(), Fail> {
     let order = script(

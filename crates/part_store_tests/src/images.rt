@@ -16,7 +16,7 @@ pub const CELLS: &str =
     11: load 1 <?, 4, 5>.2 -> 13.0\n12: load 1 <4, 5, 6>.2 -> 14.0\n13: out <5, 6, 7>.6\n\
     14: out <6, 7, 8>.7\n15: halt <7, 8, .>.8\nstop\nend\n";
 
-/// The same, but that the second load is past the end.
+/// The same, but that the second load is out of bounds.
 pub const PAST: &str =
     "wavescalar 1\narray a 2\nwave 1\nblock 1\npad 0 1.0\n1: advance -> 2.0 3.0\n\
     2: in <., 1, ?>.1 -> 3.1\n3: steer -> 4.0 5.0 8.0 | 7.0 8.0\nif 2 2 3\n\
@@ -32,7 +32,7 @@ pub const TWICE: &str = "wavescalar 1\narray a 2\nwave 1\nblock 1\npad 0 1.0\n\
     3: store 1 <., 1, 2>.1\n4: const 2 -> 5.1\n5: store 1 <1, 2, 3>.2\n6: load 1 <2, 3, 4>.2 -> 7.0\n\
     7: out <3, 4, 5>.4\n8: halt <4, 5, .>.5\nstop\nend\n";
 
-/// Stores 1 past the end of its array, and prints 7 before and after.
+/// Stores 1 out of bounds, and prints 7 before and after.
 pub const BEYOND: &str = "wavescalar 1\narray a 1\nwave 1\nblock 1\npad 0 1.0\n\
     1: advance -> 2.0 3.0 4.0 8.0\n2: const 7 -> 5.0 7.0\n3: const 1 -> 6.1\n4: const 2 -> 6.0\n\
     5: out <., 1, 2>.1\n6: store 1 <1, 2, 3>.2\n7: out <2, 3, 4>.3\n8: halt <3, 4, .>.4\nstop\nend\n";
@@ -50,8 +50,8 @@ pub const MIXED: &str =
     block 5\n23: load 1 <., 8, 9>.0 -> 24.0\n24: out <8, 9, 10>.9\n25: const 2 -> 26.0\n\
     26: load 1 <9, 10, 11>.9 -> 27.0\n27: out <10, 11, 12>.11\n28: halt <11, 12, .>.12\nstop\nend\n";
 
-/// Takes a word of port 2, stores it, and gives the cell to port 1, three times; the third cell is past
-/// the end.
+/// Takes a word of port 2, stores it, and gives the cell to port 1, three times; the third cell is out
+/// of bounds.
 pub const PORTS: &str =
     "wavescalar 1\narray a 2\nwave 1\nblock 1\npad 0 1.0\n1: advance -> 5.0 2.0\n\
     go 2\nblock 2\n2: merge -> 4.0 3.0\n3: nop <., 1, .>.0\ngo 3\nwave 2\nblock 3\n\

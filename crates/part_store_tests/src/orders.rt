@@ -71,7 +71,7 @@ fn took_so(core: &Core<'_>, port: u8, slot: &Option<TapePort>) -> bool
     }
 }
 
-// Whether a run has left what the core has, which has come to its end.
+// Whether a run has left what the core has, which has completed.
 fn ends_so(core: &Core<'_>, past: &Past<TapePort>) -> bool
     requires { IsRunning core.now }
 {
@@ -89,7 +89,7 @@ fn ends_so(core: &Core<'_>, past: &Past<TapePort>) -> bool
         && took_so(core, 2, &end.ports.second)
 }
 
-// Whether the core comes to the same as a run.
+// Whether the core has the same result as a run.
 fn core_is_so(
     alloc: Global,
     image: &Checked,
@@ -115,8 +115,8 @@ fn answered_alike(past: &Past<TapePort>, base: &Past<TapePort>) -> bool {
     past.answers.len() == all.len() && past.answers.iter().all(|answer| all.contains(answer))
 }
 
-// Whether a run has come to the same as another one. Where they were stopped, loads that the walk has later
-// may have been answered in the one alone.
+// Whether a run had the same result as another one. If they were stopped, loads that are later in the walk
+// may have been answered in only one of them.
 fn is_like(past: &Past<TapePort>, base: &Past<TapePort>) -> bool {
     let (end, other) = (&past.end, &base.end);
     past.stop == base.stop
@@ -128,7 +128,7 @@ fn is_like(past: &Past<TapePort>, base: &Past<TapePort>) -> bool {
         && (base.stop.is_some() || answered_alike(past, base))
 }
 
-// Whether a run in the order of a seed comes to the same as another one.
+// Whether a run in the order of a seed has the same result as another one.
 fn is_alike(
     alloc: Global,
     image: &Checked,
@@ -141,7 +141,7 @@ fn is_alike(
     Ok(alike)
 }
 
-// Whether runs in many orders come to the same as another one.
+// Whether runs in many orders have the same result as another one.
 fn are_alike(alloc: Global, image: &Checked, base: &Past<TapePort>) -> Result<bool, NoMemory> {
     for seed in 0..SEEDS {
         if !is_alike(alloc, image, seed, base)? {
@@ -151,7 +151,7 @@ fn are_alike(alloc: Global, image: &Checked, base: &Past<TapePort>) -> Result<bo
     Ok(true)
 }
 
-// Whether all runs of an image come to what the core comes to.
+// Whether all runs of an image have the core's result.
 fn is_so(alloc: Global, text: &str, world: &World) -> Result<bool, NoMemory> {
     let image = image_of(alloc, text)?;
     let base = past_with(alloc, &image, INPUT, 0, &by_seed(1, false))?;

@@ -19,7 +19,7 @@ use ws_words::{NoMemory, Words};
 const TOKENS: u32 = 1_000;
 
 /// In which order tokens come: those to these ports of these instructions, and then the others as a seed
-/// has it. Where `late` is set, the data of a store comes when nothing else is on the way. Where `apart`
+/// has it. Where `late` is set, the data of a store comes when nothing else is in flight. Where `apart`
 /// is set, an address that comes before its data goes to the buffer alone. `watched` is an instruction of
 /// wave 1 whose answer is asked for after each call.
 #[derive(Clone, Copy)]
@@ -31,7 +31,7 @@ pub struct BufferOrder {
     pub watched: u32,
 }
 
-/// What the buffer said to an address or a request of an instruction: the last token that it told, by
+/// What the buffer said to an address or a request of an instruction: the last token that it reported, by
 /// instruction, port and value, or a fault; its fault when it was asked the same again; how many queues were
 /// open then, and the answer of the watched instruction.
 #[derive(Clone, Copy, Debug, PartialEq, Eq)]
@@ -149,7 +149,7 @@ fn begun<J: Job, P: Port>(alloc: Global, buffer: PartBuffer<J, P>) -> BroughtRun
     }
 }
 
-// Carries a run out, and tells the answers.
+// Carries a run out, and reports the answers.
 fn carry_out<J: Job, P: Port>(
     alloc: Global,
     code: &Code<'_, J>,
@@ -231,5 +231,5 @@ pub fn past_of<P: Port>(
     run_as::<Brand, P>(alloc, image, input, ports, order)
 }
 
-/// Lets a run go. Whoever calls this needn't say how each of its parts is let go.
+/// Releases a run. The caller needn't say how each of its parts is released.
 pub fn let_go<P: Port>(_past: Past<P>) {}

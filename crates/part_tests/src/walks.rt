@@ -50,7 +50,7 @@ fn told(alloc: Global, cell: u64, word: u64, firings: u64) -> Result<String, NoM
     Ok(told)
 }
 
-// A cell, of which 2 is past the end, a word that is read, the firings, and what is told of the walk.
+// A cell, of which 2 is out of bounds, a word that is read, the firings, and what is reported of the walk.
 const ROWS: [(u64, u64, u64, &str); 6] = [
     (1, 1, 14, "[5, 0] 5 14 true None"),
     (1, 1, 13, "[5, 0] 5 13 false None"),

@@ -163,7 +163,7 @@ fn prints(alloc: Global, draft: &Draft) -> Result<bool, NoMemory>
     Ok(true)
 }
 
-// The procedures have a door each, and the call a return point.
+// The procedures have an entry block each, and the call a return block.
 #[test]
 #[tactic(auto, using(crate::proofs::Kept::doubles_kept, crate::proofs::Kept::doubles_alone, crate::proofs::Kept::doubles_sends_nothing))]
 fn a_call_is_spelled_out(rt: HostRuntime) -> Result<(), Fail> {

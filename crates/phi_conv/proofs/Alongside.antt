@@ -181,7 +181,7 @@ module _ (g : Graph) (rules : IsGraph g) (live : List (List ℕ)) (is : AreLive 
 
   opens : (world : World) (k : ℕ) → Along g rules (opening g world k) (opening h world k)
   opens world k =
-      let e = entry_there g rules live main main_there in
+      let e = entry_there g rules main main_there in
       let v : ℕ = (proc_at g main).vars in
       subst (λ (c : Config). Along g rules (opening g world k) c) (sym (opened world k)) (
         refl,

@@ -12,6 +12,7 @@ use Rattle.cfg_core.specs.Walk.{Frame, Config, At, Over, Going, with_result, ret
 use Rattle.live_vars.specs.Live.{Live}
 use Rattle.phi_conv.specs.Joined.{more_vars}
 use Rattle.phi_conv.proofs.Agreeing.{States}
+use Rattle.cfg_core.proofs.Homes.{vars_at, same_vars}
 use Rattle.live_vars.proofs.Needed.{Agree}
 
 -- the variable that takes a result

@@ -1,11 +1,11 @@
--- What ports tell, and what giving and taking changes of it.
+-- What ports report, and what giving and taking changes of it.
 use Rattle.std.specs.Prelude.{◌≡◌, ◌≤◌, ℕ, Bool, true, List, [], ◌∷◌, ◌++◌, Option, Some, None, Result, Ok}
 use Rattle.std.specs.Prelude.{Err}
 use Rattle.ws_io.specs.Streams.{Rose}
 use Rattle.port_set.specs.declared.port.PortError.{PortError}
 use Rattle.port_set.specs.declared.port.PortError.TheVariants.{Failed, NoMemory}
 
--- the words that a port has left and the words that it took, where it tells them, how often it has failed,
+-- the words that a port has left and the words that it took, if it reports them, how often it has failed,
 -- and whether it is closed
 pub record Told : Type 0 where
   pub left : Option (List ℕ)
@@ -13,13 +13,13 @@ pub record Told : Type 0 where
   pub faults : ℕ
   pub closed : Bool
 
--- where the words left are told, this was the first of them and is gone now, or it is 0 and none was left
+-- if the words left are reported, this was the first of them and is gone now, or it is 0 and none was left
 abbrev pub Gives : Option (List ℕ) → ℕ → Option (List ℕ) → Type 0
 Gives None word after = after ≡ None
 Gives (Some []) word after = (word ≡ 0) × (after ≡ Some [])
 Gives (Some (x ∷ xs)) word after = (word ≡ x) × (after ≡ Some xs)
 
--- where the words taken are told, this is one more
+-- if the words taken are reported, this is one more
 abbrev pub TakesWord : Option (List ℕ) → ℕ → Option (List ℕ) → Type 0
 TakesWord None word after = after ≡ None
 TakesWord (Some words) word after = after ≡ Some (words ++ word ∷ [])
@@ -29,7 +29,7 @@ abbrev pub IfFailed : PortError → Type 0 → Type 0
 IfFailed Failed holds = holds
 IfFailed NoMemory holds = Unit {0}
 
--- what an open port tells before and after it answered so to a call for a word
+-- what an open port reports before and after it answered so to a call for a word
 abbrev pub GaveSo : Told → Result ℕ PortError → Told → Type 0
 GaveSo old (Ok word) new = Gives old.left word new.left
 GaveSo old (Err why) new = (new.left ≡ old.left) × IfFailed why (Rose old.faults new.faults)

@@ -47,12 +47,12 @@ abbrev pub AllOpen : List (Option Told) → Type 0
 AllOpen ports = All IsOpen ports
 
 module _ {P : Type 0} where
-  -- what the port in a slot tells
+  -- what the port in a slot reports
   abbrev pub told : (P → Told) → Option P → Option Told
   told tells None = None
   told tells (Some port) = Some (tells port)
 
-  -- what the ports in all slots tell
+  -- what the ports in all slots report
   abbrev pub told_all : (P → Told) → List (Option P) → List (Option Told)
   told_all tells [] = []
   told_all tells (p ∷ ports) = told tells p ∷ told_all tells ports

@@ -13,7 +13,7 @@ use ws_io::{Sink, write_all};
 const LINE: usize = 21;
 
 /// A port over a sink. It has no words left, and writes each word that it takes in decimal digits
-/// and a line feed. As a port it tells no words taken. Its faults are the sink's.
+/// and a line feed. As a port it reports no words taken. Its faults are the sink's.
 #[derive(Drop)]
 pub struct LinePort<K> {
     pub sink: K,
@@ -58,7 +58,7 @@ impl<K: Sink + Drop> Port for LinePort<K> {
         ensures counted { K.faults self.old.sink ≤ K.faults self.new.sink }
         ensures open { self.new.closed ≡ false }
 
-        // What it writes: the whole line, or a front of it.
+        // What it writes: the whole line, or a prefix of it.
         ensures line { OnOk result
             (Adds (K.held self.old.sink) (line_of word) (K.held self.new.sink)) }
         ensures flushed { OnOk result (Flushes (K.held self.new.sink)
@@ -81,7 +81,7 @@ impl<K: Sink + Drop> Port for LinePort<K> {
     }
 }
 
-// Puts the digits of a word and a line feed at the front of a line, and says how many bytes they are.
+// Puts the digits of a word and a line feed at the start of a line, and says how many bytes they are.
 fn put_line(word: u64, line: &mut [u8; LINE]) -> usize
     ensures length { result ≤ 21 }
     ensures line { take result line.new ≡ line_of word }

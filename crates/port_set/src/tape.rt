@@ -14,7 +14,7 @@ use std::marker::Model;
 use ws_words::Words;
 
 /// A port over lists in memory, for tests: it gives the words of a list, keeps what it takes, and
-/// fails at the calls that it is told to fail at. Its counts stand still at their type's end.
+/// fails at chosen calls. Its counts stop at the maximum of their type.
 #[derive(Drop)]
 pub struct TapePort {
     words: Words,

@@ -6,7 +6,7 @@ ghost use Rattle.ready_pool.specs.Dealt.{Dealt};
 use crate::seat::SeatList;
 
 /// Puts an item into the seat of this number, or into the first where there are no more. One that the seat's
-/// deque refuses is let go. Answers which seat comes next.
+/// deque refuses is released. Answers which seat comes next.
 pub fn put_next<T: Drop>(seats: &mut SeatList<T>, at: usize, item: T) -> usize
     ensures { Dealt seats.old.items (item ∷ []) seats.new.items }
 {

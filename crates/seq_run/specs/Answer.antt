@@ -17,14 +17,14 @@ SaysEnded n end (Ended printed arrays took turns) =
     × (took ≡ took_by_ports end.acts)
 SaysEnded n end _ = ⊥
 
--- in turn n the run met its first act that is past, on this array, and this was outside before it
+-- in turn n the run met its first out-of-bounds act, on this array, and this was outside before it
 abbrev pub SaysFault : ℕ → ℕ → Outside → Plain → Type 0
 SaysFault n array state (Fault on printed arrays took turns) =
     (on ≡ array) × (turns ≡ n) × (printed ≡ printed_words state.acts) × (arrays ≡ state.cells)
     × (took ≡ took_by_ports state.acts)
 SaysFault n array state _ = ⊥
 
--- the run is at this, and wants a further turn
+-- the run is at this, and needs a further turn
 abbrev pub SaysGoing : Outside → Plain → Type 0
 SaysGoing now (Going printed) = printed ≡ printed_words now.acts
 SaysGoing now _ = ⊥
@@ -37,7 +37,7 @@ pub record HasEnded (parts : List Part) (world : World) (turns : ℕ) (plain : P
   pub within : taken ≤ turns
   pub says : SaysEnded taken end plain
 
--- the run meets its first act that is past within these turns, and the answer says in which turn,
+-- the run meets its first out-of-bounds act within these turns, and the answer says in which turn,
 -- on which array, and what was outside before it
 pub record HasFaulted (parts : List Part) (world : World) (turns : ℕ) (plain : Plain) : Type 0 where
   pub turn : ℕ
@@ -62,7 +62,7 @@ pub record RunEnded (start : Outside) (run : ℕ → CallEnd) (turns : ℕ) (pla
   pub within : AreWithin (lengths_of start.cells) end.acts
   pub says : SaysEnded (turns - left) end plain
 
--- it met its first act that is past
+-- it met its first out-of-bounds act
 pub record RunFaulted (start : Outside) (run : ℕ → CallEnd) (turns : ℕ) (plain : Plain)
     : Type 0 where
   pub earlier : ℕ
@@ -75,14 +75,14 @@ pub record RunFaulted (start : Outside) (run : ℕ → CallEnd) (turns : ℕ) (p
   pub left : state ≡ after_acts start state.acts
   pub says : SaysFault (suc earlier) array state plain
 
--- it wants a further turn
+-- it needs a further turn
 pub record RunGoes (start : Outside) (run : ℕ → CallEnd) (turns : ℕ) (plain : Plain) : Type 0 where
   pub now : Outside
   pub stops : run turns ≡ Stopped now
   pub within : AreWithin (lengths_of start.cells) now.acts
   pub says : SaysGoing now plain
 
--- how a run by turns from this went, which is the passing run
+-- how a run by turns from this went, which is the unchecked run
 abbrev pub RunSays : Outside → (ℕ → CallEnd) → ℕ → Plain → Type 0
 RunSays start run turns (Ended printed arrays took n) =
     RunEnded start run turns (Ended printed arrays took n)

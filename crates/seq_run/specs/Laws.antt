@@ -12,7 +12,7 @@ pub record EndsWithin (parts : List Part) (world : World) (turns : ℕ) : Type 0
   pub within : taken ≤ turns
   pub runs : Runs parts world taken end
 
--- the run meets its first act that is past within these turns
+-- the run meets its first out-of-bounds act within these turns
 pub record FaultsWithin (parts : List Part) (world : World) (turns : ℕ) : Type 0 where
   pub turn : ℕ
   pub array : ℕ

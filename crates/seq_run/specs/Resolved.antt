@@ -72,7 +72,7 @@ run_proc calls p args o k =
     ending (run_all calls p.body (record { vars = args ++ zeros p.locals; out = o }) k)
     (finish p.result)
 
--- past the last one stands a procedure with nothing in it
+-- out of bounds stands a procedure with nothing in it
 abbrev pub nth_proc : List Proc → ℕ → Proc
 nth_proc [] k = record { params = 0; locals = 0; body = Nothing; result = None }
 nth_proc (p ∷ ps) zero = p

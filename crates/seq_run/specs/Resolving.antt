@@ -20,7 +20,7 @@ signed Flip t = graph.Flip t
 signed Not t = graph.Not t
 signed Neg t = graph.Neg t
 
--- an expression; and below in the same way arguments, a statement, a result and a procedure
+-- an expression; and below, likewise, arguments, a statement, a result and a procedure
 abbrev pub term : Scope → Expression → Term
 term scope (Number n) = graph.Number n
 term scope (Variable x) = graph.Var (var_number scope x)

@@ -3,7 +3,7 @@ use Rattle.std.specs.Prelude.{Bool, true, false, List}
 use Rattle.ws_words.specs.Outside.{Act}
 use Rattle.src_ast.specs.Turns.{PartEnd, Ended, Out, CallEnd, Returned, Stopped}
 
--- its acts, and whether it wants a turn
+-- its acts, and whether it needs a turn
 abbrev pub seen : PartEnd → List Act × Bool
 seen (Ended s left) = (s.out.acts, false)
 seen (Out o) = (o.acts, true)

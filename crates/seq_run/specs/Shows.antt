@@ -13,7 +13,7 @@ use Rattle.seq_run.specs.declared.flow.Flow.TheVariants as flows
 use Rattle.seq_run.specs.declared.flow.Reply.{Reply}
 use Rattle.seq_run.specs.declared.flow.Reply.TheVariants as replies
 
--- the code holds what is outside; from the start until then no act was past
+-- the code holds what is outside; from the start until then no act was out of bounds
 pub record ShowsMemory (start o : Outside) (memory : Memory) : Type 0 where
   pub out : OutIs o memory
   pub within : AreWithin (lengths_of start.cells) o.acts
@@ -24,7 +24,7 @@ pub record Holds (start : Outside) (s : ProcState) (memory : Memory) (vars : Lis
   pub out : ShowsMemory start s.out memory
   pub same_vars : s.vars ≡ vars
 
--- among these acts is one that is past, on this array, and the code holds what is outside before
+-- among these acts is one that is out of bounds, on this array, and the code holds what is outside before
 -- the first such
 pub record Stops (start : Outside) (acts : List Act) (array : ℕ) (memory : Memory) : Type 0 where
   pub before : Outside
@@ -33,13 +33,13 @@ pub record Stops (start : Outside) (acts : List Act) (array : ℕ) (memory : Mem
   pub past : IsPast (lengths_of start.cells) array act
   pub first : ActsBegin (before.acts ++ act ∷ []) acts
 
--- an action was done, or stopped before an act that is past
+-- an action was done, or stopped before an out-of-bounds act
 abbrev pub IsDone : Outside → Action → ProcState → Option ℕ → Memory → List ℕ → Type 0
 IsDone start a s None memory vars = Holds start (done a s) memory vars
 IsDone start a s (Some array) memory vars = Stops start (done a s).out.acts array memory
 
--- a part that was given these turns met its first act that is past when it had these left: with one
--- turn less than it took by then it wants that turn, and no act is past
+-- a part that was given these turns met its first out-of-bounds act when it had these left: with one
+-- turn less than it took by then it needs that turn, and no act is out of bounds
 pub record Faulted (start : Outside) (part : ℕ → List Act × Bool) (turns array : ℕ)
     (memory : Memory) (left : ℕ) : Type 0 where
   pub earlier : ℕ
@@ -54,7 +54,7 @@ PartEnded start (Ended s k) memory vars left =
     Holds start s memory vars × (k ≡ left)
 PartEnded start (Out o) memory vars left = ⊥
 
--- a part wants a turn
+-- a part needs a turn
 abbrev pub PartOut : Outside → PartEnd → Memory → Type 0
 PartOut start (Ended s k) memory = ⊥
 PartOut start (Out o) memory = ShowsMemory start o memory
@@ -73,7 +73,7 @@ CallReturned start (Returned v o k) word memory left =
     ShowsMemory start o memory × (v ≡ word) × (k ≡ left)
 CallReturned start (Stopped o) word memory left = ⊥
 
--- a call wants a turn
+-- a call needs a turn
 abbrev pub CallOut : Outside → CallEnd → Memory → Type 0
 CallOut start (Returned v o k) memory = ⊥
 CallOut start (Stopped o) memory = ShowsMemory start o memory
@@ -98,7 +98,7 @@ FollowsCall call before reply after =
     (start o : Outside) → ShowsMemory start o before.memory →
     ReplyIs start (call o) before.turns reply after.memory after.turns
 
--- what is left of a part, from a state that the code holds, is the whole part, which has spent
+-- what is left of a part, from a state that the code holds, is the whole part, which has used
 -- turns
 pub record Upto (start : Outside) (now : ProcState → ℕ → PartEnd) (whole : ℕ → PartEnd) (turns : ℕ)
     (memory : Memory) (vars : List ℕ) (left : ℕ) : Type 0 where

@@ -33,7 +33,7 @@ pub(crate) fn add_zeros(vars: &mut Words, count: u32) -> Result<(), NoMemory>
     Ok(())
 }
 
-// Does an action, all but its turn; where one of its acts is past, nothing, and gives the array.
+// Does an action, all but its turn; where one of its acts is out of bounds, nothing, and gives the array.
 #[inline(always)]
 fn act(memory: &mut Memory<'_>, action: &Action, vars: &mut Words) -> Result<Option<u32>, NoMemory>
     ensures { IfOk result (λ past.

@@ -1,12 +1,12 @@
-//! What running steps and calls comes to, and what a run has outside its variables.
+//! How steps and calls end, and what a run has outside its variables.
 
 ghost use Rattle.std.specs.Prelude.{◌≡◌};
 ghost use Rattle.seq_run.specs.Shows.{stop_flag};
 
 use ws_words::Memory;
 
-/// Steps ended, wanted a turn where none was left, or stopped before a load or store past the end
-/// of an array, numbered from 1.
+/// Steps ended, needed a turn when none was left, or stopped before an out-of-bounds access to an
+/// array, numbered from 1.
 #[derive(Clone, Copy)]
 pub enum Flow {
     Ended,
@@ -25,7 +25,7 @@ impl Flow {
     }
 }
 
-/// A call gave a word, wanted a turn where none was left, or stopped as steps do.
+/// A call gave a word, needed a turn where none was left, or stopped as steps do.
 #[derive(Clone, Copy)]
 pub enum Reply {
     Value(u64),

@@ -75,8 +75,7 @@ pub(crate) fn run_resolved(
 }
 
 /// Runs an accepted program with at most so many turns, as the source says: turn by turn, with
-/// names looked up once before the run. It ends at the first load or store past the end of an
-/// array.
+/// names looked up once before the run. It ends at the first out-of-bounds load or store.
 pub fn run_plain(
     alloc: Global,
     accepted: &Accepted,

@@ -1,4 +1,4 @@
-//! The value of terms, and the array of the first load past the end.
+//! The value of terms, and the array of the first out-of-bounds load.
 
 ghost use Rattle.std.specs.Prelude.{◌≡◌, map, IfOk};
 ghost use Rattle.ws_words.specs.Memory.{lengths_of};
@@ -12,7 +12,7 @@ use cfg_core::Term;
 use std::alloc::Global;
 use ws_words::{Alu, Memory, NoMemory, Words, apply};
 
-/// Notes the array of a load or store that is past, where none was noted before.
+/// Records the array of an out-of-bounds load or store, if none was recorded before.
 #[inline(always)]
 pub(crate) fn note(past: &mut Option<u32>, memory: &Memory<'_>, array: u32, index: u64)
     ensures { let lengths = lengths_of memory.now.cells in
@@ -24,7 +24,7 @@ pub(crate) fn note(past: &mut Option<u32>, memory: &Memory<'_>, array: u32, inde
 }
 
 /// The value of a term, as `value` gives it. Terms without terms inside, and operators on two of
-/// them, have a short way, for the loop of bench/plain.py.
+/// them, have a short path, for the loop of bench/plain.py.
 #[inline(always)]
 pub(crate) fn quick(term: &Term, vars: &Words, memory: &Memory<'_>, past: &mut Option<u32>) -> u64
     ensures value { result ≡ walks.value (graph.term term.now) vars.now memory.now.cells }
@@ -50,8 +50,8 @@ pub(crate) fn quick(term: &Term, vars: &Words, memory: &Memory<'_>, past: &mut O
     }
 }
 
-/// The value of a term, in which a load past the end gives 0, and the array of the first such load,
-/// where none was noted before.
+/// The value of a term, in which an out-of-bounds load gives 0, and the array of the first such
+/// load, if none was recorded before.
 pub(crate) fn value(term: &Term, vars: &Words, memory: &Memory<'_>, past: &mut Option<u32>) -> u64
     ensures value { result ≡ walks.value (graph.term term.now) vars.now memory.now.cells }
     ensures past { let acts = walks.loads_of (graph.term term.now) vars.now memory.now.cells in

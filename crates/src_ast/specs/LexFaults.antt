@@ -63,7 +63,7 @@ AnswersLexemes (Ok l) ls finish = (l.items.items ≡ ls) × (l.finish ≡ finish
 AnswersLexemes (Err NoMemory) ls finish = Unit {0}
 AnswersLexemes (Err (Refused r)) ls finish = ⊥
 
--- what a text comes to: its lexemes within the limits and the place of its end, or its first fault
+-- the result of a text: its lexemes within the limits and the place of its end, or its first fault
 abbrev pub IsLexAnswer : List ℕ → Result (List Lexeme × Place) Refusal → Type 0
 IsLexAnswer text (Ok l) = Lex text l.0 l.1 × KeepLimits 0 0 l.0
 IsLexAnswer text (Err r) = LexFault text r

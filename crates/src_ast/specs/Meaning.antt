@@ -147,7 +147,7 @@ abbrev pub names_of : List Procedure → List Name
 names_of [] = []
 names_of (p ∷ ps) = p.name ∷ names_of ps
 
--- what stands past the last procedure
+-- the procedure at an out-of-bounds number
 abbrev pub no_procedure : Procedure
 no_procedure = record {
   name = record { text = []; place = record { line = 0; column = 0 } };
@@ -186,7 +186,7 @@ run_at main parts world k =
 abbrev pub run : List Part → World → ℕ → CallEnd
 run parts world k = run_at (length (procs_of parts) - 1) parts world k
 
--- The passing run: a load past the end of its array gives 0, a store past it changes nothing, and the run
+-- The unchecked run: an out-of-bounds load gives 0, an out-of-bounds store changes nothing, and the run
 -- goes on.
 -- It takes exactly n turns and leaves this
 abbrev pub Passes : List Part → World → ℕ → Outside → Type 0

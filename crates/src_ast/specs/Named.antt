@@ -1,4 +1,4 @@
--- Names and variables that are told by their texts; where they stand doesn't matter.
+-- Names and variables that are identified by their texts; where they stand doesn't matter.
 use Rattle.std.specs.Prelude.{ℕ, List}
 use Rattle.src_ast.specs.declared.lexeme.Name.{Name}
 use Rattle.src_ast.specs.Lexemes.{start}

@@ -242,7 +242,7 @@ abbrev pub IsCheckFault : List Part → Place → TextFault → Type 0
 IsCheckFault parts finish NoMemory = Unit {0}
 IsCheckFault parts finish (Refused r) = IsFirstBroken (rules_of parts finish) r
 
--- what a program comes to: it is accepted, or this is the first rule that isn't kept
+-- the result of a program: it is accepted, or this is the first rule that it breaks
 abbrev pub IsRuleAnswer : List Part → Place → Option Refusal → Type 0
 IsRuleAnswer parts finish None = IsAccepted parts finish
 IsRuleAnswer parts finish (Some r) = IsFirstBroken (rules_of parts finish) r

@@ -1,8 +1,8 @@
--- How a run takes turns: a part of it ends with turns left, or wants a turn where none is left.
+-- How a run takes turns: a part of it ends with turns left, or needs a turn where none is left.
 use Rattle.std.specs.Prelude.{ℕ, zero, suc, ◌==◌, List, Option, Some, None, slice_set, if◌then◌else◌}
 use Rattle.ws_words.specs.Outside.{Outside, ProcState}
 
--- a part ended with turns left, or wanted a turn where none was left
+-- a part ended with turns left, or needed a turn where none was left
 pub data PartEnd : Type 0 where
   Ended : (s : ProcState) (left : ℕ) → PartEnd
   Out : (o : Outside) → PartEnd
@@ -17,7 +17,7 @@ abbrev pub turn : ℕ → ProcState → (ℕ → PartEnd) → PartEnd
 turn zero s go = Out s.out
 turn (suc k) s go = go k
 
--- a call gave its result with turns left, or wanted a turn where none was left
+-- a call gave its result with turns left, or needed a turn where none was left
 pub data CallEnd : Type 0 where
   Returned : (v : ℕ) (o : Outside) (left : ℕ) → CallEnd
   Stopped : (o : Outside) → CallEnd

@@ -37,7 +37,7 @@ pub enum RefusalKind {
     Byte,
     /// A number of 2^64 or more.
     Wide,
-    /// A lexeme that no program continues, or a text that lacks a rest.
+    /// A lexeme with which no program continues, or an incomplete text.
     Syntax,
     /// A name that isn't visible.
     Unknown,

@@ -11,7 +11,7 @@ abbrev pub Keeps : {X : Type 0} → List Rule → Result X Refusal → Type 0
 Keeps rules (Ok x) = first_broken rules ≡ None
 Keeps rules (Err r) = first_broken rules ≡ Some r
 
--- the checker stops for want of memory, or at the first rule that isn't kept
+-- the checker stops out of memory, or at the first rule that isn't kept
 abbrev pub StopsAt : List Rule → Stop → Type 0
 StopsAt rules Memory = Unit {0}
 StopsAt rules (Broken r) = first_broken rules ≡ Some r

@@ -1,4 +1,4 @@
--- What the names stand for that the checker has come by.
+-- What the names stand for that the checker has met.
 use Rattle.std.specs.Prelude.{◌≡◌, ℕ, Bool, false, ◌&&◌, List, Option, Some, None, nat_eq}
 use Rattle.std.specs.List.{list_any}
 use Rattle.std.specs.Map.{lookup}

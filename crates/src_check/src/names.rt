@@ -1,4 +1,4 @@
-//! The names that the checker has come by, and what they stand for.
+//! The names that the checker has met, and what they stand for.
 
 ghost use Rattle.std.specs.Prelude.{◌≡◌, ℕ, List, None, Some, true, nat_eq, if◌then◌else◌, OnOk, OnErr};
 ghost use Rattle.std.specs.Option.{option_map};
@@ -90,7 +90,7 @@ impl Sorts {
     }
 }
 
-/// The names of arrays and procedures, and those of the variables of the procedure at hand.
+/// The names of arrays and procedures, and those of the variables of the current procedure.
 #[derive(Drop)]
 pub struct KnownNames {
     pub outer: Sorts,

@@ -1,4 +1,4 @@
--- What the parts of the lexer read from the front of a text.
+-- What the parts of the lexer read from the start of a text.
 use Rattle.std.specs.Prelude.{◌≡◌, ℕ, ◌≤◌, ◌<◌, length, ◌==◌, ◌||◌, Bool, List, ◌++◌}
 use Rattle.std.proofs.Common.{take, drop}
 use Rattle.src_ast.specs.declared.lexeme.Shape.{Shape}
@@ -13,7 +13,7 @@ use Rattle.ws_words.specs.Letters.{starts_without}
 abbrev pub begins_gap : ℕ → Bool
 begins_gap b = is_blank b || (b == 35)
 
--- no gap is left in front of the text: it is at its end, or a byte stands there that begins none
+-- the text begins with no gap: it is at its end, or a byte stands there that begins none
 abbrev pub ends_gap : List ℕ → Bool
 ends_gap text = is_end text || starts_without begins_gap text
 

@@ -1,4 +1,4 @@
-//! What the definitions of lexemes and faults come to.
+//! What follows from the definitions of lexemes and faults.
 
 ghost use Rattle.std.specs.Prelude.{◌≡◌, ℕ, List};
 ghost use Rattle.src_ast.specs.declared.lexeme.Place.{Place};
@@ -29,7 +29,7 @@ pub fn one_fault()
     ensures { (text : List ℕ) (a b : Refusal) → LexFault text a → LexFault text b → a ≡ b }
 {}
 
-/// Each text comes to one thing alone: its lexemes within the limits, or its first fault.
+/// Each text has exactly one result: its lexemes within the limits, or its first fault.
 pub fn each_text_is_lexed_once()
     ensures { (text : List ℕ) → ExactlyOne (IsLexAnswer text) }
 {}

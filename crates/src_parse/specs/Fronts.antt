@@ -1,4 +1,4 @@
--- What stands in front.
+-- What stands first.
 use Rattle.std.specs.Prelude.{◌≡◌, ℕ, List, [], ◌∷◌, Bool, true, false}
 use Rattle.src_ast.specs.declared.lexeme.Lexeme.{Lexeme}
 use Rattle.src_ast.specs.declared.lexeme.Mark.{Mark}

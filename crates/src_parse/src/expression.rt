@@ -41,7 +41,7 @@ fn operator_of_mark(mark: Mark) -> Option<Alu>
     }
 }
 
-/// The operator in front, and what stands after it.
+/// The operator that stands first, and what follows it.
 fn operator(lexemes: &[Lexeme]) -> Option<(Alu, &[Lexeme])>
     ensures none { IsNone result ↔ (operator_at lexemes.now ≡ None) }
     ensures some { IfSome result (λ x. (operator_at lexemes.now ≡ Some x.0)

@@ -113,7 +113,7 @@ pub fn no_fault_in_a_tree()
         → SyntaxAt ls finish p → ⊥ }
 {}
 
-/// Lexemes come to one thing alone: a tree, or a place where they are wrong.
+/// Lexemes have exactly one result: a tree, or a place where they are wrong.
 pub fn lexemes_are_parsed_once()
     ensures { (ls : List Lexeme) (finish : Place) → ExactlyOne (IsTreeAnswer ls finish) }
 {}

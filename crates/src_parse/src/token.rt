@@ -26,7 +26,7 @@ pub fn expect<'a>(lexemes: &'a [Lexeme], mark: Mark) -> Result<&'a [Lexeme], Sto
     }
 }
 
-/// What stands after this mark, if it stands in front.
+/// What follows this mark, if it stands first.
 pub fn after_mark<'a>(lexemes: &'a [Lexeme], mark: Mark) -> Option<&'a [Lexeme]>
     ensures some { IfSome result (λ x. IsAfterMark mark lexemes.now x.now) }
     ensures none { IfNone result (has_mark mark lexemes.now ≡ false) }
@@ -51,7 +51,7 @@ pub fn is_word(lexeme: &Lexeme, word: Keyword) -> bool
     }
 }
 
-/// What stands after this word, if it stands in front.
+/// What follows this word, if it stands first.
 pub fn after_word<'a>(lexemes: &'a [Lexeme], word: Keyword) -> Option<&'a [Lexeme]>
     ensures some { IfSome result (λ x. IsAfterWord (spelling_of word) lexemes.now x.now) }
     ensures none { IfNone result (has_word (spelling_of word) lexemes.now ≡ false) }

@@ -19,8 +19,8 @@ use Rattle.store_buf.specs.Requests.{entry_of, issued_in}
 use Rattle.store_buf.specs.Outdoors.{Holding, HoldsOut, RoseAt, RoseSince, port_of}
 use Rattle.store_buf.specs.Holds.{Issues, part}
 
--- its requests in the order in which they came, where the chain stands, the array of the operation past the
--- end at which that is stopped, the port that failed, whether a port found no memory, and what is outside
+-- its requests in the order in which they came, where the chain stands, the array of the out-of-bounds
+-- operation at which it is stopped, the port that failed, whether a port found no memory, and what is outside
 pub record Content : Type 0 where
   pub kept : List Kept
   pub chain : Chain
@@ -33,7 +33,7 @@ pub record Content : Type 0 where
 abbrev pub buffer_in : Image → Content → Outside → Buffer
 buffer_in image c m = part image c.kept c.chain (has c.fault) m
 
--- the array is that of the walk's first operation past the end
+-- the array is that of the walk's first out-of-bounds operation
 abbrev pub FaultIs : Image → World → Option ℕ → Type 0
 FaultIs image world None = Unit {0}
 FaultIs image world (Some array) = (t : ℕ) × (f : FaultsAt image world t)
@@ -108,7 +108,7 @@ Comes image world began old r tokens fault failed starved new =
     Runs old × IsNew old r × SubmittedAlways image world began old r tokens new × (new.fault ≡ fault)
     × (new.failed ≡ failed) × (new.starved ≡ starved)
 
--- What came of a request. Where it isn't answered for want of memory, it is the buffer's own and nothing
+-- What came of a request. If the answer isn't `NoMemory`, it is the buffer's own and nothing
 -- has changed, or it is a port's.
 abbrev pub SubmitSo : Image → World → List (Option Began) → Content → Asked → Result (List Token) BufFault
     → Content → Type 0

@@ -8,8 +8,8 @@ use Rattle.df_core.specs.Ends.{FirstWithin}
 use Rattle.port_set.specs.Ports.{Told}
 use Rattle.store_buf.specs.Outdoors.{SlotsAre, RoseAt, began_of, port_of}
 
--- No load or store of the walk is past the end. The cost has fired; what is told and what the ports have is
--- what the walk leaves.
+-- No load or store of the walk is out of bounds. The cost has fired; what is reported and what the ports have
+-- is what the walk leaves.
 pub record RunWhole (image : Image) (world : World) (handed : List (Option Told)) (printed : List ℕ)
     (arrays : List (List ℕ)) (fired : ℕ) (back : List (Option Told)) : Type 0 where
   pub no_fault : NoFault image world
@@ -20,8 +20,8 @@ pub record RunWhole (image : Image) (world : World) (handed : List (Option Told)
   pub cells_are : arrays ≡ (mem image world time).cells
   pub ports : SlotsAre (began_of handed) (mem image world time) back
 
--- The walk has more instances than the budget. What is told and what the ports have is what the walk leaves
--- with some of its first operations, none of them past the end.
+-- The walk has more instances than the budget. What is reported and what the ports have is what the walk
+-- leaves with some of its first operations, none of them out of bounds.
 pub record Spent (image : Image) (world : World) (handed : List (Option Told)) (budget : ℕ)
     (printed : List ℕ) (back : List (Option Told)) : Type 0 where
   pub dear : CostAtMost image world budget → ⊥
@@ -30,8 +30,8 @@ pub record Spent (image : Image) (world : World) (handed : List (Option Told)) (
   pub printed_are : printed ≡ printed_words (mem image world time).acts
   pub ports : SlotsAre (began_of handed) (mem image world time) back
 
--- the walk's first load or store past the end is on this array; what is told and what the ports have is what
--- the walk leaves before it
+-- the walk's first out-of-bounds load or store is on this array; what is reported and what the ports have is
+-- what the walk leaves before it
 pub record Tripped (image : Image) (world : World) (handed : List (Option Told)) (array : ℕ)
     (printed : List ℕ) (arrays : List (List ℕ)) (back : List (Option Told)) : Type 0 where
   pub time : ℕ
@@ -41,8 +41,8 @@ pub record Tripped (image : Image) (world : World) (handed : List (Option Told))
   pub cells_are : arrays ≡ (mem image world time).cells
   pub ports : SlotsAre (began_of handed) (mem image world time) back
 
--- the operation that is next in the walk is on this port, whose count of faults rose; none before it is past
--- the end, and what is told and what the ports have is what the walk leaves before it
+-- the operation that is next in the walk is on this port, whose count of faults rose; none before it is out
+-- of bounds, and what is reported and what the ports have is what the walk leaves before it
 pub record PortFailed (image : Image) (world : World) (handed : List (Option Told)) (port : ℕ)
     (printed : List ℕ) (back : List (Option Told)) : Type 0 where
   pub time : ℕ
@@ -54,8 +54,8 @@ pub record PortFailed (image : Image) (world : World) (handed : List (Option Tol
   pub printed_are : printed ≡ printed_words (mem image world time).acts
   pub ports : SlotsAre (began_of handed) (mem image world time) back
 
--- the ports tell what they told before, or have what the walk leaves with its first operations, none of them
--- past the end
+-- the ports report what they reported before, or have what the walk leaves with its first operations, none of
+-- them out of bounds
 abbrev pub Starved : Image → World → List (Option Told) → List (Option Told) → Type 0
 Starved image world handed back = (back ≡ handed)
     ⊎ ((t : ℕ) × FirstWithin image world t × SlotsAre (began_of handed) (mem image world t) back)

@@ -53,7 +53,7 @@ pub record Issued (image : Image) (old : Buffer) (w i : ℕ) (tokens : List Toke
   pub stopped : new.stopped ≡ old.stopped
   pub memory : new.memory ≡ effect_after image i operands old.memory
 
--- the request waits and is issuable, and is past the end: the chain stops, and nothing else happens
+-- the request waits and is issuable, and is out of bounds: the chain stops, and nothing else happens
 pub record Stopped (image : Image) (old : Buffer) (w i : ℕ) (new : Buffer) : Type 0 where
   pub operands : List ℕ
   pub waits : asking old w i ≡ Some operands

@@ -15,7 +15,7 @@ use Rattle.store_buf.specs.declared.fault.Silent.TheVariants.{Failed, NoMemory}
 use Rattle.port_set.specs.Slots.{port_at}
 use Rattle.df_core.specs.Began.{Began}
 
--- the words taken so far, where they are told
+-- the words taken so far, where they are reported
 abbrev pub more : Option (List ℕ) → List ℕ → Option (List ℕ)
 more None words = None
 more (Some old) words = Some (old ++ words)
@@ -129,7 +129,7 @@ abbrev pub left_at : Option Told → List ℕ
 left_at None = []
 left_at (Some port) = words_or_none port.left
 
--- slot by slot the words that the port has left; none in an empty slot, and where the port doesn't tell
+-- slot by slot the words that the port has left; none in an empty slot, and if the port doesn't report them
 abbrev pub lefts_of : List (Option Told) → List (List ℕ)
 lefts_of ports = map left_at ports
 
@@ -137,7 +137,7 @@ abbrev pub TellsLeft : Option Told → Type 0
 TellsLeft None = Unit {0}
 TellsLeft (Some port) = (words : List ℕ) × (port.left ≡ Some words)
 
--- each port tells the words that it has left
+-- each port reports the words that it has left
 abbrev pub AllTell : List (Option Told) → Type 0
 AllTell ports = All TellsLeft ports
 

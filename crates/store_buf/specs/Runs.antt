@@ -1,4 +1,4 @@
--- Tokens on the way, and what a run over tables and a buffer has done and still owes.
+-- Tokens in flight, and what a run over tables and a buffer has done and what is outstanding.
 use Rattle.std.specs.Prelude.{ℕ, ◌≡◌, ◌⊎◌, false, true, List, Some, Result, Ok, Err}
 use Rattle.ws_isa.specs.Image.{Image, Token, is_memory, result_of, sends}
 use Rattle.ws_isa.specs.Walk.{Ports, start_tokens}
@@ -11,16 +11,16 @@ use Rattle.store_buf.specs.declared.fault.BufFault.TheVariants as fault
 abbrev pub Covers : List Token → List Token → Type 0
 Covers some all = (w i p v : ℕ) → IsSent some w i p v → IsSent all w i p v
 
--- a token has come to the port, or is on the way to it
+-- a token has arrived at the port, or is in flight to it
 abbrev pub IsOnItsWay : Ports → List Token → ℕ → ℕ → ℕ → Type 0
 IsOnItsWay held way w i p = ((v : ℕ) × (held w i p ≡ Some v)) ⊎ ((v : ℕ) × IsSent way w i p v)
 
--- each of these has come, or one is on the way to its port
+-- each of these has come, or one is in flight to its port
 abbrev pub AllReach : Ports → List Token → List Token → Type 0
 AllReach held way ts = (w i p v : ℕ) → IsSent ts w i p v → IsOnItsWay held way w i p
 
--- The start pulse has been told; each instance that has fired has told its result tokens, or its request is
--- known; and so has been told what a buffer owes, list by list.
+-- The start pulse has been sent; each instance that has fired has sent its result tokens, or its request is
+-- known; and the outstanding tokens of a buffer have been sent, list by list.
 pub record PaidOf (image : Image) (t : Tables) (known : ℕ → ℕ → Type 0) (owes : List Token → Type 0)
     (way : List Token) : Type 0 where
   pub start : AllReach t.held way (start_tokens image)
@@ -29,7 +29,7 @@ pub record PaidOf (image : Image) (t : Tables) (known : ℕ → ℕ → Type 0) 
   pub asked : (w i : ℕ) → HasFired t.fired w i → is_memory image i ≡ true → known w i
   pub answered : (ts : List Token) → owes ts → AllReach t.held way ts
 
--- what a buffer answered is on the way, and what was there
+-- what a buffer answered is in flight, and what was there
 abbrev pub IsOffered : Result (List Token) BufFault → List Token → List Token → Type 0
 IsOffered (Ok tokens) old new = Covers old new × Covers tokens new
 IsOffered (Err fault.NoMemory) old new = ⊥

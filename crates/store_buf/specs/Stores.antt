@@ -86,7 +86,7 @@ module _ {P : Type 0} where
   ServeLeads image old k new before after = (mid : Store P)
       × StoreKeeps old (old.order.kept.items ++ k ∷ []) mid × IssueLeads image mid new before after
 
-  -- nothing has changed but what ports tell of their faults
+  -- nothing has changed but what ports report of their faults
   abbrev pub StaysSo : Image → Store P → Store P → Type 0
   StaysSo image old new = (world : World) (began : List (Option Began)) (m : Outside)
       → StandsFor image world began old m → StandsFor image world began new m

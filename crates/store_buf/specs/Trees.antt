@@ -65,7 +65,7 @@ pub record NodeGrown (ks more : List Kept) (old new : List Node) (p : ℕ) : Typ
 abbrev pub AllGrown : List Kept → List Kept → List Node → List Node → Type 0
 AllGrown ks more old new = (p : ℕ) → p < length old → NodeGrown ks more old new p
 
--- from the root on one comes to a node, also where the nodes grow
+-- a search from the root reaches a node, also where the nodes grow
 abbrev pub LeadsTo : List Kept → List Node → ℕ → ℕ → ℕ → ℕ → ℕ → ℕ → Type 0
 LeadsTo ks nodes root w i left at key = (more : List Kept) (new : List Node) → AllGrown ks more nodes new
     → seek more new 33 root i w i ≡ seek more new left at key w i

@@ -41,8 +41,8 @@ impl<J: Job, P: Port> Model for Buffer<J, P> {
 }
 
 impl<J: Job, P: Port> Buffer<J, P> {
-    /// The opening buffer of a job, of which these are the input and the ports. For want of memory
-    /// the ports are handed back.
+    /// The opening buffer of a job, of which these are the input and the ports. If memory runs
+    /// out, it hands the ports back.
     pub fn begin(
         alloc: Global,
         code: &Code<'_, J>,

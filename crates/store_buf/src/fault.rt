@@ -1,7 +1,7 @@
 //! Why a request isn't answered.
 
 /// Why a buffer doesn't answer a request. `Old`: it was kept before. `Port`: the port failed in this
-/// call, and `Stopped`: in an earlier one. `Index`: the operation that is now next is past the end of
+/// call, and `Stopped`: in an earlier one. `Index`: the operation that is now next is out of bounds in
 /// this array, and `Ended`: it was so before.
 #[derive(Clone, Copy, Debug, PartialEq, Eq)]
 pub enum BufFault {

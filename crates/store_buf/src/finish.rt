@@ -4,7 +4,7 @@ use port_set::Slots;
 use ws_words::{Cells, Words};
 
 /// How a run ended. `Done`: the whole walk has been run. `Budget`: as many instances have fired as
-/// may, and the walk has more. `Fault`: the walk's first load or store past the end has stopped it,
+/// may, and the walk has more. `Fault`: the walk's first out-of-bounds load or store has stopped it,
 /// on the array with this number from 1. `Port`: this port has failed.
 #[derive(Debug, Drop)]
 pub enum RunFinish {

@@ -34,7 +34,7 @@ pub fn pass_on(program: &Program<'_>, chain: Chain, early: &mut Early, instr: u3
 }
 
 // The chain behind those of these operations that are next, until none is. They are taken out, and so are
-// those behind it. The first one tells: where it is ahead and isn't next, none of a run's is.
+// those behind it. The first one decides: if it is ahead and isn't next, none of a run's is.
 fn settle(program: &Program<'_>, chain: Chain, early: &mut Early) -> Chain
     requires wave { chain.wave + 1 < 2 ^ 64 }
     requires numbered { Numbered (image_of program.now) early.old }

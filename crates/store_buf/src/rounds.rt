@@ -1,4 +1,4 @@
-//! Tokens on the way, in rounds by wave, last in first out.
+//! Tokens in flight, in rounds by wave, last in first out.
 
 ghost use Rattle.std.specs.Prelude.{◌≡◌, ◌∷◌, ◌++◌, ◌+◌, ◌≤◌, [], IfOk, MatchOption, OnOk};
 ghost use Rattle.std.specs.Prelude.{vec_capacity, vec_len};
@@ -13,10 +13,10 @@ use std::marker::Model;
 use std::mem::{replace, swap};
 use ws_words::NoMemory;
 
-/// Tokens on the way: those of this round, and those that wait for the next one. What comes of a token is
+/// Tokens in flight: those of this round, and those that wait for the next one. What comes of a token is
 /// put behind this round where it is of the same wave or an earlier one, and waits else. So a wave goes as
 /// far as it can before a later one begins: few waves are at work at a time, and what belongs together in
-/// a table lies near. Of each round the token that came last is taken first, since what it needs is at hand.
+/// a table lies near. Of each round the token that came last is taken first, since what it needs is near.
 #[derive(Drop)]
 pub struct Rounds<J: Job> {
     round: Vec<Token<J>>,
@@ -35,7 +35,7 @@ impl<J: Job> Model for Rounds<J> {
 }
 
 impl<J: Job> Rounds<J> {
-    /// Nothing is on the way.
+    /// Nothing is in flight.
     pub fn none(alloc: Global) -> Rounds<J>
         ensures { result ≡ [] }
     {
@@ -59,7 +59,7 @@ impl<J: Job> Rounds<J> {
         Some(token.again())
     }
 
-    // Puts a token on the way.
+    // Puts a token in flight.
     #[inline(always)]
     fn put(&mut self, token: Token<J>) -> Result<(), NoMemory>
         ensures { OnOk result (Covers (token ∷ self.old) self.new) }
@@ -71,7 +71,7 @@ impl<J: Job> Rounds<J> {
         }
     }
 
-    /// Puts what a buffer answered on the way. Where the buffer is stopped it tells so itself.
+    /// Puts what a buffer answered in flight. A buffer that is stopped reports so itself.
     #[inline(always)]
     pub fn offer(
         &mut self,
@@ -87,7 +87,7 @@ impl<J: Job> Rounds<J> {
         }
     }
 
-    /// Puts what an instance sent on the way.
+    /// Puts what an instance sent in flight.
     #[inline(always)]
     pub fn send_all(&mut self, sent: &mut Sent<'_, J>) -> Result<(), NoMemory>
         ensures old { OnOk result (Covers self.old self.new) }
@@ -108,7 +108,7 @@ impl<J: Job> Rounds<J> {
     }
 
     /// The token to bring next: the first of what an instance sent, if it is of this round, or else the next
-    /// on the way. The others that it sent are put on the way.
+    /// in flight. The others that it sent are put in flight.
     #[inline(always)]
     pub fn follow(&mut self, sent: &mut Sent<'_, J>) -> Result<Option<Token<J>>, NoMemory>
         ensures next { IfOk result (λ next. MatchOption next ((sent.old ≡ []) × (self.old ≡ []))
@@ -131,7 +131,7 @@ impl<J: Job> Rounds<J> {
         Ok(Some(first))
     }
 
-    /// Puts all answers of a buffer on the way.
+    /// Puts all answers of a buffer in flight.
     #[inline(always)]
     pub fn take_all(&mut self, answers: &mut BufferAnswers<J>) -> Result<(), NoMemory>
         ensures old { OnOk result (Covers self.old self.new) }
@@ -143,7 +143,7 @@ impl<J: Job> Rounds<J> {
         Ok(())
     }
 
-    /// Puts all tokens of a list on the way.
+    /// Puts all tokens of a list in flight.
     pub fn pour(&mut self, tokens: TokenList<J>) -> Result<(), NoMemory>
         ensures old { OnOk result (Covers self.old self.new) }
         ensures taken { OnOk result (Covers tokens self.new) }

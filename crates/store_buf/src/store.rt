@@ -31,7 +31,7 @@ use ws_words::NoMemory;
 // For each request that waits there has to be room for eight tokens.
 const MOST_WAITING: usize = usize::MAX / 16;
 
-/// Requests and what they work on. `fault` is the array of the operation past the end at which the
+/// Requests and what they work on. `fault` is the array of the out-of-bounds operation at which the
 /// chain is stopped, `failed` a port that failed; `starved` is set where a port found no memory.
 #[derive(Drop)]
 pub struct Store<P: Port> {
@@ -43,7 +43,7 @@ pub struct Store<P: Port> {
 }
 
 impl<P: Port> Store<P> {
-    /// StoreKeeps a request and issues what may be issued then; the tokens of that are told.
+    /// StoreKeeps a request and issues what may be issued then; the tokens of that are reported.
     pub fn submit(
         &mut self,
         program: &Program<'_>,
@@ -321,7 +321,7 @@ impl<P: Port> Store<P> {
         }
     }
 
-    /// Issues the request at a place, which may be issued; at one past the end the chain stops. Where
+    /// Issues the request at a place, which may be issued; at one out of bounds the chain stops. Where
     /// a port doesn't answer, the request still waits.
     pub(crate) fn issue(
         &mut self,

@@ -4,6 +4,7 @@ ghost use Rattle.std.specs.Prelude.{◌<◌};
 
 use std::alloc::Global;
 use std::test::Fail;
+use stream_run::Nobody;
 use stream_top::wss;
 use ws_io::{MemSink, MemSource};
 use ws_words::{Bytes, NoMemory, Words};
@@ -16,6 +17,14 @@ const LOOP: &[u8] =
     9: steer -> 10.0 12.0 |\nif 7 4 5\nblock 4\n10: out <., 1, .>.1\n11: const 1 -> 12.1\n12: add -> 5.0\n\
     go 3\nblock 5\n13: const 1 -> 15.0 16.0\n14: const 7 -> 15.1\n15: store 1 <., 2, 3>.2\n\
     16: load 1 <2, 3, 4>.2 -> 17.0\n17: out <3, 4, 5>.4\n18: halt <4, 5, .>.5\nstop\nend\n";
+
+// Prints 0, 1, 2 and so on without end, a word in eight firings.
+const ENDLESS: &[u8] =
+    b"wavescalar 1\nwave 1\nblock 1\npad 0 1.0\n1: advance -> 5.0 2.0\ngo 2\nblock 2\n2: merge -> 4.0 3.0\n\
+    3: nop <., 1, .>.0\ngo 3\nwave 2\nblock 3\n4: advance -> 6.0 7.0\n5: advance -> 8.0\n\
+    6: const 1 -> 7.1 8.1\n7: steer -> 10.0 4.0 | 12.0\n8: steer -> 9.0 11.0 |\nif 6 4 5\nblock 4\n\
+    9: out <., 1, .>.1\n10: const 1 -> 11.1\n11: add -> 5.0\ngo 3\nblock 5\n12: halt <., 2, .>.2\n\
+    stop\nend\n";
 
 // What is asked of the program: its words, which spaces separate, and what it reads.
 #[derive(Clone, Copy)]
@@ -61,7 +70,7 @@ fn heard(alloc: Global, asked: Asked<'_>, ends: Ends) -> Result<(u8, Bytes), NoM
     );
     let write_faults = Words::from_slice(alloc, &[ends.write_fault])?;
     let mut sink = MemSink::new(alloc, ends.piece, write_faults)?;
-    let status = wss(alloc, &words, &mut source, &mut sink);
+    let status = wss(alloc, &words, &mut source, &mut sink, &mut Nobody);
     Ok((status.code(), Bytes::from_slice(alloc, sink.held())?))
 }
 
@@ -108,7 +117,7 @@ fn other_words_and_texts_are_refused(rt: HostRuntime) -> Result<(), Fail> {
     Ok(())
 }
 
-// Whether a call of which so many writes go well, a byte each, and then none, has written a front.
+// Whether a call of which so many writes succeed, a byte each, and then none, has written a prefix.
 fn cut(alloc: Global, fault: u64) -> Result<bool, NoMemory> {
     let asked = Asked {
         line: "",
@@ -130,6 +139,36 @@ fn each_write_may_fail(rt: HostRuntime) -> Result<(), Fail> {
     for fault in 1..16u64 {
         assert!(rt; cut(alloc, fault)?);
     }
+    Ok(())
+}
+
+// Whether a run without end, whose call of the sink with this number fails, has written by then what one with
+// this budget writes in front of its last line.
+fn keeps_up(alloc: Global, fault: u64, budget: &str) -> Result<bool, NoMemory> {
+    let endless = Asked {
+        line: "",
+        text: ENDLESS,
+    };
+    let ends = Ends {
+        write_fault: fault,
+        ..SOUND
+    };
+    let (code, mut told) = heard(alloc, endless, ends)?;
+    told.extend(b"budget\n")?;
+    let spent = Asked {
+        line: budget,
+        text: ENDLESS,
+    };
+    Ok(code == 5 && comes(alloc, spent, 3, told.as_slice())?)
+}
+
+// Each slice of 1,024 firings is a write and a flush.
+#[test]
+fn words_go_out_while_the_run_goes_on(rt: HostRuntime) -> Result<(), Fail> {
+    let alloc = rt.alloc();
+    assert!(rt; keeps_up(alloc, 1, "--budget 0")?);
+    assert!(rt; keeps_up(alloc, 3, "--budget 1024")?);
+    assert!(rt; keeps_up(alloc, 5, "--budget 2048")?);
     Ok(())
 }
 

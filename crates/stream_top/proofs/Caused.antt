@@ -90,6 +90,27 @@ whole_is told after text whole e takes =
     subst (λ (o : Option (List ℕ)). TakesAll o whole after) e takes in
     both.0
 
+-- nothing but a failed read is answered to a text that is an assembly
+module _ (reads : SourceCall) (text : List ℕ) (told : reads.left ≡ Some text) (never : NeverBoth)
+    (image : Image) (input : List ℕ) (short : length text ≤ assembly_limit)
+    (assembly : IsAssembly text image input) where
+  too_long : (bytes : List ℕ) → length bytes ≡ assembly_limit + 1 → Takes reads.left bytes reads.after → ⊥
+  too_long bytes more takes =
+      let found : (rest : List ℕ) × (text ≡ bytes ++ rest) × (reads.after ≡ Some rest) =
+      subst (λ (o : Option (List ℕ)). Takes o bytes reads.after) told takes in
+      let sum : length text ≡ length bytes + length found.0 =
+      ap length found.1 ∙ length-append bytes found.0 in
+      absurd (omega arith)
+
+  pub only_unread : (status : Status) (t : List ℕ) → IsRefused reads status t
+      → (status ≡ ReadFault) × Rose reads.faults reads.counted
+  only_unread status t (ends.IsRefused.failed u) = (refl, u.1)
+  only_unread status t (ends.IsRefused.long u) = absurd (too_long u.0 u.1 u.2)
+  only_unread status t (ends.IsRefused.faulty why u) =
+      let same = whole_is reads.left reads.after text u.0 told u.2 in
+      absurd (never text image input why assembly
+      (subst (λ (x : List ℕ). RefusesAssembly x why) (sym same) u.3))
+
 module _ (words : List (List ℕ)) (reads : SourceCall) (writes : Writing) where
   part_rose : (options : Options) (image : Image) (world : World)
       → WritesPart options image world writes stop.Unwritten → Rose writes.faults writes.counted
@@ -162,21 +183,8 @@ module _ (words : List (List ℕ)) (reads : SourceCall) (writes : Writing) where
   module _ (text : List ℕ) (told : reads.left ≡ Some text) (one : OneAsking) (alike : OneImage)
       (never : NeverBoth) (options : Options) (line : AsksForRun words options) (image : Image)
       (input : List ℕ) (short : length text ≤ assembly_limit) (assembly : IsAssembly text image input) where
-    too_long : (bytes : List ℕ) → length bytes ≡ assembly_limit + 1 → Takes reads.left bytes reads.after → ⊥
-    too_long bytes more takes =
-        let found : (rest : List ℕ) × (text ≡ bytes ++ rest) × (reads.after ≡ Some rest) =
-        subst (λ (o : Option (List ℕ)). Takes o bytes reads.after) told takes in
-        let sum : length text ≡ length bytes + length found.0 =
-        ap length found.1 ∙ length-append bytes found.0 in
-        absurd (omega arith)
-
     unread : (status : Status) (t : List ℕ) → IsRefused reads status t → FailedStatus status
-    unread status t (ends.IsRefused.failed u) = inr (inl refl)
-    unread status t (ends.IsRefused.long u) = absurd (too_long u.0 u.1 u.2)
-    unread status t (ends.IsRefused.faulty why u) =
-        let same = whole_is reads.left reads.after text u.0 told u.2 in
-        absurd (never text image input why assembly
-        (subst (λ (x : List ℕ). RefusesAssembly x why) (sym same) u.3))
+    unread status t r = inr (inl (only_unread reads text told never image input short assembly status t r).0)
 
     ran_so : (o : Options) (ran : Image) (words_in : List ℕ) (how : Finish)
         → IsDue words reads o ran words_in

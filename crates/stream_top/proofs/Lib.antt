@@ -1,4 +1,4 @@
 mod Asked
 mod Budgets
-mod Caused
+pub mod Caused
 mod Ending

@@ -1,4 +1,4 @@
--- What a call of the program comes to.
+-- How a call of the program ends.
 use Rattle.std.specs.Prelude.{ℕ, ◌≡◌, List, codes}
 use Rattle.ws_io.specs.Streams.{Adds, Flushes}
 use Rattle.ws_isa.specs.Image.{Image}
@@ -55,16 +55,16 @@ pub record IsDue (words : List (List ℕ)) (reads : SourceCall) (options : Optio
   pub line : AsksForRun words options
   pub read : GivesAssembly reads image input
 
--- What comes of a call on these words, of which the source and the sink tell this.
+-- What comes of a call on these words, of which the source and the sink report this.
 pub data CallEnds (words : List (List ℕ)) (reads : SourceCall) (writes : Writing) : Status → Type 0 where
   -- the answer went out, and nothing is run
   answered : {status : Status} (text : List ℕ) → IsAnswer words reads status text
       → WritesText text writes → CallEnds words reads writes status
-  -- the image was run, and what went out is all that is told of its run
+  -- the image was run, and what went out is all that is reported of its run
   ran : (options : Options) (image : Image) (input : List ℕ) (how : Finish)
       → IsDue words reads options image input → WritesWhole options image (world_of input) writes how
       → CallEnds words reads writes (status_of how)
-  -- a write failed: a front of the answer went out, or of what is told of the run
+  -- a write failed: a prefix of the answer went out, or of what is reported of the run
   unwritten : (status : Status) (text : List ℕ) → IsAnswer words reads status text
       → WritesFront text writes → CallEnds words reads writes WriteFault
   cut : (options : Options) (image : Image) (input : List ℕ) → IsDue words reads options image input

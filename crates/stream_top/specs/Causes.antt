@@ -30,8 +30,8 @@ pub record NoFaults (reads : SourceCall) (writes : Writing) : Type 0 where
   pub sink : ¬ Rose writes.faults writes.counted
 
 -- The walk of an image and a budget decide the status: at its end exactly where no load or store of the
--- walk is past the end and it has at most so many instances; else at the fault where it has at most so
--- many, and at the budget where no load or store is past the end.
+-- walk is out of bounds and it has at most so many instances; else at the fault where it has at most so
+-- many, and at the budget where no load or store is out of bounds.
 pub record EndsBy (image : Image) (world : World) (budget : ℕ) (status : Status) : Type 0 where
   pub done : (status ≡ Done) ↔ (NoFault image world × CostAtMost image world budget)
   pub fault : (t : ℕ) → FaultsAt image world t → CostAtMost image world budget → status ≡ Fault

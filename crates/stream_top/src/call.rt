@@ -14,7 +14,7 @@ use crate::words::read_options;
 use asm_read::{Unread, asm_refused, read_source, world};
 use df_core::Finish;
 use std::alloc::Global;
-use stream_run::{Options, Stop, run_image};
+use stream_run::{Options, Stop, Watch, run_image};
 use ws_io::{Sink, Source, write_all};
 use ws_isa::Checked;
 use ws_words::{NoMemory, Words};
@@ -26,13 +26,14 @@ const UNREAD: &[u8] = b"fault read\n";
 
 const LONG: &[u8] = b"refused long\n";
 
-/// One call of the program: from the words of the command line, without the program's own name, and
-/// what the source gives, to what the sink takes.
-pub fn wss<S: Source, K: Sink>(
+/// One call of the program: from the command-line arguments, without the program's own name, and
+/// what the source gives, to what the sink takes. While a run goes on, the watch is told how many have fired.
+pub fn wss<S: Source, K: Sink, W: Watch>(
     alloc: Global,
     words: &[String],
     source: &mut S,
     sink: &mut K,
+    watch: &mut W,
 ) -> Status
     ensures ends { CallEnds (map string_bytes words.now) (reading S.left S.faults source.old source.new)
         (writing K.held K.flushed K.faults sink.old sink.new) result }
@@ -42,25 +43,26 @@ pub fn wss<S: Source, K: Sink>(
 {
     each_status_has_its_cause();
     match read_options(alloc, words) {
-        Ok(options) => called(alloc, options, source, sink),
+        Ok(options) => called(alloc, options, source, sink, watch),
         Err(WordsFault::Usage) => put(sink, Status::Usage, USAGE),
         Err(WordsFault::NoMemory) => Status::NoMemory,
     }
 }
 
 // The same with these options.
-fn called<S: Source, K: Sink>(
+fn called<S: Source, K: Sink, W: Watch>(
     alloc: Global,
     options: Options,
     source: &mut S,
     sink: &mut K,
+    watch: &mut W,
 ) -> Status
     ensures { (words : List (List ℕ)) → AsksForRun words options → CallEnds words
         (reading S.left S.faults source.old source.new)
         (writing K.held K.flushed K.faults sink.old sink.new) result }
 {
     match read_source(alloc, source) {
-        Ok((image, input)) => run(alloc, options, &image, input, sink),
+        Ok((image, input)) => run(alloc, options, &image, input, sink, watch),
         Err(why) => refuse(alloc, why, sink),
     }
 }
@@ -82,13 +84,14 @@ fn refuse<K: Sink>(alloc: Global, why: Unread, sink: &mut K) -> Status
     }
 }
 
-// Runs an image on these words, and writes what is told of it.
-fn run<K: Sink>(
+// Runs an image on these words, and writes what is reported of it.
+fn run<K: Sink, W: Watch>(
     alloc: Global,
     options: Options,
     image: &Checked,
     input: Words,
     sink: &mut K,
+    watch: &mut W,
 ) -> Status
     ensures { (words : List (List ℕ)) (reads : SourceCall)
         → IsDue words reads options image.now input → CallEnds words reads
@@ -98,7 +101,7 @@ fn run<K: Sink>(
         Ok(world) => world,
         Err(NoMemory) => return Status::NoMemory,
     };
-    match run_image(alloc, options, image, &world, sink) {
+    match run_image(alloc, options, image, &world, sink, watch) {
         Ok(finish) => status_of(finish),
         Err(Stop::Unwritten) => Status::WriteFault,
         Err(Stop::NoMemory) => Status::NoMemory,

@@ -1,4 +1,4 @@
-//! What the ends of calls come to.
+//! What follows from the ends of calls.
 
 ghost use Rattle.std.specs.Prelude.{◌≡◌, List, ℕ};
 ghost use Rattle.asm_read.specs.Reads.{SourceCall};
@@ -11,13 +11,13 @@ ghost use Rattle.stream_top.specs.Causes.{CallCaused};
 
 use asm_read::each_assembly_is_read_or_refused;
 
-/// Words ask for a run in one way at most.
+/// Arguments ask for one run at most.
 pub fn words_ask_once()
     ensures { (words : List (List ℕ)) (options others : Options)
         → AsksForRun words options → AsksForRun words others → options ≡ others }
 {}
 
-/// Each call has its status by its words, its text, faults that came, and want of memory.
+/// Each call has its exit status by its arguments, its text, faults that occurred, and memory running out.
 pub fn each_status_has_its_cause()
     ensures { (words : List (List ℕ)) (reads : SourceCall) (writes : Writing) (status : Status)
         → CallEnds words reads writes status → CallCaused words reads writes status }

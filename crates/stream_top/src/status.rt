@@ -6,7 +6,7 @@ ghost use Rattle.stream_top.specs.Codes.{code_of};
 /// How a call of the program ends.
 #[derive(Clone, Copy, Debug, PartialEq, Eq)]
 pub enum Status {
-    /// The run came to its end. All that is told went out and was flushed, as with the five below.
+    /// The run completed. All that is reported went out and was flushed, as with the five below.
     Done,
     /// The words are no command line.
     Usage,
@@ -16,7 +16,7 @@ pub enum Status {
     Budget,
     /// Reading failed.
     ReadFault,
-    /// The run met a load or store past the end of its array.
+    /// The run met an out-of-bounds load or store of its array.
     Fault,
     /// Writing failed.
     WriteFault,

@@ -1,4 +1,4 @@
-//! The words of the command line.
+//! The command-line arguments.
 
 ghost use Rattle.std.specs.Prelude.{◌≡◌, List, map, string_bytes, IfOk, IfSome, IfNone, Err};
 ghost use Rattle.clap.specs.Words.{found_of, first_value};
@@ -15,7 +15,7 @@ use stream_run::Options;
 use ws_io::decimal;
 use wsc_words::{Command, WordsFault, parsed};
 
-/// What these words of the command line ask for, without the program's own name: the options are those of
+/// What these command-line arguments ask for, without the program's own name: the options are those of
 /// `decouple`, and the budget may be any word.
 pub fn read_options(alloc: Global, words: &[String]) -> Result<Options, WordsFault>
     ensures ok { IfOk result (AsksForRun (map string_bytes words.now)) }

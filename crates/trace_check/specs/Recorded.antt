@@ -12,7 +12,7 @@ use Rattle.df_core.specs.Quiet.{IsQuiet}
 use Rattle.trace_check.specs.declared.recording.TraceEnd.{TraceEnd}
 use Rattle.trace_check.specs.declared.recording.TraceEnd.TheVariants as end
 
--- as many instances have fired as may, something is still to come, and all that may come fires one
+-- as many instances have fired as may, some event is enabled, and each that is enabled fires one
 pub record OutOfBudget (image : Image) (budget : ℕ) (s : State) : Type 0 where
   pub going : s.stopped ≡ false
   pub count : length s.fired ≡ budget
@@ -26,7 +26,7 @@ EndIs image budget end.Budget s = OutOfBudget image budget s
 EndIs image budget end.Fault s = s.stopped ≡ true
 
 -- Each of these events is enabled after those before it, and they end so. They come to rest exactly
--- where the walk has no load or store past the end and costs at most the budget; they end at a fault
+-- where the walk has no out-of-bounds load or store and costs at most the budget; they end at a fault
 -- only where there is one, and always where the cost is within the budget too.
 pub record Traces (image : Image) (world : World) (budget : ℕ) (events : List Made) (how : TraceEnd)
     : Type 0 where

@@ -29,14 +29,14 @@ pub record PrintsAll (image : Image) (world : World) (r : Replayed) : Type 0 whe
   pub fired : (t : ℕ) → end ≤ t → length (walk image world t) ≡ r.fired
   pub printed : (t : ℕ) → end ≤ t → printed_words (mem image world t).acts ≡ r.printed
 
--- the words that the walk prints before its first load or store past the end have been printed
+-- the words that the walk prints before its first out-of-bounds load or store have been printed
 pub record PrintsToFault (image : Image) (world : World) (r : Replayed) : Type 0 where
   pub time : ℕ
   pub fault : FaultsAt image world time
   pub printed : printed_words (mem image world time).acts ≡ r.printed
 
 -- Each event of the trace is enabled after those before it, and after all of them the core is at
--- this state, of which this is told. The words are those of the walk's first steps: those whose
+-- this state, of which this is reported. The words are those of the walk's first steps: those whose
 -- operations the chain has passed.
 pub record Replays (image : Image) (world : World) (trace : List Lined) (r : Replayed) : Type 0
   where

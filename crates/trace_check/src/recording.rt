@@ -15,7 +15,7 @@ use ws_isa::Checked;
 use ws_words::{NoMemory, World};
 
 /// How a list of events ends: no event is enabled after them; as many instances have fired as may,
-/// and all that could come fires one; or the chain is stopped at a load or store past the end.
+/// and all that could come fires one; or the chain is stopped at an out-of-bounds load or store.
 #[derive(Clone, Copy, Debug, PartialEq, Eq)]
 pub enum TraceEnd {
     Rest,

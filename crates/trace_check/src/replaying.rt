@@ -2,7 +2,7 @@
 
 ghost use Rattle.std.specs.Prelude.{◌≡◌, IfOk, IfErr, OnOk};
 ghost use Rattle.ws_words.specs.Plain.{world_of};
-ghost use Rattle.df_core.specs.Cores.{Makes, IsRunning};
+ghost use Rattle.df_core.specs.Cores.{Makes, IsRunning, gone};
 ghost use Rattle.trace_check.specs.declared.replaying.ReplayFault.TheVariants.{NoMemory as of_memory};
 ghost use Rattle.trace_check.specs.Replays.{Replays, IsReplayFault, MakesAll, IsEventFault, IsMakingFault};
 ghost use Rattle.trace_check.specs.Replays.{event_in};
@@ -13,7 +13,7 @@ use std::alloc::Global;
 use ws_isa::{Checked, effects_are_one, walks_go_on};
 use ws_words::{NoMemory, Words, World};
 
-/// What is told of a trace that was replayed: the words that were printed, whether no event is
+/// What is reported of a trace that was replayed: the words that were printed, whether no event is
 /// enabled after its last one, and how many instances have fired.
 #[derive(Debug, Drop)]
 pub struct Replayed {
@@ -42,6 +42,7 @@ impl From<NoMemory> for ReplayFault {
 fn make(core: &mut Core<'_>, event: Lined) -> Result<(), ReplayFault>
     requires { IsRunning core.old }
     ensures core { IsRunning core.new }
+    ensures gone { gone core.new ≡ gone core.old }
     ensures made { OnOk result (Makes (event_in event) core.old core.new) }
     ensures refused { IfErr result (IsEventFault event core.old) }
 {
@@ -56,6 +57,7 @@ fn make(core: &mut Core<'_>, event: Lined) -> Result<(), ReplayFault>
 fn make_all(core: &mut Core<'_>, events: &[Lined]) -> Result<(), ReplayFault>
     requires { IsRunning core.old }
     ensures core { IsRunning core.new }
+    ensures gone { gone core.new ≡ gone core.old }
     ensures made { OnOk result (MakesAll events.now core.old core.new) }
     ensures refused { IfErr result (IsMakingFault events.now core.old) }
 {

@@ -1,5 +1,6 @@
 -- How large the inlined graph is: no larger but for operations, nodes and variables.
-use Rattle.std.proofs.Common.{ℕ, ◌+◌, ◌≡◌, ◌≤◌, if◌then◌else◌, List, [], ◌∷◌, length, map, Option, Some, None}
+use Rattle.std.proofs.Common.{ℕ, ◌+◌, ◌≡◌, ◌≤◌, max, if◌then◌else◌, List, [], ◌∷◌, length, map, Option, Some}
+use Rattle.std.proofs.Common.{None}
 use Rattle.std.proofs.Common.{sym, ap, subst, arith}
 use Rattle.std.specs.List.{AllByRecursion}
 use Rattle.cfg_core.specs.Graph.{Exit, GraphProc, Graph, Spot, spots}
@@ -11,7 +12,13 @@ use Rattle.cfg_inline.proofs.Placing.{inlined_spot, spots_are, spots_count}
 use Rattle.call_gen.specs.Keeps.{SendsAtMost}
 use Rattle.call_gen.specs.Sizes.{call_count, LandingsAtMost, BlockWithin, ProcWithin, KeepsSizes}
 use Rattle.wave_build.specs.Small.{sizes_with}
+use Rattle.wave_build.specs.Opened.{widest_from}
 use Rattle.wave_build.proofs.Sizing.{each_summed}
+
+pub widest_few : (n m : ℕ) (ps : List GraphProc) → m ≤ n → AllByRecursion (λ p. p.vars ≤ n) ps
+    → widest_from m ps ≤ n
+widest_few n m [] le h = le
+widest_few n m (p ∷ ps) le h = widest_few n (max p.vars m) ps (let v = h.0 in omega (arith, v, le)) h.1
 
 module _ (plan : Plan) (g : Graph) (vars ops nodes : ℕ) where
   abbrev h : Graph

@@ -44,8 +44,7 @@ pub record ShowsOutside (image : Image) (now o : Outside) : Type 0 where
   pub input : now.input ≡ o.input
   pub left : now.left ≡ o.left
 
--- The walk of an image is, as far as it shows, the run of a program that passes loads and stores
--- past the end.
+-- The walk of an image is, as far as it shows, the unchecked run of a program.
 pub record WalksAsRun (parts : List Part) (image : Image) (world : World) : Type 0 where
   -- one ends where the other does, and leaves the same
   pub ends : (n : ℕ) (o : Outside) → Passes parts world n o →
@@ -62,7 +61,7 @@ pub record WalksAsRun (parts : List Part) (image : Image) (world : World) : Type
       (k : ℕ) → CostAtMost image world k → ⊥
   pub bounded : (k : ℕ) → CostAtMost image world k →
       (n : ℕ) × (o : Outside) × Passes parts world n o
-  -- no hidden array is ever loaded or stored past its end
+  -- no access to a hidden array is ever out of bounds
   pub inside : (t : ℕ) → AllInside (map in_graph image.arrays) (mem image world t).acts
 
 -- in each world of words
@@ -74,9 +73,9 @@ abbrev pub KeepsBound : List Part → Image → Type 0
 KeepsBound parts image = (world : World) → WorldOfWords world → (n : ℕ) (o : Outside) →
     Passes parts world n o → CostAtMost image world (bound parts * suc n)
 
--- There is a draft without notes and without no-ops of which this is an image: its blocks are kept
--- but for what is added, so that each no-op is an added one; each of these is needed, since no notes
--- do without it, and gets its token nearby.
+-- There is a draft without annotations and without no-ops of which this is an image: its blocks are
+-- kept but for what is added, so that each no-op is an added one; each of these is needed, since no
+-- annotations do without it, and gets its token nearby.
 pub record HasDraft (image : Image) : Type 0 where
   pub draft : Image
   pub open_to_notes : OpenToNotes draft
@@ -87,7 +86,7 @@ pub record HasDraft (image : Image) : Type 0 where
   pub triggers : TriggeredNear draft image
 
 -- an image of a program as the compiler gives it: a machine runs it, it does what the program does
--- within its bound, its notes are numbered and have the ripples that can be had, and it is a draft of
+-- within its bound, its annotations are numbered and have exact ripples, and it is a draft of
 -- the program with no more than what these want
 pub record IsCompiled (parts : List Part) (image : Image) : Type 0 where
   pub formed : Formed image

@@ -1,8 +1,8 @@
 -- The graphs of a program whose calls are inlined.
-use Rattle.std.specs.Prelude.{ℕ, ◌+◌, ◌*◌, ◌≤◌, List}
+use Rattle.std.specs.Prelude.{ℕ, ◌+◌, ◌*◌, ◌≤◌, max, List, [], ◌∷◌}
 use Rattle.src_ast.specs.Syntax.{Part}
 use Rattle.src_ast.specs.Bound.{most_variables}
-use Rattle.cfg_core.specs.Graph.{Graph}
+use Rattle.cfg_core.specs.Graph.{GraphProc, Graph}
 use Rattle.cfg_core.specs.Rules.{IsGraph}
 use Rattle.cfg_core.specs.Shape.{ArmsAlone}
 use Rattle.live_vars.specs.Marks.{AreLive}
@@ -23,6 +23,11 @@ pub record Opened (parts : List Part) (vars : ℕ) (g : Graph) : Type 0 where
   pub nodes : ℕ
   pub sizes : KeepsSizes (sizes_with vars ops nodes) g
   pub shows : ShowsProgram parts g
+
+-- the most variables of a procedure, and no fewer than n
+abbrev pub widest_from : ℕ → List GraphProc → ℕ
+widest_from n [] = n
+widest_from n (p ∷ ps) = widest_from (max p.vars n) ps
 
 -- `h` is `g` with calls inlined, with at most so much room for the variables of callees: where a call pays
 -- for that, it is open as `g` is.

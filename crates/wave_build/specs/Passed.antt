@@ -39,7 +39,7 @@ pub record Joined (given joined : Graph) : Type 0 where
   pub arms : ArmsAlone given → ArmsAlone joined
   pub turns : TwoBlocksATurn given → TwoBlocksATurn joined
 
--- the part that walks may come to, as `reached` gives it
+-- the part that walks can reach, as `reached` gives it
 pub record ReachedPart (given kept : Graph) : Type 0 where
   pub rules : IsGraph kept
   pub arms : ArmsAlone given → ArmsAlone kept

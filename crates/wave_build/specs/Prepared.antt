@@ -18,8 +18,8 @@ pub record Shown (g : Graph) (now o : Outside) : Type 0 where
   pub input : now.input ≡ o.input
   pub left : now.left ≡ o.left
 
--- The walk of a graph shows the run of a program that passes loads and stores past the end, turn by
--- turn, and stays inside hidden arrays; the shown arrays are the program's.
+-- The walk of a graph shows the unchecked run of a program, turn by turn, and stays inside hidden
+-- arrays; the shown arrays are the program's.
 pub record ShowsProgram (parts : List Part) (g : Graph) : Type 0 where
   pub ends : (world : World) (n : ℕ) (o : Outside) → Passes parts world n o →
       (p : Outside) × Ends g world n p × Shown g p o

@@ -1,4 +1,4 @@
--- How large the graphs of a program are on the way to its draft.
+-- How large the graphs of a program are, up to its draft.
 use Rattle.std.specs.Prelude.{ℕ, ◌+◌, ◌*◌, List}
 use Rattle.src_ast.specs.Syntax.{Part}
 use Rattle.src_ast.specs.Bound.{widest, most_variables}

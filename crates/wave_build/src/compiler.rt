@@ -81,8 +81,7 @@ pub(crate) fn image_of(alloc: Global, accepted: &Accepted) -> Result<Image, NoMe
 pub fn compile(alloc: Global, accepted: &Accepted) -> Result<Checked, NoMemory>
     requires written { IsWritten (ast.parts accepted.now.program.items.items) }
 
-    // it shows the program's arrays, and does what the run does that passes loads and stores past
-    // the end, in every world of words
+    // it shows the program's arrays, and does what the unchecked run does, in every world of words
     ensures arrays { let parts = ast.parts accepted.now.program.items.items in
         IfOk result (λ made. ShowsArrays parts made) }
     ensures walk { let parts = ast.parts accepted.now.program.items.items in
@@ -92,7 +91,7 @@ pub fn compile(alloc: Global, accepted: &Accepted) -> Result<Checked, NoMemory>
     ensures cost { let parts = ast.parts accepted.now.program.items.items in
         IfOk result (λ made. KeepsBound parts made) }
 
-    // its notes, and what was added to its draft for them
+    // its annotations, and what was added to its draft for them
     ensures numbers { IfOk result (λ made. NumberedInOrder made) }
     ensures ripples { IfOk result (λ made. ExactRipples made) }
     ensures draft { IfOk result (λ made. HasDraft made) }

@@ -14,12 +14,12 @@ ghost use Rattle.wave_link.specs.Numbered.{NumberedInOrder};
 ghost use Rattle.wave_link.specs.Ripples.{ExactRipples};
 ghost use Rattle.wave_build.specs.Compiled.{ShowsArrays, DoesAs, KeepsBound, HasDraft};
 ghost use Rattle.wave_build.specs.Prepared.{Begun};
-ghost use Rattle.wave_build.specs.Opened.{InlinedOnce, Inlined, Optimized};
+ghost use Rattle.wave_build.specs.Opened.{widest_from, InlinedOnce, Inlined, Optimized};
 
 use crate::compiler::image_of;
 use call_gen::{reached, spell_calls};
 use cfg_build::lower;
-use cfg_core::{Graph, walks_answer};
+use cfg_core::{Graph, GraphProc, walks_answer};
 use cfg_fold::simplify;
 use cfg_inline::{choose, inline_calls};
 use live_vars::live;
@@ -51,16 +51,15 @@ fn begin_folded(alloc: Global, accepted: &Accepted) -> Result<Graph, NoMemory>
     Ok(joined)
 }
 
-// The most variables of a procedure, or what they may be at most.
-fn widest(graph: &Graph) -> u32
-    ensures few { result ≤ 97 }
-    ensures least { (n : ℕ) → AllByRecursion (λ p. p.vars ≤ n) (view.graph graph.now).procs → result ≤ n }
+// The most variables of a procedure.
+fn widest(procs: &[GraphProc]) -> u32
+    ensures { result ≡ widest_from 0 (map view.proc procs.now) }
 {
     let mut most = 0;
-    for proc in &graph.procs {
+    for proc in procs {
         most = proc.vars.max(most);
     }
-    most.min(MOST_JOINED)
+    most
 }
 
 // The most room for a callee's variables that a call pays for, in a joined graph.
@@ -69,7 +68,8 @@ fn most_room(graph: &Graph) -> u32
     ensures paid { (v : ℕ) → AllByRecursion (λ p. p.vars ≤ 3 * v + 1) (view.graph graph.now).procs →
         6 * result ≤ 43 * v + 174 }
 {
-    (43 * widest(graph) + 479) / 18
+    let most = widest(&graph.procs).min(MOST_JOINED);
+    (43 * most + 479) / 18
 }
 
 // The graph with the calls of short procedures inlined that want no more room.

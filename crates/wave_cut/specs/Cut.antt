@@ -44,7 +44,7 @@ Joins g cut b = (p : ℕ) × (q : ℕ) × Edge g p b × Edge g q b × (wave cut 
 abbrev pub Unentered : Graph → ℕ → Type 0
 Unentered g b = (p : ℕ) → Edge g p b → ⊥
 
--- The rule: a wave begins at a procedure's entry, a loop's header, a return point, a block that no edge
+-- The rule: a wave begins at a procedure's entry, a loop's header, a return block, a block that no edge
 -- enters, and a join of waves, and nowhere else.
 abbrev pub Rule : Graph → Cut → ℕ → Type 0
 Rule g cut b = (is_first cut b ≡ true) ↔ (BeginsWave g b ⊎ (Unentered g b ⊎ Joins g cut b))

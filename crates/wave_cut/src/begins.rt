@@ -1,5 +1,5 @@
 //! Where a wave begins whatever waves there are: entries of procedures, headers of loops, and
-//! return points.
+//! return blocks.
 
 ghost use Rattle.std.specs.Prelude.{◌≡◌, ◌≤◌, ◌<◌, ◌↔◌, ℕ, length, IfOk};
 ghost use Rattle.cfg_core.specs.Tables.{graph_in};

@@ -122,7 +122,7 @@ fn set_word(words: &mut Vec<u32>, place: usize, word: u32)
     }
 }
 
-/// Sets a flag; past the end nothing changes.
+/// Sets a flag; out of bounds nothing changes.
 pub(crate) fn set_flag(flags: &mut Vec<bool>, place: usize)
     ensures { flags.new.items ≡ slice_set flags.old.items place true }
 {

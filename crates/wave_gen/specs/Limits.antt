@@ -11,7 +11,7 @@ use Rattle.wave_gen.specs.Cost.{quarters}
 use Rattle.cfg_core.specs.Weights.{first_block}
 
 -- How many quarters of an instruction the code of a block has at most: what the block weighs, and
--- seven for the pulse and for each variable, which past its end is wanted at no more places.
+-- seven for the pulse and for each variable, which after the block's end is wanted at no more places.
 abbrev pub most_quarters : Graph → (ℕ → ℕ → Bool) → ℕ → ℕ
 most_quarters g live b = quarters g live b + 7 * suc (spot_at g b).vars
 

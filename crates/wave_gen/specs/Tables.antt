@@ -34,12 +34,12 @@ bare w = record { code = []; steps = []; wants = w }
 abbrev pub tail_of : Tail → plans.Tail
 tail_of t = record { held = t.held; line = line_of t.line }
 
--- tails in front of s, the first of which has place p among those of its block: six share a name
+-- tails before s, the first of which has place p among those of its block: six share a name
 abbrev pub hangs : ℕ → ℕ → ℕ → List plans.Tail → Made → Made
 hangs b z p [] s = s
 hangs b z p (t ∷ ts) s = hung b t (z + p / 6) (hangs b z (suc p) ts s)
 
--- the instruction by which an edge is chosen, or a halt, in front of s
+-- the instruction by which an edge is chosen, or a halt, before s
 abbrev pub leaves_made : ℕ → ℕ → HowLeft → Made → Made
 leaves_made b z (Onto c) s = s
 leaves_made b z (Either op from c d) s = make b z op from s
@@ -51,7 +51,7 @@ abbrev pub behind_of : ℕ → HowLeft → Made → ℕ
 behind_of b exit s =
     length (with_rooms b (length (operands_needed exit)) (operands_needed exit) s).code
 
--- the front of a block, before s
+-- the start of a block, before s
 abbrev pub begun : ℕ → Plan → Made → Made
 begun b p s = cond p.first (advances b p.entries (renew b p.entries s))
     (cond (merges p s) (emit b pulse Merge (pulse ∷ []) s) s)

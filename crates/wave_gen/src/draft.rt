@@ -17,9 +17,9 @@ use std::alloc::Global;
 use ws_isa::{ArrayDecls, Block, BlockList, Blocks, Draft, Exit, Pad, Pads};
 use ws_words::NoMemory;
 
-/// The draft of plans, for so many names of variables and the pulse. One with more blocks, waves or
-/// instructions than 32 bits count is answered as want of memory, and so is one with more pads of a
-/// block, values of a Send, or operands than a byte counts.
+/// The draft of plans, for so many names of variables and the pulse. More blocks, waves or
+/// instructions than 32 bits count give `NoMemory`, and so do more pads of a block, values of a
+/// Send, or operands than a byte counts.
 pub(crate) fn make_draft(
     alloc: Global,
     arrays: ArrayDecls,

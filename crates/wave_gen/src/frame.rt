@@ -1,4 +1,4 @@
-//! What stands around the items of a block: the choice of its edge, and its front.
+//! What stands around the items of a block: the choice of its edge, and its start.
 
 ghost use Rattle.std.specs.Prelude.{◌≡◌, ◌∷◌, [], ℕ, OnOk, IfOk, length, ◌&&◌, not, map, reverse};
 ghost use Rattle.wave_gen.specs.Wire.{Made, Target, make, with_rooms};
@@ -73,7 +73,7 @@ impl Maker {
         Ok(behind)
     }
 
-    /// The front of a block.
+    /// The start of a block.
     pub(crate) fn begin(&mut self, alloc: Global, plan: &Plan) -> Result<(), NoMemory>
         ensures { OnOk result ((b : ℕ) (s : Made) → HasMade b self.old s →
             HasMade b self.new (begun b (view.plan plan.now) s)) }

@@ -27,9 +27,9 @@ use wave_cut::Waves;
 use ws_isa::Draft;
 use ws_words::NoMemory;
 
-/// The draft of a graph without calls, by its waves and live variables. One of more blocks or
-/// instructions than 32 bits count, or with more pads of a block or values of a Send than a byte
-/// counts, is answered as want of memory.
+/// The draft of a graph without calls, by its waves and live variables. More blocks or instructions
+/// than 32 bits count, or more pads of a block or values of a Send than a byte counts, give
+/// `NoMemory`.
 pub fn generate(
     alloc: Global,
     graph: &Graph,
@@ -44,7 +44,7 @@ pub fn generate(
     requires across { NoneLiveAcross (view.graph graph.now) }
     requires arms { ArmsAlone (view.graph graph.now) }
 
-    // formed but for notes: references, lists, waves and pads; and so far go its numbers
+    // formed but for annotations: references, lists, waves and pads; and so far go its numbers
     ensures open_to_notes { IfOk result (λ made. OpenToNotes (image.draft made)) }
     ensures lists { IfOk result (λ made. ListsFit (image.draft made)) }
     ensures no_nop { IfOk result (λ made. HasNoNop (image.draft made)) }

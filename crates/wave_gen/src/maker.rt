@@ -26,7 +26,7 @@ pub(crate) struct Maker {
 const MOST: usize = 7;
 
 impl Maker {
-    /// One more instruction in front.
+    /// Puts one more instruction before the others.
     pub(crate) fn rest(&mut self, alloc: Global, line: Line, from: &[usize]) -> Result<(), NoMemory>
         ensures { OnOk result ((b : ℕ) (s : Made) → HasMade b self.old s →
             HasMade b self.new (rest b (line_of line) from.now s)) }
@@ -36,7 +36,7 @@ impl Maker {
         self.wants.add_uses(alloc, self.block, back, from)
     }
 
-    /// One more in front, which makes the value of a name.
+    /// Puts one more before the others, which makes the value of a name.
     pub(crate) fn emit(
         &mut self,
         alloc: Global,

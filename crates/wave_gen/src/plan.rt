@@ -38,7 +38,7 @@ pub(crate) enum HowLeft {
 
 /// A block of the draft to come. The first block of a wave has an advance for each name of
 /// `entries`, and pads that fill names; `joined` says that the pulse goes through a merge at the
-/// front of another block. `test` names the value by which an edge is chosen.
+/// start of another block. `test` names the value by which an edge is chosen.
 #[derive(Drop)]
 pub(crate) struct Plan {
     pub(crate) wave: usize,

@@ -56,7 +56,7 @@ fn small(count: usize) -> Result<u32, NoMemory>
 }
 
 impl<'a> PlanGround<'a> {
-    /// The outline of a graph. More blocks than 32 bits count are answered as want of memory.
+    /// The outline of a graph. More blocks than 32 bits count give `NoMemory`.
     pub(crate) fn of(
         alloc: Global,
         graph: &'a Graph,

@@ -15,8 +15,8 @@ ForksOrEnds draft b x y = (IsArm draft b 0 x × IsArm draft b 1 y)
 abbrev pub CanTrigger : Image → ℕ → Type 0
 CanTrigger draft b = HasGiver draft b ⊎ (EnteredBySteer draft b × (is_first draft b ≡ false))
 
--- it has no notes, a walk can go over it, its branches fork or end their wave, and where it gets a no-op
--- something can trigger that
+-- it has no annotations, a walk can go over it, its branches fork or end their wave, and where it gets a
+-- no-op something can trigger that
 pub record FitForNotes (draft : Image) : Type 0 where
   pub bare : NoNotes draft
   pub walkable : Walkable draft

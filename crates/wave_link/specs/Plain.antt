@@ -1,4 +1,4 @@
--- A draft with notes and nothing else: no no-op is added.
+-- A draft with annotations and nothing else: no no-op is added.
 use Rattle.std.specs.Prelude.{ℕ, ◌+◌, List, [], ◌∷◌, get_or}
 use Rattle.ws_isa.specs.Image.{Instr, Block, Image}
 use Rattle.wave_link.specs.declared.links.Passage.{Passage}

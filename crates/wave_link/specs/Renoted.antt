@@ -1,4 +1,4 @@
--- That without an added no-op no notes would do.
+-- That without an added no-op no annotations would do.
 use Rattle.std.specs.Prelude.{ℕ, suc, ◌+◌, List, [], ◌∷◌, length, Option}
 use Rattle.ws_isa.specs.declared.instr.Note.{Note}
 use Rattle.ws_isa.specs.Image.{Instr, Block, Image, IsBlock}
@@ -6,7 +6,7 @@ use Rattle.ws_isa.specs.Sound.{LinkRules}
 use Rattle.wave_link.specs.Triggers.{IsAdded}
 use Rattle.wave_link.specs.Vain.{without}
 
--- The same image with other notes: instruction k has the note `notes k`.
+-- The same image with other annotations: instruction k has the annotation `notes k`.
 
 abbrev pub renoted_instrs : (ℕ → Option Note) → ℕ → List Instr → List Instr
 renoted_instrs notes k [] = []
@@ -30,7 +30,7 @@ renoted_blocks notes k (b ∷ bs) =
 unfoldable pub renoted : Image → (ℕ → Option Note) → Image
 renoted image notes = record { arrays = image.arrays; blocks = renoted_blocks notes 1 image.blocks }
 
--- without an added instruction the image breaks the rules on links, whatever its notes are
+-- without an added instruction the image breaks the rules on links, whatever its annotations are
 abbrev pub NeverLinked : Image → Image → Type 0
 NeverLinked draft image = (b n : ℕ) (notes : ℕ → Option Note) → IsBlock draft b →
     IsAdded draft image b n → LinkRules (renoted (without image n) notes) → ⊥

@@ -19,7 +19,7 @@ pub record ExactRipple (image : Image) (k : ℕ) : Type 0 where
   pub met : ((note_of image k).ripple ≡ 0)
       ⊎ ((j : ℕ) × MayPrecede image j k × (seq image j ≡ (note_of image k).ripple))
 
--- that of each load and no-op that a path comes to is
+-- that of each load and no-op that a path reaches is
 abbrev pub ExactRipples : Image → Type 0
 ExactRipples image = (k : ℕ) (last : Option ℕ) → ComesNext image last k → is_writing image k ≡ false →
     ExactRipple image k

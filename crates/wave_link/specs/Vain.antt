@@ -1,4 +1,4 @@
--- When an added no-op is needed: without it, no notes would keep the rules on links.
+-- When an added no-op is needed: without it, no annotations would keep the rules on links.
 use Rattle.std.specs.Prelude.{ℕ, suc, ◌+◌, ◌-◌, ◌≡◌, cond, List, [], ◌∷◌, length, map, Option, Some, None}
 use Rattle.std.specs.Prelude.{eqb, ltb}
 use Rattle.ws_isa.specs.declared.instr.Op.TheVariants.{Nop}

@@ -1,4 +1,4 @@
-//! The draft with notes and nothing else.
+//! The draft with memory annotations and nothing else.
 
 ghost use Rattle.std.specs.Prelude.{◌≡◌, ◌+◌, map, IfOk};
 ghost use Rattle.ws_isa.specs.View as view;
@@ -76,8 +76,8 @@ fn note_blocks(
     Ok(list)
 }
 
-/// The image of a draft with notes as `annotate` makes them, and with nothing added: where paths have
-/// neighbours of which neither can name the other it isn't sound.
+/// The image of a draft with annotations as `annotate` makes them, and with nothing added. If paths
+/// have neighbours of which neither can name the other, it isn't sound.
 pub fn note_draft(alloc: Global, draft: Draft) -> Result<Image, NoMemory>
     ensures { IfOk result (λ image. view.image image ≡ noted (view.draft draft)) }
 {

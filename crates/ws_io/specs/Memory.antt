@@ -9,7 +9,7 @@ one_more n = min (n + 1) (2 ^ 64 - 1)
 abbrev pub room : ℕ
 room = 2 ^ 20
 
--- The bytes still to come, how many a call gives at most, the calls so far, the numbers of the
+-- The bytes not yet read, how many a call gives at most, the calls so far, the numbers of the
 -- calls that fail, and how many have failed. Calls are numbered from 1.
 pub record Supply : Type 0 where
   pub left : List ℕ

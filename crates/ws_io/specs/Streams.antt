@@ -6,22 +6,22 @@ use Rattle.std.specs.Prelude.{◌≡◌, ◌⊎◌, ℕ, ◌-◌, ◌^◌, ◌<�
 abbrev pub Rose : ℕ → ℕ → Type 0
 Rose before after = (before < after) ⊎ (after ≡ 2 ^ 64 - 1)
 
--- where the bytes still to come are told, these were the first of them and are gone now
+-- if the bytes not yet read are reported, these were the first of them and are gone now
 abbrev pub Takes : Option (List ℕ) → List ℕ → Option (List ℕ) → Type 0
 Takes None bytes after = after ≡ None
 Takes (Some left) bytes after = (rest : List ℕ) × (left ≡ bytes ++ rest) × (after ≡ Some rest)
 
--- where the bytes still to come are told, this was all of them
+-- if the bytes not yet read are reported, this was all of them
 abbrev pub TakesAll : Option (List ℕ) → List ℕ → Option (List ℕ) → Type 0
 TakesAll None text after = after ≡ None
 TakesAll (Some left) text after = (left ≡ text) × (after ≡ Some [])
 
--- where what is held is told, it has grown by these bytes
+-- if what is held is reported, it has grown by these bytes
 abbrev pub Adds : Option (List ℕ) → List ℕ → Option (List ℕ) → Type 0
 Adds None bytes after = after ≡ None
 Adds (Some held) bytes after = after ≡ Some (held ++ bytes)
 
--- a good flush: all that is held is covered, where both are told
+-- a successful flush: all that is held is covered, if both are reported
 abbrev pub Flushes : Option (List ℕ) → Option ℕ → Option ℕ → Type 0
 Flushes held None after = after ≡ None
 Flushes (Some held) (Some n) after = after ≡ Some (length held)

@@ -14,9 +14,8 @@ use ws_words::{NoMemory, Words};
 // The room of a sink, in bytes.
 const ROOM: usize = 1 << 20;
 
-/// A sink over memory, for tests: it takes a few bytes a call, and fails at the calls that it is
-/// told to fail at. It has room for 1 MiB, and a write fails where that is full. Its counts stand
-/// still at their type's end.
+/// A sink over memory, for tests: it takes a few bytes a call, and fails at chosen calls. It has
+/// room for 1 MiB; a write to a full sink fails. Its counts stop at the maximum of their type.
 #[derive(Drop)]
 pub struct MemSink {
     bytes: Vec<u8>,

@@ -10,8 +10,8 @@ use crate::stream::{Failed, Source};
 use std::marker::Model;
 use ws_words::{Bytes, Words};
 
-/// A source over memory, for tests: it gives a few bytes a call, and fails at the calls that it is
-/// told to fail at. Its counts stand still at their type's end.
+/// A source over memory, for tests: it gives a few bytes a call, and fails at chosen calls. Its
+/// counts stop at the maximum of their type.
 #[derive(Drop)]
 pub struct MemSource {
     bytes: Bytes,
@@ -53,7 +53,7 @@ impl MemSource {
         }
     }
 
-    /// The bytes still to come.
+    /// The bytes not yet read.
     pub fn left(&self) -> &[u8]
         ensures { result.now ≡ self.now.left }
     {
@@ -104,7 +104,7 @@ impl Source for MemSource {
     }
 }
 
-// Copies a front of some bytes, of at most so many, and says how many.
+// Copies a prefix of some bytes, of at most so many, and says how many.
 fn copy_front(bytes: &[u8], most: usize, into: &mut [u8]) -> usize
     ensures amount { result ≡ min most (min (length bytes.now) (length into.old)) }
     ensures front { take result into.new ≡ take result bytes.now }

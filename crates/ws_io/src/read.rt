@@ -39,15 +39,15 @@ impl From<NoMemory> for ReadEnd {
 // How many bytes a read asks for at most.
 const PIECE: usize = 4096;
 
-/// Reads a whole text of at most `limit` bytes. It reads at most `limit + 1` bytes: where one more
-/// than the limit comes, the text is too long.
+/// Reads a whole text of at most `limit` bytes. It reads at most `limit + 1` bytes: if there is one
+/// more than the limit, the text is too long.
 pub fn read_all<S: Source>(alloc: Global, source: &mut S, limit: usize) -> Result<Bytes, ReadEnd>
     ensures ok { IfOk result (λ text. TakesAll (S.left source.old) text (S.left source.new)) }
     ensures within { IfOk result (λ text. length text ≤ limit) }
     ensures long { IsErrOf result ReadEnd.TooLong → (bytes : List ℕ)
         × (length bytes ≡ limit + 1) × Takes (S.left source.old) bytes (S.left source.new) }
 
-    // A fault has come, and the bytes read before it are gone.
+    // A fault has occurred, and the bytes read before it are gone.
     ensures failed { IsErrOf result ReadEnd.Failed
         → Rose (S.faults source.old) (S.faults source.new) }
     ensures failed_taken { IsErrOf result ReadEnd.Failed → (bytes : List ℕ)

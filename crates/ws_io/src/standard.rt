@@ -8,7 +8,7 @@ ghost use Rattle.ws_io.specs.Streams.{Rose};
 use crate::stream::{Failed, Sink, Source};
 use std::io::{Read, Write};
 
-/// A source over a standard reader. As a source it tells no bytes.
+/// A source over a standard reader. As a source it reports no bytes.
 #[derive(Drop)]
 pub struct StdSource<R> {
     pub reader: R,
@@ -53,7 +53,7 @@ impl<R: Read> Source for StdSource<R> {
     }
 }
 
-/// A sink over a standard writer. As a sink it tells no bytes. A writer that takes nothing of a
+/// A sink over a standard writer. As a sink it reports no bytes. A writer that takes nothing of a
 /// piece has failed.
 #[derive(Drop)]
 pub struct StdSink<W> {

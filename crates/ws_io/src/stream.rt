@@ -10,13 +10,13 @@ pub struct Failed;
 
 /// What gives bytes, piece by piece.
 pub trait Source {
-    /// The bytes still to come, where the source tells them.
+    /// The bytes not yet read, if the source reports them.
     ghost left: { Self → Option (List ℕ) };
 
     /// How often it has failed.
     ghost faults: { Self → ℕ };
 
-    /// Reads some bytes into the front of `into` and says how many. 0 is the end.
+    /// Reads some bytes into a prefix of `into` and says how many. 0 is the end.
     fn read(&mut self, into: &mut [u8]) -> Result<usize, Failed>
         requires { 0 < length into.old }
         ensures bound { IfOk result (λ n. n ≤ length into.new) }
@@ -29,16 +29,16 @@ pub trait Source {
 
 /// What takes bytes, piece by piece.
 pub trait Sink {
-    /// The bytes written so far, where the sink tells them.
+    /// The bytes written so far, if the sink reports them.
     ghost held: { Self → Option (List ℕ) };
 
-    /// How many of them the last good flush covered, where the sink tells it.
+    /// How many of them the last successful flush covered, if the sink reports it.
     ghost flushed: { Self → Option ℕ };
 
     /// How often it has failed.
     ghost faults: { Self → ℕ };
 
-    /// Writes some bytes from the front of `piece`, at least one, and says how many.
+    /// Writes a prefix of `piece`, at least one byte, and says how many.
     fn write(&mut self, piece: &[u8]) -> Result<usize, Failed>
         requires { 0 < length piece.now }
         ensures some { IfOk result (λ n. 0 < n) }

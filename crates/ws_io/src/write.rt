@@ -17,14 +17,14 @@ impl From<Failed> for WriteEnd {
     }
 }
 
-/// Writes all of a text and flushes, also where the text is empty. Where it fails, a front of the
+/// Writes all of a text and flushes, also if the text is empty. If that fails, a prefix of the
 /// text is written.
 pub fn write_all<K: Sink>(sink: &mut K, text: &[u8]) -> Result<(), WriteEnd>
     ensures ok { OnOk result (Adds (K.held sink.old) text.now (K.held sink.new)) }
     ensures flushed { OnOk result
         (Flushes (K.held sink.new) (K.flushed sink.old) (K.flushed sink.new)) }
 
-    // A fault has come, a front of the text is written, and nothing more is flushed.
+    // A fault has occurred, a prefix of the text is written, and nothing more is flushed.
     ensures failed { OnErr result (Rose (K.faults sink.old) (K.faults sink.new)) }
     ensures prefix { OnErr result ((n : ℕ)
         × (n ≤ length text.now) × Adds (K.held sink.old) (take n text.now) (K.held sink.new)) }

@@ -7,7 +7,7 @@ use Rattle.ws_isa.specs.Walk.{mem, walk, CostAtMost}
 use Rattle.ws_isa.specs.Operations.{fault_among}
 use Rattle.ws_isa.specs.declared.walk.Walked.{Walked}
 
--- it tells the first so many instances of the walk, or all of them where there are fewer
+-- it reports the first so many instances of the walk, or all of them if there are fewer
 pub record WalkedSo (image : Image) (world : World) (firings : ℕ) (w : Walked) : Type 0 where
   pub steps : ℕ
   pub fired : w.fired ≡ length (walk image world steps)

@@ -1,4 +1,4 @@
--- When an image is formed: its limits, its references, and that its lists and notes suit its
+-- When an image is formed: its limits, its references, and that its lists and annotations suit its
 -- instructions.
 use Rattle.std.specs.Prelude.{ℕ, suc, ◌+◌, ◌^◌, ◌≡◌, ◌⊎◌, ◌<◌, ◌≤◌, true, false, List, [], ◌∷◌, length}
 use Rattle.std.specs.Prelude.{Option, Some, None}
@@ -154,12 +154,12 @@ abbrev pub PadsRise : List Pad → Type 0
 PadsRise [] = Unit {0}
 PadsRise (p ∷ pads) = RiseFrom p.number pads
 
--- a note stands exactly at memory instructions
+-- exactly the memory instructions have an annotation
 abbrev pub NoteSuits : Op → Option Note → Type 0
 NoteSuits op None = is_memory_op op ≡ false
 NoteSuits op (Some note) = is_memory_op op ≡ true
 
--- the numbers of a note
+-- the numbers of an annotation
 abbrev pub LinkWithin : Link → Type 0
 LinkWithin (Is n) = n < sequence_limit
 LinkWithin _ = Unit {0}
@@ -203,8 +203,8 @@ pub record Suited (image : Image) : Type 0 where
   pub lists : ListsSuit image
   pub landings : SendsLand image
 
--- an image that is within the limits, whose references are there, whose lists and notes suit its
--- instructions, whose pads rise, and whose blocks stand wave after wave
+-- an image that is within the limits, whose references are there, whose lists and annotations suit
+-- its instructions, whose pads rise, and whose blocks stand wave after wave
 pub record Formed (image : Image) : Type 0 where
   pub arrays : ArraysFormed image.arrays
   pub few_instrs : length (flat image.blocks) ≤ most_instrs
@@ -216,6 +216,6 @@ pub record Formed (image : Image) : Type 0 where
   pub pads : AllByRecursion (λ b. PadsRise b.pads) image.blocks
   pub notes : AllByRecursion (λ i. NoteSuits i.op i.note) (flat image.blocks)
 
--- no note stands anywhere, as in a draft
+-- no instruction has an annotation, as in a draft
 abbrev pub NoNotes : Image → Type 0
 NoNotes image = AllByRecursion (λ i. i.note ≡ None) (flat image.blocks)

@@ -1,5 +1,6 @@
--- An image as plain data, without buffers, and what the machine reads of it: ports, notes, results,
--- effects, and where results are sent. A draft is the same data without notes.
+-- An image as plain data, without buffers, and what the machine reads of it: ports, memory
+-- annotations, results, effects, and where results are sent. A draft is the same data without
+-- annotations.
 use Rattle.std.specs.Prelude.{ℕ, zero, suc, ◌+◌, ◌-◌, ◌<◌, ◌≤◌, Bool, true, false, cond, not, List, [], ◌∷◌}
 use Rattle.std.specs.Prelude.{◌++◌, length, Option, None, eqb, ltb, slice_index}
 use Rattle.ws_words.specs.Operators.{applied}
@@ -14,7 +15,7 @@ use Rattle.ws_isa.specs.declared.instr.Note.{Note}
 use Rattle.ws_isa.specs.declared.instr.Dest.{Dest}
 use Rattle.ws_words.specs.Items.{nth, or_else}
 
--- operations, notes and destinations are the code's own
+-- operations, annotations and destinations are the code's own
 pub record Instr : Type 0 where
   pub op : Op
   pub note : Option Note
@@ -148,7 +149,7 @@ is_silent_op Nop = true
 is_silent_op Halt = true
 is_silent_op _ = false
 
--- has a result, and sends it on the same way whatever the operands are
+-- has a result, and sends it to the same places whatever the operands are
 abbrev pub is_giving_op : Op → Bool
 is_giving_op Steer = false
 is_giving_op (Send k) = false
@@ -186,7 +187,7 @@ result_of_op _ xs = slice_index xs 0
 unfoldable pub result_of : Image → ℕ → List ℕ → ℕ
 result_of image k xs = result_of_op (instr_at image k).op xs
 
--- the answer of a memory operation; 0 where it has no result, and past an end
+-- the answer of a memory operation; 0 if it has no result or is out of bounds
 abbrev pub answer_op : Op → List ℕ → Outside → ℕ
 answer_op (Load a) xs o = slice_index (array_of o a) (slice_index xs 0)
 answer_op Input xs o = head_or_zero o.input

@@ -1,4 +1,4 @@
--- Drafts: what a walk needs of one, and when it is open to notes.
+-- Drafts: what a walk needs of one, and when it is open to annotations.
 use Rattle.std.specs.Prelude.{ℕ, ◌≡◌, ◌⊎◌, true, false, Some}
 use Rattle.ws_isa.specs.declared.instr.Op.TheVariants.{Steer}
 use Rattle.ws_isa.specs.Image.{Branch, Image, instr_at, block_at, is_giving, is_first, edges_of, IsIn}

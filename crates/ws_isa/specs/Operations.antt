@@ -35,22 +35,22 @@ pub record Effect (image : Image) (world : World) (p : ℕ) (o : Outside) : Type
   pub count : length (ops image world steps) ≡ p
   pub left : effect_of (mem image world steps) ≡ o
 
--- a load or store past the end
+-- an out-of-bounds load or store
 unfoldable pub past : Image → Inst → Bool
 past image x = is_past image x.instr x.operands
 
--- step t fires the first load or store past the end
+-- step t fires the first out-of-bounds load or store
 pub record FaultsAt (image : Image) (world : World) (t : ℕ) : Type 0 where
   pub inst : Inst
   pub fired : fires image world t ≡ Some inst
   pub is_past : past image inst ≡ true
   pub first : (u : ℕ) (x : Inst) → u < t → fires image world u ≡ Some x → past image x ≡ false
 
--- no load or store of the walk is past the end
+-- no load or store of the walk is out of bounds
 abbrev pub NoFault : Image → World → Type 0
 NoFault image world = (t : ℕ) (x : Inst) → fires image world t ≡ Some x → past image x ≡ false
 
--- the array of the first load or store past the end among these instances
+-- the array of the first out-of-bounds load or store among these instances
 abbrev pub fault_among : Image → List Inst → Option ℕ
 fault_among image [] = None
 fault_among image (x ∷ xs) = cond (past image x) (Some (array_at image x.instr))

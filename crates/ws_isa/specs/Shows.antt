@@ -30,12 +30,12 @@ pub record Resulted (op : Op) (xs : List ℕ) (o : Outside) (word : ℕ) (m : Me
   pub result : word ≡ cond (is_memory_op op) (answer_op op xs o) (result_of_op op xs)
   pub after : OutIs (cond (is_memory_op op) (after_op op xs o) o) m
 
--- the array of the first load or store past the end, where this was it so far
+-- the array of the first out-of-bounds load or store, where this was it so far
 abbrev pub looked : List Array → Op → List ℕ → Option ℕ → Option ℕ
 looked arrays op xs (Some a) = Some a
 looked arrays op xs None = cond (is_past_op arrays op xs) (Some (array_of_op op)) None
 
--- a value has come to destinations
+-- a value was delivered to destinations
 abbrev pub delivered : List Dest → ℕ → List ℕ → List ℕ
 delivered [] v operands = operands
 delivered (d ∷ ds) v operands = delivered ds v (slice_set operands (4 * d.instr + d.port) v)
@@ -49,7 +49,7 @@ edge_by pads r i _ = []
 abbrev pub edge_list : List Pad → ℕ → Instr → List Dest
 edge_list pads r i = edge_by pads r i i.op
 
--- the results of steers and sends among instructions, the first of which is number k, have come to
+-- the results of steers and sends among instructions, the first of which is number k, have reached
 -- the edge
 abbrev pub crossed : List Pad → ℕ → List Instr → ℕ → List ℕ → List ℕ → List ℕ
 crossed pads r [] k results operands = operands

@@ -105,7 +105,7 @@ pub record SlotRules (image : Image) : Type 0 where
 
 -- Shape.
 
--- the result of instruction k comes to port q of instruction m, directly or through merges of block
+-- the result of instruction k reaches port q of instruction m, directly or through merges of block
 -- b
 pub data BringsResult (image : Image) (b : ℕ) : ℕ → ℕ → ℕ → Type 0 where
   direct : {k m q : ℕ} → (place : ℕ) (d : Dest) → nth (now_dests image k) place ≡ Some d →
@@ -196,7 +196,7 @@ pub record ShapeRules (image : Image) : Type 0 where
 
 -- Links.
 
--- a path inside a wave leads to block b before instruction k, by way of these instructions, the
+-- a path inside a wave leads to block b before instruction k, through these instructions, the
 -- newest first
 pub data InWave (image : Image) : ℕ → ℕ → List ℕ → Type 0 where
   first : {b : ℕ} → IsBlock image b → is_first image b ≡ true →

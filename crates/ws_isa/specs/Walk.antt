@@ -1,5 +1,5 @@
 -- The walk: block after block, instruction after instruction, memory read and written at once. It
--- reads no notes.
+-- reads no memory annotations.
 use Rattle.std.specs.Prelude.{ℕ, zero, suc, ◌-◌, ◌≤◌, Bool, true, false, cond, ◌&&◌, List, [], ◌∷◌, ◌++◌}
 use Rattle.std.specs.Prelude.{length, Option, Some, None, eqb, ltb}
 use Rattle.ws_words.specs.Outside.{Outside, World, opening_out}

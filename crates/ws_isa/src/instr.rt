@@ -97,7 +97,7 @@ impl Op {
         matches!(self, Op::Advance)
     }
 
-    /// The result of one that is not of memory on its operands; those past its ports are not read.
+    /// The result of one that is not of memory on its operands; surplus operands are not read.
     #[inline(always)]
     pub fn result_on(self, first: u64, second: u64, third: u64) -> u64
         ensures { result ≡ result_of_op self (first ∷ second ∷ third ∷ []) }
@@ -112,8 +112,8 @@ impl Op {
     }
 }
 
-/// An instruction. Memory instructions of an image have a note; `others` is the second list of a
-/// `Steer`.
+/// An instruction. Memory instructions of an image have a memory annotation; `others` is the second
+/// list of a `Steer`.
 #[derive(Drop)]
 pub struct Instr {
     pub op: Op,

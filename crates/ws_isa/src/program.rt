@@ -71,7 +71,7 @@ impl<'a> BlockTable<'a> {
     }
 
     /// Whether the block at this place is the first of its wave and holds no instruction: no token
-    /// comes into such a wave.
+    /// enters such a wave.
     pub fn is_dead(&self, place: usize) -> bool
         requires { place < length self.now.blocks.now }
         ensures { result ≡

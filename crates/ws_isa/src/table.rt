@@ -35,7 +35,7 @@ impl PortValues {
         Ok(table)
     }
 
-    /// A value comes to destinations.
+    /// Delivers a value to destinations.
     pub fn deliver(&mut self, dests: &[Dest], word: u64)
         ensures operands { self.new.operands ≡ delivered dests.now word self.old.operands }
         ensures results { self.new.results ≡ self.old.results }

@@ -19,8 +19,7 @@ use ws_words::{Cells, Memory, NoMemory, Words, World};
 
 /// What the first instances of a walk do: the words that they print, the arrays that they leave, in
 /// order, hidden ones too, the words that each of the ports 1 to 7 takes, how many they are,
-/// whether they are the whole walk, and the array of the first load or store past the end among
-/// them.
+/// whether they are the whole walk, and the array of the first out-of-bounds access among them.
 #[derive(Drop)]
 pub struct Walked {
     pub printed: Words,

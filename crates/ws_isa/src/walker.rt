@@ -17,7 +17,7 @@ use crate::{Dest, Exit, Instr, Op};
 use ws_words::{Memory, NoMemory};
 
 /// The state of a walk: the values at ports and results, what is outside, how many instances have
-/// fired, and the array of the first load or store past the end.
+/// fired, and the array of the first out-of-bounds access.
 #[derive(Drop)]
 pub struct Walker<'a> {
     pub table: PortValues,
@@ -95,8 +95,8 @@ impl<'a> Walker<'a> {
         }
     }
 
-    // The result of the instruction with this number is kept, and comes to its destinations if it
-    // is sent at its turn.
+    // Keeps the result of the instruction with this number, and delivers it to its destinations if
+    // it is sent at its turn.
     fn send(&mut self, instr: &Instr, k: usize, word: u64)
         ensures operands { self.new.table.operands ≡ delivered
             (now_of instr.now.op instr.now.dests.items) word self.old.table.operands }
@@ -125,7 +125,7 @@ impl<'a> Walker<'a> {
         }
     }
 
-    // Keeps the array of the first load or store past the end.
+    // Keeps the array of the first out-of-bounds access.
     fn look(&mut self, program: &BlockTable<'_>, op: Op, index: u64)
         ensures table { self.new.table ≡ self.old.table }
         ensures memory { self.new.memory ≡ self.old.memory }
@@ -188,8 +188,8 @@ impl<'a> Walker<'a> {
         }
     }
 
-    // What the block at this place sends along the edge to another comes there. No steer and no
-    // send stands in a block that ends by a `Goto`.
+    // Delivers what the block at this place sends along the edge to another. No steer and no send
+    // stands in a block that ends by a `Goto`.
     fn cross(&mut self, program: &BlockTable<'_>, place: usize, choice: u64, next: usize)
         requires walks { Walkable (image_of program.now) }
         requires place { place < length program.now.blocks.now }

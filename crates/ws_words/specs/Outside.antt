@@ -43,7 +43,7 @@ pub record ProcState : Type 0 where
   pub vars : List ℕ
   pub out : Outside
 
--- the item at a place; a list past its end has the empty row
+-- the item at a place; out of bounds, the empty row
 abbrev pub row : List (List ℕ) → ℕ → List ℕ
 row [] k = []
 row (x ∷ xs) zero = x
@@ -84,7 +84,7 @@ with_acts s acts = with_out s (record {
   acts = s.out.acts ++ acts;
 })
 
--- past the end a store changes no cell
+-- an out-of-bounds store changes no cell
 abbrev pub stored : ProcState → ℕ → ℕ → ℕ → ProcState
 stored s a i v = with_out s (record {
   cells = with_row s.out.cells (a - 1) (slice_set (array_of s.out a) i v);

@@ -1,4 +1,4 @@
--- Loads and stores past the end of their array, and what a list of acts leaves.
+-- Out-of-bounds loads and stores, and what a list of acts leaves.
 use Rattle.std.specs.Prelude.{◌≡◌, ℕ, ◌-◌, ◌<◌, ◌≤◌, List, [], ◌∷◌, ◌++◌, slice_index}
 use Rattle.std.specs.List.{AllByRecursion}
 use Rattle.ws_words.specs.Outside.{Act, loads, stores, reads, prints, gives, takes}
@@ -20,11 +20,11 @@ IsWithin lengths (loads a i) = i < length_of lengths a
 IsWithin lengths (stores a i w) = i < length_of lengths a
 IsWithin lengths _ = Unit {0}
 
--- no act is past
+-- no act is out of bounds
 abbrev pub AreWithin : List ℕ → List Act → Type 0
 AreWithin lengths acts = AllByRecursion (IsWithin lengths) acts
 
--- the first act that is past is on this array, after these acts
+-- the first out-of-bounds act is on this array, after these acts
 pub record FirstPast (lengths : List ℕ) (acts before : List Act) (array : ℕ) : Type 0 where
   pub within : AreWithin lengths before
   pub act : Act

@@ -78,7 +78,7 @@ impl Cells {
         self.rows.get(place)
     }
 
-    /// The word at a place in the list at a place, both counted from 0; past an end 0.
+    /// The word at a place in the list at a place, both counted from 0; out of bounds, 0.
     pub fn word(&self, list: usize, place: usize) -> u64
         ensures { result ≡ slice_index (row self.now list) place }
     {
@@ -88,7 +88,7 @@ impl Cells {
         }
     }
 
-    /// Writes the word at a place in the list at a place, both counted from 0; past an end nothing
+    /// Writes the word at a place in the list at a place, both counted from 0; out of bounds nothing
     /// changes.
     pub fn set(&mut self, list: usize, place: usize, word: u64)
         ensures { self.new ≡ with_row self.old list (slice_set (row self.old list) place word) }
@@ -98,7 +98,7 @@ impl Cells {
         }
     }
 
-    /// Puts a word at the end of the list at a place, counted from 0; past the end nothing changes.
+    /// Puts a word at the end of the list at a place, counted from 0; out of bounds nothing changes.
     pub fn add(&mut self, list: usize, word: u64) -> Result<(), NoMemory>
         ensures ok { OnOk result (
             self.new ≡ with_row self.old list (row self.old list ++ word ∷ [])) }

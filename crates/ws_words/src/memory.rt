@@ -43,7 +43,7 @@ impl<'a> Memory<'a> {
         })
     }
 
-    /// The cell of an array at an index; past the end 0.
+    /// The cell of an array at an index; out of bounds, 0.
     pub fn load(&self, array: u32, index: u64) -> u64
         ensures word { result ≡ slice_index (row self.now.cells (array - 1)) index }
         ensures acts { Does (loads array index) self.now self.now }
@@ -61,7 +61,7 @@ impl<'a> Memory<'a> {
         }
     }
 
-    /// Writes the cell of an array at an index; past the end no cell changes.
+    /// Writes the cell of an array at an index; out of bounds no cell changes.
     pub fn store(&mut self, array: u32, index: u64, word: u64)
         ensures { Does (stores array index word) self.old self.new }
     {
@@ -93,7 +93,7 @@ impl<'a> Memory<'a> {
         next_of(&mut self.left, (port as usize).saturating_sub(1))
     }
 
-    /// A port takes a word. No port has the number 0 or one past 7: there no words are kept.
+    /// A port takes a word. No port has the number 0 or one above 7: there no words are kept.
     pub fn take(&mut self, port: u64, word: u64) -> Result<(), NoMemory>
         ensures { OnOk result (Does (takes port word) self.old self.new) }
     {

@@ -1,4 +1,4 @@
-//! The answer for want of memory.
+//! The answer when memory runs out.
 
 use std::alloc::{AllocError, AllocFailed};
 

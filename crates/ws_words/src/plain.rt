@@ -13,7 +13,7 @@ pub struct World {
 
 /// What a run with a bounded number of turns leaves. `arrays` are the cells of the arrays in order
 /// of declaration, `took` the words that each of the ports 1 to 7 took, `turns` the turns of the
-/// run; of a run that a load or store past the end stopped, `array` is the number of that array,
+/// run; of a run that an out-of-bounds access stopped, `array` is the number of that array,
 /// counted from 1 in order of declaration, and the last of `turns` is the turn of that act.
 #[derive(Debug, Drop, PartialEq, Eq)]
 pub enum Plain {

@@ -8,7 +8,7 @@ use crate::no_memory::NoMemory;
 use std::alloc::Global;
 use std::marker::Model;
 
-/// Words that are taken from the front.
+/// Words that are taken from first to last.
 #[derive(Debug, Drop)]
 pub struct Tape<'a> {
     rest: &'a [u64],
@@ -67,7 +67,7 @@ pub fn tapes<'a>(alloc: Global, left: &'a Cells) -> Result<Vec<Tape<'a>>, NoMemo
     Ok(tapes)
 }
 
-// The words of a port that stands at this place; past the last one none.
+// The words of a port that stands at this place; out of bounds, none.
 fn tape_of<'a>(left: &'a Cells, place: usize) -> Tape<'a>
     ensures { result ≡ row left.now place }
 {

@@ -99,14 +99,14 @@ impl Words {
         self.items.get(place).copied()
     }
 
-    /// The word at a place, counted from 0; past the end 0.
+    /// The word at a place, counted from 0; out of bounds, 0.
     pub fn word(&self, place: usize) -> u64
         ensures { result ≡ slice_index self.now place }
     {
         self.items.get(place).copied().unwrap_or(0)
     }
 
-    /// Writes the word at a place, counted from 0; past the end nothing changes.
+    /// Writes the word at a place, counted from 0; out of bounds nothing changes.
     pub fn set(&mut self, place: usize, word: u64)
         ensures { self.new ≡ slice_set self.old place word }
     {

@@ -26,8 +26,8 @@ use std::thread::Threads;
 use ws_io::{Sink, Source, StdSink, StdSource};
 use wsc_top::{Status, wsc};
 
-// The words of the command line, or nothing where memory runs out. Where one of them is no text there are
-// none: these are no command line.
+// The command-line arguments, or nothing if memory runs out. If one of them is no text there are none: these
+// are no command line.
 fn words<R: Env + AllocGlobal>(rt: &R) -> Option<Vec<String>> {
     let mut words = Vec::new(rt.alloc());
     match env::args(rt) {

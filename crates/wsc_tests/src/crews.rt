@@ -94,7 +94,7 @@ impl Gate for Held {
     }
 }
 
-// Whether a gate let its token of that image go before the others had come; nothing where the image
+// Whether a gate released its token of that image before the others had come; nothing if the image
 // wasn't run as it should be.
 fn lateness(reply: CallReply, gate: &Held) -> Option<bool> {
     if reply.said && gate.have_come() {

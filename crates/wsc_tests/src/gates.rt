@@ -81,7 +81,7 @@ impl Gate for Crowd {
     }
 }
 
-// A loop of 24 chains, which need nothing of each other, so that many tokens are on the way.
+// A loop of 24 chains, which need nothing of each other, so that many tokens are in flight.
 const CHAINS: &str =
     "proc main() { var a, b, c, d, e, f, g, h, i, j, k, l, m, n, o, p, q, r, s, t, u, v, w, x, y; \
     while (y < 1600) { \
@@ -158,7 +158,7 @@ const LATER: HeldCall = HeldCall {
 };
 
 // How often it is tried: where phases begin is left to the threads, and there no phase begins if few tokens
-// are on the way.
+// are in flight.
 const TRIES: u32 = 12;
 
 // Whether two workers are at work at once, behind the first phase of a run, in one of a few runs.

@@ -205,7 +205,7 @@ fn graphs_walk_as_programs_run(rt: HostRuntime) -> Result<(), Fail> {
     Ok(())
 }
 
-// Programs, and how many waves their graphs have: one for each procedure, header and return point.
+// Programs, and how many waves their graphs have: one for each procedure, header and return block.
 const WAVES: &[(&str, u32)] = &[
     (
         "proc main() { if (0) { print 1; } else { print 2; } print 3; }",

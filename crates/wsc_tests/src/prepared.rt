@@ -49,8 +49,8 @@ fn is_as(core: &Core<'_>, finish: Option<Finish>, run: &RunAnswer) -> bool
     same && finish == Some(finish_of(run))
 }
 
-// Whether a core that runs for all but the last of a run's firings, and then on, comes to what the shorter
-// run and the whole one answer.
+// Whether a core that runs for all but the last of a run's firings, and then on, has the results of the
+// shorter run and the whole one.
 fn runs_in_two(
     alloc: Global,
     image: &Checked,
@@ -65,7 +65,7 @@ fn runs_in_two(
     Ok(is_short && is_as(&core, second, whole))
 }
 
-// Whether a core that runs for all of a run's firings at once comes to what it answers.
+// Whether a core that runs for all of a run's firings at once has its result.
 fn runs_at_once(
     alloc: Global,
     image: &Checked,

@@ -32,7 +32,7 @@ fn slot_has_words(slot: &Option<TapePort>)
     }
 }
 
-// What tapes tell are words.
+// What tapes report are words.
 fn tell_words(ports: &Slots<TapePort>)
     ensures { TellWords (contents tape_tells ports.now) }
 {
@@ -51,7 +51,7 @@ fn are_open(ports: &Slots<TapePort>)
     ensures { AllOpen (contents tape_tells ports.now) }
 {}
 
-// And the other way round.
+// And in the other direction.
 fn stay_open(ports: &Slots<TapePort>)
     requires { AllOpen (contents tape_tells ports.now) }
     ensures { AllByRecursion IsOpen (contents tape_tells ports.now) }
@@ -104,7 +104,7 @@ impl CallReply {
     }
 }
 
-// The words of a line.
+// The arguments of a command line.
 fn words_of(alloc: Global, line: &str) -> Result<Vec<String>, NoMemory> {
     let mut words = Vec::new(alloc);
     for word in line.split(' ') {

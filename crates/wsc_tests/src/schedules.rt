@@ -159,7 +159,7 @@ fn took_so(core: &Core<'_>, took: &Cells) -> bool
     true
 }
 
-// Whether a core has printed, stored and given to ports what is told.
+// Whether a core has printed, stored and given to ports what is reported.
 pub fn has_done(core: &Core<'_>, done: &Done) -> bool
     requires { IsRunning core.now }
 {
@@ -179,7 +179,7 @@ pub fn is_at_end_of(core: &Core<'_>, run: &RunAnswer) -> bool
     }
 }
 
-// Whether a core that makes its events in some order comes to what `run` answers.
+// Whether a core that makes its events in some order has the result that `run` answers.
 fn comes_to(
     alloc: Global,
     image: &Checked,
@@ -196,7 +196,7 @@ fn comes_to(
     }
 }
 
-// How many of the seeds come to that before one doesn't.
+// How many of the seeds have that result before one doesn't.
 fn seeds(
     alloc: Global,
     image: &Checked,

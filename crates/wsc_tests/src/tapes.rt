@@ -225,7 +225,7 @@ const TABLES: &[TapeTable] = &[
     },
 ];
 
-// Whether a call ends as a row says, and hands so many images of threads back, or where they are none, one
+// Whether a call ends as a row says, and hands so many images of threads back, or if there are none, one
 // image.
 fn ends_so<R: Threads + Wait + Sync>(
     rt: &R,

@@ -53,7 +53,7 @@ use Rattle.trace_check.specs.declared.events.Lined.{Lined}
 use Rattle.wsc_top.specs.Traced.{IsTraced, IsReplayed, HasTrace, EndsReplay}
 use Rattle.wsc_top.specs.Clocked.{IsClocked}
 
--- each port that is handed in tells the words that it has left, which are words
+-- each port that is handed in reports the words that it has left, which are words
 abbrev pub TellWords : List (Option Told) → Type 0
 TellWords ports =
     AllTell ports × AllByRecursion (AllByRecursion IsMachineWord) (lefts_of ports)
@@ -63,7 +63,7 @@ abbrev pub SomeRose : List (Option Told) → List (Option Told) → Type 0
 SomeRose handed back = (port : ℕ) × RoseAt port handed back
 
 -- The acts of the sequential run in at most n turns: to its end, to its first index fault, or to
--- where it wants a further turn.
+-- where it needs a further turn.
 pub data DoesWithin (parts : List Part) (world : World) (n : ℕ) : List Act → Type 0 where
   to_end : (m : ℕ) (end : Outside) → m ≤ n → Runs parts world m end → DoesWithin parts world n end.acts
   to_fault : (m array : ℕ) (state : Outside) → m ≤ n → Faults parts world m array state
@@ -76,28 +76,28 @@ IsOnPort port (gives p) = p ≡ port
 IsOnPort port (takes p w) = p ≡ port
 IsOnPort port _ = ⊥
 
--- What the run of an image of a program tells, and where it leaves the ports, in the words of the
+-- What the run of an image of a program reports, and where it leaves the ports, in terms of the
 -- program's own run.
 pub data TellsRun (options : RunOptions) (parts : List Part) (world : World)
     (handed : List (Option Told)) : Status → List ℕ → List (Option Told) → Type 0 where
-  -- the sequential run has ended; what it printed and left is told
+  -- the sequential run has ended; what it printed and left is reported
   ended : {back : List (Option Told)} (n fired : ℕ) (end : Outside) → Runs parts world n end
       → fired ≤ options.budget → PortsAre handed end back
       → TellsRun options parts world handed Done
       (end_report options.report (names_of parts) (printed_words end.acts) end.cells fired) back
-  -- it meets this index fault; what it printed and left before it is told
+  -- it meets this index fault; what it printed and left before it is reported
   faulted : {back : List (Option Told)} (n array : ℕ) (state : Outside)
       → Faults parts world n array state → PortsAre handed state back
       → TellsRun options parts world handed Fault
       (fault_report options.report (array_name (names_of parts) array) (names_of parts)
       (printed_words state.acts) state.cells) back
-  -- what the first of its acts in some number of turns print is told
+  -- what the first of its acts in some number of turns print is reported
   spent : {back : List (Option Told)} (n : ℕ) (front more : List Act)
       → DoesWithin parts world n (front ++ more)
       → PortsAre handed (after_acts (opened parts world) front) back
       → TellsRun options parts world handed Budget
       (spent_report options.report (printed_words front) options.budget) back
-  -- this port failed at its next act, and what those before it print is told
+  -- this port failed at its next act, and what those before it print is reported
   failed : {back : List (Option Told)} (n port : ℕ) (front more : List Act) (act : Act)
       → DoesWithin parts world n (front ++ act ∷ more) → IsOnPort port act → RoseAt port handed back
       → PortsAre handed (after_acts (opened parts world) front) back
@@ -108,7 +108,7 @@ pub data TellsRun (options : RunOptions) (parts : List Part) (world : World)
 -- run or printed, and the ports, of which those were handed in. `run` runs an image of the program
 -- with the ports; `format` prints its printed form, which reads as the same program; `compile` prints
 -- an image of it; `plain` is the sequential run itself, with nothing left in any port, in at most so
--- many turns: at its end, before its first index fault, or where it wants a further turn.
+-- many turns: at its end, before its first index fault, or where it needs a further turn.
 pub data Yields : JobTask → List Part → List ℕ → List (Option Told) → Status → List ℕ
     → Option Image → List (Option Told) → Type 0 where
   ran : {options : RunOptions} {parts : List Part} {input : List ℕ} {handed : List (Option Told)}
@@ -141,7 +141,7 @@ pub data Yields : JobTask → List Part → List ℕ → List (Option Told) → 
       → Yields (Plain options) parts input handed Budget (going_text (printed_words now.acts))
       None handed
 
--- A task comes to its end: the sequential run in no more turns than it may take, and the run of an
+-- A task completes: the sequential run in no more turns than it may take, and the run of an
 -- image where its budget has the program's bound for each turn, and once more.
 abbrev pub ComesToItsEnd : JobTask → List Part → List ℕ → List (Option Told) → Type 0
 ComesToItsEnd (Run options) parts input handed =
@@ -152,8 +152,8 @@ ComesToItsEnd Compile parts input handed = Unit {0}
 ComesToItsEnd (Plain options) parts input handed =
     (n : ℕ) × (end : Outside) × Runs parts (world_of input) n end × (n ≤ options.turns)
 
--- it meets an index fault, in a turn that it may take: the run of an image where the run that passes
--- index faults comes to an end within its budget
+-- it meets an index fault, in a turn that it may take: the run of an image if the unchecked run ends
+-- within its budget
 abbrev pub MeetsFault : JobTask → List Part → List ℕ → List (Option Told) → Type 0
 MeetsFault (Run options) parts input handed =
     ((m array : ℕ) × (state : Outside) × Faults parts (world_with input handed) m array state)
@@ -165,7 +165,7 @@ MeetsFault (Plain options) parts input handed =
     (n array : ℕ) × (state : Outside)
     × Faults parts (world_of input) n array state × (n ≤ options.turns)
 
--- it wants more turns than it may take: the run of an image where the sequential run never ends
+-- it needs more turns than it may take: the run of an image where the sequential run never ends
 abbrev pub WantsTurns : JobTask → List Part → List ℕ → List (Option Told) → Type 0
 WantsTurns (Run options) parts input handed =
     (n : ℕ) → (now : Outside) × Goes parts (world_with input handed) n now
@@ -207,7 +207,7 @@ IsAnswer task text handed answer = (image : Option Image) × (back : List (Optio
     × Answered task text handed answer.0 answer.1 image back
 
 -- An answer of a run that leaves nothing to the image: it isn't cut short by the budget or a port,
--- and where the run has ended its firings aren't told.
+-- and if the run has ended its firings aren't reported.
 abbrev pub IsFree : RunOptions → Status → Type 0
 IsFree options status = (status ≡ Budget → ⊥) × (IsFailed status → ⊥)
     × (status ≡ Done → tells_firings options.report ≡ false)
@@ -411,7 +411,7 @@ pub data Starves (words : List (List ℕ)) (left after : Option (List ℕ)) (han
       → HasBegun image (world_with input handed) handed back
       → Starves words left after handed (Some image) back
 
--- all that the source has left is told, and it is a job: this program and these input words
+-- all that the source has left is reported, and it is a job: this program and these input words
 pub record IsToldJob (words : List (List ℕ)) (left : Option (List ℕ)) (task : JobTask)
     (parts : List Part) (input : List ℕ) : Type 0 where
   pub text : List ℕ
@@ -420,7 +420,7 @@ pub record IsToldJob (words : List (List ℕ)) (left : Option (List ℕ)) (task 
   pub short : length text ≤ job_limit
   pub job : IsJob text parts input
 
--- all that the source has left is told, and it is no job
+-- all that the source has left is reported, and it is no job
 pub record IsToldOther (words : List (List ℕ)) (left : Option (List ℕ)) (task : JobTask)
     : Type 0 where
   pub text : List ℕ
@@ -429,7 +429,7 @@ pub record IsToldOther (words : List (List ℕ)) (left : Option (List ℕ)) (tas
   pub other : length text ≤ job_limit → (parts : List Part) (input : List ℕ)
       → IsJob text parts input → ⊥
 
--- all that the source has left is told, and it is an assembly: this sound image and these words
+-- all that the source has left is reported, and it is an assembly: this sound image and these words
 pub record IsToldAssembly (words : List (List ℕ)) (left : Option (List ℕ)) (task : AssemblyTask)
     (image : Image) (input : List ℕ) : Type 0 where
   pub text : List ℕ
@@ -438,7 +438,7 @@ pub record IsToldAssembly (words : List (List ℕ)) (left : Option (List ℕ)) (
   pub short : length text ≤ assembly_limit
   pub assembly : IsAssembly (assembly_text task text) image input
 
--- all that the source has left is told, and it is no such assembly
+-- all that the source has left is reported, and it is no such assembly
 pub record IsToldNoAssembly (words : List (List ℕ)) (left : Option (List ℕ)) (task : AssemblyTask)
     : Type 0 where
   pub text : List ℕ

@@ -1,4 +1,4 @@
--- What a call of the program comes to.
+-- How a call of the program ends.
 use Rattle.std.specs.Prelude.{◌≡◌, ◌≢◌, ◌⊎◌, ℕ, ◌≤◌, List, [], ◌∷◌, length, take, Option, Some, None}
 use Rattle.std.specs.Prelude.{Result, IsOk, IfOk, OnErr}
 use Rattle.ws_io.specs.Streams.{Rose, Adds, Flushes}
@@ -37,7 +37,7 @@ ReadsWell reads = ¬ Rose reads.faults reads.counted
 abbrev pub WritesWell : Writing → Type 0
 WritesWell writes = ¬ Rose writes.faults writes.counted
 
--- What a call on these words comes to before its answer is written: a status and a text; or memory ran out,
+-- The reply to these arguments before the answer is written: a status and a text; or memory ran out,
 -- which it doesn't where the first word is no command.
 pub record IsReply {E : Type 0} (words : List (List ℕ)) (reads : SourceCall) (handed : List (Option Told))
     (answer : Result (Status × List ℕ) E) (image : Option Image) (threads : List Image)
@@ -47,7 +47,7 @@ pub record IsReply {E : Type 0} (words : List (List ℕ)) (reads : SourceCall) (
   pub memory : OnErr answer (Falls words reads.left reads.after handed image threads back)
   pub known : ¬ HasCommand words → IsOk answer
 
--- A call on these words, of which the source and the sink tell this, and to which these ports are handed
+-- A call on these words, of which the source and the sink report this, and to which these ports are handed
 -- in, ends with this status and hands back this image, the images of these threads, and the ports.
 pub record CallEnds (words : List (List ℕ)) (reads : SourceCall) (writes : Writing)
     (handed : List (Option Told)) (status : Status) (image : Option Image) (threads : List Image)
@@ -58,7 +58,7 @@ pub record CallEnds (words : List (List ℕ)) (reads : SourceCall) (writes : Wri
       × Replies words reads.left reads.after reads.faults reads.counted handed status text image
       threads back
       × Adds writes.held text writes.holds × Flushes writes.holds writes.flushed writes.covered
-  -- what went out is a front of the answer, and nothing was flushed
+  -- what went out is a prefix of the answer, and nothing was flushed
   pub cut : status ≡ WriteFault
       → (would : Status) × (text : List ℕ) × (n : ℕ) × (n ≤ length text)
       × Replies words reads.left reads.after reads.faults reads.counted handed would text image
@@ -73,9 +73,9 @@ pub record CallEnds (words : List (List ℕ)) (reads : SourceCall) (writes : Wri
   pub read_fault : status ≡ ReadFault → Rose reads.faults reads.counted
   pub write_fault : status ≡ WriteFault → Rose writes.faults writes.counted
   pub port_fault : (port : ℕ) → status ≡ PortFault port → RoseAt port handed back
-  -- where no count rose, the words and the text alone decide, want of memory aside
+  -- where no count rose, the words and the text alone decide, unless memory runs out
   pub usage : IsNoLine words → WritesWell writes → OrNoMemory status Usage
-  -- a word that is no command is told without any memory
+  -- a word that is no command is reported without any memory
   pub unknown : ¬ HasCommand words → WritesWell writes → status ≡ Usage
   pub generated : (number : ℕ) → AsksFor words (Generate number) → WritesWell writes
       → OrNoMemory status Done
@@ -120,7 +120,7 @@ pub record CallEnds (words : List (List ℕ)) (reads : SourceCall) (writes : Wri
       → AreToldJobs words reads.left options jobs → ReadsWell reads → WritesWell writes
       → WalksEndSo options threads jobs handed status ⊎ (status ≡ NoMemory)
 
--- slots of which the first alone has a port, which tells this
+-- slots of which the first alone has a port, which reports this
 abbrev pub in_first : Told → List (Option Told)
 in_first port = Some port ∷ None ∷ None ∷ None ∷ None ∷ None ∷ None ∷ []
 

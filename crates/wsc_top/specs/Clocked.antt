@@ -37,7 +37,7 @@ grid_of options image = record {
   budget = options.budget;
 }
 
--- what is told of a run on it, as of any run
+-- what is reported of a run on it, as of any run
 abbrev pub report_of : GridOptions → Report
 report_of options = Full options.memory options.stats
 
@@ -55,7 +55,7 @@ clocked_status finish.Rest = Done
 clocked_status finish.Budget = Budget
 clocked_status (finish.Fault array) = Fault
 
--- what is told of a run on a grid that ended so: what is told of any run, and its cycles behind its
+-- what is reported of a run on a grid that ended so: what is reported of any run, and its cycles behind its
 -- firings
 abbrev pub finish_text : GridOptions → List Array → Clocked → Finish → List ℕ
 finish_text options arrays c finish.Rest =

@@ -16,17 +16,17 @@ use Rattle.wsc_top.specs.declared.task.RunOptions.{RunOptions}
 use Rattle.run_text.specs.Texts.{shown_names, called}
 use Rattle.run_text.specs.Reports.{end_report, spent_report, fault_report, failed_report}
 
--- whether firings are told of
+-- whether firings are reported
 abbrev pub tells_firings : Report → Bool
 tells_firings (Full memory stats) = stats
 tells_firings Brief = false
 
 -- The ports that were handed in, as they are handed back, are where this leaves them: each has left
--- what is left there, and has taken, where it tells that, what is taken there.
+-- what is left there, and has taken, if it reports that, what is taken there.
 abbrev pub PortsAre : List (Option Told) → Outside → List (Option Told) → Type 0
 PortsAre handed o back = SlotsAre (began_of handed) o back
 
--- the walk has more instances than the budget, and of its operations before step t none is past the end
+-- the walk has more instances than the budget, and of its operations before step t none is out of bounds
 pub record StopsShort (image : Image) (world : World) (budget t : ℕ) : Type 0 where
   pub dear : CostAtMost image world budget → ⊥
   pub within : FirstWithin image world t
@@ -34,7 +34,7 @@ pub record StopsShort (image : Image) (world : World) (budget t : ℕ) : Type 0 
 -- What comes of the run of an image on a world within a budget, with these ports.
 pub data Executes (options : RunOptions) (image : Image) (world : World) (handed : List (Option Told))
     : Status → List ℕ → List (Option Told) → Type 0 where
-  -- the whole walk has been run, and no load or store of it is past the end
+  -- the whole walk has been run, and no load or store of it is out of bounds
   rested : {back : List (Option Told)} (t : ℕ) → NoFault image world
       → CostAtMost image world (length (walk image world t))
       → length (walk image world t) ≤ options.budget
@@ -43,20 +43,20 @@ pub data Executes (options : RunOptions) (image : Image) (world : World) (handed
       (end_report options.report (shown_names image.arrays)
       (printed_words (mem image world t).acts)
       (shown_cells image.arrays (mem image world t).cells) (length (walk image world t))) back
-  -- the budget is spent, and what the operations before step t print is told
+  -- the budget is exhausted, and what the operations before step t print is reported
   spent : {back : List (Option Told)} (t : ℕ) → StopsShort image world options.budget t
       → PortsAre handed (mem image world t) back
       → Executes options image world handed Budget
       (spent_report options.report (printed_words (mem image world t).acts) options.budget) back
-  -- step t of the walk fires the first load or store past the end, and what is left before it is told
+  -- step t of the walk fires the first out-of-bounds load or store, and what is left before it is reported
   stopped : {back : List (Option Told)} (t : ℕ) (fault : FaultsAt image world t)
       → PortsAre handed (mem image world t) back
       → Executes options image world handed Fault
       (fault_report options.report (called image.arrays (array_at image fault.inst.instr))
       (shown_names image.arrays) (printed_words (mem image world t).acts)
       (shown_cells image.arrays (mem image world t).cells)) back
-  -- step t fires an operation on a port that failed, no load or store before it is past the end, and
-  -- what is left before it is told
+  -- step t fires an operation on a port that failed, no load or store before it is out of bounds, and
+  -- what is left before it is reported
   failed : {back : List (Option Told)} (t port : ℕ) (inst : Inst) → fires image world t ≡ Some inst
       → port_of (instr_at image inst.instr).op ≡ Some port → FirstWithin image world t
       → RoseAt port handed back → PortsAre handed (mem image world t) back
@@ -64,7 +64,7 @@ pub data Executes (options : RunOptions) (image : Image) (world : World) (handed
       (failed_report options.report (printed_words (mem image world t).acts) port) back
 
 -- a run has begun, and the ports are as they were handed in, or where some of the walk's first
--- operations leave them, none of which is past the end
+-- operations leave them, none of which is out of bounds
 abbrev pub HasBegun : Image → World → List (Option Told) → List (Option Told) → Type 0
 HasBegun image world handed back = (back ≡ handed)
     ⊎ ((t : ℕ) × FirstWithin image world t × PortsAre handed (mem image world t) back)
@@ -77,7 +77,7 @@ pub record RunAnswered {E : Type 0} (options : RunOptions) (image : Image) (worl
   pub executes : IfOk answer (λ y. Executes options image world handed y.0 y.1 back)
   pub begun : OnErr answer (HasBegun image world handed back)
 
--- a run comes to its end within its budget
+-- a run completes within its budget
 abbrev pub Rests : Image → World → ℕ → Type 0
 Rests image world budget = NoFault image world × CostAtMost image world budget
 

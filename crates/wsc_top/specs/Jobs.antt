@@ -31,7 +31,7 @@ pub record Piece : Type 0 where
 abbrev pub IsLast : List ℕ → Type 0
 IsLast text = rest_of separator true text ≡ []
 
--- what stands in front of the first separator, or all
+-- what stands before the first separator, or all
 abbrev pub first_job : List ℕ → List ℕ
 first_job text = front_of separator true text
 
@@ -92,7 +92,7 @@ pub data RefusesJobs (text : List ℕ) : JobsRefusal → Type 0 where
       → length (before ++ piece ∷ further) ≤ most_jobs → EachIsJob before jobs
       → Refuses piece.text r → RefusesJobs text (OfJob piece.at r)
 
--- what a text comes to: its jobs, or why it is refused
+-- the reading of a text: its jobs, or why it is refused
 abbrev pub IsJobsAnswer : List ℕ → Result (List ProgramAndInput) JobsRefusal → Type 0
 IsJobsAnswer text (Ok jobs) = AreJobs text jobs
 IsJobsAnswer text (Err refusal) = RefusesJobs text refusal

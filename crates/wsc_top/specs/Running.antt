@@ -54,7 +54,7 @@ alone_at budget handed images inputs place =
 abbrev pub StatusText : Type 0
 StatusText = Status × List ℕ
 
--- what is told of the thread of this number, which ended so, and those behind it, by what is told of
+-- what is reported of the thread of this number, which ended so, and those behind it, by what is reported of
 -- those
 abbrev pub ThreadTold : RunOptions → ℕ → Image → RunFinish → StatusText → StatusText → Type 0
 ThreadTold options number image finish further told = (status : Status) × (out : List ℕ)
@@ -62,7 +62,7 @@ ThreadTold options number image finish further told = (status : Status) × (out 
     × (told.0 ≡ status_of (status ∷ further.0 ∷ []))
     × (told.1 ≡ thread_line number ++ out ++ further.1)
 
--- the same where the thread may be absent: nothing is told of it then
+-- the same where the thread may be absent: nothing is reported of it then
 abbrev pub BeforeSo : {P : Type 0} → RunOptions → ℕ → Option Image → Option (RunEnd P)
     → StatusText → StatusText → Type 0
 BeforeSo options number (Some image) (Some end) further told =
@@ -72,7 +72,7 @@ BeforeSo options number _ _ further told = told ≡ further
 abbrev pub RunEnds : Type 0 → Type 0
 RunEnds P = Each (Option (RunEnd P)) (Option (RunEnd P)) (Option (RunEnd P)) (Option (RunEnd P))
 
--- what is told of all of them
+-- what is reported of all of them
 pub record AllTold {P : Type 0} (options : RunOptions) (images : List Image) (ends : RunEnds P)
     (told : StatusText) : Type 0 where
   pub second : StatusText

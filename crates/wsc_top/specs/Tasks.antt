@@ -13,7 +13,7 @@ use Rattle.wsc_top.specs.declared.task.GridOptions.{GridOptions}
 use Rattle.wsc_top.specs.declared.task.JobTask.TheVariants.{Run, Format, Compile, Plain}
 use Rattle.wsc_top.specs.declared.task.AssemblyTask.TheVariants as assembly
 
--- how a line asks for a run of which this is told
+-- how a line asks for a run of which this is reported
 abbrev pub options_of : Invocation → Report → RunOptions
 options_of line report = record {
   workers = line.workers;

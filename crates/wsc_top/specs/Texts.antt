@@ -33,6 +33,6 @@ name_at (n ∷ ns) (suc k) = name_at ns k
 abbrev pub array_name : List (List ℕ) → ℕ → List ℕ
 array_name names array = name_at names (array - 1)
 
--- the answer of a sequential run that wants more turns
+-- the answer of a sequential run that needs more turns
 abbrev pub going_text : List ℕ → List ℕ
 going_text words = flat_map word_line words ++ codes "turns\n"

@@ -25,7 +25,7 @@ use Rattle.wave_build.specs.Compiled.{IsCompiled}
 abbrev pub no_ports : List (Option Told)
 no_ports = None ∷ None ∷ None ∷ None ∷ None ∷ None ∷ None ∷ []
 
--- the line in front of what a thread tells
+-- the line before what a thread reports
 abbrev pub thread_line : ℕ → List ℕ
 thread_line t = codes "thread " ++ decimal t ++ codes "\n"
 
@@ -139,7 +139,7 @@ pub data Falls (words : List (List ℕ)) (left after : Option (List ℕ)) (hande
       → AreDue words left after options threads → HaveBegun threads handed back
       → Falls words left after handed None (images_of threads) back
 
--- all that the source has left is told, and it is these jobs
+-- all that the source has left is reported, and it is these jobs
 pub record AreToldJobs (words : List (List ℕ)) (left : Option (List ℕ)) (options : RunOptions)
     (jobs : List ProgramAndInput) : Type 0 where
   pub text : List ℕ
@@ -148,7 +148,7 @@ pub record AreToldJobs (words : List (List ℕ)) (left : Option (List ℕ)) (opt
   pub short : length text ≤ job_limit
   pub jobs_are : AreJobs text jobs
 
--- all that the source has left is told, and it is no such jobs
+-- all that the source has left is reported, and it is no such jobs
 pub record AreToldNoJobs (words : List (List ℕ)) (left : Option (List ℕ)) (options : RunOptions)
     : Type 0 where
   pub text : List ℕ
@@ -195,7 +195,7 @@ WalksEndSo options images jobs handed status =
     (statuses : List Status) × EachWalkEndsSo options images jobs handed statuses
     × (status ≡ status_of statuses)
 
--- the run of each comes to its end, as that of `run` does: of the first with these ports, of the others
+-- the run of each completes, as that of `run` does: of the first with these ports, of the others
 -- with none
 abbrev pub ComeToTheirEnd : RunOptions → List ProgramAndInput → List (Option Told) → Type 0
 ComeToTheirEnd options [] handed = Unit {0}

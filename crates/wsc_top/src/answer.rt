@@ -20,12 +20,12 @@ ghost use Rattle.wsc_top.specs.Answers.{RunsOut, assembly_text};
 
 use crate::batch::{self, JobsFault};
 use crate::bench::generated;
+use crate::refusals;
 use crate::status::Status;
 use crate::step::{CallStep, StarvedCall};
 use crate::task::{AssemblyTask, JobTask, RunOptions, Task, read_task};
 use crate::text::{Phrase, Text};
 use crate::yields::{assembly_yielded, yielded};
-use crate::refusals;
 use asm_read::{AssemblyFault, asm_refused, refused, split, split_trace};
 use src_ast::{TextFault, read_is_written};
 use std::alloc::Global;
@@ -170,8 +170,8 @@ fn of_jobs<S: Source>(
     }
 }
 
-/// What is to be done for these words of the command line and what the source gives: an answer that is
-/// ready, or images to be run. It has no ports and starts no thread. An answer that is ready needs none.
+/// What is to be done for these command-line arguments and what the source gives: an answer that is ready,
+/// or images to be run. It has no ports and starts no thread. An answer that is ready needs none.
 pub fn prepare<S: Source>(
     alloc: Global,
     words: &[String],

@@ -29,7 +29,7 @@ use ws_isa::Checked;
 use ws_words::NoMemory;
 use wsc_words::words_are_one_line;
 
-/// One call of the program: from the words of the command line, without the program's own name, and
+/// One call of the program: from the command-line arguments, without the program's own name, and
 /// what the source gives, to what the sink takes. A run gives to the ports and takes from them, and its
 /// workers call the gate before they bring a token.
 pub fn wsc<S: Source, K: Sink, P: Port + Send, G: Gate, R: Threads + Wait + Sync>(
@@ -41,7 +41,7 @@ pub fn wsc<S: Source, K: Sink, P: Port + Send, G: Gate, R: Threads + Wait + Sync
     ports: Slots<P>,
     gate: &G,
 ) -> Outcome<P>
-    // Each port tells the words that it has left, and none is closed.
+    // Each port reports the words that it has left, and none is closed.
     requires told { TellWords (contents P.tells ports) }
     requires open { AllOpen (contents P.tells ports) }
 

@@ -1,4 +1,4 @@
-//! What the definitions of jobs and answers come to.
+//! What follows from the definitions of jobs and answers.
 
 ghost use Rattle.std.specs.Prelude.{◌≡◌, ◌⊎◌, ℕ, List, [], Option, Some, true};
 ghost use Rattle.std.specs.List.{AllByRecursion};
@@ -58,7 +58,7 @@ pub fn every_text_is_answered_once()
 }
 
 /// Two answers of `run` to one text, with ports that have the same left, are the same where nothing is
-/// left to the image: where neither is cut short by the budget or a port and no firings are told.
+/// left to the image: where neither is cut short by the budget or a port and no firings are reported.
 pub fn runs_are_answered_alike()
     ensures { (options : RunOptions) (text : List ℕ) (handed : List (Option Told))
         (a b : Status × List ℕ)
@@ -190,7 +190,7 @@ pub fn printed_texts_are_read_again()
         → (told : IsTraced budget image input status out)
         → IsAssembly (before_trace out) image input
         × HasTrace out (numbered (trace_line out) told.events) × CanReplay out image input }
-    // so `replay` answers Done to it and hands the image back; it tells what making those events comes to,
+    // so `replay` answers Done to it and hands the image back; it reports the result of making those events,
     // and `rest` where the trace came to rest
     ensures replayed { (budget : ℕ) (text : List ℕ) (image : Image) (input : List ℕ) (status : Status)
         (out : List ℕ) → IsAssembly text image input

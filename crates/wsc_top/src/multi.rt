@@ -110,7 +110,7 @@ fn first_undone(status: Status, further: Status) -> Status
     }
 }
 
-// What is told of a thread and those behind it.
+// What is reported of a thread and those behind it.
 fn thread_told(
     alloc: Global,
     options: RunOptions,
@@ -131,7 +131,7 @@ fn thread_told(
     Ok((first_undone(status, further.0), Text::built(text)))
 }
 
-// What is told of a thread, where it isn't absent, and of those behind it.
+// What is reported of a thread, where it isn't absent, and of those behind it.
 fn before<P: Port>(
     alloc: Global,
     options: RunOptions,
@@ -161,7 +161,7 @@ fn image_at(images: &[Checked], place: usize) -> Option<&Checked>
     }
 }
 
-// What is told of all threads.
+// What is reported of all threads.
 fn told<P: Port>(
     alloc: Global,
     options: RunOptions,

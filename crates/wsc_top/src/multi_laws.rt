@@ -1,4 +1,4 @@
-//! What the definitions of several threads come to.
+//! What follows from the definitions of several threads.
 
 ghost use Rattle.std.specs.Prelude.{◌≡◌, ℕ, List, Option, None};
 ghost use Rattle.port_set.specs.Ports.{Told};
@@ -11,12 +11,12 @@ ghost use Rattle.wsc_top.specs.Answers.{TellWords};
 ghost use Rattle.wsc_top.specs.Threads.{ThreadsDo, ExecutesAlone, status_of, Thread, images_of, Replies};
 ghost use Rattle.wsc_top.specs.Threads.{AreDue, AreToldJobs, MultiEndsSo, WalksEndSo, IsFreeAnswer};
 
-use crate::laws::each_text_is_a_job_or_refused;
+use job_read::each_text_is_a_job_or_refused;
 use seq_run::one_answer;
 use ws_isa::{effects_are_one, walks_go_on};
 use wsc_words::words_are_one_line;
 
-/// Each text comes to one thing alone: it is some jobs, each with one program and one list of words, or
+/// Each text has exactly one reading: it is some jobs, each with one program and one list of words, or
 /// it is refused for one reason.
 pub fn each_text_is_some_jobs_or_refused()
     ensures { (text : List ℕ) → ExactlyOne (IsJobsAnswer text) }
@@ -26,7 +26,7 @@ pub fn each_text_is_some_jobs_or_refused()
 
 /// Two answers of `multi` to one text, with ports that have the same left, are the same where nothing of
 /// any thread is left to its image: where none is cut short by the budget or a port and no firings are
-/// told.
+/// reported.
 pub fn threads_are_answered_alike()
     ensures { (options : RunOptions) (text : List ℕ) (handed : List (Option Told))
         (a b : Status × List ℕ)

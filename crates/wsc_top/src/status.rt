@@ -25,7 +25,7 @@ pub enum Status {
     PortFault(u8),
     /// Memory ran out.
     NoMemory,
-    /// The run met a load or store past the end of its array.
+    /// The run met an out-of-bounds load or store of its array.
     Fault,
 }
 

@@ -32,7 +32,7 @@ pub struct RunOptions {
     pub decoupled: bool,
     /// The most instances that may fire.
     pub budget: u64,
-    /// What is told of it.
+    /// What is reported of it.
     pub report: Report,
 }
 
@@ -98,13 +98,13 @@ pub enum Task {
     Assembly(AssemblyTask),
     /// It writes the generated job of a number, and reads nothing.
     Generate(u32),
-    /// It runs a generated job and tells it in brief, and reads nothing.
+    /// It runs a generated job and reports it in brief, and reads nothing.
     Bench(BenchOptions),
     /// It reads up to four jobs, and runs an image of each in a thread of its own.
     Multi(RunOptions),
 }
 
-// How a line asks for a run of which this is told.
+// How a line asks for a run of which this is reported.
 fn options_of(line: &Invocation, report: Report) -> RunOptions
     ensures { result ≡ options_of line.now report }
 {
@@ -128,7 +128,7 @@ fn decoupled_options(line: &Invocation) -> RunOptions
     }
 }
 
-// What is told in full, as far as a line asks for it.
+// What is reported in full, as far as a line asks for it.
 fn full(line: &Invocation) -> Report
     ensures { result ≡ Full line.now.memory line.now.stats }
 {
@@ -180,7 +180,7 @@ fn task_of(line: &Invocation) -> Task
     }
 }
 
-/// What these words of the command line ask for, without the program's own name.
+/// What these command-line arguments ask for, without the program's own name.
 pub fn read_task(alloc: Global, words: &[String]) -> Result<Option<Task>, NoMemory>
     ensures some { IfOk result (λ found.
         IfSome found (λ task. AsksFor (map string_bytes words.now) task)) }

@@ -35,7 +35,7 @@ fn put_turns(text: &mut Bytes, turns: u64) -> Result<(), NoMemory>
     text.push(b'\n')
 }
 
-/// The answer of a sequential run that came to its end: a line for each word, and `halt`; then,
+/// The answer of a sequential run that completed: a line for each word, and `halt`; then,
 /// where they are asked for, a line for each array, and a line for the turns.
 pub fn ended(
     alloc: Global,
@@ -103,7 +103,7 @@ pub fn faulted(
     Ok(text)
 }
 
-/// The answer of a sequential run that wants a further turn: a line for each word, and `turns`.
+/// The answer of a sequential run that needs a further turn: a line for each word, and `turns`.
 pub fn going(alloc: Global, words: &Words) -> Result<Bytes, NoMemory>
     ensures { IfOk result (λ text. text ≡ going_text words.now) }
 {

@@ -23,51 +23,50 @@ from wavescalar.tools import link
 
 FAULT = 8  # the status of `wsc exec` where an index is past the end of an array
 PASSED_ON = (4, 5, 7)  # statuses of wsl that are ours too: reading, writing, memory
-STATUS = """The status is 0; 1 where these words are no line; 2 where the program is
-refused, by clang or by what comes behind it, with the line of C, the reason
-and the instruction; 4 where a file can't be read, 5 where one can't be
-written; 7 where memory ran out; 70 where clang, opt, LLVM's library, wsc or
-wsl isn't there. With --run it is that of `wsc exec`, where an index fault is
-said with its line of C; and 9 where --verify finds that the native program
-prints other words, or doesn't end."""
+STATUS = """The exit status is 0; 1 for wrong arguments; 2 if clang or a later pass refuses
+the program, with the line of C, the reason and the instruction; 4 if a file
+can't be read, 5 if one can't be written; 7 if memory ran out; 70 if clang,
+opt, LLVM's library, wsc or wsl is missing. With --run it is that of `wsc
+exec`; an index fault is reported with its line of C. With --verify it is 9 if
+the native program prints other words, or doesn't end."""
 
 
 def _parser() -> argparse.ArgumentParser:
-    parser = Line("Compile files of C for the dataflow machine. Nothing of this is proved; wsl\n"
-                  "gives what comes out its notes, and wsc checks it.", prog="wscc", epilog=STATUS)
+    parser = Line("Compile C files for the dataflow machine. The compiler isn't proved: wsl annotates\n"
+                  "its output, and wsc checks the result.", prog="wscc", epilog=STATUS)
     parser.add_argument("files", metavar="FILE.c", type=Path, nargs="+", help="the files of one program")
     parser.add_argument("--headers", action="version", version=str(HEADERS),
-                        help="say the folder of wavescalar.h, for a native compiler, and end")
+                        help="print the folder of wavescalar.h, for a native compiler, and exit")
     parser.add_argument("-o", dest="out", metavar="FILE.asm", type=Path,
-                        help="where the assembly goes; standard output without it")
+                        help="the file of the assembly (standard output)")
     parser.add_argument("-O", dest="level", type=int, choices=(0, 1, 2), default=1,
-                        help="how much is optimized; 1 without it")
-    parser.add_argument("-I", dest="folders", metavar="DIR", action="append", default=[], help="a folder of headers")
-    parser.add_argument("-D", dest="macros", metavar="NAME[=VALUE]", action="append", default=[], help="a macro")
-    parser.add_argument("-std", metavar="STANDARD", help="of C, as c11")
+                        help="the level of optimization (1)")
+    parser.add_argument("-I", dest="folders", metavar="DIR", action="append", default=[], help="search this folder for headers")
+    parser.add_argument("-D", dest="macros", metavar="NAME[=VALUE]", action="append", default=[], help="define a macro")
+    parser.add_argument("-std", metavar="STANDARD", help="the standard of C, such as c11")
     parser.add_argument("-W", dest="warnings", metavar="WARNING", action="append", default=[], help="as clang's -Wall")
     parser.add_argument("-w", dest="silent", action="store_true", help="no warnings")
-    parser.add_argument("--emit-llvm", action="store_true", help="the IR that is compiled, in place of the assembly")
-    parser.add_argument("--draft", action="store_true", help="the assembly without notes, as wsl takes it")
+    parser.add_argument("--emit-llvm", action="store_true", help="print the IR that is compiled, not the assembly")
+    parser.add_argument("--draft", action="store_true", help="print unannotated assembly, as wsl takes it")
     parser.add_argument("-g", dest="lines", action="store_true",
-                        help="names of instructions end with their lines of C, as sum_L12")
-    parser.add_argument("--result", action="store_true", help="main's result is printed, as the last word")
-    parser.add_argument("--run", action="store_true", help="run it by `wsc exec`; no assembly goes to standard output")
+                        help="end names of instructions with their lines of C, such as sum_L12")
+    parser.add_argument("--result", action="store_true", help="print main's result, as the last word")
+    parser.add_argument("--run", action="store_true", help="run it by `wsc exec`; print no assembly")
     parser.add_argument("--text", action="store_true",
-                        help="what is printed is text, of which each character is a word; the run writes it")
+                        help="write the printed words as the characters of a text")
     parser.add_argument("--verify", action="store_true",
-                        help="as --run, and run it natively beside, with the same words, and compare what both print")
+                        help="as --run; also run it natively on the same words, and compare what both print")
     parser.add_argument("--workers", metavar="N", type=int, default=1, help="workers of the run, 1 to 8")
     parser.add_argument("--input", metavar="FILE", type=Path,
-                        help="the words that the run gives the program; without it there are none")
+                        help="the input words of the run (none)")
     parser.add_argument("--arg", dest="arguments", metavar="TEXT", action="append", default=[],
-                        help="an argument of main, behind the program's name; argv[0] is empty")
+                        help="an argument of main, after the program's name; argv[0] is empty")
     parser.add_argument("--stdin", metavar="FILE", type=Path,
                         help="what the program reads as standard input, in place of words")
     parser.add_argument("--words", action="store_true",
-                        help="the words of the input, with those of --arg and --stdin, in place of the assembly")
+                        help="print the input words, with those of --arg and --stdin, not the assembly")
     parser.add_argument("--budget", metavar="N", type=int, default=4_000_000, help="firings of the run, at most 4000000")
-    parser.add_argument("--stats", action="store_true", help="the run says its firings")
+    parser.add_argument("--stats", action="store_true", help="print the firings of the run")
     return parser
 
 

@@ -1,14 +1,14 @@
-"""Reports all faults of an assembly at once: line, column, instruction and rule, and a remedy for each.
+"""Report all faults of an assembly at once: line, column, instruction and rule, and a remedy for each.
 
 The text is read from FILE or standard input. Faulty lines are reported first, with the rules on shape for the
-blocks that have none; tokens and annotations are checked once every line can be read and every block has its
-shape. The verdict is compared with that of `wsc check`, and a difference is reported.
+blocks that have none. Tokens and annotations are checked when every line can be read and every block has its
+shape. wsc-lint compares the verdict with that of `wsc check`, and reports a difference.
 
     wsc-lint loop.asm
     wsc-lint --json < loop.asm | jq .message     one object a line for each fault
     wsc-lint --draft loop.asm                    a draft for wsl, whose annotations are ignored
 
-The status is 0 where there is no fault, 2 where there is one.
+The exit status is 0 if there is no fault, 2 if there is one.
 """
 
 from __future__ import annotations
@@ -51,10 +51,10 @@ def row(fault: Finding, file: str) -> dict[str, int | str]:
 def main() -> int:
     ask = Line(__doc__)
     add_program(ask)
-    ask.add_argument("--json", action="store_true", help="one object a line for each fault")
+    ask.add_argument("--json", action="store_true", help="print one object a line for each fault")
     ask.add_argument("--draft", action="store_true", help="the text is a draft for wsl")
-    ask.add_argument("--alone", action="store_true", help="without asking wsc check")
-    ask.add_argument("file", nargs="?", metavar="FILE")
+    ask.add_argument("--alone", action="store_true", help="don't run wsc check")
+    ask.add_argument("file", nargs="?", metavar="FILE", help="an assembly or a draft")
     line = ask.parse_args()
     text, file = given(line.file), line.file or "-"
     gc.disable()  # all that is made here stays to the end

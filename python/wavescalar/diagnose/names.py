@@ -1,9 +1,10 @@
-"""Restores a draft's names and version in the image that `wsl` made of it.
+"""Restore a draft's names and version in the image that `wsl` made of it.
 
     wsl < loop.asm | wsc-names loop.asm > named.asm
 
-Instructions stand at their places in their blocks, so each has the name that it had there; an added `nop` is called
-`nop_B`, in block B. A draft of version 1 has no names. Comments aren't kept; what stands behind the image is.
+Each instruction gets the name that the draft's instruction has at the same place of the same block. An added `nop` is
+called `nop_B`, in block B. A draft of version 1 has no names. Comments are dropped; the sections after the image are
+kept.
 """
 
 from __future__ import annotations

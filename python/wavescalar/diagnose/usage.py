@@ -64,7 +64,7 @@ def of_usage(words: list[str], usage: str) -> list[str]:
             value, rest = (rest[0], rest[1:]) if rest else (None, rest)
         said += of_option(command, word, name, value, seen)
         seen.add(name)
-    return said + of_numbers(command, numbers) or ["these words are no line of wsc"]
+    return said + of_numbers(command, numbers) or ["these arguments are no command line of wsc"]
 
 
 def of_option(command: str, word: str, name: str, value: str | None, seen: set[str]) -> list[str]:

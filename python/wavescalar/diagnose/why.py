@@ -1,14 +1,14 @@
-"""Explains why `wsc` refused a text or its arguments, and shows the place.
+"""Explain why `wsc` refused a text or its arguments, and show the place.
 
-WORDS are the arguments of wsc, which is run with standard input and whose answer and status are passed
-on; the explanation goes to standard error. `--of ANSWER` explains an answer that is there, of the text
-FILE or of standard input, and prints the explanation. `--brief` prints no answer, and of a refusal a line
-`FILE:LINE:COLUMN: ..` for each place, as editors read it; lines and columns, in bytes, count from 1.
+WORDS are arguments of wsc. wsc-why runs it on standard input and passes on its answer and exit status; the explanation
+goes to standard error. With `--of ANSWER` it runs nothing: it prints the explanation of an earlier answer to the text FILE
+or standard input. With `--brief` it prints no answer, but a line `FILE:LINE:COLUMN: ..` for each place of a refusal, as
+editors read it. Lines and columns (in bytes) count from 1.
 
     wsc-why run sum.job
     wsc-why --brief check sum.asm
     wsc-why --of 'refused 3:5 unknown' sum.job
-    wsc-why -- --help            words that begin with a dash stand behind --
+    wsc-why -- --help            arguments of wsc that begin with a dash stand after --
 """
 
 from __future__ import annotations
@@ -64,7 +64,7 @@ def brief(program: str, words: list[str]) -> int:
     """Prints what editors read of a line of wsc; its status."""
     file = parted(words)[1]
     if file is None or file == "-":
-        raise Fault("--brief wants a line with a file")
+        raise Fault("--brief needs a command with a file")
     status, told, said = run(program, words)
     answer = told.decode(errors="replace")
     if status == 2 and not answered(text_of(file)):
@@ -84,9 +84,9 @@ def commands_of(program: str) -> list[str]:
 def main() -> int:
     ask = Line(__doc__)
     add_program(ask)
-    ask.add_argument("--of", metavar="ANSWER", help="explains this answer")
-    ask.add_argument("--brief", action="store_true", help="prints FILE:LINE:COLUMN: .. alone, for editors")
-    ask.add_argument("words", metavar="WORDS", nargs="...", help="a line of wsc; with --of a file")
+    ask.add_argument("--of", metavar="ANSWER", help="explain this answer")
+    ask.add_argument("--brief", action="store_true", help="print only FILE:LINE:COLUMN: .., for editors")
+    ask.add_argument("words", metavar="WORDS", nargs="...", help="a command of wsc with its arguments; with --of a file")
     line = ask.parse_args()
     words = line.words[1:] if line.words[:1] == ["--"] else line.words
     if line.of is not None:
@@ -94,7 +94,7 @@ def main() -> int:
         print(*(said or ["this is no refusal"]), sep="\n")
         return 0
     if not words:
-        ask.error("words of a line of wsc are missing")
+        ask.error("a command of wsc is missing")
     if line.brief:
         return brief(line.wsc, words)
     status, answer, said = run(line.wsc, words)

@@ -1,13 +1,14 @@
-"""Timed runs of many jobs on many machines, on one computer or several.
+"""Plan timed runs of many jobs on many machines, run them on one computer or several, and gather the results.
 
-`plan` prints one command a line: each job with each line of wsc-sim's options that the --do give, where {a,b} stands
-for a and for b. As with python/wsc-sweep each command stands alone and writes a result file of its own, and the lines
-run in any order, anywhere: by `xargs -d '\\n' -n 1 -P 4 sh -c`, `parallel`, or an array of Slurm. `one` is such a
-command; `run` makes all that have no result one after the other in one process, which is how PyPy gets fast.
+`plan` prints one command a line, for each job and each set of wsc-sim's options. Each --do gives sets of options, where
+{a,b} stands for a and for b. As with wsc-sweep, each command runs on its own and writes its own result file. The commands
+run in any order, on any computer: by `xargs -d '\\n' -n 1 -P 4 sh -c`, by `parallel`, or as a Slurm array. `one` is such
+a command. `run` runs the commands of a plan that have no result, one after another in one process; PyPy needs that to get
+fast.
 
-`collect` makes a table of all results, says what is to be looked at, and draws a panel for each job: --y over --x, a
-line for each value of the options --lines, of those results for which --where holds; an option that a line doesn't
-give is in no column. `compare` prints a row for each job: --y of the line --base, and of each other line its part of it.
+`collect` makes a table of all results and reports what needs attention. It draws a panel for each job: --y over --x, with
+a line for each value of the options --lines, from the results for which --where holds. `compare` prints a row for each
+job: --y for the options --base, and for each other set of options the ratio to that.
 """
 
 from __future__ import annotations
@@ -171,41 +172,41 @@ def lines() -> argparse.ArgumentParser:
     """The line of the program."""
     ask = Line(__doc__)
     kinds = ask.add_subparsers(required=True, metavar="plan|one|run|collect|compare")
-    it = kinds.add_parser("plan", help="prints the lines")
-    it.add_argument("--jobs", metavar="FILE", nargs="+", required=True)
+    it = kinds.add_parser("plan", help="print the commands")
+    it.add_argument("--jobs", metavar="FILE", nargs="+", required=True, help="the jobs or assemblies")
     it.add_argument("--do", metavar="OPTIONS", action="append", required=True,
-                    help="options of wsc-sim; {a,b} stands for a and for b; may be given several times")
+                    help="options of wsc-sim; {a,b} stands for a and for b; can be repeated")
     it.add_argument("--out", metavar="DIR", default="results", help="the folder of the results (results)")
     add_program(it)
-    it.add_argument("--left", action="store_true", help="only what has no result")
+    it.add_argument("--left", action="store_true", help="only the commands without a result")
     it.set_defaults(act=plan)
-    it = kinds.add_parser("one", help="what a line of the plan calls")
+    it = kinds.add_parser("one", help="run one job, as a command of the plan does")
     add_program(it)
-    it.add_argument("--out", metavar="RESULT", required=True)
-    it.add_argument("job", metavar="FILE")
-    it.add_argument("words", metavar="WORD", nargs=argparse.REMAINDER)
+    it.add_argument("--out", metavar="RESULT", required=True, help="the result file")
+    it.add_argument("job", metavar="FILE", help="a job or an assembly")
+    it.add_argument("words", metavar="WORD", nargs=argparse.REMAINDER, help="options of wsc-sim")
     it.set_defaults(act=one)
-    it = kinds.add_parser("run", help="runs what has no result, in this process")
-    it.add_argument("plan", metavar="PLAN")
+    it = kinds.add_parser("run", help="run the commands without a result, in this process")
+    it.add_argument("plan", metavar="PLAN", help="a file with what `plan` printed")
     it.set_defaults(act=run)
-    it = kinds.add_parser("collect", help="makes a table of all results, and a picture")
-    it.add_argument("dir", metavar="DIR")
+    it = kinds.add_parser("collect", help="make a table of all results, and a picture")
+    it.add_argument("dir", metavar="DIR", help="the folder of the results")
     it.add_argument("--csv", metavar="TABLE", help="a file for the table")
     it.add_argument("--svg", metavar="PICTURE", help="a file for the picture")
-    it.add_argument("--x", metavar="OPTION", default="waves", help="runs along the picture (waves)")
-    it.add_argument("--y", metavar="COLUMN", default="cycles", help="is drawn (cycles)")
-    it.add_argument("--lines", metavar="OPTION", action="append", default=[], help="a line for each value of it")
-    it.add_argument("--where", metavar="OPTION=VALUE", action="append", default=[], help="only these results")
-    it.add_argument("--title", metavar="TEXT", default="")
-    it.add_argument("--plan", metavar="FILE", help="the plan, to tell which of its lines have no result")
+    it.add_argument("--x", metavar="OPTION", default="waves", help="the option on the x axis (waves)")
+    it.add_argument("--y", metavar="COLUMN", default="cycles", help="the column on the y axis (cycles)")
+    it.add_argument("--lines", metavar="OPTION", action="append", default=[], help="draw a line for each value of it")
+    it.add_argument("--where", metavar="OPTION=VALUE", action="append", default=[], help="draw only these results")
+    it.add_argument("--title", metavar="TEXT", default="", help="the title of the picture")
+    it.add_argument("--plan", metavar="FILE", help="the plan, to report which of its commands have no result")
     it.set_defaults(act=collect)
-    it = kinds.add_parser("compare", help="prints a table of results beside those of one line")
-    it.add_argument("dir", metavar="DIR")
-    it.add_argument("--base", metavar="OPTIONS", required=True, help="the line that the others are compared with")
-    it.add_argument("--only", metavar="WORD", action="append", help="only lines with such a word")
-    it.add_argument("--y", metavar="COLUMN", default="cycles", help="is compared (cycles)")
+    it = kinds.add_parser("compare", help="print a table of results beside those of one set of options")
+    it.add_argument("dir", metavar="DIR", help="the folder of the results")
+    it.add_argument("--base", metavar="OPTIONS", required=True, help="the options to compare the others with")
+    it.add_argument("--only", metavar="WORD", action="append", help="only sets of options with this word")
+    it.add_argument("--y", metavar="COLUMN", default="cycles", help="the column to compare (cycles)")
     it.add_argument("--svg", metavar="PICTURE", help="a file for a picture")
-    it.add_argument("--title", metavar="TEXT", default="")
+    it.add_argument("--title", metavar="TEXT", default="", help="the title of the picture")
     it.set_defaults(act=compare)
     return ask
 

@@ -1,9 +1,9 @@
-"""What `wsc`, which is proved, says of a trace that any model wrote: `wsc-replay-check [FILE]`, or standard input.
+"""Check a trace that any model wrote with `wsc replay`, which is proved. Without FILE, standard input is read.
 
 The text has the assembly, its input after %input, and after %trace the events, `match W I P` and `issue W I`, in the
-order in which they happened. `wsc replay` makes them one after the other; if they come to rest, the words and the
-firings are compared with those of `wsc exec`. An event that isn't enabled is reported with its instruction, an index
-fault with its array. Comments `# cycle N` before events are counted; they are the model's word alone.
+order in which they happened. `wsc replay` repeats them one after another. If no further event is enabled at their end,
+the words and the firings are compared with those of `wsc exec`. An event that isn't enabled is reported with its
+instruction, an index fault with its array. Comments `# cycle N` before events are counted, but not checked.
 
     (wsc compile < sum.job; sed -n '/^%input/,$p' sum.job) | wsc trace | ./model | python/wsc-replay-check
 """
@@ -58,7 +58,7 @@ def judged(program: str, text: str) -> tuple[bool, str]:
 
 def main() -> int:
     ask = Line(__doc__)
-    ask.add_argument("file", metavar="FILE", nargs="?")
+    ask.add_argument("file", metavar="FILE", nargs="?", help="a trace")
     add_program(ask)
     line = ask.parse_args()
     holds, said = judged(line.wsc, given(line.file))

@@ -1,9 +1,9 @@
-"""A timing model of a WaveScalar machine: how many cycles a program takes, and what they go to.
+"""Simulate a program on a timing model of a WaveScalar machine: how many cycles it takes, and what causes them.
 
-FILE is a job, which the program wsc then compiles, or an assembly; standard input without it. Several files, jobs
-that lines %job separate, and --threads are threads of one machine. The machine is one of machines/, or a file in TOML
-or JSON; each of its parameters is an option too. The cycles are the model's word; what the run prints need not be:
---verify gives its events to `wsc replay`, which is proved.
+FILE is a job, which wsc compiles, or an assembly; without FILE, standard input is read. Several files, jobs that lines
+%job separate, and --threads make threads of one machine. The machine is one of those listed at --machine, or a file in
+TOML or JSON; each of its parameters is an option too. Nothing proves the cycles. What the run prints can be checked:
+with --verify the proved `wsc replay` repeats the run's events.
 
     wsc-sim examples/matrix.job --machine sixteen-clusters --waves 8 --verify
 """
@@ -49,23 +49,23 @@ def parameters_of(line: argparse.Namespace) -> Values:
 def ask_for() -> argparse.ArgumentParser:
     """The line of the program."""
     ask = Line(__doc__)
-    ask.add_argument("files", metavar="FILE", nargs="*")
-    ask.add_argument("--threads", metavar="N", type=int, default=1, help="each program in so many threads (1)")
+    ask.add_argument("files", metavar="FILE", nargs="*", help="a job or an assembly")
+    ask.add_argument("--threads", metavar="N", type=int, default=1, help="run each program in N threads (1)")
     ask.add_argument("--machine", metavar="NAME", default="one-cluster", help=f"{ready()}, or a file (one-cluster)")
     ask.add_argument("--budget", metavar="N", type=int, default=BUDGET, help=f"the most firings ({BUDGET})")
     kinds = ask.add_mutually_exclusive_group()
-    kinds.add_argument("--csv", action="store_true", help="all numbers as a table in long form")
-    kinds.add_argument("--json", action="store_true", help="all but those by cycle, and the machine")
-    kinds.add_argument("--stats", action="store_true", help="what wsc exec --stats prints, and the cycles")
-    kinds.add_argument("--parameters", action="store_true", help="the parameters of machines; no FILE is read")
-    ask.add_argument("--svg", metavar="PICTURE", help="writes a picture to this file too")
-    ask.add_argument("--page", metavar="FILE", help="writes a page that shows the run cycle by cycle")
+    kinds.add_argument("--csv", action="store_true", help="print all numbers as a table in long form")
+    kinds.add_argument("--json", action="store_true", help="print all numbers but those by cycle, and the machine")
+    kinds.add_argument("--stats", action="store_true", help="print what wsc exec --stats prints, and the cycles")
+    kinds.add_argument("--parameters", action="store_true", help="print the parameters of machines; no FILE is read")
+    ask.add_argument("--svg", metavar="PICTURE", help="write a picture to this file too")
+    ask.add_argument("--page", metavar="FILE", help="write a page that shows the run cycle by cycle")
     ask.add_argument("--title", metavar="TEXT", help="the title of both (the file's name and the machine)")
-    ask.add_argument("--trace", metavar="FILE", help="writes the events as a text for wsc replay; of several threads"
+    ask.add_argument("--trace", metavar="FILE", help="write the events as a text for wsc replay; for several threads"
                      " to FILE.1 and so on")
-    ask.add_argument("--places", metavar="FILE", help="writes which instruction lies on which element")
+    ask.add_argument("--places", metavar="FILE", help="write which instruction lies on which element")
     ask.add_argument("--verify", action="store_true",
-                     help="wsc replay takes the events, to the words and firings of wsc exec")
+                     help="check by wsc replay that the events are a run with the words and firings of wsc exec")
     add_program(ask)
     add_parameters(ask)
     return ask

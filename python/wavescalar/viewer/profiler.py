@@ -1,14 +1,14 @@
-"""Numbers of a run, from what `wsc trace` prints.
+"""Report the numbers of a run, from what `wsc trace` prints.
 
-FILE is a text with a section %trace, or an assembly without one, or a job, which the program wsc then
-compiles and traces; standard input without it.
+FILE is a text with a section %trace, an assembly without one, or a job; without FILE, standard input is read. wsc compiles
+a job and traces what has no trace.
 
-A firing is an instance that has all its tokens; an issue is a memory operation that is done. A firing
-depends on the firings and issues that sent its tokens; an issue on its own firing and on the issue of the
-operation before it, or, of a load, on that of the operation that reaches its ripple number. The critical path
-is the longest chain of firings and issues that depend on each other. In an ideal round all tokens come that
-are on their way when it begins, and all requests are issued that may be, one behind the other. A wave number
-is in flight while it has a token on its way or at a port, or a request that waits.
+A firing is an instance that has all its tokens; an issue is a memory operation that is done. A firing depends on the
+firings and issues that sent its tokens. An issue depends on its own firing and on the issue of the operation before it; for
+a load, on that of the operation that reaches its ripple number. The critical path is the longest chain of firings and
+issues that depend on each other. In an ideal round all tokens arrive that are in flight when it begins, and all requests
+are issued that may be, one after another. A wave number is in flight while it has a token in flight or at a port, or a
+request that waits.
 """
 
 import csv
@@ -24,9 +24,9 @@ from wavescalar.viewer.profile_report import picture, table, told
 
 def main() -> int:
     ask = Line(__doc__)
-    ask.add_argument("file", metavar="FILE", nargs="?")
-    ask.add_argument("--csv", action="store_true", help="a table in long form in place of the text")
-    ask.add_argument("--svg", metavar="PICTURE", help="writes a picture to this file too")
+    ask.add_argument("file", metavar="FILE", nargs="?", help="a trace, an assembly or a job")
+    ask.add_argument("--csv", action="store_true", help="print a table in long form in place of the text")
+    ask.add_argument("--svg", metavar="PICTURE", help="write a picture to this file too")
     ask.add_argument("--title", metavar="TEXT", help="the picture's title (the file's name)")
     add_program(ask)
     line = ask.parse_args()

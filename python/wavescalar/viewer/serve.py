@@ -1,4 +1,4 @@
-"""A page for a class, served to this machine alone: edit a job, see what the program says, and step through two orders
+"""Serve a page for a class, on this computer only: edit a job, see what the program answers, and step through two orders
 of its events side by side.
 
 JOB is the text that the page begins with. Each text is given to `explain_json.py`, `layout_json.py` and `runs_json.py`, in
@@ -361,9 +361,9 @@ def interrupted(*_: Any) -> None:
 def main() -> int:
     ask = Line(__doc__)
     ask.add_argument("job", metavar="JOB", nargs="?", help="the text that the page begins with (examples/sum.job)")
-    ask.add_argument("--port", metavar="N", type=int, default=PORT, help=f"the port ({PORT}); 0: any that is free")
+    ask.add_argument("--port", metavar="N", type=int, default=PORT, help=f"the port ({PORT}); 0: any free port")
     ask.add_argument("--seconds", metavar="N", type=int, default=SECONDS,
-                     help=f"after so long what is done for a text is ended ({SECONDS})")
+                     help=f"end the processing of a text after this time ({SECONDS})")
     add_program(ask)
     line = ask.parse_args()
     if not 0 <= line.port <= 65535:

@@ -1,15 +1,15 @@
-"""Runs of many jobs with many options, on one machine or several.
+"""Plan runs of many jobs with many options, run them on one computer or several, and gather the results.
 
-`plan` prints one command a line: each job with each line of `wsc` that the --do give, where {a,b} stands
-for a and for b. Each command stands alone and writes a result file of its own, so that the lines may be run
-in any order, anywhere, and again: by `xargs -d '\\n' -n 1 -P 4 sh -c`, `parallel`, or an array of Slurm. With
---left it prints only those whose result isn't there.
+`plan` prints one command a line, for each job and each command line of `wsc`. Each --do gives command lines, where {a,b}
+stands for a and for b. Each printed command runs on its own and writes its own result file. So the commands can run in any
+order, on any computer, and again: by `xargs -d '\\n' -n 1 -P 4 sh -c`, by `parallel`, or as a Slurm array. With --left,
+`plan` prints only the commands without a result.
 
-`one` gives a job to the program and measures it. A line that reads assembly is given the job's, which is
-made before and not measured. The file appears under its name when it is whole.
+`one` gives a job to the program and measures the run. A command that reads an assembly gets the job's; compiling it isn't
+measured. The result file gets its name when it is complete.
 
-`collect` makes a table of all results, one a row, says where a run failed, where two runs of one job
-printed other words, and which lines of the plan have no result, and draws the medians.
+`collect` makes a table with a row for each result, and draws the medians. It reports runs that failed, runs of one job
+that printed different words, and commands of the plan without a result.
 """
 
 from __future__ import annotations
@@ -105,32 +105,32 @@ def one(line: argparse.Namespace) -> int:
 def main() -> int:
     ask = Line(__doc__)
     kinds = ask.add_subparsers(required=True, metavar="plan|one|collect")
-    it = kinds.add_parser("plan", help="prints the lines")
-    it.add_argument("--jobs", metavar="FILE", nargs="+", required=True)
+    it = kinds.add_parser("plan", help="print the commands")
+    it.add_argument("--jobs", metavar="FILE", nargs="+", required=True, help="the jobs")
     it.add_argument("--do", metavar="LINE", action="append", required=True,
-                    help="a line of wsc; {a,b} stands for a and for b; may be given several times")
-    it.add_argument("--repeat", metavar="N", type=int, default=1, help="each line so often (1)")
+                    help="a command line of wsc; {a,b} stands for a and for b; can be repeated")
+    it.add_argument("--repeat", metavar="N", type=int, default=1, help="run each command line N times (1)")
     it.add_argument("--out", metavar="DIR", default="results", help="the folder of the results (results)")
     add_program(it)
     it.add_argument("--limit", metavar="SECONDS", type=float, default=600.0,
-                    help="after so long a run is ended (600)")
-    it.add_argument("--left", action="store_true", help="only what has no result")
+                    help="end a run after this time (600)")
+    it.add_argument("--left", action="store_true", help="only the commands without a result")
     it.set_defaults(act=plan)
-    it = kinds.add_parser("one", help="what a line of the plan calls")
+    it = kinds.add_parser("one", help="run and measure one job, as a command of the plan does")
     add_program(it)
-    it.add_argument("--out", metavar="RESULT", required=True)
-    it.add_argument("--limit", metavar="SECONDS", type=float, default=600.0)
-    it.add_argument("job", metavar="FILE")
-    it.add_argument("words", metavar="WORD", nargs=argparse.REMAINDER)
+    it.add_argument("--out", metavar="RESULT", required=True, help="the result file")
+    it.add_argument("--limit", metavar="SECONDS", type=float, default=600.0, help="end the run after this time (600)")
+    it.add_argument("job", metavar="FILE", help="the job")
+    it.add_argument("words", metavar="WORD", nargs=argparse.REMAINDER, help="a command line of wsc")
     it.set_defaults(act=one)
-    it = kinds.add_parser("collect", help="makes a table of all results, and a picture")
-    it.add_argument("dir", metavar="DIR")
+    it = kinds.add_parser("collect", help="make a table of all results, and a picture")
+    it.add_argument("dir", metavar="DIR", help="the folder of the results")
     it.add_argument("--csv", metavar="TABLE", help="a file for the table; else standard output")
     it.add_argument("--svg", metavar="PICTURE", help="a file for the picture")
-    it.add_argument("--x", metavar="OPTION", default="workers", help="runs along the picture (workers)")
-    it.add_argument("--y", metavar="COLUMN", default="wall", help="is drawn (wall)")
-    it.add_argument("--title", metavar="TEXT", default="")
-    it.add_argument("--plan", metavar="FILE", help="the plan, to tell which of its lines have no result")
+    it.add_argument("--x", metavar="OPTION", default="workers", help="the option on the x axis (workers)")
+    it.add_argument("--y", metavar="COLUMN", default="wall", help="the column on the y axis (wall)")
+    it.add_argument("--title", metavar="TEXT", default="", help="the title of the picture")
+    it.add_argument("--plan", metavar="FILE", help="the plan, to report which of its commands have no result")
     it.set_defaults(act=collect)
     line = ask.parse_args()
     return int(line.act(line))

@@ -1,8 +1,8 @@
-"""Draws what `wsc compile` or `wsc trace` prints: one HTML page, with all that it needs in it.
+"""Draw what `wsc compile` or `wsc trace` prints, as one HTML page that needs no other file.
 
-FILE is a job, or an assembly with or without the sections %input and %trace; standard input without it.
-A job is compiled, and what has no trace is traced, by the program wsc. PAGE is FILE with the ending .html,
-or standard output where there is no FILE.
+FILE is a job, or an assembly with or without the sections %input and %trace; without FILE, standard input is read. wsc
+compiles a job, and traces what has no trace. PAGE is by default FILE with the ending .html, or standard output without
+FILE.
 """
 
 import functools
@@ -105,14 +105,14 @@ def page(text: str, title: str, most: int, job: str = "", program: str | None = 
 
 def main() -> int:
     ask = Line(__doc__)
-    ask.add_argument("file", metavar="FILE", nargs="?")
-    ask.add_argument("-o", "--out", metavar="PAGE")
+    ask.add_argument("file", metavar="FILE", nargs="?", help="a job, an assembly or a trace")
+    ask.add_argument("-o", "--out", metavar="PAGE", help="the file of the page")
     ask.add_argument("--title", metavar="TEXT", help="the page's title (the file's name)")
-    ask.add_argument("--events", metavar="N", type=int, default=20000, help="at most so many events (20,000)")
-    ask.add_argument("--rounds", action="store_true", help="rounds of all that can happen, not the trace")
-    ask.add_argument("--graph", action="store_true", help="the graph alone: nothing is traced")
-    ask.add_argument("--elements", metavar="N", type=int, help="cycles of a clocked grid with N elements (16)")
-    ask.add_argument("--waves", metavar="N", type=int, help="cycles of a grid with N waves in flight (4)")
+    ask.add_argument("--events", metavar="N", type=int, default=20000, help="show at most N events (20,000)")
+    ask.add_argument("--rounds", action="store_true", help="show rounds of all events that can happen, not the trace")
+    ask.add_argument("--graph", action="store_true", help="show only the graph: nothing is traced")
+    ask.add_argument("--elements", metavar="N", type=int, help="show cycles of a clocked grid with N elements (16)")
+    ask.add_argument("--waves", metavar="N", type=int, help="show cycles of a grid with N waves in flight (4)")
     add_program(ask)
     line = ask.parse_args()
     if line.rounds + line.graph + (line.elements is not None or line.waves is not None) > 1:

@@ -29,7 +29,7 @@ _wsc() {
     replay) words="--help" ;;
     decouple) words="--budget --memory --stats --help" ;;
     grid) words="--elements --waves --budget --memory --stats --help" ;;
-    stream) words="--budget --memory --stats --help" ;;
+    stream) words="--budget --memory --stats --progress --help" ;;
     optimize) words="--help" ;;
     gen) words="--help" ;;
     bench) words="--workers --budget --help" ;;

@@ -26,4 +26,5 @@ complete -c wsc -n '__fish_seen_subcommand_from grid' -l waves -x -d 'So many wa
 complete -c wsc -n '__fish_seen_subcommand_from plain' -l turns -x -d 'Take at most this many turns'
 complete -c wsc -n '__fish_seen_subcommand_from run plain multi exec decouple grid stream' -l memory -d 'Show each array with its cells after the run'
 complete -c wsc -n '__fish_seen_subcommand_from run plain multi exec decouple grid stream' -l stats -d 'Show how many instances fired'
+complete -c wsc -n '__fish_seen_subcommand_from stream' -l progress -d 'Write a line `firings N` to standard error each 67108864 firings'
 complete -c wsc -n '__fish_seen_subcommand_from gen bench' -f

@@ -1,8 +1,8 @@
 -- What the end of a run says of the walk.
 use Rattle.std.proofs.Common.{ℕ, ◌+◌, ◌≡◌, ◌<◌, ◌≤◌, ◌⊎◌, true, false, List, [], length, refl, sym, ◌∙◌}
-use Rattle.std.proofs.Common.{subst, arith}
+use Rattle.std.proofs.Common.{subst, ap, drop, arith}
 use Rattle.std.proofs.lemmas.Bool.{both_ways}
-use Rattle.ws_words.specs.Outside.{Outside, World}
+use Rattle.ws_words.specs.Outside.{Outside, World, printed_words}
 use Rattle.ws_isa.specs.Image as plain
 use Rattle.ws_isa.specs.Image.{Image}
 use Rattle.ws_isa.specs.Formed.{Formed}
@@ -25,9 +25,11 @@ use Rattle.df_core.proofs.Telling.Place.{fault_place}
 use Rattle.df_core.specs.declared.drive.Finish.{Finish}
 use Rattle.df_core.specs.declared.drive.Finish.TheVariants as finish
 use Rattle.df_core.specs.declared.flow.Flow.{Flow}
-use Rattle.df_core.specs.Flows.{IsFault, FlowIs}
+use Rattle.df_core.specs.declared.memory.Memory.{Memory}
+use Rattle.df_core.specs.Flows.{IsFault, FlowIs, Reaches}
 use Rattle.df_core.specs.Finishes.{FinishIs, IsSpent, Ended, is_budget}
-use Rattle.df_core.specs.Told.{done_of, run_of}
+use Rattle.df_core.specs.declared.answer.Done.{Done}
+use Rattle.df_core.specs.Told.{done_with, done_of, run_from, run_of}
 use Rattle.df_core.specs.Answer.{Tells, Rested, CutShort, Faulted, RunSo}
 use Rattle.df_core.proofs.Parts.Issuing.{printed_alike, ports_alike}
 use Rattle.df_core.proofs.Telling.Firings.{none_fires}
@@ -41,17 +43,34 @@ going_rest : (image : Image) (world : World) (s : State) → s.stopped ≡ false
 going_rest image world s going h = grind (arith, both_ways)
 
 -- an effect tells what is outside: loads neither print, nor store, nor give words to ports
-tells : (o : Outside) (flow : Flow) → MemoryIs (effect_of o) flow.memory → Tells o (done_of flow)
+tells : (o : Outside) (flow : Flow) → MemoryIs (effect_of o) flow.memory
+    → Tells o (done_with (printed_words (effect_of o).acts) flow)
 tells o flow h = grind (arith, printed_alike, ports_alike)
+
+-- what a flow tells, with all words that were printed
+abbrev pub told_at : State → Flow → Done
+told_at s flow = done_with (printed_words s.memory.acts) flow
+
+-- where none were let go, all words are kept
+pub all_kept : (o : Outside) (m : Memory) → MemoryIs o m → m.gone ≡ 0 → printed_words o.acts ≡ m.printed.items
+all_kept o m h none = sym (h.same_printed ∙ ap (λ (n : ℕ). drop n (printed_words o.acts)) none)
+
+pub told_whole : (o : Outside) (flow : Flow) → MemoryIs o flow.memory → flow.memory.gone ≡ 0
+    → done_with (printed_words o.acts) flow ≡ done_of flow
+told_whole o flow h none =
+    ap (λ (words : List ℕ). done_with words flow) (all_kept o flow.memory h none)
 
 module _ (image : Image) (world : World) (facts : WalkFacts image world) (budget : ℕ)
     (taken : List plain.Token) (flow : Flow) (s : State) (k : Kept image world s)
     (h : FlowIs image world taken flow s) where
-  tells_at : (t : ℕ) → effect_at image world t ≡ s.memory → Tells (mem image world t) (done_of flow)
-  tells_at t e = tells (mem image world t) flow (subst (λ (o : Outside). MemoryIs o flow.memory)
-      (sym e ∙ effect_is image world t) h.memory_is)
+  tells_at : (t : ℕ) → effect_at image world t ≡ s.memory → Tells (mem image world t) (told_at s flow)
+  tells_at t e =
+      let same : s.memory ≡ effect_of (mem image world t) = sym e ∙ effect_is image world t in
+      subst (λ (words : List ℕ). Tells (mem image world t) (done_with words flow))
+      (ap (λ (o : Outside). printed_words o.acts) (sym same))
+      (tells (mem image world t) flow (subst (λ (o : Outside). MemoryIs o flow.memory) same h.memory_is))
 
-  rested : flow.fired ≤ budget → WholeRun image world s → Rested image world budget (done_of flow)
+  rested : flow.fired ≤ budget → WholeRun image world s → Rested image world budget (told_at s flow)
   rested within w =
       let f = fired_count image world facts s k.fit k.once in
       let n : length s.fired ≡ flow.fired = h.count_is in
@@ -74,7 +93,7 @@ module _ (image : Image) (world : World) (facts : WalkFacts image world) (budget
             );
       }
 
-  cut : IsSpent image budget s → CutShort image world budget (done_of flow)
+  cut : IsSpent image budget s → CutShort image world budget (told_at s flow)
   cut p =
       let after = after_fired image world facts s k.fit p.going k.grounded p.settled in
       record {
@@ -97,7 +116,7 @@ module _ (image : Image) (world : World) (facts : WalkFacts image world) (budget
       }
 
   faulted : flow.fired ≤ budget → s.stopped ≡ true → (array : ℕ) → IsFault image world array
-      → Faulted image world budget array (done_of flow)
+      → Faulted image world budget array (told_at s flow)
   faulted within e array f =
       let at : AtFault image world s = at_fault image world facts s k.fit e in
       let same : at.time ≡ f.time = one_fault image world facts at.time f.time at.fault f.fault in
@@ -117,7 +136,7 @@ module _ (image : Image) (world : World) (facts : WalkFacts image world) (budget
       }
 
   pub says : (finish : Finish) → flow.fired ≤ budget → FinishIs image world budget finish s
-      → RunSo image world budget (run_of finish flow)
+      → RunSo image world budget (run_from finish (told_at s flow))
   says finish le f = grind (arith, rested, going_rest, rest_ends, no_fault_at, cut, both_ways, faulted)
 
 -- a run from what was opened
@@ -126,10 +145,18 @@ pub opened_none : (image : Image) (world : World) (flow : Flow)
 unfolding core_opening
 opened_none image world flow h = sym h.count_is
 
+-- how a run led on from a state, and what is told of its end
+pub record Answered (image : Image) (world : World) (budget : ℕ) (finish : Finish) (new : Flow) (s : State)
+    : Type 0 where
+  pub state : State
+  pub reached : Reaches image s state
+  pub holds : FlowIs image world [] new state
+  pub so : RunSo image world budget (run_from finish (told_at state new))
+
 -- a run from wherever the parts stood
 pub answers : (image : Image) (world : World) (budget : ℕ) (finish : Finish) (old new : Flow) (s : State)
     → Formed image → Sound image → FlowIs image world [] old s → new.fired ≤ budget
-    → Ended image budget old new finish → RunSo image world budget (run_of finish new)
+    → Ended image budget old new finish → Answered image world budget finish new s
 answers image world budget finish old new s formed sound h le f =
     let r = f world s formed sound h in
     let held : FlowIs image world [] new r.0 = r.2 in
@@ -138,8 +165,21 @@ answers image world budget finish old new s formed sound h le f =
       grounded = held.stands.grounded;
       once = held.stands.once;
     } in
-    says image world (facts_of image world (ports_there image formed) sound) budget [] new r.0 k held finish
-    le r.3
+    record {
+      state = r.0;
+      reached = r.1;
+      holds = r.2;
+      so = says image world (facts_of image world (ports_there image formed) sound) budget [] new r.0 k held
+          finish le r.3;
+    }
+
+-- what is told of a run whose words were all kept
+pub whole : (image : Image) (world : World) (budget : ℕ) (finish : Finish) (new : Flow) (s : State)
+    → Answered image world budget finish new s → new.memory.gone ≡ 0
+    → RunSo image world budget (run_of finish new)
+whole image world budget finish new s a none =
+    subst (λ (d : Done). RunSo image world budget (run_from finish d))
+    (told_whole a.state.memory new a.holds.memory_is none) a.so
 
 -- where the budget is spent: the operations that the chain has passed are the most that have fired
 pub spends : (image : Image) (world : World) (budget : ℕ) (finish : Finish) (s : State) → Formed image

@@ -12,6 +12,7 @@ loop-place-init c = record {
   room = λ n r. r;
   weight = omega arith;
   count = refl;
+  gone = refl;
 }
 
 pub loop-place-preserved : goal.loop-place-preserved
@@ -24,6 +25,7 @@ loop-place-preserved c = record {
   room = λ n r. c.issue.ensures.room n (c.loop-place.invariant.room n r);
   weight = omega (arith, c.issue.ensures.weight, c.loop-place.invariant.weight);
   count = c.issue.ensures.count ∙ c.loop-place.invariant.count;
+  gone = c.issue.ensures.gone ∙ c.loop-place.invariant.gone;
 }
 
 pub issue-requires-clause-room : goal.issue-requires-clause-room

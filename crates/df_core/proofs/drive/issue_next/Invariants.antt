@@ -9,6 +9,7 @@ invariant-loop-place l = record {
   room : (n : ℕ) → FlowRoom l.initial.flow 0 n → FlowRoom l.flow 0 n;
   weight : weight l.flow ≤ weight l.initial.flow;
   count : l.flow.fired ≡ l.initial.flow.fired;
+  gone : l.flow.memory.gone ≡ l.initial.flow.memory.gone;
 }
 
 abbrev pub decreases-loop-place : goal.decreases-loop-place

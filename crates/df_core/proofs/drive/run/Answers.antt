@@ -1,4 +1,4 @@
-use Rattle.std.proofs.Common.{[], ◌≡◌, ◌+◌, ◌-◌, ◌∙◌, sym, ap, subst, is_some, false, arith}
+use Rattle.std.proofs.Common.{[], ◌≡◌, ◌+◌, ◌-◌, ◌∙◌, refl, sym, ap, subst, is_some, false, arith}
 use Rattle.df_core.specs.Core.{Issue}
 use Rattle.df_core.specs.declared.drive.Finish.{Finish}
 use Rattle.df_core.specs.Places.{image_of}
@@ -15,6 +15,7 @@ loop-flow-init c = record {
   room = c.requires.room;
   within = c.requires.fired;
   kept = λ n m e r. room_less c.args.flow.now n m (omega arith) r;
+  gone = refl;
 }
 
 pub returns-in-Some-clause-finish : goal.returns-in-Some-clause-finish
@@ -44,6 +45,7 @@ loop-flow-preserved-in-Some-issuable c =
       within = omega (arith, c.loop-flow.invariant.within, c.issue.ensures.count);
       kept = λ n m e r. c.issue.ensures.room m
           (c.loop-flow.invariant.kept n m (omega (arith, e, c.issue.ensures.count)) r);
+      gone = c.issue.ensures.gone ∙ c.loop-flow.invariant.gone;
     }
 
 pub returns-in-None-clause-finish : goal.returns-in-None-clause-finish
@@ -86,6 +88,7 @@ loop-flow-preserved c =
       kept = λ n m e r. (let k = m + c.match_next.new.flow.fired - c.loop-flow.flow.fired in
           c.match_next.ensures.room k m (omega (arith, c.match_next.ensures.count.0))
           (c.loop-flow.invariant.kept n k (omega (arith, e, c.match_next.ensures.count.0)) r));
+      gone = c.match_next.ensures.gone ∙ c.loop-flow.invariant.gone;
     }
 
 pub issue-requires-clause-going : goal.issue-requires-clause-going

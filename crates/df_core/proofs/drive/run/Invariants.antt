@@ -10,6 +10,7 @@ invariant-loop-flow l = record {
   within : l.flow.fired ≤ l.budget;
   kept : (n m : ℕ) → m + l.flow.fired ≡ n + l.fn.flow.fired → FlowRoom l.fn.flow 0 n
       → FlowRoom l.flow 0 m;
+  gone : l.flow.memory.gone ≡ l.fn.flow.memory.gone;
 }
 
 abbrev pub decreases-loop-flow : goal.decreases-loop-flow

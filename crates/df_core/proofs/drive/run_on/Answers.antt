@@ -1,4 +1,4 @@
-use Rattle.std.proofs.Common.{◌≡◌, ◌∙◌, ◌⊎◌, sym, false, inl, inr, arith}
+use Rattle.std.proofs.Common.{◌≡◌, ◌∙◌, ◌⊎◌, refl, sym, false, inl, inr, arith}
 use Rattle.df_core.specs.Places.{image_of}
 use Rattle.df_core.proofs.Parts.Driving.{follows_none, follows_on, going_on, same_follows, ended_follows}
 use Rattle.df_core.proofs.Parts.Driving.{ended_on}
@@ -11,6 +11,7 @@ pub loop-flow-init : goal.loop-flow-init
 loop-flow-init c = record {
   follows = follows_none (image_of c.args.program.now) c.args.flow.now;
   within = c.requires.fired;
+  gone = refl;
 }
 
 pub run-finish-requires-clause-going : goal.run-finish-requires-clause-going
@@ -47,4 +48,5 @@ loop-flow-preserved c =
           (ended_follows image c.min-until.result c.prepare.new.self c.run-finish.new.flow c.run-finish.result
           c.run-finish.ensures.finish));
       within = omega (arith, c.run-finish.ensures.within, c.if-until-budget.false);
+      gone = c.run-finish.ensures.gone ∙ c.prepare.ensures.same.memory.gone ∙ c.loop-flow.invariant.gone;
     }

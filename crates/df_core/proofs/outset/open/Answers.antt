@@ -23,8 +23,8 @@ send-requires-clause-later c =
     (start_few (image_of c.args.program.now) c.requires.formed) in
     omega (arith, f, c.in_ok-reserve-2.ensures.ok)
 
-pub returns : goal.returns
-returns c = λ sound formed.
+pub returns-clause-opening : goal.returns-clause-opening
+returns-clause-opening c = λ sound formed.
     let image = image_of c.args.program.now in
     let old : Way = record { front = 0; now = c.reserve.new.self; later = c.reserve-2.new.self } in
     opens_so image (world_of c.args.world.now) old _ c.saturating_add.result c.in_ok-open.ensures.slots
@@ -33,4 +33,4 @@ returns c = λ sound formed.
     (subst (λ ds. SentTo old c.send.new.self (tokens_to 0 0 ds)) c.start.ensures c.send.ensures.sent)
     c.new-3.ensures.items c.new-4.ensures.items refl refl
     (subst (λ xs. MemoryIs (opening_out (cells_of (map view.array xs)) (world_of c.args.world.now))
-    c.in_ok-open-2.field-0) c.deref.ensures.value c.in_ok-open-2.ensures) refl sound formed
+    c.in_ok-open-2.field-0) c.deref.ensures.value c.in_ok-open-2.ensures.memory) refl sound formed

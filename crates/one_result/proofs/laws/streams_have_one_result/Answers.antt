@@ -1,6 +1,7 @@
 use Rattle.one_result.proofs.Compiled.{job_told, code_told}
 use Rattle.one_result.proofs.Streamed.{one_stream_result, one_stream_again, one_stream_count}
 use Rattle.one_result.proofs.Streamed.{one_stream_front, one_stream_job, stream_meaning}
+use Rattle.one_result.proofs.Unwritten.{one_stream_broken_off}
 use Rattle.one_result.proofs.laws.streams_have_one_result.Goals as goal
 
 pub returns-clause-assembly : goal.returns-clause-assembly
@@ -26,6 +27,13 @@ returns-clause-front c = one_stream_front (record {
   instances = c.walks_go_on.ensures.instances;
   effects = c.effects_are_one.ensures;
 }) c.walks_go_on.ensures.acts
+
+pub returns-clause-broken : goal.returns-clause-broken
+returns-clause-broken c = one_stream_broken_off (record {
+  instances = c.walks_go_on.ensures.instances;
+  effects = c.effects_are_one.ensures;
+}) c.walks_go_on.ensures.acts c.runs_have_one_result.ensures.walk c.read_images_are_formed.ensures
+    c.each_assembly_is_read_or_refused.ensures.never_both
 
 pub returns-clause-says : goal.returns-clause-says
 returns-clause-says c = stream_meaning (code_told c.printed_reads_again.ensures

@@ -1,4 +1,4 @@
-use Rattle.std.proofs.Common.{List, ap, subst, sym, arith}
+use Rattle.std.proofs.Common.{List, ap, subst, sym, ◌∙◌, refl, arith}
 use Rattle.df_core.specs.Core.{Event}
 use Rattle.trace_check.specs.Replays.{events_of}
 use Rattle.trace_check.proofs.Making.{LedAlong, none_made, one_made, all_made, not_made, events_more}
@@ -6,11 +6,16 @@ use Rattle.trace_check.proofs.Making.{take_all}
 use Rattle.trace_check.proofs.replaying.make_all.Goals as goal
 
 pub loop-event-init : goal.loop-event-init
-loop-event-init c = record { core = c.requires; made = none_made c.args.core.now }
+loop-event-init c = record {
+  core = c.requires;
+  gone = refl;
+  made = none_made c.args.core.now;
+}
 
 pub loop-event-preserved : goal.loop-event-preserved
 loop-event-preserved c = record {
   core = c.in_default.ensures.core;
+  gone = c.in_default.ensures.gone ∙ c.loop-event.invariant.gone;
   made = subst (λ (es : List Event). LedAlong es c.args.core.now c.make.new.core)
       (sym (events_more c.args.events.now c.loop-event.event-index _ _ (omega arith) c.loop-event-test.true))
       (one_made _ _ c.args.core.now c.loop-event.core c.make.new.core c.loop-event.invariant.made

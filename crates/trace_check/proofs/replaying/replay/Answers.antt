@@ -1,4 +1,5 @@
-use Rattle.std.proofs.Common.{List, sym, subst, ◌∙◌}
+use Rattle.std.proofs.Common.{ℕ, List, drop, sym, ap, subst, ◌∙◌}
+use Rattle.ws_words.specs.Outside.{printed_words}
 use Rattle.ws_words.specs.Plain.{world_of}
 use Rattle.df_core.specs.Core.{Run, core_opening}
 use Rattle.trace_check.specs.declared.events.Lined.{Lined}
@@ -35,6 +36,9 @@ returns-clause-replayed c =
     } in
     replay_told image world c.args.trace.now _ s run facts
     (c.fired.ensures.state image world s at)
-    (c.printed.ensures.state image world s at ∙ sym c.in_ok-from_slice.ensures)
+    (sym (c.printed.ensures.state image world s at
+    ∙ ap (λ (n : ℕ). drop n (printed_words s.memory.acts))
+    (c.make_all.ensures.gone ∙ c.in_ok-core.ensures.gone))
+    ∙ sym c.in_ok-from_slice.ensures)
     (rest_told c.pick.result c.is_none.result c.make_all.new.core c.is_none.ensures c.pick.ensures image world
     s at)

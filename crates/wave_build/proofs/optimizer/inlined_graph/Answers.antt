@@ -1,4 +1,4 @@
-use Rattle.std.proofs.Common.{arith}
+use Rattle.std.proofs.Common.{◌+◌, ◌*◌, arith}
 use Rattle.src_ast.specs.Bound.{most_variables}
 use Rattle.src_ast.specs.View as ast
 use Rattle.cfg_core.specs.View as view

@@ -8,7 +8,7 @@ pub returns : goal.returns
 returns c =
     let i = c.in_ok-made.ensures in
     let p = c.in_ok-plan.ensures in
-    let plan : Plan = record { room = c.in_ok-plan.plan.room; chosen = c.in_ok-plan.plan.chosen.items } in
+    let plan : Plan = record { room = c.in_ok-plan.plan.room; chosen = c.deref.result.now } in
     record {
       rules = i.rules;
       opened = λ parts vars few o. (

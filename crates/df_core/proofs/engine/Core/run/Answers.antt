@@ -5,20 +5,31 @@ use Rattle.ws_isa.specs.Sound.{Sound}
 use Rattle.df_core.specs.Places.{image_of}
 use Rattle.df_core.specs.Answer.{RunSo}
 use Rattle.df_core.specs.Ends.{AfterFired}
-use Rattle.df_core.specs.Told.{run_of}
-use Rattle.df_core.proofs.Telling.Saying.{answers, spends}
+use Rattle.df_core.specs.Told.{run_from}
+use Rattle.df_core.proofs.Telling.Saying.{answers, told_at, spends}
 use Rattle.df_core.proofs.Keeping.Reached.{Kept}
 use Rattle.df_core.proofs.engine.Core.run.Goals as goal
-use Rattle.df_core.specs.Flows.{FlowIs}
+use Rattle.df_core.specs.Flows.{FlowIs, Reaches}
 
 pub returns-clause-answer : goal.returns-clause-answer
 returns-clause-answer c = λ image world s at.
     let here = image_of c.args.self.now.program in
-    subst (λ (i : plain.Image). RunSo i world c.args.budget (run_of c.run.result c.run.new.flow)) at.image_is
-    (answers (image_of c.args.self.now.program) world c.args.budget c.run.result c.args.self.now.flow
-    c.run.new.flow s (subst Formed (sym at.image_is) at.formed) (subst Sound (sym at.image_is) at.sound)
+    let a = answers here world c.args.budget c.run.result c.args.self.now.flow c.run.new.flow s
+    (subst Formed (sym at.image_is) at.formed) (subst Sound (sym at.image_is) at.sound)
     (subst (λ (i : plain.Image). FlowIs i world [] c.args.self.now.flow s) (sym at.image_is) at.holds)
-    c.run.ensures.within c.run.ensures.finish)
+    c.run.ensures.within c.run.ensures.finish in
+    record {
+      state = a.state;
+      reached = subst (λ (i : plain.Image). Reaches i s a.state) at.image_is a.reached;
+      at = record {
+        image_is = at.image_is;
+        formed = at.formed;
+        sound = at.sound;
+        holds = subst (λ (i : plain.Image). FlowIs i world [] c.run.new.flow a.state) at.image_is a.holds;
+      };
+      so = subst (λ (i : plain.Image). RunSo i world c.args.budget (run_from c.run.result
+          (told_at a.state c.run.new.flow))) at.image_is a.so;
+    }
 
 pub returns-clause-spent : goal.returns-clause-spent
 returns-clause-spent c = λ image world s at.

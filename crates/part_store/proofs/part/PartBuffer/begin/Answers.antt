@@ -43,7 +43,7 @@ invariant_of-result g c =
       starved = false;
     } in
     let cells : c.in-Ok.cells ≡ cells_of image.arrays = c.in-Ok.ensures ∙ ap (λ xs. cells_of (map view.array
-    xs)) c.deref.ensures.value ∙ ap (λ (i : Image). cells_of i.arrays) (c.image.ensures ∙
+    xs)) c.deref.ensures.value ∙ ap (λ (i : Image). cells_of i.arrays) (c.image.ensures.content ∙
     c.program.ensures.image) in
     O.opening_stands image world g.J.Job.began (λ state r. c.every_list_of_events.ensures.reach image world
     c.program.ensures.formed c.program.ensures.sound state r) c.new-2.result (rw c.new-2.ensures

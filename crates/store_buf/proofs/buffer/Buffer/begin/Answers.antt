@@ -32,7 +32,7 @@ invariant_of-result g c =
     } in
     let cells : c.in-Ok.cells ≡ cells_of image.arrays = c.in-Ok.ensures
     ∙ ap (λ xs. cells_of (map view.array xs)) c.deref.ensures.value
-    ∙ ap (λ (i : Image). cells_of i.arrays) (c.image.ensures ∙ c.program.ensures.image) in
+    ∙ ap (λ (i : Image). cells_of i.arrays) (c.image.ensures.content ∙ c.program.ensures.image) in
     O.opening_stands image world g.J.Job.began (λ state r. c.every_list_of_events.ensures.reach image world
     c.program.ensures.formed c.program.ensures.sound state r)
     c.new-2.result (subst (AllBegan g.J.Job.began world.left) (sym c.new-2.ensures) c.requires.ports) s
@@ -62,7 +62,7 @@ returns-clause-stands g c =
     let world = g.J.Job.world in
     let cells : c.in-Ok.cells ≡ cells_of image.arrays = c.in-Ok.ensures
     ∙ ap (λ xs. cells_of (map view.array xs)) c.deref.ensures.value
-    ∙ ap (λ (i : Image). cells_of i.arrays) (c.image.ensures ∙ c.program.ensures.image) in
+    ∙ ap (λ (i : Image). cells_of i.arrays) (c.image.ensures.content ∙ c.program.ensures.image) in
     let s : Store g.row.P.Denot =
     record {
       order = c.new-3.result;
