@@ -20,7 +20,7 @@ from wavescalar.programs import ROOT
 
 PROVED = ROOT / "docs" / "PROVED.md"
 TESTED = ROOT / "docs" / "TESTED.md"
-WITHOUT = {"wsc", "wsc_top", "wsl", "wss"}
+WITHOUT = {"wsc", "wsc_top", "wsl", "wss", "wso"}
 ELSEWHERE = {"one_result": "THEOREM.md", "asm_link": "BACKEND.md"}
 ITEM = "- "
 

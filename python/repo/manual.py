@@ -18,7 +18,7 @@ MANUAL = ROOT / "docs" / "wsc.1"
 QUOTED = {"Ql": "`{}`", "Sq": "`{}`", "Dq": '"{}"', "Pq": "({})", "Op": "[{}]"}
 PLAIN = ("Cm", "Ar", "Em", "Sy", "Pa", "Ev", "Nm")
 # Commands that the wrapper hands to a program of their own.
-BESIDE = {"stream": "wss"}
+BESIDE = {"stream": "wss", "optimize": "wso"}
 # Columns of a screen.
 WIDE = 79
 # A line of the page: its macro and its words; for text no macro, and the text as one word.

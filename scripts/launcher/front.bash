@@ -189,7 +189,7 @@ refuse() {
     exit "$status"
 }
 
-# Hands these words to the program, and FILE as standard input. The program of stream gets them without that word.
+# Hands these words to the program, and FILE as standard input. The programs of stream and optimize get them without that word.
 hand() {
     fault=
     words=("$@") files=()
@@ -205,6 +205,10 @@ hand() {
     stream)
         hand_to_stream
         make_assembly
+        ;;
+    optimize)
+        handed=("${words[@]:1}")
+        peek
         ;;
     *) peek ;;
     esac

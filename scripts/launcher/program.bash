@@ -1,10 +1,10 @@
-# Which program wsc, wsl, wss, install and release take. They set top, the folder that they stand in.
+# Which program wsc, wsl, wss, wso, install and release take. They set top, the folder that they stand in.
 # shellcheck shell=bash disable=SC2154
 
 # The kit that builds and proves the programs.
 kit=rattle-kit-13b
 
-# Says of which program all else here is meant, wsc, wsl or wss. What is installed or packed lies in programs/.
+# Says of which program all else here is meant, wsc, wsl, wss or wso. What is installed or packed lies in programs/.
 choose() {
     own=$1
     placed=$top/programs/$own
@@ -95,7 +95,8 @@ proof_of() {
     case $own in
     wsc) echo "${lines[1]}" ;;
     wsl) echo "${lines[2]}" ;;
-    *) echo "${lines[3]}" ;;
+    wss) echo "${lines[3]}" ;;
+    *) echo "${lines[4]}" ;;
     esac
 }
 

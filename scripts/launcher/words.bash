@@ -1,6 +1,6 @@
 # Made of docs/wsc.1 by python/run repo.manual.
 # shellcheck shell=bash disable=SC2034
-commands=(run plain format compile multi check exec list trace replay decouple grid stream gen bench)
+commands=(run plain format compile multi check exec list trace replay decouple grid stream optimize gen bench)
 options=(workers budget elements waves turns memory stats progress)
 declare -A options_of=(
     [run]="workers budget memory stats"
@@ -16,6 +16,7 @@ declare -A options_of=(
     [decouple]="budget memory stats"
     [grid]="elements waves budget memory stats"
     [stream]="budget memory stats progress"
+    [optimize]=""
     [gen]=""
     [bench]="workers budget"
 )

@@ -18,7 +18,7 @@ use Rattle.wsc_top.specs.declared.task.JobTask.TheVariants.{Run}
 use Rattle.wsc_top.specs.declared.task.BenchOptions.{BenchOptions}
 use Rattle.wsc_top.specs.declared.task.RunOptions.{RunOptions}
 use Rattle.run_text.specs.declared.report.Report.TheVariants.{Brief}
-use Rattle.wsc_top.specs.Job.{IsJob, IsTextAnswer}
+use Rattle.job_read.specs.Job.{IsJob, IsTextAnswer}
 use Rattle.asm_read.specs.Reads.{world_of}
 use Rattle.wsc_top.specs.Tasks.{AsksFor}
 use Rattle.wsc_top.specs.Texts.{names_of}

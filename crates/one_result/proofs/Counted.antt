@@ -16,7 +16,7 @@ use Rattle.wsc_top.specs.declared.task.JobTask.TheVariants.{Run, Plain, Format, 
 use Rattle.wsc_top.specs.declared.task.RunOptions.{RunOptions}
 use Rattle.run_text.specs.declared.report.Report.{Report}
 use Rattle.run_text.specs.declared.report.Report.TheVariants.{Full}
-use Rattle.wsc_top.specs.Job.{IsTextAnswer}
+use Rattle.job_read.specs.Job.{IsTextAnswer}
 use Rattle.asm_read.specs.Reads.{world_of}
 use Rattle.wsc_top.specs.Texts.{names_of, array_name, turns_line}
 use Rattle.run_text.specs.Texts.{ended_text, faulted_text, firings_line}

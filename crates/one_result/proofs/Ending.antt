@@ -27,12 +27,13 @@ use Rattle.wsc_top.specs.declared.task.JobTask.TheVariants.{Run, Plain}
 use Rattle.wsc_top.specs.declared.task.AssemblyTask.{AssemblyTask}
 use Rattle.wsc_top.specs.declared.task.AssemblyTask.TheVariants as task
 use Rattle.wsc_top.specs.Tasks.{AsksFor}
-use Rattle.wsc_top.specs.Job.{IsJob, IsTextAnswer, job_limit}
+use Rattle.job_read.specs.Job.{IsJob, IsTextAnswer, job_limit}
 use Rattle.asm_read.specs.Reads.{world_of}
 use Rattle.asm_read.specs.Assembly.{IsAssembly, assembly_limit}
 use Rattle.wsc_top.specs.Executions.{Rests, OrFailed}
 use Rattle.wsc_top.specs.Answers.{Answers, JobEndsSo, AssemblyEndsSo, TellWords, IsToldJob, IsToldAssembly}
-use Rattle.wsc_top.specs.Answers.{IsCompiled, ComesToItsEnd}
+use Rattle.wsc_top.specs.Answers.{ComesToItsEnd}
+use Rattle.wave_build.specs.Compiled.{IsCompiled}
 use Rattle.wsc_top.specs.Answers as answers
 use Rattle.wsc_top.proofs.Reading.AnswersOnce.{RunsOnce}
 use Rattle.wsc_top.proofs.Told.RunsAlike as alike

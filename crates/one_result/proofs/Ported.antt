@@ -20,7 +20,7 @@ use Rattle.wsc_top.specs.declared.task.AssemblyTask.{AssemblyTask}
 use Rattle.wsc_top.specs.declared.task.AssemblyTask.TheVariants as task
 use Rattle.wsc_top.specs.declared.task.RunOptions.{RunOptions}
 use Rattle.run_text.specs.declared.report.Report.TheVariants.{Full}
-use Rattle.wsc_top.specs.Job.{IsJob, IsTextAnswer}
+use Rattle.job_read.specs.Job.{IsJob, IsTextAnswer}
 use Rattle.asm_read.specs.Assembly.{IsAssembly}
 use Rattle.wsc_top.specs.Texts.{names_of}
 use Rattle.wsc_top.specs.Executions.{Executes, PortsAre}

@@ -3,7 +3,7 @@ use Rattle.std.specs.Prelude.{◌≡◌, ◌⊎◌, ℕ, ◌≤◌, Bool, true, 
 use Rattle.std.specs.Prelude.{length, Option, Some, refl}
 use Rattle.std.proofs.Common.{sym, ap, ◌∙◌, subst, inl, inr, arith}
 use Rattle.ws_words.specs.Outside.{World, printed_words}
-use Rattle.ws_io.specs.Streams.{Adds, TakesAll}
+use Rattle.one_result.proofs.Sides.{wrote_is, read_is}
 use Rattle.src_ast.specs.Once.{ExactlyOne}
 use Rattle.ws_isa.specs.Image.{Image, array_at}
 use Rattle.ws_isa.specs.Shown.{shown_cells}
@@ -19,7 +19,7 @@ use Rattle.wsc_words.specs.Lines.{Given}
 use Rattle.wsc_words.proofs.Results.{given_some}
 use Rattle.wsc_top.specs.declared.status.Status.{Status}
 use Rattle.wsc_top.specs.declared.status.Status.TheVariants.{Done, Budget, Fault}
-use Rattle.wsc_top.specs.Job.{IsTextAnswer}
+use Rattle.job_read.specs.Job.{IsTextAnswer}
 use Rattle.wsc_top.proofs.Reading.AnswersOnce.{RunsOnce}
 use Rattle.wsc_top.proofs.Reading.AssembliesOnce.{WalksOnce}
 use Rattle.asm_read.specs.Assembly.{IsAssembly, assembly_limit}
@@ -109,20 +109,6 @@ module _ (memory stats : Bool) (image : Image) (world : World) where
       (printed_words (mem image world t.time).acts) (shown_cells image.arrays d.arrays)
       (shown_cells image.arrays (mem image world t.time).cells) p t.array_is t.left.printed
       (ap (shown_cells image.arrays) t.left.arrays) (stopped t.time t.fault)
-
--- what went out where nothing was held before
-pub wrote_is : (held holds : Option (List ℕ)) (bytes out : List ℕ) → held ≡ Some [] → holds ≡ Some out
-    → Adds held bytes holds → bytes ≡ out
-wrote_is held holds bytes out before after adds =
-    let whole : holds ≡ Some bytes = subst (λ (h : Option (List ℕ)). Adds h bytes holds) before adds in cc
-
--- the text that is told was read
-pub read_is : (left : Option (List ℕ)) (after : Option (List ℕ)) (text whole : List ℕ) → left ≡ Some text
-    → TakesAll left whole after → whole ≡ text
-read_is left after text whole given takes =
-    let both : (text ≡ whole) × (after ≡ Some []) =
-    subst (λ (o : Option (List ℕ)). TakesAll o whole after) given takes in
-    sym both.0
 
 never_refused : (reads : SourceCall) (own : StreamStatus) (text : List ℕ) → IsRefused reads own text
     → is_told (as_status own) ≡ true → ⊥

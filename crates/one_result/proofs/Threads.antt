@@ -15,7 +15,7 @@ use Rattle.wsc_top.specs.declared.task.Task.TheVariants.{Job, Assembly, Generate
 use Rattle.wsc_top.specs.declared.task.JobTask.TheVariants.{Run}
 use Rattle.wsc_top.specs.declared.task.RunOptions.{RunOptions}
 use Rattle.run_text.specs.declared.report.Report.TheVariants.{Full}
-use Rattle.wsc_top.specs.Job.{IsTextAnswer}
+use Rattle.job_read.specs.Job.{IsTextAnswer}
 use Rattle.wsc_top.specs.Jobs.{Piece, Jobs}
 use Rattle.wsc_top.specs.Executions.{IsFailed}
 use Rattle.wsc_top.specs.Tasks.{AsksFor}

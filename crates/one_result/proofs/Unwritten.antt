@@ -44,7 +44,8 @@ use Rattle.one_result.proofs.Written.{RunsImage, is_told, told_reply, image_kind
 use Rattle.one_result.proofs.Jobs.{told_result}
 use Rattle.one_result.proofs.Images.{ImageTold, TextImage, called_image, images_alike}
 use Rattle.one_result.proofs.ImageFronts.{ActsGrow, words_come_first, told_begins}
-use Rattle.one_result.proofs.Streamed.{memory_asked, stats_asked, told_by_stream, wrote_is, read_is}
+use Rattle.one_result.proofs.Sides.{wrote_is, read_is}
+use Rattle.one_result.proofs.Streamed.{memory_asked, stats_asked, told_by_stream}
 
 -- a text that was run is no longer than that of an assembly may be
 module _ (words : List (List ℕ))

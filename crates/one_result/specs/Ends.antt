@@ -11,7 +11,7 @@ use Rattle.wsc_top.specs.declared.task.Task.TheVariants.{Job, Assembly}
 use Rattle.wsc_top.specs.declared.task.JobTask.TheVariants.{Run, Plain}
 use Rattle.wsc_top.specs.declared.task.AssemblyTask.TheVariants.{Exec, Grid}
 use Rattle.wsc_top.specs.Tasks.{AsksFor}
-use Rattle.wsc_top.specs.Job.{IsJob, job_limit}
+use Rattle.job_read.specs.Job.{IsJob, job_limit}
 use Rattle.ws_isa.specs.Image.{Image}
 use Rattle.ws_isa.specs.Operations.{NoFault}
 use Rattle.ws_isa.specs.Walk.{CostAtMost}

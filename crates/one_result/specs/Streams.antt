@@ -16,7 +16,7 @@ use Rattle.ws_isa.specs.Operations.{NoFault}
 use Rattle.ws_isa.specs.Walk.{CostAtMost}
 use Rattle.wsc_top.specs.declared.status.Status.{Status}
 use Rattle.wsc_top.specs.declared.status.Status.TheVariants as by_wsc
-use Rattle.wsc_top.specs.Job.{IsJob}
+use Rattle.job_read.specs.Job.{IsJob}
 use Rattle.asm_read.specs.Reads.{SourceCall, world_of}
 use Rattle.asm_read.specs.Assembly.{IsAssembly, assembly_limit}
 use Rattle.run_text.specs.Writes.{Writing}

@@ -7,6 +7,8 @@ use Rattle.src_ast.specs.Bound.{bound}
 use Rattle.src_ast.specs.Meaning.{Passes, Flows}
 use Rattle.src_ast.specs.Runs.{acts_in}
 use Rattle.ws_isa.specs.Image.{Array, Image}
+use Rattle.ws_isa.specs.Formed.{Formed}
+use Rattle.ws_isa.specs.Sound.{Sound}
 use Rattle.ws_isa.specs.Shown.{shown_arrays, shown_cells}
 use Rattle.ws_isa.specs.Walk.{mem, has_ended, CostAtMost}
 use Rattle.ws_isa.specs.Open.{OpenToNotes}
@@ -16,6 +18,8 @@ use Rattle.cfg_build.specs.Keeps as program
 use Rattle.wave_gen.specs.NoNop.{HasNoNop}
 use Rattle.wave_gen.specs.Words.{array_of}
 use Rattle.wave_link.specs.Kept.{KeepsBlocks}
+use Rattle.wave_link.specs.Numbered.{NumberedInOrder}
+use Rattle.wave_link.specs.Ripples.{ExactRipples}
 use Rattle.wave_link.specs.Triggers.{TriggeredNear}
 use Rattle.wave_link.specs.Vain.{NoneInVain}
 use Rattle.wave_link.specs.Renoted.{NeverLinked}
@@ -80,3 +84,16 @@ pub record HasDraft (image : Image) : Type 0 where
   pub needed : NoneInVain draft image
   pub never_linked : NeverLinked draft image
   pub triggers : TriggeredNear draft image
+
+-- an image of a program as the compiler gives it: a machine runs it, it does what the program does
+-- within its bound, its annotations are numbered and have exact ripples, and it is a draft of
+-- the program with no more than what these want
+pub record IsCompiled (parts : List Part) (image : Image) : Type 0 where
+  pub formed : Formed image
+  pub sound : Sound image
+  pub arrays : ShowsArrays parts image
+  pub walk : DoesAs parts image
+  pub cost : KeepsBound parts image
+  pub numbers : NumberedInOrder image
+  pub ripples : ExactRipples image
+  pub draft : HasDraft image

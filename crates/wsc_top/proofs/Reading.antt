@@ -5,9 +5,7 @@ pub mod Jobs
 pub mod JobsOnce
 pub mod Markers
 pub mod PlainTexts
-pub mod Programs
 pub mod ReadAgain
-pub mod TextAnswers
 pub mod AnswersOnce
 pub mod Generated
 pub mod BeforeTrace

@@ -30,18 +30,14 @@ use Rattle.asm_read.specs.declared.assembly.AsmRefusal.{AsmRefusal}
 use Rattle.port_set.specs.Ports.{Told}
 use Rattle.store_buf.specs.Outdoors.{AllTell, RoseAt, lefts_of, world_with}
 use Rattle.ws_isa.specs.Image.{Image}
-use Rattle.ws_isa.specs.Formed.{Formed}
-use Rattle.ws_isa.specs.Sound.{Sound}
-use Rattle.wave_link.specs.Numbered.{NumberedInOrder}
-use Rattle.wave_link.specs.Ripples.{ExactRipples}
-use Rattle.wave_build.specs.Compiled.{ShowsArrays, DoesAs, KeepsBound, HasDraft}
+use Rattle.wave_build.specs.Compiled.{IsCompiled}
 use Rattle.asm_text.specs.Printed.{printed}
 use Rattle.list_out.specs.Listing.{listing}
 use Rattle.asm_read.specs.Sections.{before_trace}
 use Rattle.asm_read.specs.Assembly.{assembly_limit, IsAssembly, RefusesAssembly}
 use Rattle.work_gen.specs.Job.{words_of, job_text}
 use Rattle.wsc_top.specs.Tasks.{AsksFor, IsNoLine}
-use Rattle.wsc_top.specs.Job.{job_limit, IsJob, Refuses}
+use Rattle.job_read.specs.Job.{job_limit, IsJob, Refuses}
 use Rattle.asm_read.specs.Reads.{world_of}
 use Rattle.wsc_top.specs.Texts.{going_text, turns_line, names_of, array_name}
 use Rattle.run_text.specs.Texts.{ended_text, faulted_text}
@@ -56,19 +52,6 @@ use Rattle.wsc_top.specs.Generated.{IsGeneratedJob}
 use Rattle.trace_check.specs.declared.events.Lined.{Lined}
 use Rattle.wsc_top.specs.Traced.{IsTraced, IsReplayed, HasTrace, EndsReplay}
 use Rattle.wsc_top.specs.Clocked.{IsClocked}
-
--- an image of a program as the compiler gives it: a machine runs it, it does what the program does
--- within its bound, its annotations are numbered and have exact ripples, and it is a draft of
--- the program with no more than what these want
-pub record IsCompiled (parts : List Part) (image : Image) : Type 0 where
-  pub formed : Formed image
-  pub sound : Sound image
-  pub arrays : ShowsArrays parts image
-  pub walk : DoesAs parts image
-  pub cost : KeepsBound parts image
-  pub numbers : NumberedInOrder image
-  pub ripples : ExactRipples image
-  pub draft : HasDraft image
 
 -- each port that is handed in reports the words that it has left, which are words
 abbrev pub TellWords : List (Option Told) → Type 0

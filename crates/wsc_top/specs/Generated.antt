@@ -5,7 +5,7 @@ use Rattle.src_ast.specs.Bound.{bound}
 use Rattle.src_ast.specs.Same.{Same}
 use Rattle.work_gen.specs.Program.{product}
 use Rattle.work_gen.specs.Job.{size, words_of, job_text}
-use Rattle.wsc_top.specs.Job.{job_limit, IsJob}
+use Rattle.job_read.specs.Job.{job_limit, IsJob}
 
 -- The text of the job with this number is this program and the words of the number. The program is
 -- the product of two matrices, places aside, and is allowed 222 firings for a turn.

@@ -11,7 +11,7 @@ use Rattle.wsc_top.specs.declared.batch.JobsRefusal.TheVariants.{Threads, OfJob}
 use Rattle.wsc_top.specs.declared.batch.JobsFault.{JobsFault}
 use Rattle.wsc_top.specs.declared.batch.JobsFault.TheVariants.{Refused, NoMemory}
 use Rattle.asm_read.specs.Sections.{front_of, rest_of, after_line}
-use Rattle.wsc_top.specs.Job.{IsJob, Refuses}
+use Rattle.job_read.specs.Job.{IsJob, Refuses}
 use Rattle.asm_read.specs.Texts.{refusal_text}
 
 -- the line that separates two jobs

@@ -1,6 +1,5 @@
 pub mod Codes
 pub mod Tasks
-pub mod Job
 pub mod Texts
 pub mod Phrases
 pub mod Executions

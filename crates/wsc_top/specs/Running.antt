@@ -16,9 +16,9 @@ use Rattle.wsc_top.specs.declared.task.RunOptions.{RunOptions}
 use Rattle.wsc_top.specs.declared.batch.JobsRefusal.TheVariants.{OfJob}
 use Rattle.wsc_top.specs.declared.batch.JobsFault.{JobsFault}
 use Rattle.wsc_top.specs.declared.batch.JobsFault.TheVariants.{Refused, NoMemory}
-use Rattle.wsc_top.specs.Job.{IsJob, Refuses}
+use Rattle.job_read.specs.Job.{IsJob, Refuses}
 use Rattle.wsc_top.specs.Finished.{ReportsSo}
-use Rattle.wsc_top.specs.Answers.{IsCompiled}
+use Rattle.wave_build.specs.Compiled.{IsCompiled}
 use Rattle.wsc_top.specs.Threads.{thread_line, status_of, Thread, AreThreads, images_of, inputs_of}
 
 -- an image of the program of a job, and the words that it reads

@@ -12,9 +12,10 @@ use Rattle.wsc_top.specs.declared.task.JobTask.{JobTask}
 use Rattle.wsc_top.specs.declared.task.JobTask.TheVariants.{Run, Compile}
 use Rattle.wsc_top.specs.declared.task.AssemblyTask.{AssemblyTask}
 use Rattle.wsc_top.specs.declared.task.AssemblyTask.TheVariants.{Exec}
-use Rattle.wsc_top.specs.Job.{IsJob}
+use Rattle.job_read.specs.Job.{IsJob}
 use Rattle.asm_read.specs.Assembly.{IsAssembly}
-use Rattle.wsc_top.specs.Answers.{IsCompiled, Yields, Answered, AssemblyYields, AssemblyAnswered, IsDue}
+use Rattle.wsc_top.specs.Answers.{Yields, Answered, AssemblyYields, AssemblyAnswered, IsDue}
+use Rattle.wave_build.specs.Compiled.{IsCompiled}
 use Rattle.wsc_top.specs.Answers.{RunsClosed, assembly_text}
 use Rattle.wsc_top.specs.Jobs.{RefusesJobs, jobs_refusal_text}
 use Rattle.wsc_top.specs.Threads.{Replies, Thread, AreDue, images_of, inputs_of}

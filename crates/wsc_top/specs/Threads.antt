@@ -14,11 +14,12 @@ use Rattle.wsc_top.specs.declared.task.RunOptions.{RunOptions}
 use Rattle.wsc_top.specs.declared.task.JobTask.TheVariants.{Run}
 use Rattle.wsc_top.specs.declared.task.Task.TheVariants.{Multi}
 use Rattle.wsc_top.specs.Tasks.{AsksFor}
-use Rattle.wsc_top.specs.Job.{job_limit, IsJob}
+use Rattle.job_read.specs.Job.{job_limit, IsJob}
 use Rattle.wsc_top.specs.Jobs.{Piece, ProgramAndInput, Jobs, most_jobs, AreJobs, RefusesJobs}
 use Rattle.wsc_top.specs.Jobs.{jobs_refusal_text}
 use Rattle.wsc_top.specs.Executions.{Executes, HasBegun, IsFailed, EndsRun}
-use Rattle.wsc_top.specs.Answers.{IsCompiled, Yields, ComesToItsEnd, JobEndsSo, IsFree, Answers, Starves}
+use Rattle.wsc_top.specs.Answers.{Yields, ComesToItsEnd, JobEndsSo, IsFree, Answers, Starves}
+use Rattle.wave_build.specs.Compiled.{IsCompiled}
 
 -- seven slots without a port
 abbrev pub no_ports : List (Option Told)

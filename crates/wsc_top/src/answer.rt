@@ -7,7 +7,7 @@ ghost use Rattle.wsc_words.specs.Lines.{HasCommand};
 ghost use Rattle.wsc_top.specs.declared.status.Status.TheVariants.{Usage};
 ghost use Rattle.wsc_top.specs.declared.task.Task.{Task};
 ghost use Rattle.wsc_top.specs.Tasks.{AsksFor};
-ghost use Rattle.wsc_top.specs.Job.{job_limit};
+ghost use Rattle.job_read.specs.Job.{job_limit};
 ghost use Rattle.asm_read.specs.Sections.{input_of, trace_section};
 ghost use Rattle.wsc_top.specs.declared.task.AssemblyTask.TheVariants.{Replay};
 ghost use Rattle.asm_read.specs.Assembly.{assembly_limit};
@@ -20,12 +20,12 @@ ghost use Rattle.wsc_top.specs.Answers.{RunsOut, assembly_text};
 
 use crate::batch::{self, JobsFault};
 use crate::bench::generated;
+use crate::refusals;
 use crate::status::Status;
 use crate::step::{CallStep, StarvedCall};
 use crate::task::{AssemblyTask, JobTask, RunOptions, Task, read_task};
 use crate::text::{Phrase, Text};
 use crate::yields::{assembly_yielded, yielded};
-use crate::{job, refusals};
 use asm_read::{AssemblyFault, asm_refused, refused, split, split_trace};
 use src_ast::{TextFault, read_is_written};
 use std::alloc::Global;
@@ -53,7 +53,7 @@ fn to_text(alloc: Global, task: JobTask, text: &[u8]) -> Result<CallStep, Starve
     ensures begun { IfErr result (λ starved. IfSome starved.image (JobBegun task text.now)) }
 {
     read_is_written();
-    match job::read(alloc, text) {
+    match job_read::read(alloc, text) {
         Ok((accepted, input)) => Ok(yielded(alloc, task, &accepted, input)?),
         Err(TextFault::Refused(refusal)) => {
             let text = refused(alloc, refusal)?;

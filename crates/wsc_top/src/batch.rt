@@ -3,12 +3,11 @@
 ghost use Rattle.std.specs.Prelude.{◌≡◌, ◌+◌, ◌<◌, ◌≤◌, ◌^◌, List, length, true, false, IfOk, IfErr};
 ghost use Rattle.std.specs.Prelude.{IfSome, IfNone, OnOk, [], ◌∷◌, ◌++◌};
 ghost use Rattle.asm_read.specs.Sections.{rest_of};
-ghost use Rattle.wsc_top.specs.Job.{job_limit};
+ghost use Rattle.job_read.specs.Job.{job_limit};
 ghost use Rattle.wsc_top.specs.Jobs.{separator, first_job, behind, place_behind, IsLast, IsCrowded};
 ghost use Rattle.wsc_top.specs.Jobs.{IsJobsFault, Jobs, Piece, most_jobs};
 ghost use Rattle.wsc_top.specs.Running.{IsRead, IsPieceFault, AreRead};
 
-use crate::job;
 use crate::yields::checked_image;
 use asm_read::{after_line, front_length};
 use src_ast::{Place, Refusal, TextFault, read_is_written};
@@ -117,7 +116,7 @@ fn read_job(alloc: Global, at: Place, text: &[u8]) -> Result<(Checked, Words), J
     ensures refused { IfErr result (IsPieceFault at text.now) }
 {
     read_is_written();
-    match job::read(alloc, text) {
+    match job_read::read(alloc, text) {
         Ok((accepted, input)) => Ok((checked_image(alloc, &accepted)?, input)),
         Err(TextFault::Refused(refusal)) => {
             Err(JobsFault::Refused(JobsRefusal::OfJob(at, refusal)))

@@ -3,10 +3,9 @@
 ghost use Rattle.std.specs.Prelude.{◌≡◌, List, IfOk};
 ghost use Rattle.src_ast.specs.Syntax.{Part};
 ghost use Rattle.wsc_top.specs.Generated.{IsGeneratedJob};
-ghost use Rattle.wsc_top.specs.Answers.{IsCompiled};
+ghost use Rattle.wave_build.specs.Compiled.{IsCompiled};
 ghost use Rattle.work_gen.specs.Job.{words_of};
 
-use crate::job;
 use crate::laws::each_generated_job_is_a_job;
 use crate::yields::checked_image;
 use src_ast::{TextFault, read_is_written};
@@ -23,7 +22,7 @@ pub fn generated(alloc: Global, number: u32) -> Result<(Checked, Words), NoMemor
     each_generated_job_is_a_job();
     read_is_written();
     let text = workload(alloc, number)?;
-    match job::read(alloc, text.as_slice()) {
+    match job_read::read(alloc, text.as_slice()) {
         Ok((accepted, input)) => Ok((checked_image(alloc, &accepted)?, input)),
         Err(TextFault::Refused(_)) => unreachable!(),
         Err(TextFault::NoMemory) => Err(NoMemory),

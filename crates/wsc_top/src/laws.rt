@@ -24,7 +24,6 @@ ghost use Rattle.wsc_top.specs.declared.task.RunOptions.{RunOptions};
 ghost use Rattle.wsc_top.specs.declared.task.AssemblyTask.{AssemblyTask};
 ghost use Rattle.wsc_top.specs.declared.task.GridOptions.{GridOptions};
 ghost use Rattle.asm_read.specs.Sections.{before_trace, trace_line};
-ghost use Rattle.wsc_top.specs.Job.{IsTextAnswer};
 ghost use Rattle.asm_read.specs.Reads.{world_of};
 ghost use Rattle.asm_read.specs.Assembly.{IsAssembly};
 ghost use Rattle.wsc_top.specs.Executions.{Executes, EndsRun, IsFailed};
@@ -39,25 +38,13 @@ ghost use Rattle.wsc_top.specs.Answers.{IsAssemblyReply, IsToldJob, IsToldAssemb
 use annot_check::breaches_break;
 use asm_text::{printed_reads_again, printed_texts_have_no_marker, read_images_are_formed};
 use grid_clock::clocks_are_one;
+use job_read::each_text_is_a_job_or_refused;
 use seq_run::one_answer;
 use src_ast::{printed_reads_the_same, read_is_written, same_programs_are_accepted_alike};
-use src_check::each_program_is_checked_once;
-use src_lex::each_text_is_lexed_once;
-use src_parse::lexemes_are_parsed_once;
 use trace_check::{made_traces_are_replayed, written_traces_read_again};
 use work_gen::generated_programs_are_accepted;
 use ws_isa::{effects_are_one, walks_go_on};
 use wsc_words::words_are_one_line;
-
-/// Each text has exactly one reading: it is a job, with one program and one list
-/// of words, or it is refused for one reason.
-pub fn each_text_is_a_job_or_refused()
-    ensures { (text : List ℕ) → ExactlyOne (IsTextAnswer text) }
-{
-    each_text_is_lexed_once();
-    lexemes_are_parsed_once();
-    each_program_is_checked_once();
-}
 
 /// For each task but `run` and `compile` each text has one answer alone, a status and a text.
 pub fn every_text_is_answered_once()

@@ -15,7 +15,6 @@ mod bench;
 mod call;
 mod clocked;
 mod exec;
-mod job;
 mod laws;
 mod multi;
 mod multi_laws;
@@ -35,8 +34,8 @@ pub use call::wsc;
 pub use exec::decoupled;
 pub use laws::{
     assemblies_are_answered_alike, each_answer_has_its_status, each_generated_job_is_a_job,
-    each_run_ends_as_its_walk, each_text_is_a_job_or_refused, every_text_is_answered_once,
-    printed_texts_are_read_again, runs_are_answered_alike, what_is_due_is_answered,
+    each_run_ends_as_its_walk, every_text_is_answered_once, printed_texts_are_read_again,
+    runs_are_answered_alike, what_is_due_is_answered,
 };
 pub use multi_laws::{
     each_answer_of_threads_has_its_status, each_text_is_some_jobs_or_refused,

@@ -11,7 +11,7 @@ ghost use Rattle.wsc_top.specs.Answers.{TellWords};
 ghost use Rattle.wsc_top.specs.Threads.{ThreadsDo, ExecutesAlone, status_of, Thread, images_of, Replies};
 ghost use Rattle.wsc_top.specs.Threads.{AreDue, AreToldJobs, MultiEndsSo, WalksEndSo, IsFreeAnswer};
 
-use crate::laws::each_text_is_a_job_or_refused;
+use job_read::each_text_is_a_job_or_refused;
 use seq_run::one_answer;
 use ws_isa::{effects_are_one, walks_go_on};
 use wsc_words::words_are_one_line;

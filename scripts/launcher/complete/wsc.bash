@@ -2,7 +2,7 @@
 # shellcheck shell=bash disable=SC2207
 _wsc() {
     local word=${COMP_WORDS[COMP_CWORD]} before=${COMP_WORDS[COMP_CWORD - 1]} words=
-    local commands="run plain format compile multi check exec list trace replay decouple grid stream gen bench"
+    local commands="run plain format compile multi check exec list trace replay decouple grid stream optimize gen bench"
     COMPREPLY=()
     if [ "$COMP_CWORD" -eq 1 ]; then
         COMPREPLY=($(compgen -W "$commands help --help --version" -- "$word"))
@@ -30,6 +30,7 @@ _wsc() {
     decouple) words="--budget --memory --stats --help" ;;
     grid) words="--elements --waves --budget --memory --stats --help" ;;
     stream) words="--budget --memory --stats --progress --help" ;;
+    optimize) words="--help" ;;
     gen) words="--help" ;;
     bench) words="--workers --budget --help" ;;
     esac

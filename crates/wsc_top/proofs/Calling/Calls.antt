@@ -29,7 +29,7 @@ use Rattle.wsc_top.specs.declared.status.Status.TheVariants.{PortFault, NoMemory
 use Rattle.asm_read.specs.Assembly.{assembly_limit, IsAssembly, IsAssemblyFault}
 use Rattle.work_gen.specs.Job.{words_of, job_text}
 use Rattle.wsc_top.specs.Tasks.{AsksFor, IsNoLine}
-use Rattle.wsc_top.specs.Job.{job_limit, IsJob}
+use Rattle.job_read.specs.Job.{job_limit, IsJob}
 use Rattle.wsc_top.specs.Texts.{usage_text}
 use Rattle.asm_read.specs.Texts.{unread_text, long_text, asm_refusal_text}
 use Rattle.wsc_top.specs.Executions.{Executes, OrFailed}
@@ -40,7 +40,8 @@ use Rattle.df_core.specs.declared.drive.Finish.TheVariants as finish
 use Rattle.wsc_top.specs.Clocked.{clocked_status}
 use Rattle.wsc_top.specs.Traced.{IsReplayed, HasTrace, trace_status}
 use Rattle.wsc_top.specs.Answers as answers
-use Rattle.wsc_top.specs.Answers.{SomeRose, OrNoMemory, IsCompiled, Yields, Answered, done, IsReader}
+use Rattle.wsc_top.specs.Answers.{SomeRose, OrNoMemory, Yields, Answered, done, IsReader}
+use Rattle.wave_build.specs.Compiled.{IsCompiled}
 use Rattle.wsc_top.specs.Answers.{limit_of, assembly_text, AssemblyYields, checked, listed, executed, traced}
 use Rattle.wsc_top.specs.Answers.{replayed, gridded, AssemblyAnswered, Answers, usage, generated, unread}
 use Rattle.wsc_top.specs.Answers.{long, read, assembled, RunsClosed, written, closed, RunsOut, unbegun, begun}

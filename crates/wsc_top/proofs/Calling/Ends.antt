@@ -19,7 +19,7 @@ use Rattle.wsc_top.specs.declared.task.BenchOptions.{BenchOptions}
 use Rattle.wsc_top.specs.declared.status.Status.{Status}
 use Rattle.wsc_top.specs.declared.status.Status.TheVariants.{ReadFault}
 use Rattle.wsc_top.specs.Tasks.{AsksFor}
-use Rattle.wsc_top.specs.Job.{IsJob, IsTextAnswer}
+use Rattle.job_read.specs.Job.{IsJob, IsTextAnswer}
 use Rattle.asm_read.specs.Reads.{world_of}
 use Rattle.asm_read.specs.Assembly.{IsAssembly}
 use Rattle.wsc_top.specs.Generated.{IsGeneratedJob}

@@ -26,7 +26,8 @@ use Rattle.run_text.specs.Texts.{ended_text, faulted_text}
 use Rattle.wsc_top.specs.Texts.{array_name}
 use Rattle.asm_read.specs.Reads.{world_of}
 use Rattle.port_set.specs.Ports.{Told}
-use Rattle.wsc_top.specs.Answers.{IsCompiled, Yields, formatted, compiled, ended, faulted, going}
+use Rattle.wsc_top.specs.Answers.{Yields, formatted, compiled, ended, faulted, going}
+use Rattle.wave_build.specs.Compiled.{IsCompiled}
 use Rattle.wsc_top.specs.Answers.{AssemblyYields, checked, listed, traced, replayed, gridded}
 
 pub format_yields : (parts : List Part) (out : List ℕ) → ReadsTheSame parts → out ≡ printed_form parts

@@ -19,7 +19,7 @@ use Rattle.wsc_top.specs.declared.status.Status.TheVariants.{Done, Refused, Budg
 use Rattle.wsc_top.specs.Texts.{going_text, turns_line, names_of, array_name}
 use Rattle.run_text.specs.Texts.{ended_text, faulted_text}
 use Rattle.asm_read.specs.Texts.{refusal_text}
-use Rattle.wsc_top.specs.Job.{IsJob, Refuses, IsTextAnswer}
+use Rattle.job_read.specs.Job.{IsJob, Refuses, IsTextAnswer}
 use Rattle.asm_read.specs.Reads.{world_of}
 use Rattle.wsc_top.specs.Answers.{Yields, ran, formatted, compiled, ended, faulted, going, Answered, refused}
 use Rattle.wsc_top.specs.Answers.{done, IsFixed, IsAnswer}

@@ -6,9 +6,9 @@ use Rattle.src_ast.specs.declared.fault.TextFault.TheVariants as fault
 use Rattle.src_ast.specs.Syntax.{Part}
 use Rattle.ws_isa.specs.Image.{Image}
 use Rattle.work_gen.specs.Job.{words_of, job_text}
-use Rattle.wsc_top.specs.Job.{job_limit, IsJob}
+use Rattle.job_read.specs.Job.{job_limit, IsJob}
 use Rattle.wsc_top.specs.Generated.{IsGeneratedJob}
-use Rattle.wsc_top.specs.Answers.{IsCompiled}
+use Rattle.wave_build.specs.Compiled.{IsCompiled}
 
 -- its text is short enough to be read
 pub bench_short : (number : ℕ) (seen : List ℕ) → seen ≡ job_text number

@@ -10,8 +10,8 @@ use Rattle.wsc_top.specs.declared.batch.JobsFault.{JobsFault}
 use Rattle.wsc_top.specs.declared.batch.JobsFault.TheVariants as fault
 use Rattle.wsc_top.specs.declared.batch.JobsRefusal.TheVariants as refusal
 use Rattle.asm_read.specs.Sections.{after_line, rest_of}
-use Rattle.wsc_top.specs.Job.{IsJob, Refuses}
-use Rattle.wsc_top.specs.Answers.{IsCompiled}
+use Rattle.job_read.specs.Job.{IsJob, Refuses}
+use Rattle.wave_build.specs.Compiled.{IsCompiled}
 use Rattle.wsc_top.specs.Jobs.{separator, most_jobs, Piece, IsLast, first_job, behind, place_behind, JobsFrom}
 use Rattle.wsc_top.specs.Jobs.{last, next, Jobs, ProgramAndInput, EachIsJob, IsCrowded, RefusesJobs, faulty}
 use Rattle.wsc_top.specs.Jobs.{IsJobsFault}

@@ -7,7 +7,7 @@ use Rattle.src_ast.specs.Syntax.{Part}
 use Rattle.src_ast.specs.Once.{ExactlyOne}
 use Rattle.wsc_top.specs.declared.batch.JobsRefusal.{JobsRefusal}
 use Rattle.wsc_top.specs.declared.batch.JobsRefusal.TheVariants.{Threads, OfJob}
-use Rattle.wsc_top.specs.Job.{Refuses, IsTextAnswer}
+use Rattle.job_read.specs.Job.{Refuses, IsTextAnswer}
 use Rattle.wsc_top.specs.Jobs.{most_jobs, Piece, Jobs, ProgramAndInput, EachIsJob, AreJobs, IsCrowded}
 use Rattle.wsc_top.specs.Jobs.{RefusesJobs, crowded, faulty, IsJobsAnswer}
 use Rattle.wsc_top.proofs.Reading.JobTexts.{jobs_exist, jobs_once}

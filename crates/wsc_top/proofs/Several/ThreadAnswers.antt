@@ -22,7 +22,7 @@ use Rattle.wsc_top.specs.declared.task.Task.TheVariants.{Job, Assembly, Multi}
 use Rattle.wsc_top.specs.declared.task.JobTask.TheVariants.{Run}
 use Rattle.wsc_top.specs.declared.task.RunOptions.{RunOptions}
 use Rattle.wsc_top.specs.Tasks.{AsksFor, IsNoLine}
-use Rattle.wsc_top.specs.Job.{job_limit, IsTextAnswer}
+use Rattle.job_read.specs.Job.{job_limit, IsTextAnswer}
 use Rattle.wsc_top.specs.Jobs.{Piece, Jobs, ProgramAndInput, AreJobs}
 use Rattle.wsc_top.specs.Executions.{Executes, failed, PortsAre, IsFailed, OrFailed}
 use Rattle.wsc_top.specs.Answers.{TellWords, Yields, ran, IsFree, done, limit_of, Answers, usage, generated}

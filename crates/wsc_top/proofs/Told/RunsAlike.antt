@@ -17,7 +17,7 @@ use Rattle.wsc_top.specs.Texts.{names_of, array_name}
 use Rattle.asm_read.specs.Texts.{refusal_text}
 use Rattle.wsc_top.specs.Executions.{tells_firings}
 use Rattle.run_text.specs.Reports.{end_report, fault_report}
-use Rattle.wsc_top.specs.Job.{IsJob, Refuses, IsTextAnswer}
+use Rattle.job_read.specs.Job.{IsJob, Refuses, IsTextAnswer}
 use Rattle.wsc_top.specs.Answers.{TellsRun, Yields, ran, Answered, refused, done, IsFree}
 use Rattle.wsc_top.specs.Answers as answers
 use Rattle.wsc_top.proofs.Reading.AnswersOnce.{RunsOnce, Reply, same_reply}

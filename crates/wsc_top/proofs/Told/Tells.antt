@@ -28,7 +28,8 @@ use Rattle.asm_read.specs.Sections.{InputWords, InputItems, stop, next}
 use Rattle.wsc_top.specs.Executions.{PortsAre, StopsShort, Executes, rested, stopped, OrFailed}
 use Rattle.run_text.specs.Reports.{end_report, fault_report, spent_report, failed_report}
 use Rattle.wsc_top.specs.Executions as executions
-use Rattle.wsc_top.specs.Answers.{TellWords, IsCompiled, TellsRun, Yields, ran, JobEndsSo, ComesToItsEnd}
+use Rattle.wsc_top.specs.Answers.{TellWords, TellsRun, Yields, ran, JobEndsSo, ComesToItsEnd}
+use Rattle.wave_build.specs.Compiled.{IsCompiled}
 use Rattle.wsc_top.specs.Answers.{MeetsFault}
 use Rattle.wsc_top.specs.Answers as answers
 use Rattle.wsc_top.proofs.Told.PortActs.{ports_moved}

@@ -17,7 +17,7 @@ use Rattle.wsc_top.specs.declared.task.JobTask.TheVariants.{Run}
 use Rattle.wsc_top.specs.declared.task.RunOptions.{RunOptions}
 use Rattle.wsc_top.specs.declared.task.BenchOptions.{BenchOptions}
 use Rattle.wsc_top.specs.Tasks.{AsksFor}
-use Rattle.wsc_top.specs.Job.{IsJob, IsTextAnswer}
+use Rattle.job_read.specs.Job.{IsJob, IsTextAnswer}
 use Rattle.wsc_top.specs.Jobs.{ProgramAndInput, AreJobs}
 use Rattle.wsc_top.specs.Executions.{EndsRun}
 use Rattle.wsc_top.specs.Answers as answers

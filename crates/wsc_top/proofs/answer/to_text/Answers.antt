@@ -2,8 +2,9 @@ use Rattle.std.proofs.Common.{◌≡◌, ◌∙◌, ap, subst}
 use Rattle.src_ast.specs.declared.fault.TextFault.TheVariants as fault
 use Rattle.src_ast.specs.View as view
 use Rattle.asm_read.specs.Texts.{refusal_text}
-use Rattle.wsc_top.specs.Job.{IsRefused}
-use Rattle.wsc_top.proofs.Reading.Jobs.{job_written, job_step, refused_step}
+use Rattle.job_read.specs.Job.{IsRefused}
+use Rattle.job_read.proofs.Jobs.{job_written}
+use Rattle.wsc_top.proofs.Reading.Jobs.{job_step, refused_step}
 use Rattle.wsc_top.proofs.Calling.Calls.{err_same, job_begun}
 use Rattle.wsc_top.proofs.answer.to_text.Goals as goal
 

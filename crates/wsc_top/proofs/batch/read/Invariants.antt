@@ -1,5 +1,5 @@
 use Rattle.std.proofs.Common.{◌+◌, ◌<◌, ◌≤◌, ◌^◌, length}
-use Rattle.wsc_top.specs.Job.{job_limit}
+use Rattle.job_read.specs.Job.{job_limit}
 use Rattle.wsc_top.proofs.Reading.JobTexts.{Reading}
 use Rattle.wsc_top.proofs.batch.read.Given as goal
 

@@ -1,5 +1,5 @@
 use Rattle.src_ast.specs.View as view
-use Rattle.wsc_top.proofs.Reading.Jobs.{job_written}
+use Rattle.job_read.proofs.Jobs.{job_written}
 use Rattle.wsc_top.proofs.batch.read_job.Goals as goal
 
 pub checked_image-requires : goal.checked_image-requires

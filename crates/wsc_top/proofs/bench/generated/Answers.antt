@@ -1,6 +1,6 @@
 use Rattle.std.proofs.Common.{◌∙◌}
 use Rattle.src_ast.specs.View as view
-use Rattle.wsc_top.proofs.Reading.Jobs.{job_written}
+use Rattle.job_read.proofs.Jobs.{job_written}
 use Rattle.wsc_top.proofs.Reading.Benches.{bench_short, bench_refused, bench_job}
 use Rattle.wsc_top.proofs.bench.generated.Goals as goal
 

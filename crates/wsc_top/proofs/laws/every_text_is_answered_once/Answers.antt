@@ -1,4 +1,4 @@
-use Rattle.wsc_top.proofs.Reading.Jobs.{job_written}
+use Rattle.job_read.proofs.Jobs.{job_written}
 use Rattle.wsc_top.proofs.Reading.AnswersOnce.{answered_once}
 use Rattle.wsc_top.proofs.laws.every_text_is_answered_once.Goals as goal
 

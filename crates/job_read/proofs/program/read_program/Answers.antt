@@ -1,9 +1,9 @@
 use Rattle.std.proofs.Common.{subst, sym}
 use Rattle.src_ast.specs.View as view
 use Rattle.src_ast.specs.Rules.{IsAccepted, IsCheckFault}
-use Rattle.wsc_top.proofs.Reading.Programs.{lex_fault, syntax_fault, rule_fault, same_lexemes, err_lexemes}
-use Rattle.wsc_top.proofs.Reading.Programs.{err_tree, err_check, tree_of}
-use Rattle.wsc_top.proofs.job.program.read.Goals as goal
+use Rattle.job_read.proofs.Programs.{lex_fault, syntax_fault, rule_fault, same_lexemes, err_lexemes}
+use Rattle.job_read.proofs.Programs.{err_tree, err_check, tree_of}
+use Rattle.job_read.proofs.program.read_program.Goals as goal
 
 pub returns-in-Err-clause-only : goal.returns-in-Err-clause-only
 returns-in-Err-clause-only c = err_lexemes _ _ c.in-Err.ensures.only

@@ -13,7 +13,7 @@ use Rattle.src_ast.specs.Faults.{SyntaxAt, IsTreeAnswer}
 use Rattle.src_ast.specs.Rules.{rules_of, IsAccepted, IsFirstBroken, IsRuleAnswer}
 use Rattle.src_ast.specs.Once.{ExactlyOne}
 use Rattle.asm_read.specs.Sections.{program_of, input_of, input_place, InputWords, InputFault, IsInputAnswer}
-use Rattle.wsc_top.specs.Job.{ReadsAs, ProgramFault, lexemes, syntax, rules, program, input, IsTextAnswer}
+use Rattle.job_read.specs.Job.{ReadsAs, ProgramFault, lexemes, syntax, rules, program, input, IsTextAnswer}
 use Rattle.asm_read.proofs.Inputs.{one_answer}
 
 -- what a program section comes to: its tree, or its first fault

@@ -3,7 +3,7 @@
 ghost use Rattle.std.specs.Prelude.{◌<◌, ◌^◌, ◌-◌, List, length, IfOk, IfErr};
 ghost use Rattle.src_ast.specs.View as view;
 ghost use Rattle.src_ast.specs.Syntax.{Part};
-ghost use Rattle.wsc_top.specs.Job.{ReadsAs, IsProgramFault, AnswersParts};
+ghost use Rattle.job_read.specs.Job.{ReadsAs, IsProgramFault, AnswersParts};
 
 use src_ast::TextFault;
 use src_check::{Accepted, check};
@@ -12,7 +12,7 @@ use src_parse::parse;
 use std::alloc::Global;
 
 /// The accepted program of a program section, or its first fault.
-pub fn read(alloc: Global, section: &[u8]) -> Result<Accepted, TextFault>
+pub(crate) fn read_program(alloc: Global, section: &[u8]) -> Result<Accepted, TextFault>
     requires { length section.now < 2 ^ 32 - 1 }
     ensures ok { IfOk result (λ a. ReadsAs section.now (view.parts a.program.items.items)) }
     ensures only { (parts : List Part) → ReadsAs section.now parts → AnswersParts result parts }

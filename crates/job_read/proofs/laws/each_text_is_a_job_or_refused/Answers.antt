@@ -1,5 +1,5 @@
-use Rattle.wsc_top.proofs.Reading.TextAnswers.{text_once}
-use Rattle.wsc_top.proofs.laws.each_text_is_a_job_or_refused.Goals as goal
+use Rattle.job_read.proofs.TextAnswers.{text_once}
+use Rattle.job_read.proofs.laws.each_text_is_a_job_or_refused.Goals as goal
 
 pub returns : goal.returns
 returns c text = text_once text c.each_text_is_lexed_once.ensures c.lexemes_are_parsed_once.ensures

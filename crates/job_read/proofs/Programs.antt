@@ -14,7 +14,7 @@ use Rattle.src_ast.specs.LexFaults.{IsLexFault, AnswersLexemes}
 use Rattle.src_ast.specs.Grammar.{Tree}
 use Rattle.src_ast.specs.Faults.{IsSyntaxFault, AnswersTree}
 use Rattle.src_ast.specs.Rules.{IsAccepted, IsCheckFault}
-use Rattle.wsc_top.specs.Job.{ReadsAs, ProgramFault, lexemes, syntax, rules, IsProgramFault, AnswersParts}
+use Rattle.job_read.specs.Job.{ReadsAs, ProgramFault, lexemes, syntax, rules, IsProgramFault, AnswersParts}
 
 pub lex_fault : (section : List ℕ) (e : TextFault) → IsLexFault section e → IsProgramFault section e
 lex_fault section fault.NoMemory h = tt

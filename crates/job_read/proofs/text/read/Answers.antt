@@ -1,10 +1,10 @@
 use Rattle.std.proofs.Common.{subst, sym}
 use Rattle.src_ast.specs.View as view
 use Rattle.asm_read.specs.Sections.{InputWords}
-use Rattle.wsc_top.specs.Job.{ReadsAs}
+use Rattle.job_read.specs.Job.{ReadsAs}
 use Rattle.asm_read.proofs.Inputs.{of_text, of_sections}
-use Rattle.wsc_top.proofs.Reading.Jobs.{program_only, program_refused, words_only, words_refused}
-use Rattle.wsc_top.proofs.job.read.Goals as goal
+use Rattle.job_read.proofs.Jobs.{program_only, program_refused, words_only, words_refused}
+use Rattle.job_read.proofs.text.read.Goals as goal
 
 pub returns-in-Err-clause-only : goal.returns-in-Err-clause-only
 returns-in-Err-clause-only c = program_only _ _ _ c.split.ensures.program c.in-Err.ensures.only

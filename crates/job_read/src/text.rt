@@ -4,10 +4,9 @@ ghost use Rattle.std.specs.Prelude.{◌≡◌, ◌≤◌, ℕ, List, length, IfO
 ghost use Rattle.src_ast.specs.View as view;
 ghost use Rattle.src_ast.specs.Syntax.{Part};
 ghost use Rattle.src_ast.specs.declared.fault.TextFault.{TextFault};
-ghost use Rattle.wsc_top.specs.Job.{job_limit, IsJob, IsRefused};
+ghost use Rattle.job_read.specs.Job.{job_limit, IsJob, IsRefused};
 
-mod program;
-
+use crate::program::read_program;
 use asm_read::{input_words, split};
 use src_ast::TextFault;
 use src_check::Accepted;
@@ -28,7 +27,7 @@ pub fn read(alloc: Global, text: &[u8]) -> Result<(Accepted, Words), TextFault>
     ensures refused { IfErr result (λ e. IsRefused text.now e) }
 {
     let (section, input) = split(text);
-    let accepted = match program::read(alloc, section) {
+    let accepted = match read_program(alloc, section) {
         Ok(accepted) => accepted,
         Err(fault) => return Err(fault),
     };
