@@ -14,6 +14,8 @@ use call_gen::{reached, spell_calls};
 use cfg_core::{
     Constant, Graph, GraphBlock, GraphBlocks, GraphOp, GraphOps, GraphProc, Leave, Term, run_graph,
 };
+use cfg_fold::simplify;
+use cfg_inline::{choose, inline_calls};
 use live_vars::live;
 use phi_conv::join_short;
 use std::alloc::Global;
@@ -133,6 +135,35 @@ fn a_short_branch_is_joined(rt: HostRuntime) -> Result<(), Fail> {
     let joined = join_short(alloc, &graph, &sets)?;
     assert_eq!(rt; sizes(&joined), (6, 0));
     assert!(rt; walks(alloc, &joined)?);
+    Ok(())
+}
+
+// How many blocks call.
+fn calls(graph: &Graph) -> usize {
+    let mut count = 0usize;
+    for proc in &graph.procs {
+        let found = proc
+            .blocks
+            .iter()
+            .filter(|block| matches!(block.exit, Leave::Call { .. }));
+        count = count.wrapping_add(found.count());
+    }
+    count
+}
+
+#[test]
+#[tactic(auto, using(crate::proofs::Kept::doubles_kept))]
+fn a_call_is_inlined(rt: HostRuntime) -> Result<(), Fail> {
+    let alloc = rt.alloc();
+    let graph = doubling(alloc)?;
+    let folded = simplify(alloc, &graph)?;
+    assert!(rt; walks(alloc, &folded)?);
+    assert_eq!(rt; calls(&folded), 1);
+    let plan = choose(alloc, &folded, 258)?;
+    assert_eq!(rt; plan.room, 2);
+    let inlined = inline_calls(alloc, &folded, plan.room, &plan.chosen)?;
+    assert_eq!(rt; calls(&inlined), 0);
+    assert!(rt; walks(alloc, &inlined)?);
     Ok(())
 }
 
