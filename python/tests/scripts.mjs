@@ -19,9 +19,9 @@ for await (const line of createInterface({input: process.stdin})) {
   const [name, args] = JSON.parse(line);
   let told;
   try {
-    told = [calls[name](wsc, ...args)];
+    told = JSON.stringify([calls[name](wsc, ...args)]);
   } catch (fault) {
-    told = `${fault.constructor.name}: ${fault.message}`;
+    told = JSON.stringify(`${fault.constructor.name}: ${fault.message}`);
   }
-  process.stdout.write(`${JSON.stringify(told)}\n`);
+  process.stdout.write(`${told}\n`);
 }

@@ -24,7 +24,7 @@ import {pageOf, twoOf} from "./file.js";
 import {read} from "./image.js";
 import {shown} from "./shown.js";
 import {assemblyOf, traced} from "./calls.js";
-import {orderOf} from "./orders.js";
+import {orderOf, runOf} from "./orders.js";
 export const CALLS = {
   ...TASKS,
   shown: (program, text, orders, most) => shown(program, text, orders, most),
@@ -32,7 +32,8 @@ export const CALLS = {
   two: (_, given) => twoOf(given),
   order(program, text, name, most) {
     const assembly = assemblyOf(program, text);
-    return orderOf(name, read(name === "trace" ? traced(program, assembly, most) : assembly), most);
+    const made = orderOf(name, read(name === "trace" ? traced(program, assembly, most) : assembly), most);
+    return {...runOf(made), fired: made.grid && made.grid.fired};
   },
 };
 """
