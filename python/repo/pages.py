@@ -11,9 +11,10 @@ import zlib
 
 from wavescalar.cli import Line, add_program, whole
 from wavescalar.programs import ROOT, assembly_of, traced
-from wavescalar.viewer.layout_json import drawn
-from wavescalar.viewer.runs_json import shown
-from wavescalar.viewer.view import HERE as VIEW, Way, filled, page, written
+from wavescalar.numbered import read
+from wavescalar.viewer.orders import order_of, replayed, title_of
+from wavescalar.viewer.scripts import bundled, modules
+from wavescalar.viewer.view import HERE as VIEW, Way, filled, found_of, page, written
 
 PLACE = ROOT / "docs" / "pages"
 
@@ -44,7 +45,8 @@ main { grid-template-columns: 230px minmax(0, 1fr); } #left { padding: 8px 12px;
 <header><h1>One program in two orders</h1></header>
 <main><section id="left"><pre>@JOB@</pre>@ORDERS@<p>Both make the same events, step together, and print the
 same words: that is proved for every program, input and order. Keys: → ← Home End Space, s, r.</p></section>@SIDES@</main>@FOOT@
-<script>const $ = id => document.getElementById(id), told = @TOLD@; window.FRAME = @FRAME@;</script>
+<script>@MODULES@</script>
+<script>const $ = id => document.getElementById(id), told = twoOf(@TEXTS@); window.FRAME = @FRAME@;</script>
 <script>@SCRIPT@</script>
 <script>told.runs.forEach((it, k) => { document.querySelectorAll(".order")[k].textContent = it.title; });
 fillBoth(told, SIDES);</script></html>"""
@@ -75,15 +77,19 @@ def part_of(text: str, begin: str, end: str) -> str:
 
 def two_of(program: str) -> str:
     """The page with two orders of one program."""
-    text, front = (ROOT / TWO).read_text(), (VIEW / "serve.html").read_text()
-    told = shown(program, text, ORDERS) | {"still": drawn(program, text)}
+    job, front = (ROOT / TWO).read_text(), (VIEW / "serve.html").read_text()
+    assembly = assembly_of(program, job)
+    texts = {"text": traced(program, job, MOST), "job": job, "orders": ORDERS, "most": MOST,
+             "replayed": [replayed(order_of(name, assembly, program, MOST), assembly, program) for name in ORDERS],
+             "found": found_of(program, job, read(assembly))}
     parts = {
-        "STYLE": (VIEW / "serve.css").read_text(), "JOB": text.replace("<", "&lt;").replace(" ", "&#32;"),
-        "ORDERS": "".join(f"<p>{side}: {it['title']}</p>" for side, it in zip("AB", told["runs"])),
+        "STYLE": (VIEW / "serve.css").read_text(), "JOB": job.replace("<", "&lt;").replace(" ", "&#32;"),
+        "ORDERS": "".join(f"<p>{side}: {title_of(name)}</p>" for side, name in zip("AB", ORDERS)),
         "SIDES": part_of(front, '<section id="sides"', '<div id="help"') + "</section>",
         "FOOT": part_of(front, "<footer>", "</footer>") + "</footer>",
         "SCRIPT": (VIEW / "colours.js").read_text() + (VIEW / "both.js").read_text(),
-        "FRAME": written(small(filled("order", None))), "TOLD": written(told),
+        "FRAME": written(small(filled("order", None))), "TEXTS": written(texts),
+        "MODULES": bundled(modules(), "file.js", "twoOf"),
     }
     made = BOTH
     for name, part in parts.items():
@@ -96,7 +102,7 @@ def page_of(name: str, program: str) -> str:
     file, way = PAGES[name]
     text = (ROOT / file).read_text()
     made = traced(program, text) if way == "trace" else assembly_of(program, text)
-    return page(made, name, MOST, text, program, way)[0]
+    return page(made, name, MOST, text, program, way)
 
 
 def made_by(program: str) -> dict[str, str]:

@@ -97,7 +97,7 @@ def of_page(name: str, program: str) -> bytes:
     with tempfile.TemporaryDirectory() as folder, Browser(width, height) as browser:
         file = pathlib.Path(folder) / f"{name}.html"
         title = "calls" if job is CALLS else "sum"
-        file.write_text(page(traced(program, job), title, 20000, job, program, way)[0])
+        file.write_text(page(traced(program, job), title, 20000, job, program, way))
         browser.open(f"{file}#{place}")
         return browser.picture()
 

@@ -3,6 +3,7 @@
 from __future__ import annotations
 
 import pathlib
+from collections.abc import Iterator
 
 import pytest
 from _pytest.terminal import TerminalReporter
@@ -10,6 +11,7 @@ from _pytest.terminal import TerminalReporter
 from tests import asked
 from tests.browser import found
 from tests.places import WSC, WSL, WSS
+from tests.scripts import Scripts, node
 
 
 def pytest_addoption(parser: pytest.Parser) -> None:
@@ -21,7 +23,7 @@ def pytest_addoption(parser: pytest.Parser) -> None:
     more.addoption("--generated", type=int, default=2, help="so many jobs of wsc gen more (2)")
     more.addoption("--all-c", action="store_true", help="all tests of the front end from C, not only a choice")
     more.addoption("--seed", type=int, default=1, help="begins the numbers of these machines (1)")
-    more.addoption("--site-every", type=int, default=1, help="of the site one line, text or event of so many (1)")
+    more.addoption("--site-every", type=int, default=1, help="of the site and of the modules of pages one line, text or event of so many (1)")
 
 
 def pytest_configure(config: pytest.Config) -> None:
@@ -67,6 +69,21 @@ def wss() -> str:
     if not WSS:
         pytest.skip("no program wss: WSS names none")
     return WSS
+
+
+@pytest.fixture(scope="session")
+def every(request: pytest.FixtureRequest) -> int:
+    """One line, text or event of so many is looked at."""
+    return int(request.config.getoption("--site-every"))
+
+
+@pytest.fixture(scope="session")
+def scripts() -> Iterator[Scripts]:
+    """The modules of the pages, with the program."""
+    if not node():
+        pytest.skip("no Node (Debian: nodejs)")
+    with Scripts(WSC) as made:
+        yield made
 
 
 @pytest.fixture(scope="session")

@@ -85,11 +85,11 @@ def start(line: Sequence[str], source: int | IO[bytes] = subprocess.PIPE, sink: 
         raise CallFault(f"{line[0]} can't be run: {fault.strerror}") from fault
 
 
-def heard(child: Child, given: bytes | None, seconds: float) -> tuple[bytes, bytes] | None:
-    """What a program wrote to its two outputs until its end; nothing where it hasn't ended within so many seconds, and
-    then this can be asked again, without what it was given."""
+def heard(child: Child, seconds: float) -> tuple[bytes, bytes] | None:
+    """What a program that reads a file wrote to its two outputs until its end; nothing where it hasn't ended within so many
+    seconds, and then this can be asked again."""
     try:
-        return child.communicate(given, timeout=seconds)
+        return child.communicate(timeout=seconds)
     except subprocess.TimeoutExpired:
         return None
 

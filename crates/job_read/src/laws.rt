@@ -1,4 +1,4 @@
-//! What the text of a job comes to.
+//! Laws of the texts of jobs.
 
 ghost use Rattle.std.specs.Prelude.{List, ℕ};
 ghost use Rattle.src_ast.specs.Once.{ExactlyOne};
@@ -8,8 +8,8 @@ use src_check::each_program_is_checked_once;
 use src_lex::each_text_is_lexed_once;
 use src_parse::lexemes_are_parsed_once;
 
-/// Each text has exactly one reading: it is a job, with one program and one list
-/// of words, or it is refused for one reason.
+/// Each text has exactly one reading: it is a job, with one program and one list of words, or it is refused
+/// for one reason.
 pub fn each_text_is_a_job_or_refused()
     ensures { (text : List ℕ) → ExactlyOne (IsTextAnswer text) }
 {

@@ -1,4 +1,4 @@
--- What a call of the program comes to.
+-- How a call of the program ends.
 use Rattle.std.specs.Prelude.{◌≡◌, ◌≢◌, ◌⊎◌, ℕ, ◌+◌, ◌≤◌, true, List, [], ◌++◌, codes, length, take, Option}
 use Rattle.ws_io.specs.Streams.{Rose, Takes, TakesAll, Adds, Flushes}
 use Rattle.ws_isa.specs.Image.{Image}
@@ -26,7 +26,7 @@ abbrev pub IsOptimized : List ℕ → List Part → List ℕ → Type 0
 IsOptimized text parts out =
     (image : Image) × IsCompiled parts image × (out ≡ printed image ++ rest_of (codes "%input") true text)
 
--- what is answered to a text: that of the program of a job, or why it is none
+-- the answer to a text: the assembly of a job, or why the text is refused
 abbrev pub Answers : List ℕ → Status → List ℕ → Type 0
 Answers text Done out = (parts : List Part) × (input : List ℕ) × IsJob text parts input
     × IsOptimized text parts out
@@ -58,7 +58,7 @@ pub record NotRead (left after : Option (List ℕ)) (faults counted : ℕ) (out 
   pub fault : Rose faults counted
   pub tells : out ≡ unread_text
 
--- what goes out at this status, where the source has this left before and after, and had so many faults
+-- what goes out at this status, if the source has this left before and after, and had so many faults
 abbrev pub Replies : Option (List ℕ) → Option (List ℕ) → ℕ → ℕ → Status → List ℕ → Type 0
 Replies left after faults counted Done out = ToText left after Done out
 Replies left after faults counted Usage out = ⊥
@@ -70,19 +70,19 @@ Replies left after faults counted NoMemory out = ⊥
 abbrev pub usage_text : List ℕ
 usage_text = codes "usage: wso\n"
 
--- the same of a call on these words: where there are some, nothing is read
+-- the same of a call with these arguments: if there are some, nothing is read
 abbrev pub Due : List (List ℕ) → Option (List ℕ) → Option (List ℕ) → ℕ → ℕ → Status → List ℕ → Type 0
 Due words left after faults counted Usage out = (words ≢ []) × (after ≡ left) × (out ≡ usage_text)
 Due words left after faults counted status out = (words ≡ []) × Replies left after faults counted status out
 
--- A call on these words of which the source and the sink tell this ends with this status.
+-- A call with these arguments, of which the source and the sink report this, ends with this status.
 pub record CallEnds (words : List (List ℕ)) (left after : Option (List ℕ)) (faults counted : ℕ)
     (held holds : Option (List ℕ)) (flushed covered : Option ℕ) (erred told : ℕ) (status : Status)
     : Type 0 where
   -- what went out is the whole answer, and it was flushed
   pub answered : status ≢ WriteFault → status ≢ NoMemory → (out : List ℕ)
       × Due words left after faults counted status out × Adds held out holds × Flushes holds flushed covered
-  -- a fault came, a front of the answer is written, and nothing more is flushed
+  -- a fault occurred, a prefix of the answer is written, and nothing more is flushed
   pub unwritten : status ≡ WriteFault → Rose erred told × (covered ≡ flushed)
       × ((out : List ℕ) × (due : Status) × (n : ℕ) × Due words left after faults counted due out
       × (n ≤ length out) × Adds held (take n out) holds)

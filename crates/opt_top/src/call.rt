@@ -69,7 +69,7 @@ fn reply<S: Source>(alloc: Global, source: &mut S) -> Result<(Status, Bytes), No
     }
 }
 
-// The answer of a call on these words.
+// The answer of a call with these arguments.
 fn due<S: Source>(
     alloc: Global,
     words: &[String],
@@ -85,8 +85,8 @@ fn due<S: Source>(
     Ok((Status::Usage, out))
 }
 
-/// One call of the program: from the words of the command line, without the program's own name, of
-/// which there are to be none, and what the source gives, to what the sink takes.
+/// One call of the program: from the command-line arguments, without the program's own name, of which there
+/// must be none, and what the source gives, to what the sink takes.
 pub fn wso<S: Source, K: Sink>(
     alloc: Global,
     words: &[String],

@@ -1,9 +1,9 @@
-//! The call of the program `wso`: a job is read, and its optimized assembly written, with its input section.
+//! The call of the program `wso`: it reads a job and writes its optimized assembly, with the input section.
 //!
-//! What went out is the printed form of an image of the job's program, with constants folded and calls
-//! inlined, and behind it the input section of the text, or why the text is refused, and was flushed
-//! (`answered`); where a write failed it is a front of an answer (`unwritten`); where memory ran out it is
-//! nothing (`starved`). The image is one as `compile` gives it (`IsCompiled`).
+//! - `wso` writes and flushes the printed form of an image of the job's program and, after it, the input
+//!   section of the text; or why the text is refused (`answered`). The image has the properties that
+//!   `compile` gives its own (`IsCompiled`). That constants are folded and calls inlined is no clause.
+//! - If a write failed, a prefix of an answer went out (`unwritten`); if memory ran out, nothing (`starved`).
 #![tactic(auto)]
 
 mod call;

@@ -10,8 +10,7 @@ use std::io::ErrorKind;
 use std::process::ExitCode;
 use ws_io::{Sink, Source, StdSink, StdSource};
 
-// The words of the command line, or nothing where memory runs out. Where one of them is no text there are
-// none: these are no command line.
+// The command-line arguments, or nothing if memory runs out. If one of them is no text, there are none.
 fn words<R: Env + AllocGlobal>(rt: &R) -> Option<Vec<String>> {
     let mut words = Vec::new(rt.alloc());
     match env::args(rt) {
@@ -37,7 +36,7 @@ fn others(words: &[String]) -> &[String] {
     }
 }
 
-// Calls the program with these words, of which the first is its own name, and answers the code of the status.
+// Calls the program with these arguments, of which the first is its own name, and answers the status code.
 fn called<S: Source, K: Sink>(
     alloc: Global,
     words: &[String],

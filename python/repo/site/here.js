@@ -1,6 +1,6 @@
-// The page of ./web: it works without a server. What the page of serve.py asks of one is done here, by workers that call the
-// program as a module (wsc.js). Beside that page it runs any line of wsc, stops what is at work, and saves files. It comes
-// before the scripts of that page, behind edit.js.
+// The page of ./web: it works without a server. The program, which that of serve.py has called by one, is called by the workers
+// themselves, as a module (wsc.js). Beside that page it runs any line of wsc, stops what is at work, and saves files. It comes
+// in place of served.js.
 window.framePath = "frame.html";
 const modules = {};
 const OF_A_FILE = "A browser doesn't run this page from a file. Serve its folder: python3 -m http.server -d FOLDER";
@@ -23,11 +23,9 @@ async function whileWorking(act) {
     $("stop").disabled = !--working;
   }
 }
-// What the page asks about a text: `said`, `drawn`, or `shown?left=ORDER&right=ORDER`.
-function work(path, text, signal) {
-  const [task, asked] = path.split("?"), orders = new URLSearchParams(asked);
-  return whileWorking(async () =>
-    (await moduleOf("wsc")).ask(task, [text, ...asked ? [orders.get("left"), orders.get("right")] : []], {signal}));
+// What the page asks about a text: a task of a worker (hand.js).
+function work(task, args, signal) {
+  return whileWorking(async () => (await moduleOf("wsc")).ask(task, args, {signal}));
 }
 function made(tag, attributes, ...parts) {
   const it = Object.assign(document.createElement(tag), attributes);

@@ -12,6 +12,7 @@ const FIRST_PAGES = 256;
 export const MOST = 2 ** 31;
 /** A memory that has grown beyond so many bytes isn't kept for the next call. */
 const KEPT = 64 * 2 ** 20;
+const ENCODER = new TextEncoder(), DECODER = new TextDecoder("utf-8", {ignoreBOM: true});
 
 export const TOO_OLD = "This browser can't run the program: it has no WebAssembly, or one without BigInt. Chrome and Edge " +
   "from 85 on have it, Firefox from 114 on and Safari from 15 on.";
@@ -70,6 +71,16 @@ export class Host {
     this.memory = null;
   }
 
+  /**
+   * Calls the program with a text, as calls.js has it.
+   * @param {string[]} words
+   * @param {string} text
+   */
+  ask(words, text) {
+    const {status, out, err} = this.call(words, ENCODER.encode(text));
+    return {status, out: DECODER.decode(out), err: DECODER.decode(err)};
+  }
+
   /** A memory of zeros. It is that of the last call where that one hasn't grown much, since browsers free them late. */
   fresh() {
     const it = this.memory || memoryOf(this.most);
@@ -86,7 +97,7 @@ export class Host {
    * @throws {Trapped} where its stack or its code came to no end of its own
    */
   call(words, input) {
-    const memory = this.fresh(), told = [this.name, ...words].map(it => new TextEncoder().encode(it));
+    const memory = this.fresh(), told = [this.name, ...words].map(it => ENCODER.encode(it));
     /** @type {Uint8Array[][]} */
     const streams = [[], [], []];
     let at = 0, status = 0;

@@ -15,10 +15,9 @@ import sys
 
 from repo.site.pages import made as pages_made
 from wavescalar.cli import Line, whole
-from wavescalar.diagnose import refusals
 from wavescalar.faults import Fault
-from wavescalar.isa import RESERVED
 from wavescalar.programs import ROOT
+from wavescalar.viewer.scripts import bundled, modules as modules_of_pages
 from wavescalar.viewer.serve import EXAMPLES, FIRST, HERE as VIEW, LONGEST, WORDS, frame
 from wavescalar.viewer.view import SCRIPTS, written
 
@@ -28,14 +27,13 @@ PAGES = "default-src 'none'; script-src 'self'; style-src 'self'; img-src 'self'
 FRAMES = PAGES.replace("img-src 'self'; ", "")
 POLICY = FRAMES.replace("script-src 'self'", "script-src 'self' 'wasm-unsafe-eval'; connect-src 'self'; frame-src 'self'; "
                         "worker-src 'self'")
-OWN = ("here.js", "here.css", "host.js", "wsc.js", "worker.js", "image.js", "machine.js", "grid.js", "orders.js", "lot.js",
-       "layout.js", "drawing.js", "source.js", "statements.js", "calls.js", "said.js", "drawn.js", "shown.js", "saved.js",
-       "refusals.js", "like.js", "pages.css", "slides.js")
+OWN = ("here.js", "here.css", "pages.css", "slides.js")
+# Modules of the site, beside those of the package; what its worker imports is put into one script with it.
+MODULES = ("host.js", "wsc.js", "worker.js")
 OF_VIEW = ("serve.css", "page.css", "edit.js", "both.js", "serve.js", *SCRIPTS)
 # What the page needs after a few other files: it is fetched beside them.
 EARLY = ('<link rel="preload" href="wsc.wasm.gz" as="fetch" crossorigin>\n'
          '<link rel="modulepreload" href="wsc.js">\n<link rel="modulepreload" href="host.js">\n')
-TEXTS_OF_REFUSALS = ("JOB", "LINE", "FORMS", "HINTS", "SOUND", "JOBS", "WITH_INPUT", "ENDS", "FOREIGN")
 ASSEMBLIES = ("choice", "landings", "overlap", "ripple", "names")
 
 
@@ -68,14 +66,8 @@ def front(programs: list[str]) -> str:
     return bound(replaced((VIEW / "serve.html").read_text(), {
         "@DATA@": written(told), style: f'{style}<link rel="stylesheet" href="here.css">\n{EARLY}',
         "<main>": "<noscript>This page needs JavaScript.</noscript>\n<main>",
-        '<script src="both.js"></script>': '<script src="here.js"></script>\n<script src="both.js"></script>',
+        "served.js": "here.js",
     }), POLICY)
-
-
-def why() -> str:
-    """What each word of a refusal says, and its hints, as a module of the page."""
-    told = "".join(f"export const {name} = {json.dumps(getattr(refusals, name))};\n" for name in TEXTS_OF_REFUSALS)
-    return f"{told}export const RESERVED = {json.dumps(sorted(RESERVED))};\n"
 
 
 def offline(files: dict[str, bytes]) -> bytes:
@@ -89,7 +81,10 @@ def offline(files: dict[str, bytes]) -> bytes:
 def site(modules: list[pathlib.Path]) -> dict[str, bytes]:
     """All files by their names."""
     texts, pictures = pages_made(PAGES)
-    made = {"index.html": front([it.stem for it in modules]).encode(), "frame.html": bound(frame(), FRAMES).encode(), "why.js": why().encode()}
+    made = {"index.html": front([it.stem for it in modules]).encode(), "frame.html": bound(frame(), FRAMES).encode()}
+    scripts = {**modules_of_pages(), **{name: (HERE / name).read_text() for name in MODULES}}
+    texts |= {"wsc.js": scripts["wsc.js"], "hands.js": scripts["hands.js"], "host.js": scripts["host.js"],
+              "worker.js": bundled(scripts, "worker.js")}
     made |= {name: text.encode() for name, text in texts.items()}
     for file in [*(HERE / name for name in OWN), *(VIEW / name for name in OF_VIEW), *pictures, *modules]:
         made[file.name] = file.read_bytes()

@@ -15,9 +15,3 @@ def site() -> pathlib.Path:
     if not named:
         pytest.skip("WSC_SITE names no site: .ci/checks/web makes one and tries it")
     return pathlib.Path(named).resolve()
-
-
-@pytest.fixture(scope="session")
-def every(request: pytest.FixtureRequest) -> int:
-    """One line, text or event of so many is looked at."""
-    return int(request.config.getoption("--site-every"))

@@ -4,8 +4,6 @@ what follows from them: of each job that `plain` runs its assembly, what every c
 
 from __future__ import annotations
 
-import re
-import shutil
 import subprocess
 from concurrent.futures import ThreadPoolExecutor
 
@@ -26,16 +24,6 @@ LONG: list[Line] = [
     (["run", "--budget", "500000", "--memory"], b"proc main() { while (1) { print 1; } }"),
     (["plain", "--turns", "500000"], b"proc main() { var i; while (1) { print i; i = i + 1; } }"),
     (["run", "--budget", "4000000", "--stats"], b"proc main() { var i, s; while (i < 100000) { s = s + i; i = i + 1; } print s; }")]
-# Node 14 is the first that takes and gives BigInt, and knows `await` in modules.
-NODE = 14
-
-
-def node() -> str | None:
-    """Node, if one is here that knows what a module needs."""
-    program = shutil.which("node")
-    told = subprocess.run([program, "--version"], capture_output=True, text=True, check=False).stdout if program else ""
-    found_there = re.match(r"v(\d+)\.", told)
-    return program if found_there and int(found_there[1]) >= NODE else None
 
 
 class Native:

@@ -19,7 +19,8 @@ import pytest
 
 from tests import asked
 from tests.browser import Browser, found
-from tests.site.lines import LONG, Answer, Line, Native, lines_of, node, texts_of_examples
+from tests.scripts import node
+from tests.site.lines import LONG, Answer, Line, Native, lines_of, texts_of_examples
 from tests.site.served import Served
 from tests.viewer.test_pages import again
 

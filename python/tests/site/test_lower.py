@@ -14,7 +14,7 @@ import pytest
 from repo.site.lower import LOADS, STORES, Unknown, lowered
 from tests import asked
 from tests.cases import each
-from tests.site.lines import node
+from tests.scripts import node
 
 HERE = pathlib.Path(__file__).resolve().parent
 HEAD = b"\0asm\x01\0\0\0"

@@ -10,7 +10,7 @@ import pytest
 
 from repo.site.lower import lowered
 from tests import asked
-from tests.site.lines import node
+from tests.scripts import node
 from wavescalar.programs import ROOT
 
 HERE = pathlib.Path(__file__).resolve().parent

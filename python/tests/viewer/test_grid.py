@@ -2,13 +2,15 @@
 
 For each job that compiles, on grids of several sizes: the model's answer, with its firings and cycles, is that of
 `wsc grid --stats`; each of its events is enabled in the viewer's machine, and prints the same; no element fires
-twice in a cycle, and the last event stands in the last cycle that is told.
+twice in a cycle, and the last event stands in the last cycle that is told. The steps of a page, which has a model of its own,
+are those.
 """
 
 from collections.abc import Iterator
 
 from tests.cases import each
 from tests.places import JOBS, WSC, assembly_of_job, images_of
+from tests.scripts import Scripts
 from wavescalar.numbered import read
 from wavescalar.programs import call
 from wavescalar.viewer.grid import cycles, recorded
@@ -27,7 +29,7 @@ def short_jobs() -> Iterator[tuple[str, str]]:
 
 @each("grid", ((f"{elements}x{waves}", (elements, waves)) for elements, waves in GRIDS))
 @each("job", short_jobs())
-def test_grid(wsc: str, job: str, grid: tuple[int, int]) -> None:
+def test_grid(wsc: str, scripts: Scripts, job: str, grid: tuple[int, int]) -> None:
     text = assembly_of_job(job)
     elements, waves = grid
     run = recorded(wsc, text, elements, waves)
@@ -41,3 +43,5 @@ def test_grid(wsc: str, job: str, grid: tuple[int, int]) -> None:
     assert len(fires) == len(set(fires)) == run.fired, "an element fires twice in a cycle"
     last = f"cycles {made[-1]['cycle'] if made else 0}"
     assert status == 8 or last in answer.split("\n"), "the cycle of the last event"
+    shown = scripts("order", text, f"grid-{elements}-{waves}", 10**6)
+    assert (shown["steps"], shown["why"], shown["fired"]) == (made, why, run.fired), "the page"

@@ -241,7 +241,7 @@ def again(act: Callable[[], None]) -> None:
 def made(program: str, folder: pathlib.Path, name: str, job: str, way: Way = "trace") -> str:
     """A page of wsc-view."""
     file = folder / f"{name}.html"
-    file.write_text(page(traced(program, job), name, 20000, job, program, way)[0])
+    file.write_text(page(traced(program, job), name, 20000, job, program, way))
     return str(file)
 
 

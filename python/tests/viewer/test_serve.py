@@ -26,12 +26,15 @@ from tests.places import LIBRARY, ROOT
 from wavescalar.viewer.view import SCRIPTS
 
 SUM = (ROOT / "examples" / "sum.job").read_bytes()
+# The words of calls: each with --memory and --stats too.
+PLAIN, RUN = ("call?word=plain&word=--turns&word=500000", "call?word=run&word=--workers&word=8&word=--budget&word=500000")
+MORE = "&word=--memory&word=--stats"
 ENDLESS = b"proc main() { var i; while (1) { i = i + 1; print i; } }\n"
 # A program in place of wsc, which is ended by a signal, and one that takes for ever.
 CRASH, SLOW = "#!/bin/sh\nkill -SEGV $$\n", "#!/bin/sh\nsleep 60\n"
 # Seconds for an answer, and for an end, on a machine that has much else to do.
 PATIENCE, END = 120, 30
-PARTS = ("", "frame", "serve.css", "page.css", "edit.js", "both.js", "serve.js", *SCRIPTS)
+PARTS = ("", "frame", "serve.css", "page.css", "edit.js", "served.js", "both.js", "serve.js", "hands.js", "remote.js", *SCRIPTS)
 Headers = dict[str, str]
 
 
@@ -82,7 +85,7 @@ class Served:
         line.close()
         return got.status, told, dict(got.getheaders())
 
-    def post(self, text: bytes, path: str = "said", **headers: str | None) -> tuple[int, dict[str, Any]]:
+    def post(self, text: bytes, path: str = PLAIN, **headers: str | None) -> tuple[int, dict[str, Any]]:
         """The status of an answer to a text, and what it tells."""
         status, told, _ = self.ask("POST", path, text, **headers)
         return status, json.loads(told)
@@ -106,14 +109,16 @@ def test_pages(served: Served) -> None:
         want(f"{path} runs what is served alone", "unsafe" in policy or "script-src 'self';" not in policy, False)
         want(f"{path} has nothing for others", served.token.encode() in told, False)
     for path in ("../README.md", "..%2fREADME.md", f"/{served.token}//etc/passwd", "serve.py", "python/wsc-serve",
-                 "serve.css?x", "%2e%2e/wsc", "frame/", "said", "page.html"):
+                 "serve.css?x", "%2e%2e/wsc", "frame/", "call", PLAIN, "page.html", "page/hand.js", "hand.js"):
         want(f"GET {path}", served.ask("GET", path)[0], 404)
     for method in ("PUT", "DELETE", "OPTIONS", "TRACE"):
-        want(method, served.ask(method, "said")[0], 501)
+        want(method, served.ask(method, PLAIN)[0], 501)
     want("HEAD", served.ask("HEAD", "")[:2], (200, b""))
-    want("no such page", served.ask("POST", "saids", SUM)[0], 404)
-    for left in ("", "trace;ls", "grid-0-1", "grid-65-1", "random--1", "../x", "random-9999999999"):
-        want(f"the order {left}", served.ask("POST", f"shown?left={left}&right=trace", SUM)[0], 404)
+    want("no such page", served.ask("POST", "calls?word=plain", SUM)[0], 404)
+    for words in ("", "word=", "word=gen", "word=run;ls", "word=run&word=/etc/passwd", "word=run&word=sum.job", "word=run&word=--help",
+                  "word=run&word=--budget", "word=run&word=--budget&word=x", "word=run&word=7", "word=--stats", "word=plain&word=../x",
+                  "word=run&word=--budget&word=99999999", "word=multi", "word=stream", "word=sh&word=-c&word=ls", "words=run"):
+        want(f"the call {words}", served.ask("POST", f"call?{words}", SUM)[0], 404)
 
 
 def test_tokens(served: Served) -> None:
@@ -124,7 +129,7 @@ def test_tokens(served: Served) -> None:
         status, told, _ = served.ask("GET", path)
         want(f"GET {path.replace(token, 'TOKEN')}", (status, token.encode() in told), (404, False))
         want(f"it says why at {path.replace(token, 'TOKEN')}", b"token" in told, True)
-    for path in ("/said", "/drawn", "/shown?left=trace&right=rounds", f"/{token[1:]}/said"):
+    for path in (f"/{PLAIN}", "/call?word=compile", f"/{RUN}{MORE}", f"/{token[1:]}/{PLAIN}"):
         want("a text without the token", served.ask("POST", path, SUM)[0], 404)
     with Served(served.program) as other:
         want("another server's token", other.token != token and len(other.token) >= 16, True)
@@ -138,62 +143,57 @@ def test_strangers(served: Served) -> None:
     for host in (None, "evil.example", f"evil.example:{port}", "127.0.0.1", f"127.0.0.1:{port + 1}",
                  f"127.0.0.2:{port}", f"127.0.0.1:{port}.evil.example", ""):
         want(f"GET with Host {host}", served.ask("GET", "", Host=host)[0], 421)
-        want(f"POST with Host {host}", served.ask("POST", "said", SUM, Host=host)[0], 421)
+        want(f"POST with Host {host}", served.ask("POST", PLAIN, SUM, Host=host)[0], 421)
     for origin in (None, "null", "http://evil.example", f"https://127.0.0.1:{port}", "http://127.0.0.1",
                    f"http://127.0.0.1:{port}.evil.example", f"http://evil.example:{port}"):
-        want(f"Origin {origin}", served.ask("POST", "said", SUM, Origin=origin)[0], 403)
+        want(f"Origin {origin}", served.ask("POST", PLAIN, SUM, Origin=origin)[0], 403)
     for site in ("cross-site", "same-site", "none"):
-        want(f"from {site}", served.ask("POST", "said", SUM, Sec_Fetch_Site=site)[0], 403)
+        want(f"from {site}", served.ask("POST", PLAIN, SUM, Sec_Fetch_Site=site)[0], 403)
     for kind in (None, "text/plain", "application/x-www-form-urlencoded", "multipart/form-data"):
-        want(f"a form's {kind}", served.ask("POST", "said", SUM, Content_Type=kind)[0], 415)
+        want(f"a form's {kind}", served.ask("POST", PLAIN, SUM, Content_Type=kind)[0], 415)
     here = f"localhost:{port}"
-    want("localhost", served.ask("POST", "said", SUM, Host=here, Origin=f"http://{here}")[0], 200)
+    want("localhost", served.ask("POST", PLAIN, SUM, Host=here, Origin=f"http://{here}")[0], 200)
     other = socket.socket()
     want("another address", other.connect_ex(("127.0.0.2", port)) != 0, True)
     other.close()
 
 
 def test_texts(served: Served) -> None:
-    """What is said of texts."""
+    """What is answered to texts is what the program answers."""
     status, told = served.post(SUM)
-    want("sum", (status, told["same"], [run["words"] for run in told["runs"]]), (200, True, [["55"]] * 3))
+    want("sum", (status, told), (200, {"status": 0, "out": "55\nhalt\n", "err": ""}))
+    status, told = served.post(SUM, RUN + MORE)
+    want("with options", (status, told["status"], told["out"]), (200, 0, "55\nhalt\nfirings 143\n"))
     status, told = served.post(b"proc main() {\n  print x;\n}\n")
-    want("a refusal", (status, told["refused"]), (200, "refused 2:9 unknown"))
-    want("its place", told["place"], {"line": 2, "from": 22, "to": 23})
-    want("its words", "no such name" in " ".join(told["said"]), True)
+    want("a refusal", (status, told["status"], told["out"]), (200, 2, "refused 2:9 unknown\n"))
     for text in (bytes(range(256)), b"\xff\xfe" * 100, b"\0" * 1000, b""):
-        status, told = served.post(text)
-        want(f"binary {text[:4]!r}", (status, told.get("refused", "")[:8]), (200, "refused "))
-        for path in ("drawn", "shown?left=trace&right=rounds"):
-            want(f"binary {text[:4]!r}, {path}", served.post(text, path)[0], 422)
-    long = SUM + b"#" * (64 * 1024 - len(SUM))
-    want("64 KiB", served.post(long)[0], 200)
+        for path in (PLAIN, RUN, "call?word=compile"):
+            status, told = served.post(text, path)
+            want(f"binary {text[:4]!r}", (status, told["status"], told["out"][:8]), (200, 2, "refused "))
+    for words in ("run", "exec", "trace", "replay"):
+        status, told = served.post(b"\xe9", f"call?word={words}")
+        want(f"{words} of no text", (status, told["out"][:8]), (200, "refused "))
+    long = SUM + b"#" * ((8 << 20) - len(SUM))
+    want("8 MiB", (served.post(long)[0], served.post(long)[1]["out"]), (200, "refused long\n"))
     want("a byte more", served.post(long + b"#")[0], 413)
-    want("a huge text", served.post(b"#" * (3 << 20))[0], 413)
-    want("no length", served.ask("POST", "said", b"", Content_Length=None)[0], 411)
-    want("a length that is none", served.ask("POST", "said", b"", Content_Length="-1")[0], 411)
-    want("a coded text", served.ask("POST", "said", SUM, Transfer_Encoding="chunked")[0], 411)
+    want("a huge text", served.post(b"#" * (12 << 20))[0], 413)
+    want("no length", served.ask("POST", PLAIN, b"", Content_Length=None)[0], 411)
+    want("a length that is none", served.ask("POST", PLAIN, b"", Content_Length="-1")[0], 411)
+    want("a coded text", served.ask("POST", PLAIN, SUM, Transfer_Encoding="chunked")[0], 411)
     names = (ROOT / "examples" / "names.asm").read_bytes()
-    status, told = served.post(names)
-    want("an assembly", (status, told["kind"], told["same"]), (200, "assembly", True))
-    status, told = served.post(SUM, "drawn")
-    want("its drawing", (status, len(told["statements"]), len(told["drawing"]["nodes"])), (200, 5, 17))
-    status, told = served.post(names, "drawn")
-    want("that of an assembly", (status, told["statements"], told["said"]), (200, [], {}))
+    right = subprocess.run([served.program, "exec", "--stats"], input=names, capture_output=True, check=True).stdout.decode()
+    status, told = served.post(names, "call?word=exec&word=--stats")
+    want("an assembly", (status, told["status"], told["out"]), (200, 0, right))
+    trace = subprocess.run([served.program, "trace"], input=names, capture_output=True, check=True).stdout
+    status, told = served.post(trace, "call?word=replay")
+    want("a trace", (status, told["status"], "rest" in told["out"].splitlines()), (200, 0, True))
 
 
 def test_runs(served: Served) -> None:
-    """Runs are bounded by firings and events, and two orders are of the same events."""
-    status, told = served.post(ENDLESS)
-    want("endless", (status, [run["status"] for run in told["runs"]], told["same"]), (200, [3, 3, 3], True))
-    status, told = served.post(ENDLESS, "shown?left=rounds&right=random-5")
-    want("endless, shown", (status, [bool(it["why"]) for it in told["runs"]]), (200, [True, True]))
-    for left, right in (("trace", "random-7"), ("rounds", "grid-4-2"), ("grid-1-1", "grid-64-9"),
-                        ("random-1", "random-2")):
-        status, told = served.post(SUM, f"shown?left={left}&right={right}")
-        want(f"{left}, {right}", (status, told["compared"]["same"]), (200, True))
-        want(f"{left}, {right}, events", told["compared"]["of"], [231, 231])
-        want(f"{left}, {right}, replayed", [it["replayed"] for it in told["runs"]], ["rest", "rest"])
+    """Runs are bounded by firings and turns."""
+    for path in (PLAIN, RUN, RUN + MORE):
+        status, told = served.post(ENDLESS, path)
+        want("endless", (status, told["status"], told["out"].splitlines()[:3]), (200, 3, ["1", "2", "3"]))
 
 
 def test_many(served: Served) -> None:
@@ -202,8 +202,8 @@ def test_many(served: Served) -> None:
     with ThreadPoolExecutor(20) as many:
         jobs = [SUM.replace(b"\n10\n", b"\n%d\n" % k) for k in range(20)]
         told = list(many.map(served.post, jobs))
-    sums = [it["runs"][0]["words"] if status == 200 else status for status, it in told]
-    want("twenty at once", sums, [[str(k * (k + 1) // 2)] for k in range(20)])
+    sums = [it["out"] if status == 200 else status for status, it in told]
+    want("twenty at once", sums, [f"{k * (k + 1) // 2}\nhalt\n" for k in range(20)])
     for one in silent:
         one.close()
 
@@ -228,7 +228,7 @@ def test_gone(tmp_path: pathlib.Path) -> None:
     with Served(str(file)) as served:
         line = socket.create_connection(("127.0.0.1", served.port))
         here = f"127.0.0.1:{served.port}"
-        line.sendall(f"POST /{served.token}/said HTTP/1.1\r\nHost: {here}\r\nOrigin: http://{here}\r\nContent-Type: "
+        line.sendall(f"POST /{served.token}/{PLAIN} HTTP/1.1\r\nHost: {here}\r\nOrigin: http://{here}\r\nContent-Type: "
                      f"application/octet-stream\r\nContent-Length: {len(SUM)}\r\n\r\n".encode() + SUM)
         end = time.time() + END
         while not children_of(served.child.pid) and time.time() < end:
@@ -245,7 +245,7 @@ def test_end(wsc: str) -> None:
     with Served(wsc) as served:
         silent = socket.create_connection(("127.0.0.1", served.port))
         with ThreadPoolExecutor(1) as one:
-            one.submit(lambda: served.post(ENDLESS, "shown?left=rounds&right=random-5"))
+            one.submit(lambda: served.post(ENDLESS, "call?word=plain&word=--turns&word=9999999"))
             time.sleep(0.3)
             begun = time.time()
             served.child.send_signal(signal.SIGINT)
@@ -271,6 +271,6 @@ def test_faults(tmp_path: pathlib.Path, text: str, status: int, wanted: str, sec
         file.write_text(text)
         file.chmod(0o755)
     with Served(str(file), seconds) as served:
-        for path in ("said", "drawn", "shown?left=trace&right=rounds"):
+        for path in (PLAIN, RUN, "call?word=compile"):
             found, told = served.post(SUM, path)
             want(path, (found, wanted in told["fault"]), (status, True))

@@ -66,7 +66,7 @@ def test_one_drawing(tmp_path: pathlib.Path) -> None:
             text = compiled((EXAMPLES / f"{name}.job").read_text())
             assert text
             file = tmp_path / f"{name}.html"
-            file.write_text(page(text + "%trace\n" if "%input" in text else f"{text}%input\n%trace\n", name, 10)[0])
+            file.write_text(page(text + "%trace\n" if "%input" in text else f"{text}%input\n%trace\n", name, 10))
             browser.open(str(file))
             found: list[list[Any]] = browser.value(SHAPES)
             shown = sorted((it[0], kind_of(it[1]), it[2], numbers(it[3])) for it in found)

@@ -191,5 +191,5 @@ def page(text: str, job: str = "", title: str = "wsc", *, wsc: str | None = None
     text: an assembly with its input and its trace. job: the job that it was made of, shown beside it, with each
     instruction's statement. rounds: all that can happen at once, in place of the trace's order. height: in pixels.
     """
-    made, *_ = view.page(text, title, MOST_EVENTS, job, wsc or usual(), "rounds" if rounds else "trace")
+    made = view.page(text, title, MOST_EVENTS, job, wsc or usual(), "rounds" if rounds else "trace")
     return Page(made, title, height)

@@ -1,9 +1,9 @@
 """Serve a page for a class, on this computer only: edit a job, see what the program answers, and step through two orders
 of its events side by side.
 
-JOB is the text that the page begins with. Each text is given to `explain_json.py`, `layout_json.py` and `runs_json.py`, in
-processes that may run for some seconds and write no file. The address that is printed has a token, without which nothing is
-answered. Ctrl-C ends it.
+JOB is the text that the page begins with. What is drawn of a text the page computes itself; it asks this server for what wsc
+answers, which is called in processes that may run for some seconds and write no file. The address that is printed has a
+token, without which nothing is answered. Ctrl-C ends it.
 """
 
 import functools
@@ -11,6 +11,7 @@ import hmac
 import json
 import os
 import pathlib
+import re
 import secrets
 import select
 import signal
@@ -27,20 +28,22 @@ from typing import Any, Callable
 from wavescalar.cli import Line, add_program, given, whole
 from wavescalar.faults import Fault
 from wavescalar.isa import EXITS, HEADS, KINDS, RESERVED
-from wavescalar.programs import ROOT, Child, heard, ready, start
-from wavescalar.viewer.orders import is_order
+from wavescalar.programs import NONE_BUILT, ROOT, Child, heard, ready, refusal, start
+from wavescalar.viewer.bounds import UNSTARTED, bounded
+from wavescalar.viewer.scripts import bundled, modules
 from wavescalar.viewer.view import SCRIPTS, written
 
 HERE = pathlib.Path(__file__).resolve().parent
 ADDRESS, PORT = "127.0.0.1", 8765
-# The longest text, in bytes, and the longest time of a run with all that is made of it, in seconds.
-LONGEST, SECONDS = 64 * 1024, 5
-# What finds this package from any folder, however it was found here.
-REACH = {**os.environ, "PYTHONPATH": str(HERE.parent.parent)}
+# The longest text of the page, in bytes, and the longest one of a call, as what it compiles to, with a trace; the longest time
+# of a call, and of all that is made of a text for a part of the page, in seconds.
+LONGEST, LARGEST, SECONDS = 64 * 1024, 8 << 20, 5
+# The calls that are made for the page. No word names a file, which the wrapper wsc would read.
+CALL = re.compile(r"(compile|plain|run|exec|trace|replay)( --(turns|budget|workers) \d{1,7}| --memory| --stats)*")
 # Requests that are answered, and processes that work, at a time; requests beyond the last number are turned away.
 ANSWERING, WORKING, WAITING = 32, 3, 128
 # After so many seconds of silence a request is given up; so many bytes of a text that is refused are taken in.
-IDLE, MOST_DRAINED = 10, 1 << 20
+IDLE, MOST_DRAINED = 10, 16 << 20
 # So often, in seconds, it is looked whether a browser still waits for what is worked at.
 LOOK = 0.1
 # Bytes of chance in the token of the address.
@@ -72,8 +75,6 @@ HEADERS = {
     "Cross-Origin-Resource-Policy": "same-origin", "Cross-Origin-Opener-Policy": "same-origin",
 }
 JSON = "application/json"
-# Parts of a page that are asked for by their name alone, and the module that makes each.
-ALONE = {"said": "explain_json", "drawn": "layout_json"}
 # What is answered: its status, its type, and its bytes.
 Answer = tuple[int, str, bytes]
 
@@ -82,9 +83,9 @@ class Refused(Exception):
     """A request that isn't answered: its status, and why."""
 
 
-def front(text: str, name: str) -> str:
+def front(text: str, name: str, seconds: int) -> str:
     """The page, with the text that it begins with and the examples."""
-    told = {"text": text, "name": name, "longest": LONGEST,
+    told = {"text": text, "name": name, "longest": LONGEST, "seconds": seconds,
             "examples": [[file.stem, file.read_text()] for file in EXAMPLES if file.exists()]}
     return (HERE / "serve.html").read_text().replace("@DATA@", written(told))
 
@@ -104,18 +105,19 @@ def frame() -> str:
     return made
 
 
-def files(text: str, name: str) -> dict[str, tuple[str, bytes]]:
+def files(text: str, name: str, seconds: int) -> dict[str, tuple[str, bytes]]:
     """All that a browser may ask for, by what stands behind the token: types and bytes. It is read once, and no path
     of a request is ever opened."""
     kinds = {".css": "text/css", ".js": "text/javascript"}
-    plain = ["serve.css", "page.css", "edit.js", "both.js", "serve.js", *SCRIPTS]
+    plain = ["serve.css", "page.css", "edit.js", "served.js", "both.js", "serve.js", *SCRIPTS]
     made = {file: (kinds[pathlib.Path(file).suffix], (HERE / file).read_text().replace("@WORDS@", WORDS)) for file in plain}
-    made |= {"": ("text/html", front(text, name)), "frame": ("text/html", frame())}
+    made |= {"hands.js": (kinds[".js"], modules()["hands.js"]), "remote.js": (kinds[".js"], bundled(modules(), "remote.js"))}
+    made |= {"": ("text/html", front(text, name, seconds)), "frame": ("text/html", frame())}
     return {path: (kind, it.encode(errors="replace")) for path, (kind, it) in made.items()}
 
 
 class Workers:
-    """The processes that work for requests, in a folder of their own; each may take so many seconds."""
+    """The calls of the program for requests, in a folder of their own; each may take so many seconds."""
 
     def __init__(self, program: str, folder: str, seconds: int):
         self.program, self.folder, self.seconds = program, folder, seconds
@@ -124,29 +126,29 @@ class Workers:
         self.lock, self.ending = threading.Lock(), False
 
     def work(self, words: list[str], text: bytes, is_gone: Callable[[], bool]) -> bytes:
-        """What a module of the viewer tells of a text; it is ended where nobody waits for it any more."""
+        """What the program answers to a text, as JSON; it is ended where nobody waits for it any more."""
         with self.room:
             if is_gone():
                 raise ConnectionError
-            child = self.begun(words)
+            child = self.begun(words, text)
             try:
-                told, errors = self.told_by(child, text, is_gone)
+                told, errors = self.told_by(child, is_gone)
             finally:
                 with self.lock:
                     self.children.discard(child)
-        if child.returncode == 0:
-            return told
-        said = errors.decode(errors="replace").strip().splitlines()
-        raise Refused(422, said[-1] if said else f"{words[0]} ended with status {child.returncode}")
+        status, out, err = child.returncode, told.decode(errors="replace"), errors.decode(errors="replace")
+        if status in UNSTARTED:
+            raise Refused(422, f"{self.program} can't be run")
+        if status < 0 or status == NONE_BUILT:
+            raise Refused(422, str(refusal(words[0], status, out, err)))
+        return json.dumps({"status": status, "out": out, "err": err}).encode()
 
-    def told_by(self, child: Child, text: bytes, is_gone: Callable[[], bool]) -> tuple[bytes, bytes]:
+    def told_by(self, child: Child, is_gone: Callable[[], bool]) -> tuple[bytes, bytes]:
         """What a process writes to its two outputs."""
         last = time.monotonic() + self.seconds
-        given_to_it: bytes | None = text
         while True:
-            if told := heard(child, given_to_it, LOOK):
+            if told := heard(child, LOOK):
                 return told
-            given_to_it = None
             late, gone = time.monotonic() > last, is_gone()
             if late or gone:
                 self.end(child)
@@ -156,14 +158,17 @@ class Workers:
             if late:
                 raise Refused(408, f"This takes longer than it may ({self.seconds} s), and was ended.")
 
-    def begun(self, words: list[str]) -> Child:
-        """A process that begins to work, a group of its own."""
-        line = [sys.executable, "-B", "-m", f"wavescalar.viewer.{words[0]}", "--bound", "--wsc", self.program, *words[1:]]
-        with self.lock:
-            if self.ending:
-                raise Refused(503, "The server ends.")
-            child = start(line, folder=self.folder, environment=REACH, is_group=True)
-            self.children.add(child)
+    def begun(self, words: list[str], text: bytes) -> Child:
+        """A call that begins, a group of its own. It reads the text from a file without a name, since a pipe has to be filled
+        while its output is read."""
+        with tempfile.TemporaryFile(dir=self.folder) as source:
+            source.write(text)
+            source.seek(0)
+            with self.lock:
+                if self.ending:
+                    raise Refused(503, "The server ends.")
+                child = start(bounded([self.program, *words]), source, folder=self.folder, is_group=True)
+                self.children.add(child)
         return child
 
     def end(self, child: Child) -> None:
@@ -302,10 +307,12 @@ class Handler(BaseHTTPRequestHandler):
         self.answered(self.worked)
 
     def worked(self, path: str) -> Answer:
-        """What is told of a text."""
+        """What the program answers to a text."""
         self.check_origin()
         path, _, asked = path.partition("?")
-        words = self.words(path, urllib.parse.parse_qs(asked))
+        words = urllib.parse.parse_qs(asked).get("word", [])
+        if path != "call" or not CALL.fullmatch(" ".join(words)):
+            raise Refused(404, "There is no such page, or no such call.")
         return 200, JSON, self.server.workers.work(words, self.body(), self.is_gone)
 
     def is_gone(self) -> bool:
@@ -313,22 +320,13 @@ class Handler(BaseHTTPRequestHandler):
         heard = select.select([self.connection], [], [], 0)[0]
         return bool(heard) and not self.connection.recv(1, socket.MSG_PEEK)
 
-    def words(self, path: str, asked: dict[str, list[str]]) -> list[str]:
-        """The line that is run for a request."""
-        if path in ALONE:
-            return [ALONE[path]]
-        names = [asked.get(side, [""])[0] for side in ("left", "right")]
-        if path != "shown" or not all(map(is_order, names)):
-            raise Refused(404, "There is no such page, or no such order.")
-        return ["runs_json", *names]
-
     def body(self) -> bytes:
         """The text of a request."""
         told = self.headers.get("Content-Length", "")
         if not (told.isascii() and told.isdigit()) or "Transfer-Encoding" in self.headers:
             raise Refused(411, "The text's length has to be told.")
-        if int(told) > LONGEST:
-            raise Refused(413, f"The text has more than {LONGEST // 1024} KiB.")
+        if int(told) > LARGEST:
+            raise Refused(413, f"The text has more than {LARGEST >> 20} MiB.")
         self.taken = True
         return self.rfile.read(int(told))
 
@@ -376,7 +374,7 @@ def main() -> int:
         signal.signal(kind, interrupted)
     with tempfile.TemporaryDirectory(prefix="wsc-serve-") as folder:
         program = str(pathlib.Path(line.wsc).resolve()) if "/" in line.wsc else line.wsc
-        serve(line.port, files(text, name), Workers(program, folder, line.seconds))
+        serve(line.port, files(text, name, line.seconds), Workers(program, folder, line.seconds))
     return 0
 
 

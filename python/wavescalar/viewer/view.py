@@ -12,31 +12,18 @@ import sys
 from typing import Any
 
 from wavescalar.cli import Line, add_program, given, whole
-from wavescalar.machine import Step, rounds, steps
-from wavescalar.numbered import Image, kind_of, read
-from wavescalar.programs import assembly_of, traced, usual
+from wavescalar.numbered import Image, kind_of, read, sections
+from wavescalar.programs import assembly_of, call, refusal, traced, with_input
 from wavescalar.reader import lines_of
-from wavescalar.viewer.grid import ELEMENTS, WAVES, Recorded, cycles, recorded
+from wavescalar.viewer.scripts import bundled, modules
 from wavescalar.viewer.statements import statements_of
-from wavescalar.viewer.waves import Drawing, drawing
 
 HERE = pathlib.Path(__file__).resolve().parent
 SCRIPTS = ("colours.js", "draw.js", "steps.js", "inside.js", "play.js")
 # In which way a page's steps are made: `trace`, `rounds`, `none`, or the elements and waves of a grid.
 Way = str | tuple[int, int]
-# Where the statements of a job begin and end, in bytes, and for each instruction its statements and whether they are exact.
-Found = tuple[list[tuple[int, int]], dict[int, list[Any]]]
-
-
-def arcs_into(image: Image, arcs: list[list[str]]) -> dict[int, list[str]]:
-    """For each instruction the keys of the arcs that lead to it."""
-    into: dict[int, list[str]] = {i: [] for i in range(1, len(image.instrs))}
-    for key, _, _ in arcs:
-        kind, source, way, place = key.split("/")
-        if place != "-1":
-            home = image.blocks[int(source)].pads if kind == "pad" else image.instrs[int(source)].lists
-            into[home[int(way)][int(place)][0]].append(key)
-    return into
+# The usual size of a grid and its waves in flight, and the most firings on one.
+ELEMENTS, WAVES, BUDGET = 16, 4, 100000
 
 
 def units(text: str, place: int) -> int:
@@ -45,34 +32,17 @@ def units(text: str, place: int) -> int:
     return len(front.encode("utf-16-le")) // 2
 
 
-def made_of(text: str, most: int, way: Way,
-            program: str | None) -> tuple[Image, list[Any], list[Step], str, Recorded | None]:
-    """The image of a text, its opening tokens, its steps, at most so many, why they end, and a grid's run."""
-    image = read(text)
-    if way == "none":
-        image.trace = None
+def found_of(program: str | None, job: str, image: Image) -> dict[str, Any]:
+    """What the program is found to make of the statements of a job: a file has no program that could be asked."""
+    ends, said = statements_of(program, job, image) if job and program else ([], {})
+    return {"statements": [[units(job, place) for place in both] for both in ends], "said": said}
+
+
+def order_of(way: Way) -> str:
+    """The name of an order, as orders.js has it; nothing where no event is to happen."""
     if isinstance(way, tuple):
-        run = recorded(program or usual(), text, *way)
-        start, made, why = cycles(image, run, most)
-        return image, start, made, why, run
-    start, made, why = (rounds if way == "rounds" else steps)(image, most)
-    return image, start, made, why, None
-
-
-def still_of(image: Image, drawn: Drawing, job: str = "", found: Found = ([], {})) -> dict[str, Any]:
-    """What a page shows of an image: its drawing, its text and that of its job, what was found of its statements."""
-    statements, said = found
-    return {
-        "drawing": drawn, "text": image.text, "into": arcs_into(image, drawn["arcs"]), "job": job,
-        "arrays": image.arrays, "input": [str(word) for word in image.input], "said": said,
-        "statements": [[units(job, place) for place in ends] for ends in statements],
-    }
-
-
-def run_of(start: list[Any], made: list[Step], why: str, grid: Recorded | None = None) -> dict[str, Any]:
-    """What it shows of a run: its opening tokens, its steps, why they end, and the grid."""
-    told = grid and {"elements": grid.elements, "waves": grid.waves, "cycles": grid.told_cycles}
-    return {"start": start, "steps": made, "why": why, "grid": told}
+        return f"grid-{way[0]}-{way[1]}"
+    return "" if way == "none" else way
 
 
 def written(data: Any) -> str:
@@ -82,25 +52,37 @@ def written(data: Any) -> str:
 
 def filled(title: str, data: dict[str, Any] | None) -> str:
     """A page that needs no other file; without data it is one that another page fills, in a frame."""
-    scripts = "".join((HERE / name).read_text() for name in SCRIPTS)
+    scripts = [bundled(modules(), "file.js", "pageOf")] if data else []
+    scripts += [(HERE / name).read_text() for name in SCRIPTS]
     parts = {"@TITLE@": title.replace("&", "&amp;").replace("<", "&lt;"),
              "@STYLE@": f"<style>\n{(HERE / 'page.css').read_text()}</style>",
-             "@SCRIPTS@": f"<script>\n{scripts}</script>", "@DATA@": written(data) if data else ""}
+             "@SCRIPTS@": f"<script>\n{''.join(scripts)}</script>", "@DATA@": written(data) if data else ""}
     made = (HERE / "page.html").read_text()
     for mark, part in parts.items():
         made = made.replace(mark, part)
     return made
 
 
-def page(text: str, title: str, most: int, job: str = "", program: str | None = None,
-         way: Way = "trace") -> tuple[str, Image, list[Step], str]:
-    """The page of a text, with its image, its steps, at most so many events, and why they end, if before the trace's
-    end. The job that it was made of stands in it too; with a program its statements are looked for."""
-    image, start, made, why, run = made_of(text, most, way, program)
-    job = "\n".join(lines_of(job))
-    found = statements_of(program, job, image) if job and program else ([], {})
-    data = still_of(image, drawing(image), job, found) | run_of(start, made, why, run)
-    return filled(title, data), image, made, why
+def page(text: str, title: str, most: int, job: str = "", program: str | None = None, way: Way = "trace") -> str:
+    """The page of a text, which steps through at most so many events. The job that it was made of stands in it too; with a
+    program its statements are looked for."""
+    image, job = read(text), "\n".join(lines_of(job))
+    return filled(title, {"text": text, "job": job, "order": order_of(way), "most": most, "budget": BUDGET,
+                          "found": found_of(program, job, image)})
+
+
+def is_run(program: str, text: str) -> None:
+    """Ends this with the program's refusal of an assembly that it doesn't run."""
+    own = with_input("\n".join(sections(text)[0][0]).rstrip("\n") + "\n", text)
+    status, made, errors = call(program, ["trace", "--budget", "0"], own)
+    if status not in (0, 3, 8):
+        raise refusal("trace", status, made, errors)
+
+
+def sizes_of(image: Image, way: Way, most: int) -> str:
+    """How large an image is, and how many events of its trace are shown."""
+    events = f", {min(len(image.trace or ()), most)} events" if way == "trace" else ""
+    return f"{len(image.instrs) - 1} instructions, {image.waves} waves{events}"
 
 
 def main() -> int:
@@ -125,18 +107,20 @@ def main() -> int:
         if not (1 <= int(way[0]) <= 64 and int(way[1]) >= 1):
             ask.error("a grid has 1 to 64 elements and at least one wave")
     text = traced(line.wsc, text, line.events) if way == "trace" else assembly_of(line.wsc, text)
+    if isinstance(way, tuple):
+        is_run(line.wsc, text)
     file = line.file if line.file != "-" else None
     title = line.title or (pathlib.Path(file).stem if file else "wsc")
-    made, image, events, why = page(text, title, line.events, job, line.wsc, way)
+    made, image = page(text, title, line.events, job, line.wsc, way), read(text)
     out = line.out or (pathlib.Path(file).with_suffix(".html") if file else None)
     if out:
         pathlib.Path(out).write_text(made, errors="replace")
-        sizes = f"{len(image.instrs) - 1} instructions, {image.waves} waves, {len(events)} events"
-        print(f"{out}: {sizes}", file=sys.stderr)
+        print(f"{out}: {sizes_of(image, way, line.events)}", file=sys.stderr)
     else:
         sys.stdout.write(made)
-    if why:
-        print(f"{pathlib.Path(sys.argv[0]).name}: {why}", file=sys.stderr)
+    if way == "trace" and len(image.trace or ()) > line.events:
+        print(f"{pathlib.Path(sys.argv[0]).name}: only the first {line.events} events are shown (--events N shows more)",
+              file=sys.stderr)
     return 0
 
 

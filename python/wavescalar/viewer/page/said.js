@@ -4,10 +4,10 @@
  * assembly is run with one and with eight. A refusal has its place in the text, in the units that a page counts by.
  */
 import {kindOf, linesOf, sections, units} from "./image.js";
-import {assemblyOf, call, refusal} from "./calls.js";
+import {assemblyOf, refusal} from "./calls.js";
 import {ofEnd, ofRefusal} from "./refusals.js";
 
-/** @typedef {import("./host.js").Host} Host */
+/** @typedef {import("./calls.js").Program} Program */
 /** @typedef {{name: string, status: number, answer: string, words: string[], end: string, arrays: string[], numbers: string[], said: string[]}} Run */
 /**
  * A place in a text: its line from 1, and the units between which it lies.
@@ -72,14 +72,14 @@ const refused = (answer, text, command) =>
 
 /**
  * What a line of wsc answers.
- * @param {Host} host
+ * @param {Program} program
  * @param {string[]} words
  * @param {string} name
  * @param {string} text
  * @returns {Run}
  */
-function runOf(host, words, name, text) {
-  const made = call(host, words, text);
+function runOf(program, words, name, text) {
+  const made = program.ask(words, text);
   if (![0, REFUSED, BUDGET_SPENT, FAULT].includes(made.status)) throw refusal(words[0], made);
   return {name, status: made.status, answer: made.out, ...parted(made.out), said: ofEnd(made.status, made.out, words[0])};
 }
@@ -99,26 +99,26 @@ function alike(run, first) {
 
 /**
  * All that is told of a text.
- * @param {Host} host
+ * @param {Program} program
  * @param {string} text
  * @returns {Record<string, any>}
  */
-export function said(host, text) {
+export function said(program, text) {
   const kind = kindOf(text);
   if (kind === "trace") {
-    const {status, out} = call(host, ["replay"], text), told = {kind, answer: out.trim()};
+    const {status, out} = program.ask(["replay"], text), told = {kind, answer: out.trim()};
     return status === REFUSED ? {...told, ...refused(out, text, "replay")} : {...told, runs: []};
   }
   /** @type {Run[]} */
   const runs = [];
   for (const [words, name] of waysOf(kind)) {
-    const run = runOf(host, words, name, text);
+    const run = runOf(program, words, name, text);
     if (run.status === REFUSED) return {kind, ...refused(run.answer, text, words[0])};
     runs.push(run);
   }
   const same = runs.every(run => alike(run, runs[0]));
   const told = runs.map(({answer, words, ...run}) => ({...run, many: words.length, words: words.slice(0, MOST_WORDS)}));
-  const assembly = linesOf(sections(assemblyOf(host, text))[0].lines.join("\n"));
+  const assembly = linesOf(sections(assemblyOf(program, text))[0].lines.join("\n"));
   return {kind, runs: told, same, assembly};
 }
 
@@ -129,34 +129,34 @@ const OF_ASSEMBLY = ["check", "list", "exec", "decouple", "grid", "trace", "repl
  * What a line of the program answers over a text: of a refusal also what it says, and its place. `piped` tells the lines
  * before it, where the text is a job and the command reads an assembly or a trace. A program beside wsc is given the text as
  * it stands; the draft that wsl reads ends before `%input`.
- * @param {Host} host @param {string[]} words @param {string} text
+ * @param {Program} program @param {string[]} words @param {string} text
  */
-export function line(host, words, text) {
-  if (host.name === "wsl") return drafted(host, text);
-  if (host.name !== "wsc") {
-    const made = call(host, words, text);
+export function line(program, words, text) {
+  if (program.name === "wsl") return drafted(program, text);
+  if (program.name !== "wsc") {
+    const made = program.ask(words, text);
     return {...made, piped: "", ...told(made.status, made.out, text, "")};
   }
   const [command] = words, isPiped = OF_ASSEMBLY.includes(command) && kindOf(text) === "job";
   let [own, piped] = [text, ""];
   if (isPiped) {
-    const compiled = call(host, ["compile"], text);
+    const compiled = program.ask(["compile"], text);
     if (compiled.status) return {...compiled, piped: "wsc compile: ", ...told(compiled.status, compiled.out, text, "compile")};
-    own = ["check", "list"].includes(command) ? compiled.out : assemblyOf(host, text);
+    own = ["check", "list"].includes(command) ? compiled.out : assemblyOf(program, text);
     piped = `wsc compile | wsc ${command}: `;
-    if (command === "replay") [own, piped] = [call(host, ["trace"], own).out, "wsc compile | wsc trace | wsc replay: "];
+    if (command === "replay") [own, piped] = [program.ask(["trace"], own).out, "wsc compile | wsc trace | wsc replay: "];
   }
-  const made = call(host, words, own);
+  const made = program.ask(words, own);
   return {...made, piped, ...told(made.status, made.out, own, command), ...isPiped ? {place: null} : {}};
 }
 
 /**
  * What wsl answers to a draft, with the sections of the text behind its image.
- * @param {Host} host
+ * @param {Program} program
  * @param {string} text
  */
-function drafted(host, text) {
-  const [draft, given] = sections(text), made = call(host, [], `${draft.lines.join("\n").replace(/\n+$/, "")}\n`);
+function drafted(program, text) {
+  const [draft, given] = sections(text), made = program.ask([], `${draft.lines.join("\n").replace(/\n+$/, "")}\n`);
   const out = made.status === 0 && given ? [`${made.out}%input`, ...given.lines].join("\n") : made.out;
   return {...made, out, piped: "", ...told(made.status, made.out, text, "")};
 }
