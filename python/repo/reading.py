@@ -32,7 +32,8 @@ PAGE = ROOT / "docs" / "DEFINITIONS.md"
 THEOREM = ROOT / "docs" / "THEOREM.md"
 
 # What the lists of the headline leave out.
-NEED_NO_UNFOLDING = (r"wsc_top/Calls\.CallEnds", r"opt_top/Calls\.CallEnds", r"wsc_top/Answers\.TellWords", r"ws_isa/Image\.Image")
+NEED_NO_UNFOLDING = (r"wsc_top/Calls\.CallEnds", r"opt_top/Calls\.CallEnds", r"wsc_top/Answers\.TellWords",
+                     r"ws_isa/Image\.Image")
 
 # The statements of the headline, by the file of one_result/specs that has them.
 STATEMENTS = {
