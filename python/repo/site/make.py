@@ -33,7 +33,8 @@ MODULES = ("host.js", "wsc.js", "worker.js")
 OF_VIEW = ("serve.css", "page.css", "edit.js", "both.js", "serve.js", *SCRIPTS)
 # What the page needs after a few other files: it is fetched beside them.
 EARLY = ('<link rel="preload" href="wsc.wasm.gz" as="fetch" crossorigin>\n'
-         '<link rel="modulepreload" href="wsc.js">\n<link rel="modulepreload" href="host.js">\n')
+         '<link rel="modulepreload" href="wsc.js">\n<link rel="modulepreload" href="host.js">\n'
+         '<link rel="modulepreload" href="hands.js">\n')
 ASSEMBLIES = ("choice", "landings", "overlap", "ripple", "names")
 
 

@@ -55,7 +55,7 @@ class Magics(unittest.TestCase):
         self.assertEqual(len(drawn(made._repr_html_())), 3)
         page = self.job("--show page", CELLS)
         self.assertIn("srcdoc", page._repr_html_())
-        self.assertIn("&quot;steps&quot;", page._repr_html_())
+        self.assertIn("&quot;order&quot;:&quot;trace&quot;", page._repr_html_())
         wave = self.job("--show graph --wave 2", CELLS)
         self.assertLess(len(wave.svg), len(self.job("--show graph", CELLS).svg) + 100)
         self.assertEqual([self.asm("--show words,waves,profile,page", SEVEN).parts[0].words], [(7,)])
