@@ -62,6 +62,7 @@ class _Emitter:
         self.selectors: dict[Block, Result] = {}
         self.carried: dict[Wave, dict[Union[Var, None], Result]] = {}
         self.triggers: dict[Wave, Union[Var, None]] = {}
+        self.waiting: list[tuple[Node, Block, Union[Block, None]]] = []  # for a token of a block, or of an edge
         self.uses = self._count_uses()
         self.ranks = self._first_uses()
         for wave in self.cut.waves:
@@ -69,6 +70,7 @@ class _Emitter:
         for wave in self.cut.waves:
             for block in wave.blocks:
                 self._fill(block)
+        self._trigger()
 
     def _count_uses(self) -> dict[Var, int]:
         found: dict[Var, int] = {}
@@ -136,15 +138,15 @@ class _Emitter:
                                                                               phi.result.name)
         for op in block.ops:
             self._operation(op, block)
-        if not place.nodes and not place.advances:
-            self._make_triggerable(block)
         self._leave(block)
 
     def _joined(self, place: BlockBuilder, ways: list[Handle], uses: int, name: str = "") -> Handle:
         values = tuple(value for way in ways for value in way)
         if len(values) == 1 or uses <= FEW:
             return values
-        return (place.merge(*values, name=self.names.fresh(name) if name else None),)
+        merged = place.merge(*values, name=self.names.fresh(name) if name else None)
+        place.nodes.insert(0, place.nodes.pop())  # what wants it may stand there already
+        return (merged,)
 
     def _operation(self, op: Op, block: Block) -> None:
         place = self.places[block]
@@ -158,7 +160,8 @@ class _Emitter:
         elif op.kind == "store":
             made = place.store(self.arrays[op.array or 0], args[0], args[1], name)
         elif op.kind == "in":
-            made = place.in_(self._token(block), name)
+            made = place.in_((), name)
+            self.waiting.append((made, block, None))
         elif op.kind == "out":
             made = place.out(args[0], name)
         else:
@@ -173,18 +176,11 @@ class _Emitter:
             return self.names.fresh(f"{name or op.kind}_L{op.place.line}")
         return self.names.fresh(name) if name else None
 
-    def _make_triggerable(self, block: Block) -> None:
-        """`wsl` may put a `nop` into a block without an instruction, for which something has to be there."""
-        sources = self.cut.sources[block]
-        if len(sources) == 1 and sources[0].exit == "if":
-            self._token(block)
-        else:
-            self.places[block].merge(*self._token(block))
-
     def _leave(self, block: Block) -> None:
         place = self.places[block]
         if block.exit == "stop":
-            place.stop(self._token(block))
+            self.waiting.append((place.halt(()), block, None))
+            place.stop()
             return
         for target in block.targets:
             if self.cut.wave[target].head is target:
@@ -199,9 +195,11 @@ class _Emitter:
         """Sends what a wave takes in to its advances."""
         args = {phi.result: phi.args[block] for phi in head.phis}
         for key, advance in self.carried[self.cut.wave[head]].items():
-            handle = self._edge_token(block, head) if key is None else self._over(args.get(key, key), block, head)
-            for value in handle:
-                value.to(advance)
+            if key is None:
+                self.waiting.append((advance, block, head))
+            else:
+                for value in self._over(args.get(key, key), block, head):
+                    value.to(advance)
 
     # Values on their way.
 
@@ -210,7 +208,9 @@ class _Emitter:
         first = self.cut.same[block]
         if (key, first) not in self.handles:
             if isinstance(key, int):
-                self.handles[key, first] = (self.places[block].const(key, self._token(block)),)
+                constant = self.places[block].const(key, ())
+                self.waiting.append((constant, block, None))
+                self.handles[key, first] = (constant,)
             else:
                 self.handles[key, first] = self._brought(key, first)
         return self.handles[key, first]
@@ -258,7 +258,24 @@ class _Emitter:
             self.selectors[block] = own
         return self.selectors[block]
 
-    # Triggers.
+    # Triggers. They are looked for last: then it is known what goes to a block anyway.
+
+    def _trigger(self) -> None:
+        """Gives what waits for a token one."""
+        for node, block, head in self.waiting:
+            for value in self._edge_token(block, head) if head else self._token(block):
+                value.to(node)
+        for block in self.graph.blocks:
+            if not self.places[block].nodes and not self.places[block].advances:
+                self._make_triggerable(block)
+
+    def _make_triggerable(self, block: Block) -> None:
+        """`wsl` may put a `nop` into a block without an instruction, for which something has to be there."""
+        sources = self.cut.sources[block]
+        if len(sources) == 1 and sources[0].exit == "if":
+            self._token(block)
+        else:
+            self.places[block].merge(*self._token(block))
 
     def _token(self, block: Block) -> Handle:
         """A value that comes whenever a block is passed."""
