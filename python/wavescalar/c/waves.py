@@ -13,11 +13,13 @@ from typing import Union
 
 from wavescalar.builder import ArrayHandle, BlockBuilder, Builder, Node, Result, Steer, Value
 from wavescalar.image import Image
+from wavescalar.isa import LIMITS
 from wavescalar.c.cut import Cut, Wave, cut
 from wavescalar.c.flow import Block, Graph, Op, Operand, Var
 from wavescalar.c.share import share
 
 Handle = tuple[Value, ...]  # the values of which one comes
+ROOM = LIMITS[2].destinations - 1  # uses that a value of a draft has without a merge
 FEW = 2  # a value that comes on several ways and has so many uses goes to each; one with more is merged first
 
 
@@ -58,7 +60,7 @@ class _Emitter:
         self.places: dict[Block, BlockBuilder] = {}
         self.handles: dict[tuple[Union[Operand, None], Block], Handle] = {}
         self.steers: dict[Block, dict[Union[Operand, None], Steer]] = {block: {} for block in graph.blocks}
-        self.tokens: dict[Block, Handle] = {}  # for each class of blocks a value that comes when it is passed
+        self.tokens: dict[Block, list[Handle]] = {}  # for each class of blocks what comes to it when it is passed
         self.selectors: dict[Block, Result] = {}
         self.carried: dict[Wave, dict[Union[Var, None], Result]] = {}
         self.triggers: dict[Wave, Union[Var, None]] = {}
@@ -101,8 +103,9 @@ class _Emitter:
         self.carried[wave] = carried
         for key, advance in carried.items():
             self.handles[key, wave.head] = (advance,)
-        self.triggers[wave] = self._widest(wave)
-        self.tokens[wave.head] = (carried[self.triggers[wave]],)
+        widest = self._widest_first(wave)
+        self.triggers[wave] = widest[0]
+        self.tokens[wave.head] = [(carried[key],) for key in widest]
 
     def _first_uses(self) -> dict[Var, int]:
         """An order of variables that doesn't depend on where they lie in memory."""
@@ -118,14 +121,11 @@ class _Emitter:
                     found.setdefault(part, len(found))
         return found
 
-    def _widest(self, wave: Wave) -> Union[Var, None]:
-        """What comes into a wave and is live in most of its blocks: it triggers what wants a trigger."""
-        carried = self.carried[wave]
-        if None in carried:
-            return None
+    def _widest_first(self, wave: Wave) -> list[Union[Var, None]]:
+        """What comes into a wave: first what is live in most of its blocks, and isn't computed anew in each turn."""
         computed = {phi.result for phi in wave.head.phis}
-        return max(carried, key=lambda var: (sum(var in self.cut.enters[block] for block in wave.blocks),
-                                             var not in computed))
+        return sorted(self.carried[wave], key=lambda key: (
+            key is not None, -sum(key in self.cut.enters[block] for block in wave.blocks), key in computed))
 
     # Blocks.
 
@@ -220,7 +220,7 @@ class _Emitter:
         ways = [self._over(key, source, block) for source in sources]
         uses = self.uses.get(key, FEW) if key is not None else FEW
         handle = self._joined(self.places[block], ways, uses)
-        self.tokens.setdefault(block, handle)
+        self.tokens.setdefault(block, []).append(handle)
         return handle
 
     def _over(self, key: Union[Operand, None], source: Block, target: Block) -> Handle:
@@ -280,19 +280,24 @@ class _Emitter:
     def _token(self, block: Block) -> Handle:
         """A value that comes whenever a block is passed."""
         first = self.cut.same[block]
-        if first not in self.tokens:
-            sources = self.cut.sources[first]
-            if len(sources) == 1:
-                self.tokens[first] = self._edge_token(sources[0], first)
-            else:
-                key = self.triggers[self.cut.wave[first]]
-                self.tokens[first] = self._at_or_token(key, first)
-        return self.tokens[first]
+        if first in self.tokens:
+            return _least_used(self.tokens[first])
+        sources = self.cut.sources[first]
+        if len(sources) == 1:
+            return self._edge_token(sources[0], first)
+        return self._at_or_token(self.triggers[self.cut.wave[first]], first)
 
     def _edge_token(self, source: Block, target: Block) -> Handle:
         """A value that comes over an edge: one that is steered there anyway, where there is one."""
         if source.exit == "go":
             return self._token(source)
-        for steer in self.steers[source].values():
-            return (self._side(steer, source, target),)
+        steered = [self._side(steer, source, target) for steer in self.steers[source].values()]
+        if steered:
+            return _least_used([(value,) for value in steered])
         return self._over(self.triggers[self.cut.wave[source]], source, target)
+
+
+def _least_used(handles: list[Handle]) -> Handle:
+    """The first whose values have room for a use more, so that no merge has to spread them; else the one with the fewest."""
+    counts = [max(len(value.uses) for value in handle) for handle in handles]
+    return handles[next((k for k, count in enumerate(counts) if count < ROOM), counts.index(min(counts)))]
