@@ -38,9 +38,10 @@ LEVELS = {
 # What every level ends with: what is known of ranges, as flags; no switches, no constructs without a form on the machine.
 TIDY = ("always-inline,globaldce,function(lower-constant-intrinsics,lower-expect,simplifycfg,sroa,instcombine,adce,"
         "simplifycfg,correlated-propagation,lowerswitch,loop-simplify)")
-# A loop's test stays as it is written: `i < n` says more of i than `i != n`, and needs no other value than n.
+# A loop's test stays as it is written: `i < n` says more of i than `i != n`, and needs no other value than n. A loop that
+# makes a known number of turns has several of them between two tests.
 OPTIONS = ["-internalize-public-api-list=main", "-replexitval=never", "-disable-lftr", "-vectorize-loops=false",
-           "-vectorize-slp=false"]
+           "-vectorize-slp=false", "-unroll-allow-partial", "-unroll-partial-threshold=150"]
 # Below level 2 a loop keeps its test at its head, which makes for fewer firings. With the test at its end, as level 2
 # has it, a turn's values needn't wait for the test, but another test stands in front.
 KEPT = ["-rotation-max-header-size=0"]

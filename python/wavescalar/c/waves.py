@@ -17,6 +17,7 @@ from wavescalar.isa import LIMITS
 from wavescalar.c.cut import Cut, Wave, cut
 from wavescalar.c.flow import Block, Graph, Op, Operand, Var
 from wavescalar.c.share import share
+from wavescalar.c.steps import step
 
 Handle = tuple[Value, ...]  # the values of which one comes
 ROOM = LIMITS[2].destinations - 1  # uses that a value of a draft has without a merge
@@ -50,6 +51,7 @@ class _Emitter:
         self.graph, self.lines = graph, lines
         self.cut: Cut = cut(graph)
         share(graph, self.cut)
+        step(self.cut)
         self.cut.look()
         self.builder = Builder()
         self.names, self.block_names = _Names(), _Names()
