@@ -15,6 +15,7 @@ from dataclasses import dataclass
 from wavescalar.c import llvm_c as c
 from wavescalar.c.edit import Edited
 
+PRINTING = {b"printf": 0, b"fprintf": 1, b"sprintf": 1, b"snprintf": 2}  # how many arguments stand before the format
 CONVERSION = re.compile(rb"%([-+ #0]*)(\*|\d*)(?:\.(\*|\d*))?(hh|h|ll|l|j|z|t)?(.)", re.DOTALL)
 WIDTHS = {b"hh": 8, b"h": 16, b"": 32}  # of numbers, in bits; others have 64
 FLAGS = {flag: 1 << place for place, flag in enumerate(b"-+ #0")}
@@ -57,9 +58,6 @@ def parts(form: bytes) -> Iterator[Part]:
         width = None if found[2] == b"*" else int(found[2] or 0)
         precision = -1 if found[3] is None else None if found[3] == b"*" else int(found[3] or 0)
         yield Part(b"", found[5].replace(b"i", b"d"), flags, width, precision, WIDTHS.get(found[4] or b"", 64))
-
-
-PRINTING = {b"printf": 0, b"fprintf": 1, b"sprintf": 1, b"snprintf": 2}  # how many arguments stand before the format
 
 
 def expand(edited: Edited, as_text: bool) -> None:
