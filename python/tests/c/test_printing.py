@@ -1,4 +1,4 @@
-"""What `printf` prints: natively and on the machine the same text, and words without it."""
+"""What `printf` prints, and `sprintf` makes: natively and on the machine the same text, and words without it."""
 
 from __future__ import annotations
 
@@ -41,6 +41,16 @@ SHOWN = {
   puts(name), putchar('x'), putchar('\n');
   ws_print(77);
 }"""),
+    "made": ([6], r"""int main(void) {
+  int n = (int)ws_read();
+  char line[64], small[8];
+  int got = sprintf(line, "n = %d, %5x|%-4c|%s", n, n, 'a' + n, "end");
+  printf("%s %d\n", line, got);
+  got = snprintf(small, sizeof small, "%08d and %u", n, 7u);
+  printf("[%s] %d %d\n", small, got, snprintf(0, 0, "%*s", n, "ab"));
+  for (int k = 0, at = 0; k < n; k++) at += sprintf(line + at, "%d,", k * k);
+  puts(line), printf("%d\n", snprintf(small, 1, "%d", n) + small[0]);
+}"""),
 }
 
 
@@ -65,10 +75,21 @@ def test_words_have_no_text_between(source: Callable[..., Path]) -> None:
     assert words_of(file, [10]) == [2**64 - 10, 10, ord("a"), ord("b"), ord("c")]
 
 
+def test_strings_are_text_where_words_are_printed(source: Callable[..., Path]) -> None:
+    file = source(HEAD + r"""int main(void) {
+  char line[16];
+  int n = (int)ws_read(), count = sprintf(line, "%03d!", n);
+  printf("%d %s", count, line);
+}""")
+    assert words_of(file, [5]) == [4, *b"005!"]
+
+
 REFUSED = {
     "fprintf to another stream than stdout and stderr": 'fprintf(ws_read() ? stdout : stderr, "%d", (int)ws_read());',
     "the result of printf is used": 'return printf("%d", (int)ws_read());',
     "the format of printf isn't constant": 'char f[3] = "%d"; f[1] += (char)ws_read(); printf(f, 3);',
+    "the format of sprintf isn't constant": 'char f[3] = "%d", t[9]; f[1] += (char)ws_read(); sprintf(t, f, 3);',
+    "%f in a format of snprintf": 'char t[9]; snprintf(t, 9, "%f", 1.5 + (int)ws_read());',
     "%f in a format of printf": 'printf("%d %f", (int)ws_read(), 1.5);',
     "printf has fewer arguments than its format takes": 'printf("%d %d", (int)ws_read());',
 }

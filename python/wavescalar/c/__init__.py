@@ -7,7 +7,8 @@ clang and opt: clang.py. Changes of IR before it is optimized: edit.py, whole.py
 division.py, floats.py, printing.py. IR as data: llvm_c.py, reader.py, ir.py, recursion.py, wide.py. Memory: objects.py, cells.py,
 copies.py. Words: widths.py, signs.py, arith.py. The flow graph: flow.py; checks.py, words.py, memory.py and lower.py
 make it; cleanup.py, joins.py, hoist.py, unroll.py and keep.py make it better; follow.py follows it. Waves: order.py,
-live.py, rename.py, cut.py, share.py, waves.py. `wscc`: command.py.
+live.py, rename.py, cut.py, share.py, steps.py, waves.py. `wscc`:
+command.py.
 """
 
 from __future__ import annotations

@@ -15,6 +15,7 @@ from dataclasses import dataclass
 from pathlib import Path
 
 from wavescalar.c.faults import ToolFault
+from wavescalar.c.floats import FLOATING
 from wavescalar.c.whole import completed, prepared, takes_arguments
 
 HEADERS = Path(__file__).parent / "include"
@@ -41,6 +42,9 @@ TIDY = ("always-inline,globaldce,function(lower-constant-intrinsics,lower-expect
 # A loop's test stays as it is written: `i < n` says more of i than `i != n`, and needs no other value than n.
 OPTIONS = ["-internalize-public-api-list=main", "-replexitval=never", "-disable-lftr", "-vectorize-loops=false",
            "-vectorize-slp=false"]
+# Of a loop that makes a known number of turns several stand between two tests; not where there is floating point, whose
+# operations are functions that are inlined later, if they are few.
+PARTIAL = ["-unroll-allow-partial", "-unroll-partial-threshold=150"]
 # Below level 2 a loop keeps its test at its head, which makes for fewer firings. With the test at its end, as level 2
 # has it, a turn's values needn't wait for the test, but another test stands in front.
 KEPT = ["-rotation-max-header-size=0"]
@@ -149,11 +153,11 @@ class Clang:
         forced = [word for name in inlined for word in (f"-force-attribute={name}:alwaysinline",
                                                         f"-force-remove-attribute={name}:noinline")]
         forced += [f"-force-attribute={name}:noinline" for name in often]
-        kept = KEPT if level < 2 else []
+        more = (KEPT if level < 2 else []) + ([] if FLOATING.search(text) else PARTIAL)
         with tempfile.TemporaryDirectory() as room:
             raw = Path(room) / "raw.ll"
             raw.write_bytes(text)
-            return _call([self.opt, *OPTIONS, *kept, *forced, f"-passes={passes}", "-S", str(raw), "-o", "-"])
+            return _call([self.opt, *OPTIONS, *more, *forced, f"-passes={passes}", "-S", str(raw), "-o", "-"])
 
 
 def _files(sources: Sources) -> Sequence[Path]:

@@ -1,8 +1,9 @@
 """Keeps values in memory while loops run that don't use them.
 
 A value that a loop hands on from turn to turn costs an advance and a steer in each. One that no turn uses is stored
-where it is computed, in a hidden cell, and loaded behind the loop, for some five firings in all. A value doesn't change
-and the next one of its name comes after its last use, so that one cell is enough for each.
+where it is computed, in a hidden cell, and loaded behind the loop, for some four firings in all. A value doesn't change
+and the next one of its name comes after its last use, so that one cell is enough for each. The cells are those of
+different arrays, as long as there are arrays, so that several are stored or loaded with one constant for an index.
 """
 
 from __future__ import annotations
@@ -47,8 +48,9 @@ class _Keeper:
         self.home.update({op.result: block for block in order for op in block.ops if op.result})
         self.used = users(order)
         self.ranks = {var: rank for rank, var in enumerate(self.home)}
-        self.array = len(graph.arrays)
-        self.cells = 0
+        self.first = len(graph.arrays)
+        self.free = LIMITS[2].arrays - self.first
+        self.kept = 0
 
     def keep(self) -> None:
         """Keeps each value across the largest loops that don't use it."""
@@ -59,23 +61,24 @@ class _Keeper:
                 if not any(loop.blocks < larger.blocks for larger in across.get(var, ())):
                     across.setdefault(var, []).append(loop)
         for var in sorted(across, key=self.ranks.__getitem__):
-            if self.cells < LIMITS[2].length:
+            if self.kept < self.free * LIMITS[2].length:
                 self._keep(var, across[var])
-        if self.cells:
-            self.graph.arrays.append(ArraySpec("", self.cells))
+        for place in range(min(self.kept, self.free)):
+            self.graph.arrays.append(ArraySpec("", -(-(self.kept - place) // self.free)))
 
     def _keep(self, var: Var, loops: list[Loop]) -> None:
-        home, cell = self.home[var], self.cells
+        home, (cell, place) = self.home[var], divmod(self.kept, self.free)
+        array = self.first + place
         defined: dict[Block, Var] = {home: var}
         for loop in loops:
             for block in self._landings(var, loop):
                 if block not in defined:
                     defined[block] = Var(var.name)
-                    block.ops.insert(0, Op("load", defined[block], [cell], self.array))
+                    block.ops.insert(0, Op("load", defined[block], [cell], array))
         if len(defined) == 1:
             return
-        self.cells += 1
-        store = Op("store", None, [cell, var], self.array)
+        self.kept += 1
+        store = Op("store", None, [cell, var], array)
         front = self._front(var, loops)
         if front:
             front.ops.append(store)

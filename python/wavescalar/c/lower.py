@@ -106,7 +106,7 @@ class _Lowering(Memory):
 
     def do_ashr(self, it: Instr) -> Word:
         width, value = it.type.width, it.operands[0]
-        distance = self.clean(it.operands[1], width)
+        distance = self.words(it)[1]
         if self.widths.is_positive(value, width):
             return self.code.alu("shr", self.word(value), distance)
         if self.widths.may_extend(value):

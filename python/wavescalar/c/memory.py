@@ -9,12 +9,13 @@ from wavescalar.c import arith
 from wavescalar.c.cells import Layout
 from wavescalar.c.faults import Refusal
 from wavescalar.c.flow import ArraySpec, Block, Code, Operand as Word, Phi, Var
-from wavescalar.c.ir import Instr, Local, Module, Operand
+from wavescalar.c.ir import Instr, Local, Module, Operand, Type
 from wavescalar.c.objects import Region
 from wavescalar.c.words import Words
 
 UNROLLED = 8  # cells that are copied or filled one by one, without a loop
 SPARE = 4  # arrays that are left for hidden cells
+PLACES = LIMITS[2].length  # the greatest number that a pointer to an object, or behind it, has
 UNKNOWN = "a pointer to no array that is known here"
 
 
@@ -79,7 +80,7 @@ class Memory(Words):
                                          for part in range(size // layout.granule)]
             return None
         result: Word = 0
-        for part in range(layout.parts(size)):
+        for part in range(self._known_parts(layout, it.type)):
             word = self.code.load(array, self._cell(index, part), it.name)
             result = self.code.alu("or", result, self.code.alu("shl", word, part * layout.part_bits))
         return result
@@ -93,12 +94,20 @@ class Memory(Words):
             return
         form = self.extended if it.number in self.signs.accesses else self.clean
         value, size = form(it.operands[0], it.widths[0]), it.types[0].bytes
-        parts = layout.parts(size)
+        parts, known = layout.parts(size), self._known_parts(layout, it.types[0])
         for part in range(parts):
-            word = value
-            if parts > 1:
-                word = arith.clean(self.code, self.code.alu("shr", value, part * layout.part_bits), layout.part_bits)
+            word = value if part < known else 0
+            if known > 1:
+                word = arith.clean(self.code, self.code.alu("shr", word, part * layout.part_bits), layout.part_bits)
             self.code.store(array, self._cell(index, part), word)
+
+    def _known_parts(self, layout: Layout, own: Type) -> int:
+        """How many of the cells of an access hold what isn't surely 0. A pointer of which no number is made is the place
+        of a cell, or of the one behind the last."""
+        parts = layout.parts(own.bytes)
+        if own.kind != "ptr" or parts == 1 or layout.region.content() in self.objects.counted:
+            return parts
+        return -(-PLACES.bit_length() // layout.part_bits)
 
     def do_alloca(self, it: Instr) -> Word:
         layout = self.layouts.layout(Local(it.number))

@@ -1,7 +1,8 @@
-"""Takes calls of `printf` apart, whose formats are constants: each part of a format becomes a call of its own.
+"""Takes calls of `printf` and its like apart, whose formats are constants: each part of a format becomes a call of its own.
 
 What is printed is words: as *text* the codes of all characters, else one word for each number and character, without the
-text between them. The functions that are called are those of the library (library.c), or `ws_print`.
+text between them. What `sprintf` and `snprintf` make is text. The functions that are called are those of the library
+(library.c), or `ws_print`.
 """
 
 from __future__ import annotations
@@ -14,9 +15,12 @@ from dataclasses import dataclass
 from wavescalar.c import llvm_c as c
 from wavescalar.c.edit import Edited
 
+PRINTING = {b"printf": 0, b"fprintf": 1, b"sprintf": 1, b"snprintf": 2}  # how many arguments stand before the format
 CONVERSION = re.compile(rb"%([-+ #0]*)(\*|\d*)(?:\.(\*|\d*))?(hh|h|ll|l|j|z|t)?(.)", re.DOTALL)
 WIDTHS = {b"hh": 8, b"h": 16, b"": 32}  # of numbers, in bits; others have 64
 FLAGS = {flag: 1 << place for place, flag in enumerate(b"-+ #0")}
+PUTS = {b"s": "wscc_put_string", b"c": "wscc_put_char", b"d": "wscc_put_signed"}  # others are unsigned numbers
+ENDLESS = (1 << 64) - 1  # characters of which a string is thought to have room
 BASES = {b"u": 10, b"o": 8, b"x": 16, b"X": 17}  # 17 stands for 16 with capital letters
 
 
@@ -57,50 +61,54 @@ def parts(form: bytes) -> Iterator[Part]:
 
 
 def expand(edited: Edited, as_text: bool) -> None:
-    """Replaces the calls of `printf` and `fprintf` in a module, unless the program has its own. as_text: whether characters
-    are printed.
+    """Replaces the calls of these functions in a module, unless the program has its own. as_text: whether characters are
+    printed.
 
     Raises Refusal for a call that can't be replaced.
     """
     llvm = edited.llvm
-    for before, name in enumerate((b"printf", b"fprintf")):
+    for name, before in PRINTING.items():
         function = llvm.GetNamedFunction(edited.module, name)
         if not function or not llvm.IsDeclaration(function):
             continue
+        made = _ToString if name in (b"sprintf", b"snprintf") else _Printing
         for it in edited.instructions("call"):
             if llvm.GetCalledValue(it) == function:
-                _Printing(edited, as_text, before).expand(it)
+                made(edited, as_text, name.decode(), before).expand(it)
 
 
 class _Printing:
-    def __init__(self, edited: Edited, as_text: bool, before: int) -> None:
-        """before: how many arguments stand before the format."""
-        self.edited, self.llvm, self.as_text, self.before = edited, edited.llvm, as_text, before
+    def __init__(self, edited: Edited, as_text: bool, name: str, before: int) -> None:
+        """name: the function's. before: how many arguments stand before the format."""
+        self.edited, self.llvm, self.as_text, self.name, self.before = edited, edited.llvm, as_text, name, before
         self.builder = edited.builder
 
     def expand(self, it: int) -> None:
         """Replaces a call."""
         llvm = self.llvm
         if llvm.GetFirstUse(it):
-            raise self.edited.refused(it, "the result of printf is used")
+            raise self.edited.refused(it, f"the result of {self.name} is used")
         if self.before and self._stream(llvm.GetOperand(it, 0)) != "stdout":
             if self._stream(llvm.GetOperand(it, 0)) != "stderr":
                 raise self.edited.refused(it, "fprintf to another stream than stdout and stderr")
-            llvm.InstructionEraseFromParent(it)
-            return
-        form = self._constant(llvm.GetOperand(it, self.before))
+        else:
+            self._expand_format(it)
+        llvm.InstructionEraseFromParent(it)
+
+    def _expand_format(self, it: int) -> None:
+        """Puts what stands for the parts of a format in front of a call."""
+        form = self._constant(self.llvm.GetOperand(it, self.before))
         if form is None:
-            raise self.edited.refused(it, "the format of printf isn't constant")
+            raise self.edited.refused(it, f"the format of {self.name} isn't constant")
         given = self.edited.arguments(it)[self.before + 1:]
         self.edited.before(it)
         try:
             for part in parts(form):
                 self._print(part, given)
         except ValueError as fault:
-            raise self.edited.refused(it, f"{fault} in a format of printf") from fault
+            raise self.edited.refused(it, f"{fault} in a format of {self.name}") from fault
         except IndexError as fault:
-            raise self.edited.refused(it, "printf has fewer arguments than its format takes") from fault
-        llvm.InstructionEraseFromParent(it)
+            raise self.edited.refused(it, f"{self.name} has fewer arguments than its format takes") from fault
 
     def _stream(self, value: int) -> str:
         """The name of the variable from which a stream is loaded; empty where there is none."""
@@ -132,22 +140,23 @@ class _Printing:
     def _print(self, part: Part, given: list[int]) -> None:
         if not part.kind:
             for code in part.text if self.as_text else b"":
-                self._call("ws_print", [self.edited.number(code)])
+                self._call("wscc_put", [self.edited.number(code)])
             return
-        width = self.edited.number(part.width) if part.width is not None else self._wide(given.pop(0), 32, True)
-        precision = self.edited.number(part.precision) if part.precision is not None else self._wide(given.pop(0), 32, True)
-        form = [self.edited.number(part.flags), width, precision]
+        width, precision = (self._wide(given.pop(0), 32, True) if number is None else self.edited.number(number)
+                            for number in (part.width, part.precision))
         value = given.pop(0)
         if part.kind == b"s":
             value = self.llvm.BuildBitCast(self.builder, value, self.edited.pointer, b"")
-            self._call("wscc_put_string", [value, *form])
-        elif part.kind == b"c":
-            self._call("wscc_put_char", [self._wide(value, 8, False), *form])
-        elif part.kind == b"d":
-            self._call("wscc_put_signed", [self._wide(value, part.bits, True), *form])
         else:
-            base = self.edited.number(BASES[part.kind])
-            self._call("wscc_put_unsigned", [self._wide(value, part.bits, False), base, *form])
+            value = self._wide(value, 8 if part.kind == b"c" else part.bits, part.kind == b"d")
+        if self.as_text:
+            base = [self.edited.number(BASES[part.kind])] if part.kind in BASES else []
+            self._call(PUTS.get(part.kind, "wscc_put_unsigned"),
+                       [value, *base, self.edited.number(part.flags), width, precision])
+        elif part.kind == b"s":
+            self._call("wscc_print_string", [value, precision])
+        else:
+            self._call("ws_print", [value])
 
     def _wide(self, value: int, bits: int, signed: bool) -> int:
         """A number of so many bits as a word."""
@@ -163,7 +172,21 @@ class _Printing:
     def _short(self, bits: int) -> int:
         return int(self.llvm.IntTypeInContext(self.edited.context, bits))
 
-    def _call(self, name: str, given: list[int]) -> None:
+    def _call(self, name: str, given: list[int], result: int = 0) -> int:
+        """Calls a function of the library. result: the type of its result, where it has one."""
         llvm, edited = self.llvm, self.edited
-        own = edited.function_type(llvm.VoidTypeInContext(edited.context), [llvm.TypeOf(value) for value in given])
-        edited.call(edited.function(name, own), own, given)
+        result = result or int(llvm.VoidTypeInContext(edited.context))
+        own = edited.function_type(result, [llvm.TypeOf(value) for value in given])
+        return edited.call(edited.function(name, own), own, given)
+
+
+class _ToString(_Printing):
+    def expand(self, it: int) -> None:
+        """Replaces a call of `sprintf` or `snprintf`."""
+        self.as_text = True
+        self.edited.before(it)
+        target = self.edited.cast(self.llvm.GetOperand(it, 0), self.edited.pointer)
+        size = self.llvm.GetOperand(it, 1) if self.before > 1 else self.edited.number(ENDLESS)
+        self._call("wscc_string", [target, size])
+        self._expand_format(it)
+        self.edited.put(it, self._call("wscc_length", [], self.edited.int))

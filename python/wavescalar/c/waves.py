@@ -13,11 +13,14 @@ from typing import Union
 
 from wavescalar.builder import ArrayHandle, BlockBuilder, Builder, Node, Result, Steer, Value
 from wavescalar.image import Image
+from wavescalar.isa import LIMITS
 from wavescalar.c.cut import Cut, Wave, cut
 from wavescalar.c.flow import Block, Graph, Op, Operand, Var
 from wavescalar.c.share import share
+from wavescalar.c.steps import step
 
 Handle = tuple[Value, ...]  # the values of which one comes
+ROOM = LIMITS[2].destinations - 1  # uses that a value of a draft has without a merge
 FEW = 2  # a value that comes on several ways and has so many uses goes to each; one with more is merged first
 
 
@@ -48,6 +51,7 @@ class _Emitter:
         self.graph, self.lines = graph, lines
         self.cut: Cut = cut(graph)
         share(graph, self.cut)
+        step(self.cut)
         self.cut.look()
         self.builder = Builder()
         self.names, self.block_names = _Names(), _Names()
@@ -58,10 +62,11 @@ class _Emitter:
         self.places: dict[Block, BlockBuilder] = {}
         self.handles: dict[tuple[Union[Operand, None], Block], Handle] = {}
         self.steers: dict[Block, dict[Union[Operand, None], Steer]] = {block: {} for block in graph.blocks}
-        self.tokens: dict[Block, Handle] = {}  # for each class of blocks a value that comes when it is passed
+        self.tokens: dict[Block, list[Handle]] = {}  # for each class of blocks what comes to it when it is passed
         self.selectors: dict[Block, Result] = {}
         self.carried: dict[Wave, dict[Union[Var, None], Result]] = {}
         self.triggers: dict[Wave, Union[Var, None]] = {}
+        self.waiting: list[tuple[Node, Block, Union[Block, None]]] = []  # for a token of a block, or of an edge
         self.uses = self._count_uses()
         self.ranks = self._first_uses()
         for wave in self.cut.waves:
@@ -69,6 +74,7 @@ class _Emitter:
         for wave in self.cut.waves:
             for block in wave.blocks:
                 self._fill(block)
+        self._trigger()
 
     def _count_uses(self) -> dict[Var, int]:
         found: dict[Var, int] = {}
@@ -99,8 +105,9 @@ class _Emitter:
         self.carried[wave] = carried
         for key, advance in carried.items():
             self.handles[key, wave.head] = (advance,)
-        self.triggers[wave] = self._widest(wave)
-        self.tokens[wave.head] = (carried[self.triggers[wave]],)
+        widest = self._widest_first(wave)
+        self.triggers[wave] = widest[0]
+        self.tokens[wave.head] = [(carried[key],) for key in widest]
 
     def _first_uses(self) -> dict[Var, int]:
         """An order of variables that doesn't depend on where they lie in memory."""
@@ -116,14 +123,11 @@ class _Emitter:
                     found.setdefault(part, len(found))
         return found
 
-    def _widest(self, wave: Wave) -> Union[Var, None]:
-        """What comes into a wave and is live in most of its blocks: it triggers what wants a trigger."""
-        carried = self.carried[wave]
-        if None in carried:
-            return None
+    def _widest_first(self, wave: Wave) -> list[Union[Var, None]]:
+        """What comes into a wave: first what is live in most of its blocks, and isn't computed anew in each turn."""
         computed = {phi.result for phi in wave.head.phis}
-        return max(carried, key=lambda var: (sum(var in self.cut.enters[block] for block in wave.blocks),
-                                             var not in computed))
+        return sorted(self.carried[wave], key=lambda key: (
+            key is not None, -sum(key in self.cut.enters[block] for block in wave.blocks), key in computed))
 
     # Blocks.
 
@@ -136,15 +140,15 @@ class _Emitter:
                                                                               phi.result.name)
         for op in block.ops:
             self._operation(op, block)
-        if not place.nodes and not place.advances:
-            self._make_triggerable(block)
         self._leave(block)
 
     def _joined(self, place: BlockBuilder, ways: list[Handle], uses: int, name: str = "") -> Handle:
         values = tuple(value for way in ways for value in way)
         if len(values) == 1 or uses <= FEW:
             return values
-        return (place.merge(*values, name=self.names.fresh(name) if name else None),)
+        merged = place.merge(*values, name=self.names.fresh(name) if name else None)
+        place.nodes.insert(0, place.nodes.pop())  # what wants it may stand there already
+        return (merged,)
 
     def _operation(self, op: Op, block: Block) -> None:
         place = self.places[block]
@@ -158,7 +162,8 @@ class _Emitter:
         elif op.kind == "store":
             made = place.store(self.arrays[op.array or 0], args[0], args[1], name)
         elif op.kind == "in":
-            made = place.in_(self._token(block), name)
+            made = place.in_((), name)
+            self.waiting.append((made, block, None))
         elif op.kind == "out":
             made = place.out(args[0], name)
         else:
@@ -173,18 +178,11 @@ class _Emitter:
             return self.names.fresh(f"{name or op.kind}_L{op.place.line}")
         return self.names.fresh(name) if name else None
 
-    def _make_triggerable(self, block: Block) -> None:
-        """`wsl` may put a `nop` into a block without an instruction, for which something has to be there."""
-        sources = self.cut.sources[block]
-        if len(sources) == 1 and sources[0].exit == "if":
-            self._token(block)
-        else:
-            self.places[block].merge(*self._token(block))
-
     def _leave(self, block: Block) -> None:
         place = self.places[block]
         if block.exit == "stop":
-            place.stop(self._token(block))
+            self.waiting.append((place.halt(()), block, None))
+            place.stop()
             return
         for target in block.targets:
             if self.cut.wave[target].head is target:
@@ -199,9 +197,11 @@ class _Emitter:
         """Sends what a wave takes in to its advances."""
         args = {phi.result: phi.args[block] for phi in head.phis}
         for key, advance in self.carried[self.cut.wave[head]].items():
-            handle = self._edge_token(block, head) if key is None else self._over(args.get(key, key), block, head)
-            for value in handle:
-                value.to(advance)
+            if key is None:
+                self.waiting.append((advance, block, head))
+            else:
+                for value in self._over(args.get(key, key), block, head):
+                    value.to(advance)
 
     # Values on their way.
 
@@ -210,7 +210,9 @@ class _Emitter:
         first = self.cut.same[block]
         if (key, first) not in self.handles:
             if isinstance(key, int):
-                self.handles[key, first] = (self.places[block].const(key, self._token(block)),)
+                constant = self.places[block].const(key, ())
+                self.waiting.append((constant, block, None))
+                self.handles[key, first] = (constant,)
             else:
                 self.handles[key, first] = self._brought(key, first)
         return self.handles[key, first]
@@ -220,7 +222,7 @@ class _Emitter:
         ways = [self._over(key, source, block) for source in sources]
         uses = self.uses.get(key, FEW) if key is not None else FEW
         handle = self._joined(self.places[block], ways, uses)
-        self.tokens.setdefault(block, handle)
+        self.tokens.setdefault(block, []).append(handle)
         return handle
 
     def _over(self, key: Union[Operand, None], source: Block, target: Block) -> Handle:
@@ -258,24 +260,46 @@ class _Emitter:
             self.selectors[block] = own
         return self.selectors[block]
 
-    # Triggers.
+    # Triggers. They are looked for last: then it is known what goes to a block anyway.
+
+    def _trigger(self) -> None:
+        """Gives what waits for a token one."""
+        for node, block, head in self.waiting:
+            for value in self._edge_token(block, head) if head else self._token(block):
+                value.to(node)
+        for block in self.graph.blocks:
+            if not self.places[block].nodes and not self.places[block].advances:
+                self._make_triggerable(block)
+
+    def _make_triggerable(self, block: Block) -> None:
+        """`wsl` may put a `nop` into a block without an instruction, for which something has to be there."""
+        sources = self.cut.sources[block]
+        if len(sources) == 1 and sources[0].exit == "if":
+            self._token(block)
+        else:
+            self.places[block].merge(*self._token(block))
 
     def _token(self, block: Block) -> Handle:
         """A value that comes whenever a block is passed."""
         first = self.cut.same[block]
-        if first not in self.tokens:
-            sources = self.cut.sources[first]
-            if len(sources) == 1:
-                self.tokens[first] = self._edge_token(sources[0], first)
-            else:
-                key = self.triggers[self.cut.wave[first]]
-                self.tokens[first] = self._at_or_token(key, first)
-        return self.tokens[first]
+        if first in self.tokens:
+            return _least_used(self.tokens[first])
+        sources = self.cut.sources[first]
+        if len(sources) == 1:
+            return self._edge_token(sources[0], first)
+        return self._at_or_token(self.triggers[self.cut.wave[first]], first)
 
     def _edge_token(self, source: Block, target: Block) -> Handle:
         """A value that comes over an edge: one that is steered there anyway, where there is one."""
         if source.exit == "go":
             return self._token(source)
-        for steer in self.steers[source].values():
-            return (self._side(steer, source, target),)
+        steered = [self._side(steer, source, target) for steer in self.steers[source].values()]
+        if steered:
+            return _least_used([(value,) for value in steered])
         return self._over(self.triggers[self.cut.wave[source]], source, target)
+
+
+def _least_used(handles: list[Handle]) -> Handle:
+    """The first whose values have room for a use more, so that no merge has to spread them; else the one with the fewest."""
+    counts = [max(len(value.uses) for value in handle) for handle in handles]
+    return handles[next((k for k, count in enumerate(counts) if count < ROOM), counts.index(min(counts)))]

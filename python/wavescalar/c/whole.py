@@ -16,7 +16,7 @@ from wavescalar.c.printing import expand
 
 POINTED = "by_pointer."  # how the names of functions begin that are made for calls by pointers
 BY_POINTER = re.compile(rb"^ .*\bcall\b.*%[\w.$-]+\(", re.MULTILINE)
-PRINTS = re.compile(rb"^ .*\bcall\b.*@f?printf\(", re.MULTILINE)
+PRINTS = re.compile(rb"^ .*\bcall\b.*@(?:f|s|sn)?printf\(", re.MULTILINE)
 COMPUTED = re.compile(rb"^ *indirectbr ", re.MULTILINE)
 DECLARED = re.compile(rb"^declare .*?@([\w.$]+)\(", re.MULTILINE)
 DEFINED = re.compile(rb"^define .*?@([\w.$]+)\(", re.MULTILINE)

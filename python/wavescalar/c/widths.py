@@ -21,6 +21,7 @@ from wavescalar.c.order import natural_loops, reverse_postorder
 PASSES = {"phi": 0, "select": 1}
 WRAPS = ("add", "sub", "mul", "shl")
 BITS = ("and", "or", "xor")
+SHIFTS = ("shl", "lshr", "ashr")
 SIGNED = ("ashr", "sdiv", "srem", "sext")
 MADE = (*WRAPS, *BITS, "trunc", "load")  # whose results may be made extended where they are computed
 EXTREMES = tuple(f"llvm.{word}." for word in ("smin", "smax", "umin", "umax"))
@@ -29,6 +30,8 @@ EXTREMES = tuple(f"llvm.{word}." for word in ("smin", "smax", "umin", "umax"))
 def demanded(it: Instr) -> range:
     """The places of the operands that an instruction needs clean, or extended where it takes that."""
     op, count = it.op, len(it.operands)
+    if op in SHIFTS and it.type.width >= 6:  # a distance counts modulo 64, and one that isn't below the width means nothing
+        return range(op != "shl")
     if op in ("icmp", "udiv", "urem", "sdiv", "srem", "lshr", "ashr", "zext", "sext", "call", "br", "ret", "inttoptr"):
         return range(count)
     if op in ("select", "store"):
