@@ -14,8 +14,9 @@ returns g c text out given before after done =
       reads = reads;
       writes = writes;
       words = words;
-      ends = subst (λ s. optimized.CallEnds words reads.left reads.after reads.faults reads.counted writes.held
-          writes.holds writes.flushed writes.covered writes.faults writes.counted s) done c.wso.ensures.ends;
+      ends = subst (λ s. optimized.CallEnds words reads.left reads.after reads.faults reads.counted
+          writes.held writes.holds writes.flushed writes.covered writes.faults writes.counted s) done
+          c.wso.ensures.ends;
       given = given;
       before = before;
       after = after;
