@@ -73,12 +73,15 @@ def test_measured() -> None:
 
 
 def test_heard(tmp_path: pathlib.Path) -> None:
-    child = start(["bash", "-c", "read word; sleep 0.3; echo $word $KEY; pwd; echo x >&2"], folder=str(tmp_path),
-                  environment={**os.environ, "KEY": "key"}, is_group=True)
+    with open(tmp_path / "words", "wb+") as source:
+        source.write(b"word\n")
+        source.seek(0)
+        child = start(["bash", "-c", "read word; sleep 0.3; echo $word $KEY; pwd; echo x >&2"], source=source,
+                      folder=str(tmp_path), environment={**os.environ, "KEY": "key"}, is_group=True)
     assert os.getpgid(child.pid) == child.pid
-    told = heard(child, b"word\n", 0.01)
+    told = heard(child, 0.01)
     assert told is None
     while told is None:
-        told = heard(child, None, 1)
+        told = heard(child, 1)
     assert told == (f"word key\n{tmp_path.resolve()}\n".encode(), b"x\n")
     assert child.returncode == 0

@@ -50,6 +50,7 @@ def completed(text: bytes, version: int, library: Callable[[str], bytes], as_tex
     version: of LLVM, the major one. library: gives the IR of a file of the library. as_text: whether `printf` prints characters.
     """
     prints, divides, floating = PRINTS.search(text), division.WIDE.search(text), floats.FLOATING.search(text)
+    given = text
     if prints or divides or floating:
         edited = Edited(c.Llvm(version), text)
         if prints:
@@ -62,14 +63,14 @@ def completed(text: bytes, version: int, library: Callable[[str], bytes], as_tex
     lacks = {name for name in DECLARED.findall(text) if not name.startswith(OWN)}
     pointed = BY_POINTER.search(text) is not None
     if not lacks and not pointed:
-        return None
+        return text if text != given else None
     more = [found for found in (library(file) for file in _files(lacks)) if lacks & set(DEFINED.findall(found))]
     if not more and not pointed:
-        return None
+        return text if text != given else None
     whole = _Whole(c.Llvm(version), text)
     for found in more:
         whole.link(found)
-    return whole.text() if whole.resolve() or more else None
+    return whole.text() if whole.resolve() or more or text != given else None
 
 
 def _files(lacks: set[bytes]) -> list[str]:
